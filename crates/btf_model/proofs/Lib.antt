@@ -1,0 +1,6 @@
+pub mod Words
+pub mod Records
+pub mod Blobs
+pub mod Reading
+pub mod Usual
+pub mod Walks

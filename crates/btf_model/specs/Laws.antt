@@ -1,0 +1,66 @@
+-- The laws of the definitions. Each is the contract of a public function of this crate.
+use Rattle.std.specs.Prelude.{All, ◌≤◌, ◌^◌, ◌↔◌, ◌≡◌, ℕ, ◌<◌, List, [], ◌++◌, length, Option, Some, Result, Ok, slice_get}
+use Rattle.btf_model.specs.Word.{Order}
+use Rattle.std.specs.List.{flat_map, AllByRecursion}
+use Rattle.btf_model.specs.Record.{Kind, Unknown, Fwd, Array, Var, Record, unknown}
+use Rattle.btf_model.specs.Spelling.{HasKind, IsRecord, spell}
+use Rattle.btf_model.specs.Refusal.{Refusal}
+use Rattle.btf_model.specs.Table.{Table, Fallback, strip, with_type}
+use Rattle.btf_model.specs.Walk.{Resolves, HasSize}
+use Rattle.btf_model.specs.Blob.{IsTable, IsRefusal, IsValid, canon, header_len, header_of, strings_end, type_section}
+
+-- No spelling is a proper beginning of another, and bytes spell one record.
+abbrev pub NoSpellingBeginsAnother : Type 0
+NoSpellingBeginsAnother =
+    (order : Order) (bytes more : List ℕ) (r q : Record) → IsRecord order bytes r → IsRecord order (bytes ++ more) q → (more ≡ []) × (r ≡ q)
+
+-- Bytes stand for one table at most, or are refused for one cause at most, and never both.
+pub record BlobIsDetermined : Type 0 where
+  pub one_table : (order : Order) (bytes : List ℕ) (t u : Table) → IsTable order bytes t → IsTable order bytes u → t ≡ u
+  pub one_refusal : (order : Order) (bytes : List ℕ) (f g : Refusal) → IsRefusal order bytes f → IsRefusal order bytes g → f ≡ g
+  pub not_both : (order : Order) (bytes : List ℕ) (t : Table) (f : Refusal) → IsTable order bytes t → IsRefusal order bytes f → ⊥
+
+-- What is written stands for the table without its fallbacks, in the table's order.
+abbrev pub WrittenParsesBack : Type 0
+WrittenParsesBack = (t : Table) → IsValid t → IsTable t.order (canon t) (strip t)
+
+-- The words of a record are written as they stand, by cases on what reading drops.
+abbrev pub IsWrittenAsRead : Kind → Record → Type 0
+IsWrittenAsRead Unknown w = w ≡ unknown
+IsWrittenAsRead Fwd w = w.third ≡ 0
+IsWrittenAsRead Array w = w.third ≡ 0
+IsWrittenAsRead Var w = AllByRecursion (λ linkage. linkage ≤ 3) w.tail
+IsWrittenAsRead k w = Unit {0}
+
+-- The bytes are cut whole into the words of records that are written as they stand.
+abbrev pub AreWrittenAsRead : Order → List ℕ → Type 0
+AreWrittenAsRead order bytes = (rs : List Record) × AllByRecursion (λ w. (k : Kind) × HasKind k w × IsWrittenAsRead k w) rs × (bytes ≡ flat_map (spell order) rs)
+
+-- The bytes have the one written form of a table: the usual header, the strings right behind the types, nothing behind
+-- the strings, and no word that reading drops.
+pub record IsUsual (order : Order) (bytes : List ℕ) : Type 0 where
+  pub hdr_len : (header_of order bytes).hdr_len ≡ header_len
+  pub type_off : (header_of order bytes).type_off ≡ 0
+  pub str_off : (header_of order bytes).str_off ≡ (header_of order bytes).type_len
+  pub nothing_behind : length bytes ≡ strings_end (header_of order bytes)
+  pub records : AreWrittenAsRead order (type_section (header_of order bytes) bytes)
+
+-- A blob that stands for a table is written as it was read exactly if it has the written form.
+abbrev pub ParsedWritesBack : Type 0
+ParsedWritesBack =
+    (order : Order) (bytes : List ℕ) (t : Table) → All (λ byte. byte < 2 ^ 8) bytes → IsTable order bytes t → (canon t ≡ bytes) ↔ IsUsual order bytes
+
+-- The type that was added is found under the old number of types, and each old id keeps its record.
+abbrev pub AddedTypeIsFound : Type 0
+AddedTypeIsFound =
+    (t : Table) (r : Record) (fallback : Option Fallback) → (slice_get (with_type r fallback t).records (length t.records) ≡ Some r)
+    × ((id : ℕ) → id < length t.records → slice_get (with_type r fallback t).records id ≡ slice_get t.records id)
+
+-- A walk has one answer: so an id resolves to one type or for one cause to none, and a type has one size or for one cause none.
+pub record WalksAreDetermined : Type 0 where
+  pub resolving : (records : List Record) (id : ℕ) (a b : Result ℕ Refusal) → Resolves records id a → Resolves records id b → a ≡ b
+  pub size : (records : List Record) (id : ℕ) (a b : Result ℕ Refusal) → HasSize records id a → HasSize records id b → a ≡ b
+
+-- What an id resolves to resolves to itself.
+abbrev pub ResolvingTwiceIsOnce : Type 0
+ResolvingTwiceIsOnce = (records : List Record) (id end : ℕ) → Resolves records id (Ok end) → Resolves records end (Ok end)

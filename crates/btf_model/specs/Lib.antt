@@ -1,0 +1,9 @@
+pub mod Word
+pub mod Record
+pub mod Spelling
+pub mod Refusal
+pub mod Table
+pub mod Blob
+pub mod Walk
+pub mod Laws
+pub mod Examples

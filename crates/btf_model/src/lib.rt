@@ -1,0 +1,43 @@
+//! What a BTF table is, what bytes stand for it, and the laws of both.
+//!
+//! The definitions lie in `specs/`. Each law is the contract of a function here that does nothing.
+#![tactic(auto)]
+
+ghost use Rattle.btf_model.specs.Laws.{NoSpellingBeginsAnother, BlobIsDetermined, WrittenParsesBack, ParsedWritesBack, AddedTypeIsFound, WalksAreDetermined, ResolvingTwiceIsOnce};
+
+/// No record's spelling is a proper beginning of another's, and bytes spell one record: so a row of
+/// spellings is cut in one way.
+pub fn no_spelling_begins_another()
+    ensures { NoSpellingBeginsAnother }
+{}
+
+/// A blob stands for one table at most, or is refused for one cause at most, and never both.
+pub fn blob_is_determined()
+    ensures { BlobIsDetermined }
+{}
+
+/// What is written for a table is a blob that stands for the table, kept 64-bit enum values aside.
+pub fn written_parses_back()
+    ensures { WrittenParsesBack }
+{}
+
+/// A blob that is parsed is written as it was read exactly if it has the written form: the usual header, the
+/// strings right behind the types, nothing behind the strings, and no word that reading drops.
+pub fn parsed_writes_back()
+    ensures { ParsedWritesBack }
+{}
+
+/// The type that was added last is found under the id that was answered, and old ids keep their records.
+pub fn added_type_is_found()
+    ensures { AddedTypeIsFound }
+{}
+
+/// An id resolves to one type, or for one cause to none; a type has one size, or for one cause none.
+pub fn walks_are_determined()
+    ensures { WalksAreDetermined }
+{}
+
+/// What an id resolves to resolves to itself.
+pub fn resolving_twice_is_once()
+    ensures { ResolvingTwiceIsOnce }
+{}

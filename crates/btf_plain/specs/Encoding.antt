@@ -1,0 +1,30 @@
+-- The data word of an INT.
+-- Source: the kernel's BTF documentation, "BTF_KIND_INT".
+use Rattle.std.specs.Prelude.{ℕ, ◌+◌, ◌*◌, ◌/◌, ◌%◌, ◌^◌, ◌==◌, if◌then◌else◌}
+use Rattle.btf_plain.specs.declared.records.encoding.IntEncoding.{IntEncoding}
+use Rattle.btf_plain.specs.declared.records.encoding.IntEncoding.TheVariants.{None, Signed, Char, Bool, Unknown}
+
+-- the number of an encoding
+abbrev pub encoding_number : IntEncoding → ℕ
+encoding_number None = 0
+encoding_number Signed = 1
+encoding_number Char = 2
+encoding_number Bool = 4
+encoding_number Unknown = 5
+
+-- the encoding that a number has: each number but those four is Unknown
+abbrev pub encoding_of : ℕ → IntEncoding
+encoding_of n = if n == 0 then None else (if n == 1 then Signed else (if n == 2 then Char else (if n == 4 then Bool else Unknown)))
+
+-- The data word: bits 24 to 27 the encoding, 16 to 23 the bit offset, 0 to 7 the number of bits.
+abbrev pub int_data : ℕ → ℕ → ℕ → ℕ
+int_data encoding offset bits = encoding * 2 ^ 24 + offset * 2 ^ 16 + bits
+
+abbrev pub encoding_bits : ℕ → ℕ
+encoding_bits word = word / 2 ^ 24 % 2 ^ 4
+
+abbrev pub offset_bits : ℕ → ℕ
+offset_bits word = word / 2 ^ 16 % 2 ^ 8
+
+abbrev pub size_bits : ℕ → ℕ
+size_bits word = word % 2 ^ 8

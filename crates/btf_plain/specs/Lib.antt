@@ -1,0 +1,6 @@
+pub mod Error
+pub mod Endianness
+pub mod Kind
+pub mod Encoding
+pub mod Linkage
+pub mod Info

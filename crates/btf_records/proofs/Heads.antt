@@ -1,0 +1,99 @@
+-- Reading a record whose head is read, and writing one.
+use Rattle.std.proofs.Common.{◌≡◌, ℕ, ◌+◌, ◌^◌, ◌<◌, List, [], ◌∷◌, drop, length, Some, None, Result, Ok, Err, refl, sym, ap, subst, ◌∙◌, arith}
+use Rattle.std.specs.Prelude.{IsErrAnd, IfSome, OnOk, slice_get, map, min}
+use Rattle.std.specs.List.{AllByRecursion}
+use Rattle.std.proofs.lemmas.List.{length-drop}
+use Rattle.std.proofs.lemmas.Option.{IfSome_then}
+use Rattle.std.proofs.lemmas.Result.{err_from_is_err_and}
+use Rattle.btf_model.specs.Word.{Order, words_at}
+use Rattle.btf_model.specs.Record.{Kind, Unknown, Var, Record, kinds, unknown, words, kind_number, kind_of, vlen, tail_words}
+use Rattle.btf_model.specs.Refusal as refusals
+use Rattle.btf_model.specs.Spelling.{kept, IsWhole}
+use Rattle.btf_model.specs.Blob.{ReadsFront}
+use Rattle.btf_model.proofs.Words.{IsBytes}
+use Rattle.btf_model.proofs.Reading.{reads, reads_other_kind, reads_cut, record_at}
+use Rattle.btf_plain.specs.declared.error.BtfError.{BtfError}
+use Rattle.btf_plain.specs.declared.error.BtfError.TheVariants.{InvalidTypeKind}
+use Rattle.btf_plain.specs.declared.records.kind.BtfKind.{BtfKind}
+use Rattle.btf_plain.specs.Kind.{kind}
+use Rattle.btf_plain.specs.declared.records.linkage.VarLinkage.{VarLinkage}
+use Rattle.btf_plain.specs.declared.records.linkage.VarLinkage.TheVariants as linkages
+use Rattle.btf_plain.specs.Linkage.{var_linkage_number}
+use Rattle.btf_plain.specs.Error.{Answers, refusal_of}
+use Rattle.btf_records.specs.declared.btf_type.BtfType.{BtfType}
+use Rattle.btf_records.specs.BtfType.{record_of}
+use Rattle.btf_records.specs.declared.codec.Head.{Head}
+use Rattle.btf_records.specs.Head.{IsHead, record_behind, ReadsTail}
+
+behind_is : (order : Order) (bytes : List ℕ) (head : Head) (rest : List ℕ) (n : ℕ) → IsHead order bytes head rest → record_at order n bytes ≡ record_behind order head n rest
+behind_is order bytes head rest n h = λ i. record { name = sym h.name i; info = sym h.info i; third = sym h.third i; tail = words_at order n (sym h.behind i) }
+
+length-behind : (order : Order) (bytes : List ℕ) (head : Head) (rest : List ℕ) → IsHead order bytes head rest → length bytes ≡ 12 + length rest
+length-behind order bytes head rest h =
+    omega (arith, h.long, ap length h.behind, length-drop 4 (drop 4 (drop 4 bytes)), length-drop 4 (drop 4 bytes), length-drop 4 bytes)
+
+-- a tail that is read
+pub tail_read : (order : Order) (bytes : List ℕ) (head : Head) (rest : List ℕ) (k : Kind) (r : Record) → IsBytes bytes → IsHead order bytes head rest → kind_of head.info ≡ Some k → ReadsTail order head k rest (Ok r) → ReadsFront order bytes (Ok r)
+tail_read order bytes head rest k r fits h kind tail =
+    let n = tail_words k (vlen head.info) in
+    let found = reads order bytes k n fits (omega (arith, tail.0, length-behind order bytes head rest h)) (ap kind_of (sym h.info) ∙ kind) (ap (λ (i : ℕ). tail_words k (vlen i)) h.info) in
+    subst (λ (q : Record). ReadsFront order bytes (Ok q)) (ap (kept k) (behind_is order bytes head rest n h) ∙ sym tail.1) found
+
+-- a tail that is cut
+pub tail_refused : (order : Order) (bytes : List ℕ) (head : Head) (rest : List ℕ) (k : Kind) (r : Result BtfType BtfError) (e : BtfError) → IsErrAnd r (λ y. y ≡ e) → IfSome (refusal_of e) (λ f. ReadsTail order head k rest (Err f)) → IsHead order bytes head rest → kind_of head.info ≡ Some k → Answers record_of r (ReadsFront order bytes)
+tail_refused order bytes head rest k r e err given h kind =
+    let p = err_from_is_err_and r err in
+    let cut : IfSome (refusal_of e) (λ f. ReadsFront order bytes (Err f)) = IfSome_then (refusal_of e) given (λ f q.
+    subst (λ (x : refusals.Refusal). ReadsFront order bytes (Err x)) (sym q.1)
+    (reads_cut order bytes k h.long (ap kind_of (sym h.info) ∙ kind) (omega (arith, q.0, length-behind order bytes head rest h, ap (λ (i : ℕ). tail_words k (vlen i)) h.info)))) in
+    subst (λ (x : Result BtfType BtfError). Answers record_of x (ReadsFront order bytes)) (sym (p.1 ∙ ap (λ (x : BtfError). Err x) p.2)) cut
+
+-- a kind that does not exist
+pub kind_refused : (order : Order) (bytes : List ℕ) (head : Head) (rest : List ℕ) (number : ℕ) (r : Result BtfType BtfError) (e : BtfError) → IsErrAnd r (λ y. y ≡ e) → slice_get kinds number ≡ None → e ≡ InvalidTypeKind number → number ≡ kind_number head.info → IsHead order bytes head rest → Answers record_of r (ReadsFront order bytes)
+kind_refused order bytes head rest number r e err none is number-is h =
+    let p = err_from_is_err_and r err in
+    let no_kind : kind_of head.info ≡ None = ap (slice_get kinds) (sym number-is) ∙ none in
+    let found = reads_other_kind order bytes h.long (ap kind_of (sym h.info) ∙ no_kind) in
+    let same : InvalidTypeKind (kind_number head.info) ≡ e = ap (λ (n : ℕ). InvalidTypeKind n) (sym number-is) ∙ sym is in
+    let told : ReadsFront order bytes (Err (refusals.InvalidTypeKind (kind_number head.info))) = subst (λ (i : ℕ). ReadsFront order bytes (Err (refusals.InvalidTypeKind (kind_number i)))) (sym h.info) found in
+    subst (λ (x : Result BtfType BtfError). Answers record_of x (ReadsFront order bytes)) (sym (p.1 ∙ ap (λ (x : BtfError). Err x) (p.2 ∙ sym same))) told
+
+-- ---- what is written
+
+-- the words of a record that is kept as it is, in the kinds that have no list
+pub whole : (k : Kind) (r : Record) → kind_of r.info ≡ Some k → length r.tail ≡ tail_words k (vlen r.info) → AllByRecursion (λ w. w < 2 ^ 32) (words r) → kept k r ≡ r → IsWhole r
+whole k r kind tail fits stays = (k, record { kind = kind; tail = tail; words = fits }, stays)
+
+pub unknown_is_whole : IsWhole unknown
+unknown_is_whole = whole Unknown unknown refl refl (omega arith, (omega arith, (omega arith, tt))) refl
+
+-- the kind of a head
+pub kind_at : (info n : ℕ) (b k : BtfKind) → slice_get kinds n ≡ Some (kind b) → b ≡ k → n ≡ kind_number info → kind_of info ≡ Some (kind k)
+kind_at info n b k found is number = ap (slice_get kinds) (sym number) ∙ found ∙ ap (λ (x : BtfKind). Some (kind x)) is
+
+-- a record without a tail
+pub plain_is_whole : (k : Kind) (r : Record) → kind_of r.info ≡ Some k → r.tail ≡ [] → tail_words k (vlen r.info) ≡ 0 → r.name < 2 ^ 32 → r.info < 2 ^ 32 → r.third < 2 ^ 32 → kept k r ≡ r → IsWhole r
+plain_is_whole k r kind none zero name info third stays =
+    whole k r kind (ap length none ∙ sym zero) (name, (info, (third, subst (AllByRecursion (λ w. w < 2 ^ 32)) (sym none) tt))) stays
+
+pub always : {T E P : Type 0} (r : Result T E) → P → OnOk r P
+always (Ok x) p = p
+always (Err e) p = tt
+
+-- a linkage has a small number, which stays
+pub small_linkage : (l : VarLinkage) → var_linkage_number l < 2 ^ 32
+small_linkage linkages.Static = omega arith
+small_linkage linkages.Global = omega arith
+small_linkage linkages.Extern = omega arith
+small_linkage linkages.Unknown = omega arith
+
+linkage_stays : (l : VarLinkage) → min 3 (var_linkage_number l) ≡ var_linkage_number l
+linkage_stays linkages.Static = refl
+linkage_stays linkages.Global = refl
+linkage_stays linkages.Extern = refl
+linkage_stays linkages.Unknown = refl
+
+pub var_stays : (r : Record) (l : VarLinkage) → r.tail ≡ var_linkage_number l ∷ [] → kept Var r ≡ r
+var_stays r l is =
+    let tail : map (min 3) r.tail ≡ r.tail = ap (map (min 3)) is ∙ ap (λ (n : ℕ). n ∷ []) (linkage_stays l) ∙ sym is in
+    ap (λ (t : List ℕ). record r { tail = t }) tail

@@ -1,0 +1,4 @@
+pub mod Lists
+pub mod Infos
+pub mod Params
+pub mod Heads

@@ -1,0 +1,15 @@
+use Rattle.std.proofs.Common.{◌*◌, subst, ap, ◌∙◌, sym, refl}
+use Rattle.std.specs.List.{flat_map}
+use Rattle.std.proofs.lemmas.Result.{on_ok_weaker}
+use Rattle.btf_model.specs.Record as model
+use Rattle.btf_model.specs.Record.{Record}
+use Rattle.btf_model.specs.Spelling.{IsWhole}
+use Rattle.btf_records.specs.Items.{enum64_words}
+use Rattle.btf_records.proofs.Lists.{length-items, list_is_whole}
+use Rattle.btf_records.proofs.records.enumeration64.Enum64.append_to.Goals as goal
+
+pub returns-clause-whole : goal.returns-clause-whole
+returns-clause-whole c =
+    let r : Record = record { name = c.self.inside.name_offset; info = c.self.inside.info; third = c.self.inside.size; tail = flat_map enum64_words c.self.inside.variants.items } in
+    let len = length-items 3 enum64_words (λ _. refl) c.self.inside.variants.items ∙ ap (λ n. 3 * n) (sym c.self.invariant.1) in
+    on_ok_weaker c.push_items.result (λ fit. subst IsWhole c.self.view_is (list_is_whole model.Enum64 r c.self.invariant.0 len c.in_ok-push.ensures.words_fit (rw c.deref.ensures.value at fit) refl)) c.push_items.ensures.words_fit

@@ -1,0 +1,8 @@
+use Rattle.std.proofs.Common.{length, ap, arith, refl}
+use Rattle.btf_model.specs.Table.{UnionRecord}
+use Rattle.btf_records.specs.Items.{member_words}
+use Rattle.btf_records.proofs.Lists.{length-items}
+use Rattle.btf_records.proofs.records.union.Union.type_info_size.Goals as goal
+
+pub returns : goal.returns
+returns c = omega (arith, c.len.ensures, c.self.inside.members.ok.0, length-items 3 member_words (λ _. refl) c.self.inside.members.items, ap (λ (u : UnionRecord). length u.words.tail) c.self.view_is)

@@ -1,0 +1,307 @@
+//! A record of any kind.
+
+ghost use Rattle.std.specs.Prelude.{◌≡◌};
+ghost use Rattle.btf_model.specs.Record.{compared_kind};
+ghost use Rattle.btf_plain.specs.Kind as kinds;
+
+use crate::records::{BtfMember, DataSec, Enum, Enum64, FuncProto, Struct, Union};
+use btf_plain::{
+    Array, BtfError, BtfKind, Const, DeclTag, Float, Func, Fwd, Int, Ptr, Restrict, TypeTag,
+    Typedef, Var, Volatile,
+};
+use std::slice::Iter;
+
+/// One type of a table (the kernel's documentation, "Type Encoding"). Contracts see it as the record of its words, and
+/// for a UNION also its fallback.
+#[derive(Debug, Drop)]
+pub enum BtfType {
+    /// The type of id 0, and a record that has been left out.
+    Unknown,
+    /// An integer.
+    Int(Int),
+    /// A pointer.
+    Ptr(Ptr),
+    /// An array.
+    Array(Array),
+    /// A structure.
+    Struct(Struct),
+    /// A union.
+    Union(Union),
+    /// An enumeration of 32-bit values.
+    Enum(Enum),
+    /// A forward declaration.
+    Fwd(Fwd),
+    /// A name for a type.
+    Typedef(Typedef),
+    /// A volatile type.
+    Volatile(Volatile),
+    /// A constant type.
+    Const(Const),
+    /// A restricted pointer.
+    Restrict(Restrict),
+    /// A function.
+    Func(Func),
+    /// A function prototype.
+    FuncProto(FuncProto),
+    /// A variable.
+    Var(Var),
+    /// A data section.
+    DataSec(DataSec),
+    /// A floating-point number.
+    Float(Float),
+    /// A tag of a declaration.
+    DeclTag(DeclTag),
+    /// A tag of a type.
+    TypeTag(TypeTag),
+    /// An enumeration of 64-bit values.
+    Enum64(Enum64),
+}
+
+impl BtfType {
+    ghost use Rattle.std.specs.Prelude.{◌≡◌, ◌+◌, ◌*◌, ◌↔◌, length, Some, None, Ok, IsTrue, IsSome, OnSome, ◌==◌};
+    ghost use Rattle.std.specs.Prelude.{if◌then◌else◌};
+    ghost use Rattle.std.specs.Option.{option_map};
+    ghost use Rattle.std.specs.List.{flat_map};
+    ghost use Rattle.std.specs.Slice.Iter.{iter_rest};
+    ghost use Rattle.btf_records.specs.Items.{member_words};
+    ghost use Rattle.btf_model.specs.Record.{kind_of, compared_kind, record_size, record_target, member_bit_offset, member_bit_field_size};
+    ghost use Rattle.btf_model.specs.Record as model;
+    ghost use Rattle.btf_plain.specs.Error.{Gives};
+    ghost use Rattle.btf_plain.specs.Kind as kinds;
+    ghost use Rattle.btf_records.specs.BtfType.{record_of, fallback_of, type_kind};
+
+    /// The kind of the record.
+    pub fn kind(&self) -> BtfKind
+        ensures { kinds.kind result ≡ type_kind self.now }
+    {
+        match self {
+            BtfType::Unknown => BtfKind::Unknown,
+            BtfType::Int(_) => BtfKind::Int,
+            BtfType::Ptr(_) => BtfKind::Ptr,
+            BtfType::Array(_) => BtfKind::Array,
+            BtfType::Struct(_) => BtfKind::Struct,
+            BtfType::Union(_) => BtfKind::Union,
+            BtfType::Enum(_) => BtfKind::Enum,
+            BtfType::Fwd(_) => BtfKind::Fwd,
+            BtfType::Typedef(_) => BtfKind::Typedef,
+            BtfType::Volatile(_) => BtfKind::Volatile,
+            BtfType::Const(_) => BtfKind::Const,
+            BtfType::Restrict(_) => BtfKind::Restrict,
+            BtfType::Func(_) => BtfKind::Func,
+            BtfType::FuncProto(_) => BtfKind::FuncProto,
+            BtfType::Var(_) => BtfKind::Var,
+            BtfType::DataSec(_) => BtfKind::DataSec,
+            BtfType::Float(_) => BtfKind::Float,
+            BtfType::DeclTag(_) => BtfKind::DeclTag,
+            BtfType::TypeTag(_) => BtfKind::TypeTag,
+            BtfType::Enum64(_) => BtfKind::Enum64,
+        }
+    }
+
+    /// The string offset of the name; 0 for Unknown.
+    pub fn name_offset(&self) -> u32
+        ensures { result ≡ (record_of self.now).name }
+    {
+        match self {
+            BtfType::Unknown => 0,
+            BtfType::Int(t) => t.name_offset(),
+            BtfType::Ptr(t) => t.name_offset(),
+            BtfType::Array(t) => t.name_offset(),
+            BtfType::Struct(t) => t.name_offset(),
+            BtfType::Union(t) => t.name_offset(),
+            BtfType::Enum(t) => t.name_offset(),
+            BtfType::Fwd(t) => t.name_offset(),
+            BtfType::Typedef(t) => t.name_offset(),
+            BtfType::Volatile(t) => t.name_offset(),
+            BtfType::Const(t) => t.name_offset(),
+            BtfType::Restrict(t) => t.name_offset(),
+            BtfType::Func(t) => t.name_offset(),
+            BtfType::FuncProto(t) => t.name_offset(),
+            BtfType::Var(t) => t.name_offset(),
+            BtfType::DataSec(t) => t.name_offset(),
+            BtfType::Float(t) => t.name_offset(),
+            BtfType::DeclTag(t) => t.name_offset(),
+            BtfType::TypeTag(t) => t.name_offset(),
+            BtfType::Enum64(t) => t.name_offset(),
+        }
+    }
+
+    /// The info word; 0 for Unknown.
+    pub fn info(&self) -> u32
+        ensures value { result ≡ (record_of self.now).info }
+        ensures kind { kind_of result ≡ Some (type_kind self.now) }
+    {
+        match self {
+            BtfType::Unknown => 0,
+            BtfType::Int(t) => t.info(),
+            BtfType::Ptr(t) => t.info(),
+            BtfType::Array(t) => t.info(),
+            BtfType::Struct(t) => t.info(),
+            BtfType::Union(t) => t.info(),
+            BtfType::Enum(t) => t.info(),
+            BtfType::Fwd(t) => t.info(),
+            BtfType::Typedef(t) => t.info(),
+            BtfType::Volatile(t) => t.info(),
+            BtfType::Const(t) => t.info(),
+            BtfType::Restrict(t) => t.info(),
+            BtfType::Func(t) => t.info(),
+            BtfType::FuncProto(t) => t.info(),
+            BtfType::Var(t) => t.info(),
+            BtfType::DataSec(t) => t.info(),
+            BtfType::Float(t) => t.info(),
+            BtfType::DeclTag(t) => t.info(),
+            BtfType::TypeTag(t) => t.info(),
+            BtfType::Enum64(t) => t.info(),
+        }
+    }
+
+    /// The size in bytes that the record itself says, 8 for a pointer; None for the kinds without a size.
+    pub fn size(&self) -> Option<u32>
+        ensures { result ≡ record_size (type_kind self.now) (record_of self.now) }
+    {
+        match self {
+            BtfType::Int(t) => Some(t.size()),
+            BtfType::Struct(t) => Some(t.size()),
+            BtfType::Union(t) => Some(t.size()),
+            BtfType::Enum(t) => Some(t.size()),
+            BtfType::DataSec(t) => Some(t.size()),
+            BtfType::Float(t) => Some(t.size()),
+            BtfType::Enum64(t) => Some(t.size()),
+            BtfType::Ptr(_) => Some(8),
+            _ => None,
+        }
+    }
+
+    /// The id of the one type that the record leads to, which is the return type for a prototype; None for the
+    /// kinds that lead to none or to many, and for a function.
+    pub fn btf_type(&self) -> Option<u32>
+        ensures { result ≡ record_target (type_kind self.now) (record_of self.now) }
+    {
+        match self {
+            BtfType::Ptr(t) => Some(t.btf_type()),
+            BtfType::Typedef(t) => Some(t.btf_type()),
+            BtfType::Volatile(t) => Some(t.btf_type()),
+            BtfType::Const(t) => Some(t.btf_type()),
+            BtfType::Restrict(t) => Some(t.btf_type()),
+            BtfType::FuncProto(t) => Some(t.return_type()),
+            BtfType::Var(t) => Some(t.btf_type()),
+            BtfType::DeclTag(t) => Some(t.btf_type()),
+            BtfType::TypeTag(t) => Some(t.btf_type()),
+            _ => None,
+        }
+    }
+
+    /// The length of the record in bytes.
+    pub fn type_info_size(&self) -> usize
+        ensures { result ≡ 12 + 4 * length (record_of self.now).tail }
+    {
+        match self {
+            BtfType::Unknown => 12,
+            BtfType::Int(t) => t.type_info_size(),
+            BtfType::Ptr(t) => t.type_info_size(),
+            BtfType::Array(t) => t.type_info_size(),
+            BtfType::Struct(t) => t.type_info_size(),
+            BtfType::Union(t) => t.type_info_size(),
+            BtfType::Enum(t) => t.type_info_size(),
+            BtfType::Fwd(t) => t.type_info_size(),
+            BtfType::Typedef(t) => t.type_info_size(),
+            BtfType::Volatile(t) => t.type_info_size(),
+            BtfType::Const(t) => t.type_info_size(),
+            BtfType::Restrict(t) => t.type_info_size(),
+            BtfType::Func(t) => t.type_info_size(),
+            BtfType::FuncProto(t) => t.type_info_size(),
+            BtfType::Var(t) => t.type_info_size(),
+            BtfType::DataSec(t) => t.type_info_size(),
+            BtfType::Float(t) => t.type_info_size(),
+            BtfType::DeclTag(t) => t.type_info_size(),
+            BtfType::TypeTag(t) => t.type_info_size(),
+            BtfType::Enum64(t) => t.type_info_size(),
+        }
+    }
+
+    /// Whether the record is a STRUCT or a UNION.
+    pub fn is_composite(&self) -> bool
+        ensures { result ≡ model.is_composite (type_kind self.now) }
+    {
+        matches!(self, BtfType::Struct(_) | BtfType::Union(_))
+    }
+
+    /// Whether the kinds are equal, or one is ENUM and the other ENUM64.
+    pub fn is_compatible(&self, other: &BtfType) -> bool
+        ensures { IsTrue result ↔ (compared_kind (type_kind self.now) ≡ compared_kind (type_kind other.now)) }
+    {
+        compared(self.kind()) == compared(other.kind())
+    }
+
+    /// The members of a STRUCT or a UNION, in order; None for the other kinds.
+    pub fn members(&self) -> Option<Iter<'_, BtfMember>>
+        ensures { option_map (λ it. flat_map member_words (iter_rest it)) result ≡ (if model.is_composite (type_kind self.now) then Some (record_of self.now).tail else None) }
+    {
+        match self {
+            BtfType::Struct(t) => Some(t.members().iter()),
+            BtfType::Union(t) => Some(t.members().iter()),
+            _ => None,
+        }
+    }
+
+    /// The bit at which a member of this STRUCT or UNION begins; None for the other kinds.
+    pub fn member_bit_offset(&self, member: &BtfMember) -> Option<usize>
+        ensures { result ≡ (if model.is_composite (type_kind self.now) then Some (member_bit_offset (record_of self.now).info member.now.offset) else None) }
+    {
+        match self {
+            BtfType::Struct(t) => Some(t.member_bit_offset(member)),
+            BtfType::Union(t) => Some(t.member_bit_offset(member)),
+            _ => None,
+        }
+    }
+
+    /// The number of bits of a member of this STRUCT or UNION that is a bit-field, else 0; None for the other kinds.
+    pub fn member_bit_field_size(&self, member: &BtfMember) -> Option<usize>
+        ensures { result ≡ (if model.is_composite (type_kind self.now) then Some (member_bit_field_size (record_of self.now).info member.now.offset) else None) }
+    {
+        match self {
+            BtfType::Struct(t) => Some(t.member_bit_field_size(member)),
+            BtfType::Union(t) => Some(t.member_bit_field_size(member)),
+            _ => None,
+        }
+    }
+
+    /// An equal record, its fallback included. `OutOfMemory` is the only error.
+    pub fn try_clone(&self) -> Result<Self, BtfError>
+        ensures record { Gives record_of result (Ok (record_of self.now)) }
+        ensures fallback { Gives fallback_of result (Ok (fallback_of self.now)) }
+    {
+        match self {
+            BtfType::Unknown => Ok(BtfType::Unknown),
+            BtfType::Int(t) => Ok(BtfType::Int(t.clone()?)),
+            BtfType::Ptr(t) => Ok(BtfType::Ptr(t.clone()?)),
+            BtfType::Array(t) => Ok(BtfType::Array(t.clone()?)),
+            BtfType::Struct(t) => Ok(BtfType::Struct(t.try_clone()?)),
+            BtfType::Union(t) => Ok(BtfType::Union(t.try_clone()?)),
+            BtfType::Enum(t) => Ok(BtfType::Enum(t.try_clone()?)),
+            BtfType::Fwd(t) => Ok(BtfType::Fwd(t.clone()?)),
+            BtfType::Typedef(t) => Ok(BtfType::Typedef(t.clone()?)),
+            BtfType::Volatile(t) => Ok(BtfType::Volatile(t.clone()?)),
+            BtfType::Const(t) => Ok(BtfType::Const(t.clone()?)),
+            BtfType::Restrict(t) => Ok(BtfType::Restrict(t.clone()?)),
+            BtfType::Func(t) => Ok(BtfType::Func(t.clone()?)),
+            BtfType::FuncProto(t) => Ok(BtfType::FuncProto(t.try_clone()?)),
+            BtfType::Var(t) => Ok(BtfType::Var(t.clone()?)),
+            BtfType::DataSec(t) => Ok(BtfType::DataSec(t.try_clone()?)),
+            BtfType::Float(t) => Ok(BtfType::Float(t.clone()?)),
+            BtfType::DeclTag(t) => Ok(BtfType::DeclTag(t.clone()?)),
+            BtfType::TypeTag(t) => Ok(BtfType::TypeTag(t.clone()?)),
+            BtfType::Enum64(t) => Ok(BtfType::Enum64(t.try_clone()?)),
+        }
+    }
+}
+
+/// ENUM for ENUM64, and each other kind itself.
+fn compared(kind: BtfKind) -> BtfKind
+    ensures { kinds.kind result ≡ compared_kind (kinds.kind kind) }
+{
+    match kind {
+        BtfKind::Enum64 => BtfKind::Enum,
+        kind => kind,
+    }
+}

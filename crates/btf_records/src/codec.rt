@@ -1,0 +1,306 @@
+//! Records read from bytes, and written.
+
+ghost use Rattle.std.specs.Prelude.{◌≡◌, ◌<◌, ◌≤◌, ◌++◌, length, Some, None, Ok, OnOk, IfOk, MatchResult};
+ghost use Rattle.btf_model.specs.Record as model;
+ghost use Rattle.btf_model.specs.Record.{kind_number, kind_of};
+ghost use Rattle.btf_model.specs.Spelling.{spell, IsRecord, IsWhole};
+ghost use Rattle.btf_model.specs.Blob.{ReadsFront};
+ghost use Rattle.btf_plain.specs.Error.{Answers, Gives};
+ghost use Rattle.btf_plain.specs.Endianness.{order_of};
+ghost use Rattle.btf_records.specs.BtfType.{record_of, fallback_of};
+ghost use Rattle.btf_records.specs.Head.{IsHead, ReadsTail};
+
+use crate::btf_type::BtfType;
+use crate::items::read_items;
+use crate::records::{DataSec, Enum, Enum64, FuncProto, Struct, Union};
+use crate::words::{push, split_word};
+use btf_plain::{
+    Array, BtfError, BtfKind, Const, DeclTag, Endianness, Float, Func, FuncLinkage, Fwd, Int,
+    IntEncoding, Ptr, Restrict, TypeTag, Typedef, Var, VarLinkage, Volatile,
+};
+use std::alloc::{AllocError, Global};
+
+/// The three words that each record begins with.
+#[derive(Clone, Copy)]
+struct Head {
+    name: u32,
+    info: u32,
+    third: u32,
+}
+
+impl Head {
+    /// The head of the record at the front of bytes, and what follows it.
+    fn read(bytes: &[u8], endianness: Endianness) -> Result<(Head, &[u8]), BtfError>
+        ensures { MatchResult result
+            (λ x. IsHead (order_of endianness) bytes.now x.0 x.1.now)
+            (λ e. (length bytes.now < 12) × (e ≡ BtfError.InvalidTypeInfo)) }
+    {
+        let (name, rest) = split_word(bytes, endianness)?;
+        let (info, rest) = split_word(rest, endianness)?;
+        let (third, rest) = split_word(rest, endianness)?;
+        Ok((Head { name, info, third }, rest))
+    }
+
+    /// The number of the record's kind.
+    fn kind(&self) -> u32
+        ensures { result ≡ kind_number self.now.info }
+    {
+        self.info >> 24 & 0x1f
+    }
+
+    /// The number of items, in the kinds that have a list.
+    fn vlen(&self) -> usize
+        ensures { result ≡ model.vlen self.now.info }
+    {
+        (self.info & 0xffff) as usize
+    }
+}
+
+/// An INT of this head.
+fn read_int(head: Head, rest: &[u8], endianness: Endianness) -> Result<Int, BtfError>
+    requires { kind_of head.info ≡ Some model.Int }
+    ensures { Answers (λ r. r) result (ReadsTail (order_of endianness) head model.Int rest.now) }
+{
+    let (word, _) = split_word(rest, endianness)?;
+    let int = Int::new(head.name, head.third, IntEncoding::None, 0);
+    Ok(int.with_info(head.info).with_word(word))
+}
+
+/// A VAR of this head. A linkage that has no name is read as Unknown.
+fn read_var(head: Head, rest: &[u8], endianness: Endianness) -> Result<Var, BtfError>
+    requires { kind_of head.info ≡ Some model.Var }
+    ensures { Answers (λ r. r) result (ReadsTail (order_of endianness) head model.Var rest.now) }
+{
+    let (linkage, _) = split_word(rest, endianness)?;
+    Ok(Var::new(head.name, head.third, VarLinkage::from(linkage)).with_info(head.info))
+}
+
+/// A DECL_TAG of this head.
+fn read_decl_tag(head: Head, rest: &[u8], endianness: Endianness) -> Result<DeclTag, BtfError>
+    requires { kind_of head.info ≡ Some model.DeclTag }
+    ensures { Answers (λ r. r) result (ReadsTail (order_of endianness) head model.DeclTag rest.now) }
+{
+    let (index, _) = split_word(rest, endianness)?;
+    Ok(DeclTag::new(head.name, head.third, index.cast_signed()).with_info(head.info))
+}
+
+/// An ARRAY of this head, whose third word is dropped.
+fn read_array(head: Head, rest: &[u8], endianness: Endianness) -> Result<Array, BtfError>
+    requires { kind_of head.info ≡ Some model.Array }
+    ensures { Answers (λ r. r) result (ReadsTail (order_of endianness) head model.Array rest.now) }
+{
+    let (element_type, rest) = split_word(rest, endianness)?;
+    let (index_type, rest) = split_word(rest, endianness)?;
+    let (len, _) = split_word(rest, endianness)?;
+    Ok(Array::new(head.name, element_type, index_type, len).with_info(head.info))
+}
+
+/// A STRUCT of this head, with as many items as vlen says.
+fn read_struct(
+    alloc: Global,
+    head: Head,
+    rest: &[u8],
+    endianness: Endianness,
+) -> Result<Struct, BtfError>
+    requires { kind_of head.info ≡ Some model.Struct }
+    ensures { Answers (λ r. r) result (ReadsTail (order_of endianness) head model.Struct rest.now) }
+{
+    let items = read_items(alloc, rest, endianness, head.vlen())?;
+    Ok(Struct::from_parts(head.name, head.info, head.third, items))
+}
+
+/// A UNION of this head, with as many items as vlen says.
+fn read_union(
+    alloc: Global,
+    head: Head,
+    rest: &[u8],
+    endianness: Endianness,
+) -> Result<Union, BtfError>
+    requires { kind_of head.info ≡ Some model.Union }
+    ensures front { Answers (λ r. r.words) result (ReadsTail (order_of endianness) head model.Union rest.now) }
+    ensures no_fallback { IfOk result (λ u. u.fallback ≡ None) }
+{
+    let items = read_items(alloc, rest, endianness, head.vlen())?;
+    Ok(Union::from_parts(head.name, head.info, head.third, items))
+}
+
+/// An ENUM of this head, with as many items as vlen says.
+fn read_enum(
+    alloc: Global,
+    head: Head,
+    rest: &[u8],
+    endianness: Endianness,
+) -> Result<Enum, BtfError>
+    requires { kind_of head.info ≡ Some model.Enum }
+    ensures { Answers (λ r. r) result (ReadsTail (order_of endianness) head model.Enum rest.now) }
+{
+    let items = read_items(alloc, rest, endianness, head.vlen())?;
+    Ok(Enum::from_parts(head.name, head.info, head.third, items))
+}
+
+/// A FUNC_PROTO of this head, with as many items as vlen says.
+fn read_func_proto(
+    alloc: Global,
+    head: Head,
+    rest: &[u8],
+    endianness: Endianness,
+) -> Result<FuncProto, BtfError>
+    requires { kind_of head.info ≡ Some model.FuncProto }
+    ensures { Answers (λ r. r) result (ReadsTail (order_of endianness) head model.FuncProto rest.now) }
+{
+    let items = read_items(alloc, rest, endianness, head.vlen())?;
+    Ok(FuncProto::from_parts(head.name, head.info, head.third, items))
+}
+
+/// A DATASEC of this head, with as many items as vlen says.
+fn read_data_sec(
+    alloc: Global,
+    head: Head,
+    rest: &[u8],
+    endianness: Endianness,
+) -> Result<DataSec, BtfError>
+    requires { kind_of head.info ≡ Some model.DataSec }
+    ensures { Answers (λ r. r) result (ReadsTail (order_of endianness) head model.DataSec rest.now) }
+{
+    let items = read_items(alloc, rest, endianness, head.vlen())?;
+    Ok(DataSec::from_parts(head.name, head.info, head.third, items))
+}
+
+/// An ENUM64 of this head, with as many items as vlen says.
+fn read_enum64(
+    alloc: Global,
+    head: Head,
+    rest: &[u8],
+    endianness: Endianness,
+) -> Result<Enum64, BtfError>
+    requires { kind_of head.info ≡ Some model.Enum64 }
+    ensures { Answers (λ r. r) result (ReadsTail (order_of endianness) head model.Enum64 rest.now) }
+{
+    let items = read_items(alloc, rest, endianness, head.vlen())?;
+    Ok(Enum64::from_parts(head.name, head.info, head.third, items))
+}
+
+impl BtfType {
+    /// The record at the front of the data, whose words are in this order. Bytes may follow it.
+    ///
+    /// An error says why no record stands there: `InvalidTypeInfo` where the data ends before the record does,
+    /// and `InvalidTypeKind` where there is no such kind. The third word of FWD and ARRAY is dropped, a linkage of VAR
+    /// above 2 is read as Unknown, and a record of kind 0 is Unknown whatever its other words are.
+    pub fn read(alloc: Global, data: &[u8], endianness: Endianness) -> Result<BtfType, BtfError>
+        ensures front { Answers record_of result (ReadsFront (order_of endianness) «data».now) }
+        ensures no_fallback { IfOk result (λ t. fallback_of t ≡ None) }
+    {
+        let (head, rest) = Head::read(data, endianness)?;
+        let Head { name, info, third } = head;
+        match BtfKind::try_from(head.kind())? {
+            BtfKind::Unknown => Ok(BtfType::Unknown),
+            BtfKind::Int => Ok(BtfType::Int(read_int(head, rest, endianness)?)),
+            BtfKind::Ptr => Ok(BtfType::Ptr(Ptr::new(name, third).with_info(info))),
+            BtfKind::Array => Ok(BtfType::Array(read_array(head, rest, endianness)?)),
+            BtfKind::Struct => Ok(BtfType::Struct(read_struct(alloc, head, rest, endianness)?)),
+            BtfKind::Union => Ok(BtfType::Union(read_union(alloc, head, rest, endianness)?)),
+            BtfKind::Enum => Ok(BtfType::Enum(read_enum(alloc, head, rest, endianness)?)),
+            BtfKind::Fwd => Ok(BtfType::Fwd(Fwd::new(name, false).with_info(info))),
+            BtfKind::Typedef => Ok(BtfType::Typedef(Typedef::new(name, third).with_info(info))),
+            BtfKind::Volatile => {
+                let record = Volatile::new(third).with_name_offset(name);
+                Ok(BtfType::Volatile(record.with_info(info)))
+            }
+            BtfKind::Const => {
+                let record = Const::new(third).with_name_offset(name);
+                Ok(BtfType::Const(record.with_info(info)))
+            }
+            BtfKind::Restrict => {
+                let record = Restrict::new(third).with_name_offset(name);
+                Ok(BtfType::Restrict(record.with_info(info)))
+            }
+            BtfKind::Func => Ok(BtfType::Func(Func::new(name, third, FuncLinkage::Static).with_info(
+                info,
+            ))),
+            BtfKind::FuncProto => {
+                Ok(BtfType::FuncProto(read_func_proto(alloc, head, rest, endianness)?))
+            }
+            BtfKind::Var => Ok(BtfType::Var(read_var(head, rest, endianness)?)),
+            BtfKind::DataSec => Ok(BtfType::DataSec(read_data_sec(alloc, head, rest, endianness)?)),
+            BtfKind::Float => Ok(BtfType::Float(Float::new(name, third).with_info(info))),
+            BtfKind::DeclTag => Ok(BtfType::DeclTag(read_decl_tag(head, rest, endianness)?)),
+            BtfKind::TypeTag => Ok(BtfType::TypeTag(TypeTag::new(name, third).with_info(info))),
+            BtfKind::Enum64 => Ok(BtfType::Enum64(read_enum64(alloc, head, rest, endianness)?)),
+        }
+    }
+
+    /// Writes the record at the end of bytes, in this order. Only memory can be wanting, and then some of the
+    /// record's words may stand at the end.
+    pub fn append_to(&self, out: &mut Vec<u8>, order: Endianness) -> Result<(), AllocError>
+        ensures written { OnOk result (out.new.items ≡ out.old.items ++ spell (order_of order) (record_of self.now)) }
+        // What is written is read as the record.
+        ensures whole { OnOk result (IsWhole (record_of self.now)) }
+    {
+        match self {
+            BtfType::Unknown => push(out, order, &[0, 0, 0]),
+            BtfType::Fwd(t) => push(out, order, &[t.name_offset(), t.info(), 0]),
+            BtfType::Ptr(t) => push(out, order, &[t.name_offset(), t.info(), t.btf_type()]),
+            BtfType::Typedef(t) => push(out, order, &[t.name_offset(), t.info(), t.btf_type()]),
+            BtfType::Volatile(t) => push(out, order, &[t.name_offset(), t.info(), t.btf_type()]),
+            BtfType::Const(t) => push(out, order, &[t.name_offset(), t.info(), t.btf_type()]),
+            BtfType::Restrict(t) => push(out, order, &[t.name_offset(), t.info(), t.btf_type()]),
+            BtfType::Func(t) => push(out, order, &[t.name_offset(), t.info(), t.btf_type()]),
+            BtfType::Float(t) => push(out, order, &[t.name_offset(), t.info(), t.size()]),
+            BtfType::TypeTag(t) => push(out, order, &[t.name_offset(), t.info(), t.btf_type()]),
+            BtfType::Int(t) => {
+                push(out, order, &[t.name_offset(), t.info(), t.size(), t.word()])
+            }
+            BtfType::Var(t) => {
+                let linkage = t.linkage() as u32;
+                push(
+                    out,
+                    order,
+                    &[t.name_offset(), t.info(), t.btf_type(), linkage],
+                )
+            }
+            BtfType::DeclTag(t) => {
+                let index = t.component_index().cast_unsigned();
+                push(
+                    out,
+                    order,
+                    &[t.name_offset(), t.info(), t.btf_type(), index],
+                )
+            }
+            BtfType::Array(t) => append_array(t, out, order),
+            BtfType::Struct(t) => t.append_to(out, order),
+            BtfType::Union(t) => t.append_to(out, order),
+            BtfType::Enum(t) => t.append_to(out, order),
+            BtfType::FuncProto(t) => t.append_to(out, order),
+            BtfType::DataSec(t) => t.append_to(out, order),
+            BtfType::Enum64(t) => t.append_to(out, order),
+        }
+    }
+
+    /// The bytes of the record, in this order. `OutOfMemory` is the only error.
+    pub fn to_bytes(&self, alloc: Global, endianness: Endianness) -> Result<Vec<u8>, BtfError>
+        ensures written { Gives (λ v. v.items) result (Ok (spell (order_of endianness) (record_of self.now))) }
+        // What is written is read as the record.
+        ensures read_again { IfOk result (λ v. IsRecord (order_of endianness) v.items (record_of self.now)) }
+    {
+        let mut out = Vec::with_capacity(alloc, self.type_info_size())?;
+        self.append_to(&mut out, endianness)?;
+        Ok(out)
+    }
+}
+
+/// Writes an ARRAY at the end of bytes, its third word as 0.
+fn append_array(t: &Array, out: &mut Vec<u8>, endianness: Endianness) -> Result<(), AllocError>
+    ensures written { OnOk result (out.new.items ≡ out.old.items ++ spell (order_of endianness) t.now) }
+    ensures whole { IsWhole t.now }
+{
+    let array = t.array();
+    let words = [
+        t.name_offset(),
+        t.info(),
+        0,
+        array.element_type,
+        array.index_type,
+        array.len,
+    ];
+    push(out, endianness, &words)
+}

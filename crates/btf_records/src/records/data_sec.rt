@@ -1,0 +1,174 @@
+//! DATASEC: a data section, the variables of which are its entries.
+
+ghost use Rattle.std.specs.Prelude.{◌≡◌, ◌+◌, ◌*◌, ◌^◌, ◌≤◌, ◌++◌, length, Some, Ok, OnOk, vec_len, ◌<◌, ◌∷◌, take, drop};
+ghost use Rattle.std.specs.List.{flat_map};
+ghost use Rattle.btf_model.specs.Word.{word};
+ghost use Rattle.btf_model.specs.Record as model;
+ghost use Rattle.btf_model.specs.Record.{kind_of, vlen};
+ghost use Rattle.btf_model.specs.Spelling.{spell, IsWhole};
+ghost use Rattle.btf_plain.specs.Endianness.{order_of};
+ghost use Rattle.btf_plain.specs.Error.{Gives};
+ghost use Rattle.btf_records.specs.Items.{entry_words};
+
+use crate::items::{clone_items, push_items};
+use crate::records::DataSecEntry;
+use crate::words::push;
+use btf_plain::{BtfError, BtfKind, Endianness, MAX_VLEN};
+use std::alloc::AllocError;
+use std::marker::Model;
+
+/// A data section, the variables of which are its entries (the kernel's documentation, "BTF_KIND_DATASEC"). Contracts see it as the record of its words.
+#[derive(Debug, Drop)]
+pub struct DataSec {
+    name_offset: u32,
+    info: u32,
+    size: u32,
+    entries: Vec<DataSecEntry>,
+}
+
+impl Model for DataSec {
+    ghost use Rattle.std.specs.Prelude.{◌≡◌, length, Some};
+    ghost use Rattle.std.specs.List.{flat_map};
+    ghost use Rattle.btf_model.specs.Record.{Record, kind_of, vlen, DataSec as DataSecKind};
+    ghost use Rattle.btf_records.specs.Items.{entry_words};
+
+    ghost Value = { Record };
+
+    ghost view = { λ a. record { name = a.name_offset; info = a.info; third = a.size; tail = flat_map entry_words a.entries.items } };
+
+    ghost invariant = { λ a. (kind_of a.info ≡ Some DataSecKind) × (vlen a.info ≡ length a.entries.items) };
+}
+
+impl DataSec {
+    /// A section of `size` bytes with these entries. There are at most `MAX_VLEN` of them.
+    pub fn new(name_offset: u32, entries: Vec<DataSecEntry>, size: u32) -> Self
+        requires { vec_len entries ≤ MAX_VLEN }
+        ensures { result ≡ record {
+          name = name_offset;
+          info = 15 * 2 ^ 24 + vec_len entries;
+          third = size;
+          tail = flat_map entry_words entries.items;
+        } }
+    {
+        let info = (BtfKind::DataSec as u32) << 24 | entries.len() as u32;
+        Self {
+            name_offset,
+            info,
+            size,
+            entries,
+        }
+    }
+
+    /// The record of these words, for what is read.
+    pub(crate) fn from_parts(
+        name_offset: u32,
+        info: u32,
+        size: u32,
+        entries: Vec<DataSecEntry>,
+    ) -> Self
+        requires kind { kind_of info ≡ Some model.DataSec }
+        requires count { vlen info ≡ vec_len entries }
+        ensures { result ≡ record { name = name_offset; info = info; third = size; tail = flat_map entry_words entries.items } }
+    {
+        Self {
+            name_offset,
+            info,
+            size,
+            entries,
+        }
+    }
+
+    /// The kind of the record.
+    pub fn kind(&self) -> BtfKind
+        ensures { result ≡ BtfKind.DataSec }
+    {
+        BtfKind::DataSec
+    }
+
+    /// The string offset of the name.
+    pub fn name_offset(&self) -> u32
+        ensures { result ≡ self.now.name }
+    {
+        self.name_offset
+    }
+
+    /// The info word, whose kind is DATASEC and whose vlen is the number of entries.
+    pub fn info(&self) -> u32
+        ensures value { result ≡ self.now.info }
+        ensures kind { kind_of result ≡ Some model.DataSec }
+    {
+        self.info
+    }
+
+    /// The size of the section in bytes.
+    pub fn size(&self) -> u32
+        ensures { result ≡ self.now.third }
+    {
+        self.size
+    }
+
+    /// The entries, in order.
+    pub fn entries(&self) -> &[DataSecEntry]
+        ensures words { self.now.tail ≡ flat_map entry_words result.now }
+        ensures count { vlen self.now.info ≡ length result.now }
+    {
+        &self.entries
+    }
+
+    /// Sets the string offset of the name, and leaves all else as it is.
+    pub fn set_name_offset(&mut self, name_offset: u32)
+        ensures { self.new ≡ record self.old { name = name_offset } }
+    {
+        self.name_offset = name_offset;
+    }
+
+    /// Sets the size of the section in bytes, and leaves all else as it is.
+    pub fn set_size(&mut self, size: u32)
+        ensures { self.new ≡ record self.old { third = size } }
+    {
+        self.size = size;
+    }
+
+    /// Puts an entry in the place of the one that is there.
+    pub fn set_entry(&mut self, index: usize, entry: DataSecEntry)
+        requires { index < vlen self.old.info }
+        ensures { self.new ≡ record self.old {
+          tail = take (3 * index) self.old.tail ++ entry_words entry ++ drop (3 * index + 3) self.old.tail;
+        } }
+    {
+        self.entries[index] = entry;
+    }
+
+    /// The length of the record in bytes.
+    pub fn type_info_size(&self) -> usize
+        ensures { result ≡ 12 + 4 * length self.now.tail }
+    {
+        12 + 12 * self.entries.len()
+    }
+
+    /// An equal record. `OutOfMemory` is the only error.
+    pub fn try_clone(&self) -> Result<Self, BtfError>
+        ensures { Gives (λ r. r) result (Ok self.now) }
+    {
+        Ok(Self {
+            name_offset: self.name_offset,
+            info: self.info,
+            size: self.size,
+            entries: clone_items(&self.entries)?,
+        })
+    }
+
+    /// Writes the record at the end of bytes, in this order.
+    pub(crate) fn append_to(
+        &self,
+        out: &mut Vec<u8>,
+        endianness: Endianness,
+    ) -> Result<(), AllocError>
+        ensures written { OnOk result (out.new.items ≡ out.old.items ++ spell (order_of endianness) self.now) }
+        ensures whole { OnOk result (IsWhole self.now) }
+    {
+        let words = [self.name_offset, self.info, self.size];
+        push(out, endianness, &words)?;
+        push_items(out, endianness, &self.entries)
+    }
+}

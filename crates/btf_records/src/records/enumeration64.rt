@@ -1,0 +1,159 @@
+//! ENUM64: an enumeration of 64-bit values.
+
+ghost use Rattle.std.specs.Prelude.{◌≡◌, ◌+◌, ◌*◌, ◌^◌, ◌≤◌, ◌++◌, length, Some, Ok, OnOk, vec_len, ◌/◌, ◌%◌, ◌↔◌, IsTrue};
+ghost use Rattle.std.specs.List.{flat_map};
+ghost use Rattle.btf_model.specs.Word.{word};
+ghost use Rattle.btf_model.specs.Record as model;
+ghost use Rattle.btf_model.specs.Record.{kind_of, vlen, kind_flag};
+ghost use Rattle.btf_model.specs.Spelling.{spell, IsWhole};
+ghost use Rattle.btf_plain.specs.Endianness.{order_of};
+ghost use Rattle.btf_plain.specs.Error.{Gives};
+ghost use Rattle.btf_plain.specs.Info.{flag_bit, with_flag};
+ghost use Rattle.btf_records.specs.Items.{enum64_words};
+
+use crate::items::{clone_items, push_items};
+use crate::records::BtfEnum64;
+use crate::records::flag::sign_bit;
+use crate::words::push;
+use btf_plain::{BtfError, BtfKind, Endianness, MAX_VLEN};
+use std::alloc::AllocError;
+use std::marker::Model;
+
+/// An enumeration of 64-bit values (the kernel's documentation, "BTF_KIND_ENUM64"). Contracts see it as the record of its words.
+#[derive(Debug, Drop)]
+pub struct Enum64 {
+    name_offset: u32,
+    info: u32,
+    size: u32,
+    variants: Vec<BtfEnum64>,
+}
+
+impl Model for Enum64 {
+    ghost use Rattle.std.specs.Prelude.{◌≡◌, length, Some};
+    ghost use Rattle.std.specs.List.{flat_map};
+    ghost use Rattle.btf_model.specs.Record.{Record, kind_of, vlen, Enum64 as Enum64Kind};
+    ghost use Rattle.btf_records.specs.Items.{enum64_words};
+
+    ghost Value = { Record };
+
+    ghost view = { λ a. record { name = a.name_offset; info = a.info; third = a.size; tail = flat_map enum64_words a.variants.items } };
+
+    ghost invariant = { λ a. (kind_of a.info ≡ Some Enum64Kind) × (vlen a.info ≡ length a.variants.items) };
+}
+
+impl Enum64 {
+    /// An enumeration of 8 bytes with these variants. There are at most `MAX_VLEN` of them.
+    pub fn new(name_offset: u32, signed: bool, variants: Vec<BtfEnum64>) -> Self
+        requires { vec_len variants ≤ MAX_VLEN }
+        ensures { result ≡ record {
+          name = name_offset;
+          info = 19 * 2 ^ 24 + vec_len variants + flag_bit signed;
+          third = 8;
+          tail = flat_map enum64_words variants.items;
+        } }
+    {
+        let info = (BtfKind::Enum64 as u32) << 24 | variants.len() as u32 | sign_bit(signed);
+        Self {
+            name_offset,
+            info,
+            size: 8,
+            variants,
+        }
+    }
+
+    /// The record of these words, for what is read.
+    pub(crate) fn from_parts(
+        name_offset: u32,
+        info: u32,
+        size: u32,
+        variants: Vec<BtfEnum64>,
+    ) -> Self
+        requires kind { kind_of info ≡ Some model.Enum64 }
+        requires count { vlen info ≡ vec_len variants }
+        ensures { result ≡ record { name = name_offset; info = info; third = size; tail = flat_map enum64_words variants.items } }
+    {
+        Self {
+            name_offset,
+            info,
+            size,
+            variants,
+        }
+    }
+
+    /// The kind of the record.
+    pub fn kind(&self) -> BtfKind
+        ensures { result ≡ BtfKind.Enum64 }
+    {
+        BtfKind::Enum64
+    }
+
+    /// The string offset of the name.
+    pub fn name_offset(&self) -> u32
+        ensures { result ≡ self.now.name }
+    {
+        self.name_offset
+    }
+
+    /// The info word, whose kind is ENUM64 and whose vlen is the number of variants.
+    pub fn info(&self) -> u32
+        ensures value { result ≡ self.now.info }
+        ensures kind { kind_of result ≡ Some model.Enum64 }
+    {
+        self.info
+    }
+
+    /// The size in bytes.
+    pub fn size(&self) -> u32
+        ensures { result ≡ self.now.third }
+    {
+        self.size
+    }
+
+    /// The variants, in order.
+    pub fn variants(&self) -> &[BtfEnum64]
+        ensures words { self.now.tail ≡ flat_map enum64_words result.now }
+        ensures count { vlen self.now.info ≡ length result.now }
+    {
+        &self.variants
+    }
+
+    /// Whether the values have a sign: the kind flag of info.
+    pub fn is_signed(&self) -> bool
+        ensures { IsTrue result ↔ (kind_flag self.now.info ≡ 1) }
+    {
+        self.info >> 31 == 1
+    }
+
+    /// The length of the record in bytes.
+    pub fn type_info_size(&self) -> usize
+        ensures { result ≡ 12 + 4 * length self.now.tail }
+    {
+        12 + 12 * self.variants.len()
+    }
+
+    /// An equal record. `OutOfMemory` is the only error.
+    pub fn try_clone(&self) -> Result<Self, BtfError>
+        ensures { Gives (λ r. r) result (Ok self.now) }
+    {
+        Ok(Self {
+            name_offset: self.name_offset,
+            info: self.info,
+            size: self.size,
+            variants: clone_items(&self.variants)?,
+        })
+    }
+
+    /// Writes the record at the end of bytes, in this order.
+    pub(crate) fn append_to(
+        &self,
+        out: &mut Vec<u8>,
+        endianness: Endianness,
+    ) -> Result<(), AllocError>
+        ensures written { OnOk result (out.new.items ≡ out.old.items ++ spell (order_of endianness) self.now) }
+        ensures whole { OnOk result (IsWhole self.now) }
+    {
+        let words = [self.name_offset, self.info, self.size];
+        push(out, endianness, &words)?;
+        push_items(out, endianness, &self.variants)
+    }
+}

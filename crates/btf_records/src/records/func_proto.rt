@@ -1,0 +1,160 @@
+//! FUNC_PROTO: a function prototype.
+
+ghost use Rattle.std.specs.Prelude.{◌≡◌, ◌+◌, ◌*◌, ◌^◌, ◌≤◌, ◌++◌, length, Some, Ok, OnOk, vec_len, ◌<◌, ◌∷◌, take, drop};
+ghost use Rattle.std.specs.List.{flat_map};
+ghost use Rattle.btf_model.specs.Word.{word};
+ghost use Rattle.btf_model.specs.Record as model;
+ghost use Rattle.btf_model.specs.Record.{kind_of, vlen};
+ghost use Rattle.btf_model.specs.Spelling.{spell, IsWhole};
+ghost use Rattle.btf_plain.specs.Endianness.{order_of};
+ghost use Rattle.btf_plain.specs.Error.{Gives};
+ghost use Rattle.btf_records.specs.Items.{param_words};
+
+use crate::items::{clone_items, push_items};
+use crate::records::BtfParam;
+use crate::words::push;
+use btf_plain::{BtfError, BtfKind, Endianness, MAX_VLEN};
+use std::alloc::AllocError;
+use std::marker::Model;
+
+/// A function prototype (the kernel's documentation, "BTF_KIND_FUNC_PROTO"). Contracts see it as the record of its words.
+#[derive(Debug, Drop)]
+pub struct FuncProto {
+    name_offset: u32,
+    info: u32,
+    return_type: u32,
+    params: Vec<BtfParam>,
+}
+
+impl Model for FuncProto {
+    ghost use Rattle.std.specs.Prelude.{◌≡◌, length, Some};
+    ghost use Rattle.std.specs.List.{flat_map};
+    ghost use Rattle.btf_model.specs.Record.{Record, kind_of, vlen, FuncProto as FuncProtoKind};
+    ghost use Rattle.btf_records.specs.Items.{param_words};
+
+    ghost Value = { Record };
+
+    ghost view = { λ a. record { name = a.name_offset; info = a.info; third = a.return_type; tail = flat_map param_words a.params.items } };
+
+    ghost invariant = { λ a. (kind_of a.info ≡ Some FuncProtoKind) × (vlen a.info ≡ length a.params.items) };
+}
+
+impl FuncProto {
+    /// A prototype with these parameters. It has no name. There are at most `MAX_VLEN` of them.
+    pub fn new(params: Vec<BtfParam>, return_type: u32) -> Self
+        requires { vec_len params ≤ MAX_VLEN }
+        ensures { result ≡ record {
+          name = 0;
+          info = 13 * 2 ^ 24 + vec_len params;
+          third = return_type;
+          tail = flat_map param_words params.items;
+        } }
+    {
+        let info = (BtfKind::FuncProto as u32) << 24 | params.len() as u32;
+        Self {
+            name_offset: 0,
+            info,
+            return_type,
+            params,
+        }
+    }
+
+    /// The record of these words, for what is read.
+    pub(crate) fn from_parts(
+        name_offset: u32,
+        info: u32,
+        return_type: u32,
+        params: Vec<BtfParam>,
+    ) -> Self
+        requires kind { kind_of info ≡ Some model.FuncProto }
+        requires count { vlen info ≡ vec_len params }
+        ensures { result ≡ record { name = name_offset; info = info; third = return_type; tail = flat_map param_words params.items } }
+    {
+        Self {
+            name_offset,
+            info,
+            return_type,
+            params,
+        }
+    }
+
+    /// The kind of the record.
+    pub fn kind(&self) -> BtfKind
+        ensures { result ≡ BtfKind.FuncProto }
+    {
+        BtfKind::FuncProto
+    }
+
+    /// The string offset of the name.
+    pub fn name_offset(&self) -> u32
+        ensures { result ≡ self.now.name }
+    {
+        self.name_offset
+    }
+
+    /// The info word, whose kind is FUNC_PROTO and whose vlen is the number of params.
+    pub fn info(&self) -> u32
+        ensures value { result ≡ self.now.info }
+        ensures kind { kind_of result ≡ Some model.FuncProto }
+    {
+        self.info
+    }
+
+    /// The id of the type that is returned; 0 stands for none.
+    pub fn return_type(&self) -> u32
+        ensures { result ≡ self.now.third }
+    {
+        self.return_type
+    }
+
+    /// The parameters, in order.
+    pub fn params(&self) -> &[BtfParam]
+        ensures words { self.now.tail ≡ flat_map param_words result.now }
+        ensures count { vlen self.now.info ≡ length result.now }
+    {
+        &self.params
+    }
+
+    /// Sets the string offset of a parameter's name, and leaves all else as it is.
+    pub fn set_param_name(&mut self, index: usize, name_offset: u32)
+        requires { index < vlen self.old.info }
+        ensures { self.new ≡ record self.old {
+          tail = take (2 * index) self.old.tail ++ name_offset ∷ drop (2 * index + 1) self.old.tail;
+        } }
+    {
+        self.params[index].name_offset = name_offset;
+    }
+
+    /// The length of the record in bytes.
+    pub fn type_info_size(&self) -> usize
+        ensures { result ≡ 12 + 4 * length self.now.tail }
+    {
+        12 + 8 * self.params.len()
+    }
+
+    /// An equal record. `OutOfMemory` is the only error.
+    pub fn try_clone(&self) -> Result<Self, BtfError>
+        ensures { Gives (λ r. r) result (Ok self.now) }
+    {
+        Ok(Self {
+            name_offset: self.name_offset,
+            info: self.info,
+            return_type: self.return_type,
+            params: clone_items(&self.params)?,
+        })
+    }
+
+    /// Writes the record at the end of bytes, in this order.
+    pub(crate) fn append_to(
+        &self,
+        out: &mut Vec<u8>,
+        endianness: Endianness,
+    ) -> Result<(), AllocError>
+        ensures written { OnOk result (out.new.items ≡ out.old.items ++ spell (order_of endianness) self.now) }
+        ensures whole { OnOk result (IsWhole self.now) }
+    {
+        let words = [self.name_offset, self.info, self.return_type];
+        push(out, endianness, &words)?;
+        push_items(out, endianness, &self.params)
+    }
+}

@@ -1,0 +1,195 @@
+//! UNION: a union.
+
+ghost use Rattle.std.specs.Prelude.{◌≡◌, ◌+◌, ◌*◌, ◌^◌, ◌≤◌, ◌++◌, length, Some, Ok, OnOk, vec_len, None};
+ghost use Rattle.std.specs.Option.{option_copied};
+ghost use Rattle.std.specs.List.{flat_map};
+ghost use Rattle.btf_model.specs.Word.{word};
+ghost use Rattle.btf_model.specs.Record as model;
+ghost use Rattle.btf_model.specs.Record.{kind_of, vlen, member_bit_offset, member_bit_field_size};
+ghost use Rattle.btf_model.specs.Spelling.{spell, IsWhole};
+ghost use Rattle.btf_plain.specs.Endianness.{order_of};
+ghost use Rattle.btf_plain.specs.Error.{Gives};
+ghost use Rattle.btf_records.specs.Fallback.{fallback_of_option};
+ghost use Rattle.btf_records.specs.Items.{member_words};
+
+use crate::items::{clone_items, push_items};
+use crate::records::fallback::clone_fallback;
+use crate::records::{BtfMember, Enum64Fallback};
+use crate::words::push;
+use btf_plain::{BtfError, BtfKind, Endianness, MAX_VLEN};
+use std::alloc::AllocError;
+use std::marker::Model;
+
+/// A union (the kernel's documentation, "BTF_KIND_UNION"). Contracts see it as the record of its words, and its
+/// fallback.
+#[derive(Debug, Drop)]
+pub struct Union {
+    name_offset: u32,
+    info: u32,
+    size: u32,
+    members: Vec<BtfMember>,
+    fallback: Option<Enum64Fallback>,
+}
+
+impl Model for Union {
+    ghost use Rattle.std.specs.Prelude.{◌≡◌, length, Some};
+    ghost use Rattle.std.specs.List.{flat_map};
+    ghost use Rattle.btf_model.specs.Record.{Record, kind_of, vlen, Union as UnionKind};
+    ghost use Rattle.btf_model.specs.Table.{UnionRecord};
+    ghost use Rattle.btf_records.specs.Items.{member_words};
+    ghost use Rattle.btf_records.specs.Fallback.{fallback_of_option};
+
+    ghost Value = { UnionRecord };
+
+    ghost view = { λ a. record {
+      words = record { name = a.name_offset; info = a.info; third = a.size; tail = flat_map member_words a.members.items };
+      fallback = fallback_of_option a.fallback;
+    } };
+
+    ghost invariant = { λ a. (kind_of a.info ≡ Some UnionKind) × (vlen a.info ≡ length a.members.items) };
+}
+
+impl Union {
+    /// A union of `size` bytes with these members, and the ENUM64 that it stands in for, if it does. There are at most `MAX_VLEN` of them.
+    pub fn new(
+        name_offset: u32,
+        size: u32,
+        members: Vec<BtfMember>,
+        fallback: Option<Enum64Fallback>,
+    ) -> Self
+        requires { vec_len members ≤ MAX_VLEN }
+        ensures { result ≡ record {
+          words = record { name = name_offset; info = 5 * 2 ^ 24 + vec_len members; third = size; tail = flat_map member_words members.items };
+          fallback = fallback_of_option fallback;
+        } }
+    {
+        let info = (BtfKind::Union as u32) << 24 | members.len() as u32;
+        Self {
+            name_offset,
+            info,
+            size,
+            members,
+            fallback,
+        }
+    }
+
+    /// The record of these words, for what is read.
+    pub(crate) fn from_parts(
+        name_offset: u32,
+        info: u32,
+        size: u32,
+        members: Vec<BtfMember>,
+    ) -> Self
+        requires kind { kind_of info ≡ Some model.Union }
+        requires count { vlen info ≡ vec_len members }
+        ensures { result ≡ record { words = record { name = name_offset; info = info; third = size; tail = flat_map member_words members.items }; fallback = None } }
+    {
+        Self {
+            name_offset,
+            info,
+            size,
+            members,
+            fallback: None,
+        }
+    }
+
+    /// The kind of the record.
+    pub fn kind(&self) -> BtfKind
+        ensures { result ≡ BtfKind.Union }
+    {
+        BtfKind::Union
+    }
+
+    /// The string offset of the name.
+    pub fn name_offset(&self) -> u32
+        ensures { result ≡ self.now.words.name }
+    {
+        self.name_offset
+    }
+
+    /// The info word, whose kind is UNION and whose vlen is the number of members.
+    pub fn info(&self) -> u32
+        ensures value { result ≡ self.now.words.info }
+        ensures kind { kind_of result ≡ Some model.Union }
+    {
+        self.info
+    }
+
+    /// The size in bytes.
+    pub fn size(&self) -> u32
+        ensures { result ≡ self.now.words.third }
+    {
+        self.size
+    }
+
+    /// The members, in order.
+    pub fn members(&self) -> &[BtfMember]
+        ensures words { self.now.words.tail ≡ flat_map member_words result.now }
+        ensures count { vlen self.now.words.info ≡ length result.now }
+    {
+        &self.members
+    }
+
+    /// The bit at which a member of this record begins.
+    pub fn member_bit_offset(&self, member: &BtfMember) -> usize
+        ensures { result ≡ member_bit_offset self.now.words.info member.now.offset }
+    {
+        if self.info >> 31 == 1 {
+            (member.offset & 0xff_ffff) as usize
+        } else {
+            member.offset as usize
+        }
+    }
+
+    /// The number of bits of a member of this record that is a bit-field, else 0.
+    pub fn member_bit_field_size(&self, member: &BtfMember) -> usize
+        ensures { result ≡ member_bit_field_size self.now.words.info member.now.offset }
+    {
+        if self.info >> 31 == 1 {
+            (member.offset >> 24) as usize
+        } else {
+            0
+        }
+    }
+
+    /// The ENUM64 that the union stands in for, if it does.
+    pub fn enum64_fallback(&self) -> Option<&Enum64Fallback>
+        ensures { self.now.fallback ≡ fallback_of_option (option_copied result) }
+    {
+        self.fallback.as_ref()
+    }
+
+    /// The length of the record in bytes.
+    pub fn type_info_size(&self) -> usize
+        ensures { result ≡ 12 + 4 * length self.now.words.tail }
+    {
+        12 + 12 * self.members.len()
+    }
+
+    /// An equal record. `OutOfMemory` is the only error.
+    pub fn try_clone(&self) -> Result<Self, BtfError>
+        ensures { Gives (λ r. r) result (Ok self.now) }
+    {
+        Ok(Self {
+            name_offset: self.name_offset,
+            info: self.info,
+            size: self.size,
+            members: clone_items(&self.members)?,
+            fallback: clone_fallback(&self.fallback)?,
+        })
+    }
+
+    /// Writes the record at the end of bytes, in this order.
+    pub(crate) fn append_to(
+        &self,
+        out: &mut Vec<u8>,
+        endianness: Endianness,
+    ) -> Result<(), AllocError>
+        ensures written { OnOk result (out.new.items ≡ out.old.items ++ spell (order_of endianness) self.now.words) }
+        ensures whole { OnOk result (IsWhole self.now.words) }
+    {
+        let words = [self.name_offset, self.info, self.size];
+        push(out, endianness, &words)?;
+        push_items(out, endianness, &self.members)
+    }
+}

@@ -1,0 +1,15 @@
+//! Tests that cross crates, in tables. Their expected values are worked by hand from the format.
+#![tactic(auto)]
+
+#[cfg(test)]
+mod errors;
+#[cfg(test)]
+mod kinds;
+#[cfg(test)]
+mod records;
+#[cfg(test)]
+mod spelled;
+#[cfg(test)]
+mod tables;
+#[cfg(test)]
+mod walks;

@@ -1,0 +1,12 @@
+pub mod Btf
+pub mod Header
+pub mod Records
+pub mod Walk
+pub use Rattle.btf_model.specs.Word
+pub use Rattle.btf_model.specs.Record
+pub use Rattle.btf_model.specs.Spelling
+pub use Rattle.btf_model.specs.Table
+pub use Rattle.btf_model.specs.Blob
+pub use Rattle.btf_plain.specs.Error
+pub use Rattle.btf_plain.specs.Endianness
+pub use Rattle.btf_records.specs.BtfType

@@ -1,0 +1,93 @@
+//! The program over any streams.
+
+ghost use Rattle.std.specs.Prelude.{◌≡◌, ℕ, List, ◌↔◌, Some, IfOk, OnOk, IfSome, IsErr};
+ghost use Rattle.std.specs.Io.KnownBytes.{Keeps};
+ghost use Rattle.btf_model.specs.Refusal.{Refusal};
+ghost use Rattle.btf_model.specs.Blob.{IsRefusal};
+ghost use Rattle.btf_plain.specs.Endianness.{order_of};
+ghost use Rattle.btftool.specs.declared.line.Line.{Line};
+ghost use Rattle.btftool.specs.Line.{Asks};
+ghost use Rattle.btftool.specs.Answer.{IsAnswer, IsWritten};
+
+use crate::fault::Fault;
+use crate::line::{Command, Line};
+use btf_plain::{BtfError, Endianness};
+use btf_types::Btf;
+use std::alloc::Global;
+use std::io::{ErrorKind, Read, Write};
+
+const USAGE: &str = "usage: btftool little|big copy|types|size ID|compat ID ID|rewrite WORD..";
+
+/// The whole input.
+fn read_input<R: Read>(alloc: Global, input: &mut R) -> Result<Vec<u8>, Fault>
+    ensures { IfOk result (λ v. IfSome (R.remaining input.old) (λ bytes. v.items ≡ bytes)) }
+{
+    let mut bytes = Vec::new(alloc);
+    match input.read_to_end(&mut bytes) {
+        Ok(_) => Ok(bytes),
+        Err(e) if e.kind() == ErrorKind::OutOfMemory => Err(Fault::Btf(BtfError::OutOfMemory)),
+        Err(_) => Err(Fault::Read),
+    }
+}
+
+/// What the command makes of a blob.
+fn answer(alloc: Global, line: Line, blob: &[u8]) -> Result<Vec<u8>, BtfError>
+    ensures made { IfOk result (λ v. IsAnswer line blob.now v.items) }
+    ensures refused { (f : Refusal) → IsRefusal (order_of line.endianness) blob.now f → IsErr result }
+{
+    let table = Btf::parse(alloc, blob, line.endianness)?;
+    match line.command {
+        Command::Copy => table.to_bytes(),
+    }
+}
+
+/// Reads the input, and writes what the command makes of it.
+fn carry_out<R: Read, W: Write>(
+    alloc: Global,
+    line: Line,
+    input: &mut R,
+    out: &mut W,
+) -> Result<(), Fault>
+    ensures written { OnOk result (IfSome (R.remaining input.old) (λ bytes.
+        IsWritten (W.contents out.old) (W.contents out.new) line bytes)) }
+    ensures refused { (bytes : List ℕ) (f : Refusal) → R.remaining input.old ≡ Some bytes → IsRefusal (order_of line.endianness) bytes f
+        → IsErr result × Keeps (W.contents out.old) (W.contents out.new) }
+{
+    let blob = read_input(alloc, input)?;
+    let bytes = answer(alloc, line, &blob).map_err(Fault::Btf)?;
+    out.write_all(&bytes).map_err(|_| Fault::Write)
+}
+
+/// The program: reads what the words ask for, then the input to its end, and writes the answer.
+///
+/// The answer is the status: 0 on success; 1 where a stream fails or the table is refused, with the fault's
+/// text on `err`; 2 for words that can't be read, with the usage on `err` and nothing read.
+pub fn run<R: Read, W: Write, E: Write>(
+    alloc: Global,
+    words: &[String],
+    input: &mut R,
+    out: &mut W,
+    err: &mut E,
+) -> u8
+    // Words that can't be read are answered so, and then nothing is read or written but the usage.
+    ensures usage { (result ≡ 2) ↔ ((line : Line) → Asks words.now line → ⊥) }
+    ensures usage_alone { result ≡ 2 → (input.new ≡ input.old) × (out.new ≡ out.old) }
+    // On success the input stands for a table, and what the command makes of it is written.
+    ensures written { (line : Line) → Asks words.now line → result ≡ 0 → IfSome (R.remaining input.old) (λ bytes.
+        IsWritten (W.contents out.old) (W.contents out.new) line bytes) }
+    // Input that stands for no table ends so, and nothing is written on standard output.
+    ensures refused { (line : Line) (bytes : List ℕ) (f : Refusal) → Asks words.now line → R.remaining input.old ≡ Some bytes
+        → IsRefusal (order_of line.endianness) bytes f → (result ≡ 1) × Keeps (W.contents out.old) (W.contents out.new) }
+{
+    let Some(line) = Line::read(words) else {
+        let _ = writeln!(err, "{USAGE}");
+        return 2;
+    };
+    match carry_out(alloc, line, input, out) {
+        Ok(()) => 0,
+        Err(fault) => {
+            let _ = writeln!(err, "{fault}");
+            1
+        }
+    }
+}
