@@ -3,4 +3,5 @@ pub mod Records
 pub mod Blobs
 pub mod Reading
 pub mod Usual
+pub mod Texts
 pub mod Walks

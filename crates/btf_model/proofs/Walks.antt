@@ -4,7 +4,7 @@ use Rattle.std.specs.Prelude.{slice_get}
 use Rattle.std.specs.Result.{result_ok}
 use Rattle.std.proofs.lemmas.Option.{same_Some, none-some}
 use Rattle.btf_model.specs.Record.{Record}
-use Rattle.btf_model.specs.Refusal.{Refusal, UnknownBtfType, MaximumTypeDepthReached}
+use Rattle.btf_model.specs.Refusal.{Refusal, UnknownBtfType}
 use Rattle.btf_model.specs.Walk.{Finding, Ends, GoesOn, Leads, WalkAnswers, walk_limit, unmodified_in, behind_modifier, modified_type, Resolves}
 
 next_or : {P A : Type 0} → P → Finding P A → P

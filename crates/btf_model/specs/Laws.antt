@@ -1,11 +1,13 @@
 -- The laws of the definitions. Each is the contract of a public function of this crate.
-use Rattle.std.specs.Prelude.{All, ◌≤◌, ◌^◌, ◌↔◌, ◌≡◌, ℕ, ◌<◌, List, [], ◌++◌, length, Option, Some, Result, Ok, slice_get}
+use Rattle.std.specs.Prelude.{All, Contains, ◌≤◌, ◌^◌, ◌↔◌, ◌≡◌, ℕ, ◌<◌, List, [], ◌++◌, length, Option, Some, Result, Ok, slice_get}
 use Rattle.btf_model.specs.Word.{Order}
 use Rattle.std.specs.List.{flat_map, AllByRecursion}
+use Rattle.std.specs.Str.{IsUtf8}
 use Rattle.btf_model.specs.Record.{Kind, Unknown, Fwd, Array, Var, Record, unknown}
 use Rattle.btf_model.specs.Spelling.{HasKind, IsRecord, spell}
 use Rattle.btf_model.specs.Refusal.{Refusal}
-use Rattle.btf_model.specs.Table.{Table, Fallback, strip, with_type}
+use Rattle.btf_model.specs.Table.{Table, Fallback, strip, with_string, with_type}
+use Rattle.btf_model.specs.Text.{text_at, FindsName}
 use Rattle.btf_model.specs.Walk.{Resolves, HasSize}
 use Rattle.btf_model.specs.Blob.{IsTable, IsRefusal, IsValid, canon, header_len, header_of, strings_end, type_section}
 
@@ -55,6 +57,16 @@ abbrev pub AddedTypeIsFound : Type 0
 AddedTypeIsFound =
     (t : Table) (r : Record) (fallback : Option Fallback) → (slice_get (with_type r fallback t).records (length t.records) ≡ Some r)
     × ((id : ℕ) → id < length t.records → slice_get (with_type r fallback t).records id ≡ slice_get t.records id)
+
+-- The text that was added, if no zero byte stands in it, is read at the offset that it got; and each offset that was read
+-- as a text is read as the same one.
+pub record AddedStringReadsBack : Type 0 where
+  pub added : (t : Table) (text : List ℕ) → IsUtf8 text → ¬ (Contains text 0) → text_at (with_string text t).strings (length t.strings) ≡ Ok text
+  pub old : (t : Table) (text other : List ℕ) (offset : ℕ) → text_at t.strings offset ≡ Ok other → text_at (with_string text t).strings offset ≡ Ok other
+
+-- A name finds one type, or for one cause none.
+abbrev pub NameFindsOne : Type 0
+NameFindsOne = (strings : List ℕ) (records : List Record) (k : Kind) (name : List ℕ) (a b : Result ℕ Refusal) → FindsName strings records k name a → FindsName strings records k name b → a ≡ b
 
 -- A walk has one answer: so an id resolves to one type or for one cause to none, and a type has one size or for one cause none.
 pub record WalksAreDetermined : Type 0 where

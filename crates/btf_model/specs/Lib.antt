@@ -4,6 +4,7 @@ pub mod Spelling
 pub mod Refusal
 pub mod Table
 pub mod Blob
+pub mod Text
 pub mod Walk
 pub mod Laws
 pub mod Examples

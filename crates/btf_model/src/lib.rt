@@ -3,7 +3,7 @@
 //! The definitions lie in `specs/`. Each law is the contract of a function here that does nothing.
 #![tactic(auto)]
 
-ghost use Rattle.btf_model.specs.Laws.{NoSpellingBeginsAnother, BlobIsDetermined, WrittenParsesBack, ParsedWritesBack, AddedTypeIsFound, WalksAreDetermined, ResolvingTwiceIsOnce};
+ghost use Rattle.btf_model.specs.Laws.{NoSpellingBeginsAnother, BlobIsDetermined, WrittenParsesBack, ParsedWritesBack, AddedStringReadsBack, NameFindsOne, AddedTypeIsFound, WalksAreDetermined, ResolvingTwiceIsOnce};
 
 /// No record's spelling is a proper beginning of another's, and bytes spell one record: so a row of
 /// spellings is cut in one way.
@@ -30,6 +30,17 @@ pub fn parsed_writes_back()
 /// The type that was added last is found under the id that was answered, and old ids keep their records.
 pub fn added_type_is_found()
     ensures { AddedTypeIsFound }
+{}
+
+/// A text without a zero byte is read at the offset that it was added at, and each offset that was read as a text
+/// is read as the same one after it.
+pub fn added_string_reads_back()
+    ensures { AddedStringReadsBack }
+{}
+
+/// The search for a name finds one type, or for one cause none.
+pub fn name_finds_one()
+    ensures { NameFindsOne }
 {}
 
 /// An id resolves to one type, or for one cause to none; a type has one size, or for one cause none.

@@ -1,3 +1,4 @@
 pub mod Sections
 pub mod Tables
+pub mod Names
 pub mod Walks

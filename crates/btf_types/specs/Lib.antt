@@ -1,6 +1,7 @@
 pub mod Btf
 pub mod Header
 pub mod Records
+pub mod Text
 pub mod Walk
 pub use Rattle.btf_model.specs.Word
 pub use Rattle.btf_model.specs.Record

@@ -3,4 +3,4 @@
 
 mod table;
 
-pub use table::Btf;
+pub use table::{Btf, BtfStr};

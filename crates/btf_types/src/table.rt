@@ -1,6 +1,7 @@
 //! A table of types and strings.
 
 mod header;
+mod text;
 mod types;
 mod walk;
 
@@ -10,15 +11,25 @@ ghost use Rattle.btf_model.specs.Record.{unknown};
 ghost use Rattle.btf_model.specs.Refusal.{Refusal};
 ghost use Rattle.btf_model.specs.Table.{Table, empty_table, strip, with_string, with_type, string_place, type_place};
 ghost use Rattle.btf_model.specs.Blob.{IsTable, IsRefusal, Parses, canon};
+ghost use Rattle.btf_model.specs.Text as model;
+ghost use Rattle.btf_model.specs.Text.{FindsName};
 ghost use Rattle.btf_model.specs.Walk.{Resolves, HasSize};
 ghost use Rattle.btf_plain.specs.Error.{Answers, Gives, Tells};
 ghost use Rattle.btf_plain.specs.Endianness.{order_of};
+ghost use Rattle.btf_plain.specs.Kind as kinds;
 ghost use Rattle.btf_records.specs.BtfType.{record_of, fallback_of};
+ghost use Rattle.btf_types.specs.Text.{text_bytes};
+ghost use Rattle.std.specs.Prelude.{IfSome, string_bytes};
+ghost use Rattle.std.specs.Option.{option_map};
+ghost use Rattle.std.specs.Result.{result_ok};
+ghost use Rattle.std.specs.Str.{IsUtf8};
 
 use crate::table::header::{HEADER_LEN, Header, section};
+pub use crate::table::text::BtfStr;
+use crate::table::text::{find_named, text_at};
 use crate::table::types::{append_types, clone_types, read_types};
 use crate::table::walk::{resolve, size};
-use btf_plain::{BtfError, Endianness};
+use btf_plain::{BtfError, BtfKind, Endianness};
 use btf_records::BtfType;
 use std::alloc::Global;
 use std::marker::Model;
@@ -151,6 +162,55 @@ impl Btf {
         append_types(&mut out, &self.types[1..], self.endianness)?;
         out.extend_from_slice(&self.strings)?;
         Ok(out)
+    }
+
+    /// The text at a string offset, up to the first zero byte. Bytes that are not UTF-8 are read with U+FFFD in place
+    /// of each longest piece that is none.
+    ///
+    /// `InvalidStringOffset` of the offset where no zero byte stands at it or behind it. Memory is taken only where
+    /// the bytes are not UTF-8.
+    pub fn string_at(&self, offset: u32) -> Result<BtfStr<'_>, BtfError>
+        ensures text { Gives text_bytes result (model.text_at self.now.strings offset) }
+        ensures no_memory { IfSome (model.bytes_at self.now.strings offset) IsUtf8 → Tells text_bytes result (λ answer. answer ≡ model.text_at self.now.strings offset) }
+    {
+        text_at(*self.strings.allocator(), &self.strings, offset)
+    }
+
+    /// The name of a type, as `string_at` reads it; the name of an `Unknown` is at offset 0.
+    pub fn type_name(&self, btf_type: &BtfType) -> Result<BtfStr<'_>, BtfError>
+        ensures text { Gives text_bytes result (model.text_at self.now.strings (record_of btf_type.now).name) }
+        ensures no_memory { IfSome (model.bytes_at self.now.strings (record_of btf_type.now).name) IsUtf8
+            → Tells text_bytes result (λ answer. answer ≡ model.text_at self.now.strings (record_of btf_type.now).name) }
+    {
+        self.string_at(btf_type.name_offset())
+    }
+
+    /// The name of a type for a message; None where it can't be read. `OutOfMemory` is the only error.
+    pub fn err_type_name(&self, btf_type: &BtfType) -> Result<Option<String>, BtfError>
+        ensures { Gives (option_map string_bytes) result (Ok (result_ok (model.text_at self.now.strings (record_of btf_type.now).name))) }
+    {
+        match self.type_name(btf_type) {
+            Ok(BtfStr::Borrowed(text)) => Ok(Some(text.to_string(*self.strings.allocator())?)),
+            Ok(BtfStr::Owned(text)) => Ok(Some(text)),
+            Err(BtfError::OutOfMemory) => Err(BtfError::OutOfMemory),
+            Err(_) => Ok(None),
+        }
+    }
+
+    /// The least id of a type of this kind and name, id 0 among them.
+    ///
+    /// `InvalidStringOffset` where a type of this kind with a lower id has a name that can't be read, and
+    /// `UnknownBtfTypeName` where no type has the kind and the name.
+    pub fn id_by_type_name_kind(&self, name: &str, kind: BtfKind) -> Result<u32, BtfError>
+        ensures { Answers (λ id. id) result (FindsName self.now.strings self.now.records (kinds.kind kind) name.now) }
+    {
+        find_named(
+            *self.strings.allocator(),
+            &self.strings,
+            &self.types,
+            name,
+            kind,
+        )
     }
 
     /// The type of an id, or `UnknownBtfType` of the id where there is none.
