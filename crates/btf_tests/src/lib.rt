@@ -6,6 +6,8 @@ mod errors;
 #[cfg(test)]
 mod kinds;
 #[cfg(test)]
+mod names;
+#[cfg(test)]
 mod records;
 #[cfg(test)]
 mod spelled;

@@ -1,20 +1,35 @@
 -- What the program writes.
-use Rattle.std.specs.Prelude.{◌≡◌, ℕ, List, Option}
+use Rattle.std.specs.Prelude.{◌≡◌, ◌⊎◌, ℕ, List, Option, Ok, Err}
 use Rattle.std.specs.Io.KnownBytes.{Appends}
+use Rattle.btf_model.specs.Refusal.{Refusal}
 use Rattle.btf_model.specs.Table.{Table}
-use Rattle.btf_model.specs.Blob.{IsTable, canon}
+use Rattle.btf_model.specs.Blob.{IsTable, IsRefusal, canon}
+use Rattle.btf_model.specs.Walk.{HasSize}
 use Rattle.btf_plain.specs.Endianness.{order_of}
 use Rattle.btftool.specs.declared.line.Line.{Line}
 use Rattle.btftool.specs.declared.line.Command.{Command}
-use Rattle.btftool.specs.declared.line.Command.TheVariants.{Copy}
+use Rattle.btftool.specs.declared.line.Command.TheVariants.{Copy, Types, Size}
+use Rattle.btftool.specs.Listing.{listing, size_line}
 
 -- what a command writes of a table
 abbrev pub Writes : Command → Table → List ℕ → Type 0
 Writes Copy t written = written ≡ canon t
+Writes Types t written = written ≡ listing t
+Writes (Size id) t written = (n : ℕ) × HasSize t.records id (Ok n) × (written ≡ size_line n)
+
+-- why a command refuses a table
+abbrev pub Declines : Command → Table → Refusal → Type 0
+Declines Copy t refusal = ⊥
+Declines Types t refusal = ⊥
+Declines (Size id) t refusal = HasSize t.records id (Err refusal)
 
 -- the bytes stand for a table, and the command writes this of it
 abbrev pub IsAnswer : Line → List ℕ → List ℕ → Type 0
 IsAnswer line bytes written = (t : Table) × IsTable (order_of line.endianness) bytes t × Writes line.command t written
+
+-- The bytes stand for no table, or for one that the command refuses.
+pub record IsDeclined (line : Line) (bytes : List ℕ) (refusal : Refusal) : Type 0 where
+  pub cause : IsRefusal (order_of line.endianness) bytes refusal ⊎ ((t : Table) × IsTable (order_of line.endianness) bytes t × Declines line.command t refusal)
 
 -- A writer whose bytes are known has gained the answer to these bytes, and nothing else.
 abbrev pub IsWritten : Option (List ℕ) → Option (List ℕ) → Line → List ℕ → Type 0

@@ -14,5 +14,5 @@ pub enum Fault {
     Write,
     /// The table was refused, or the command on it.
     #[error(transparent)]
-    Btf(BtfError),
+    Btf(#[from] BtfError),
 }

@@ -1,9 +1,9 @@
 //! What the words after the program's name ask for.
 
-ghost use Rattle.std.specs.Prelude.{◌≡◌, ◌≢◌, IfSome, IfNone};
+ghost use Rattle.std.specs.Prelude.{◌≡◌, ◌≢◌, ℕ, IfSome, IfNone};
 ghost use Rattle.btf_model.specs.Word.{Order};
 ghost use Rattle.btf_plain.specs.Endianness.{order_of};
-ghost use Rattle.btftool.specs.Line.{order_word};
+ghost use Rattle.btftool.specs.Line.{order_word, IsId};
 
 use btf_plain::Endianness;
 
@@ -12,6 +12,10 @@ use btf_plain::Endianness;
 pub enum Command {
     /// The table written again.
     Copy,
+    /// A line for each type.
+    Types,
+    /// The size of the type of an id.
+    Size(u32),
 }
 
 /// A command line that can be read.
@@ -33,6 +37,43 @@ fn read_order(word: &str) -> Option<Endianness>
     }
 }
 
+/// The id that a word of decimal digits says.
+fn read_id(word: &str) -> Option<u32>
+    ensures some { IfSome result (IsId word.now) }
+    ensures none { IfNone result ((id : ℕ) → IsId word.now id → ⊥) }
+{
+    // A sign is no digit, and `parse` would take it.
+    if word.starts_with('+') {
+        return None;
+    }
+    word.parse().ok()
+}
+
+impl Command {
+    ghost use Rattle.std.specs.Prelude.{IfSome, IfNone};
+    ghost use Rattle.btftool.specs.Line.{AsksCommand, texts};
+    ghost use Rattle.btftool.specs.declared.line.Command.{Command};
+
+    /// The command that the words behind the order make.
+    fn read(words: &[String]) -> Option<Command>
+        ensures some { IfSome result (AsksCommand (texts words.now)) }
+        ensures none { IfNone result ((command : Command) → AsksCommand (texts words.now) command → ⊥) }
+    {
+        match words {
+            [word] => match word.as_str() {
+                "copy" => Some(Command::Copy),
+                "types" => Some(Command::Types),
+                _ => None,
+            },
+            [word, id] => match word.as_str() {
+                "size" => Some(Command::Size(read_id(id.as_str())?)),
+                _ => None,
+            },
+            _ => None,
+        }
+    }
+}
+
 impl Line {
     ghost use Rattle.std.specs.Prelude.{IfSome, IfNone};
     ghost use Rattle.btftool.specs.Line.{Asks};
@@ -43,16 +84,12 @@ impl Line {
         ensures some { IfSome result (Asks words.now) }
         ensures none { IfNone result ((line : Line) → Asks words.now line → ⊥) }
     {
-        let [order, command] = words else {
-            return None;
-        };
+        let (order, rest) = words.split_first()?;
         let endianness = read_order(order.as_str())?;
-        match command.as_str() {
-            "copy" => Some(Line {
-                endianness,
-                command: Command::Copy,
-            }),
-            _ => None,
-        }
+        let command = Command::read(rest)?;
+        Some(Line {
+            endianness,
+            command,
+        })
     }
 }

@@ -3,6 +3,7 @@
 
 mod fault;
 mod line;
+mod listing;
 mod run;
 #[cfg(test)]
 mod tests;

@@ -1,16 +1,16 @@
 //! The program over any streams.
 
-ghost use Rattle.std.specs.Prelude.{◌≡◌, ℕ, List, ◌↔◌, Some, IfOk, OnOk, IfSome, IsErr};
+ghost use Rattle.std.specs.Prelude.{◌≡◌, ℕ, List, ◌↔◌, Some, IfOk, IfErr, OnOk, IfSome, IsErr};
 ghost use Rattle.std.specs.Io.KnownBytes.{Keeps};
 ghost use Rattle.btf_model.specs.Refusal.{Refusal};
-ghost use Rattle.btf_model.specs.Blob.{IsRefusal};
-ghost use Rattle.btf_plain.specs.Endianness.{order_of};
+ghost use Rattle.btf_plain.specs.Error.{refusal_of};
 ghost use Rattle.btftool.specs.declared.line.Line.{Line};
 ghost use Rattle.btftool.specs.Line.{Asks};
-ghost use Rattle.btftool.specs.Answer.{IsAnswer, IsWritten};
+ghost use Rattle.btftool.specs.Answer.{IsAnswer, IsDeclined, IsWritten};
 
 use crate::fault::Fault;
 use crate::line::{Command, Line};
+use crate::listing::{listing, size_line};
 use btf_plain::{BtfError, Endianness};
 use btf_types::Btf;
 use std::alloc::Global;
@@ -33,11 +33,15 @@ fn read_input<R: Read>(alloc: Global, input: &mut R) -> Result<Vec<u8>, Fault>
 /// What the command makes of a blob.
 fn answer(alloc: Global, line: Line, blob: &[u8]) -> Result<Vec<u8>, BtfError>
     ensures made { IfOk result (λ v. IsAnswer line blob.now v.items) }
-    ensures refused { (f : Refusal) → IsRefusal (order_of line.endianness) blob.now f → IsErr result }
+    ensures refused { (f : Refusal) → IsDeclined line blob.now f → IsErr result }
+    // A refusal is told for its cause alone.
+    ensures told { IfErr result (λ e. IfSome (refusal_of e) (IsDeclined line blob.now)) }
 {
     let table = Btf::parse(alloc, blob, line.endianness)?;
     match line.command {
         Command::Copy => table.to_bytes(),
+        Command::Types => listing(alloc, &table),
+        Command::Size(id) => size_line(alloc, table.type_size(id)?),
     }
 }
 
@@ -50,11 +54,11 @@ fn carry_out<R: Read, W: Write>(
 ) -> Result<(), Fault>
     ensures written { OnOk result (IfSome (R.remaining input.old) (λ bytes.
         IsWritten (W.contents out.old) (W.contents out.new) line bytes)) }
-    ensures refused { (bytes : List ℕ) (f : Refusal) → R.remaining input.old ≡ Some bytes → IsRefusal (order_of line.endianness) bytes f
+    ensures refused { (bytes : List ℕ) (f : Refusal) → R.remaining input.old ≡ Some bytes → IsDeclined line bytes f
         → IsErr result × Keeps (W.contents out.old) (W.contents out.new) }
 {
     let blob = read_input(alloc, input)?;
-    let bytes = answer(alloc, line, &blob).map_err(Fault::Btf)?;
+    let bytes = answer(alloc, line, &blob)?;
     out.write_all(&bytes).map_err(|_| Fault::Write)
 }
 
@@ -75,9 +79,10 @@ pub fn run<R: Read, W: Write, E: Write>(
     // On success the input stands for a table, and what the command makes of it is written.
     ensures written { (line : Line) → Asks words.now line → result ≡ 0 → IfSome (R.remaining input.old) (λ bytes.
         IsWritten (W.contents out.old) (W.contents out.new) line bytes) }
-    // Input that stands for no table ends so, and nothing is written on standard output.
+    // Input that stands for no table, or for one that the command refuses, ends so, and nothing is written on standard
+    // output.
     ensures refused { (line : Line) (bytes : List ℕ) (f : Refusal) → Asks words.now line → R.remaining input.old ≡ Some bytes
-        → IsRefusal (order_of line.endianness) bytes f → (result ≡ 1) × Keeps (W.contents out.old) (W.contents out.new) }
+        → IsDeclined line bytes f → (result ≡ 1) × Keeps (W.contents out.old) (W.contents out.new) }
 {
     let Some(line) = Line::read(words) else {
         let _ = writeln!(err, "{USAGE}");

@@ -1,7 +1,7 @@
 //! What a record describes.
 
 ghost use Rattle.std.specs.Prelude.{Some};
-ghost use Rattle.btf_plain.specs.Kind.{KindOfNumber, kind_text};
+ghost use Rattle.btf_plain.specs.Kind.{KindOfNumber, kind, kind_text};
 
 use crate::error::BtfError;
 use std::fmt;
@@ -86,7 +86,7 @@ impl TryFrom<u32> for BtfKind {
 }
 
 impl fmt::Display for BtfKind {
-    ghost output = { λ kind. Some (kind_text kind) };
+    ghost output = { λ k. Some (kind_text (kind k)) };
 
     fn fmt<W: fmt::Write>(&self, f: &mut fmt::Formatter<W>) -> fmt::Result {
         let name = match self {
