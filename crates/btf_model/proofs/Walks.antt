@@ -5,7 +5,7 @@ use Rattle.std.specs.Result.{result_ok}
 use Rattle.std.proofs.lemmas.Option.{same_Some, none-some}
 use Rattle.btf_model.specs.Record.{Record}
 use Rattle.btf_model.specs.Refusal.{Refusal, UnknownBtfType}
-use Rattle.btf_model.specs.Walk.{Finding, Ends, GoesOn, Leads, WalkAnswers, walk_limit, unmodified_in, behind_modifier, modified_type, Resolves}
+use Rattle.btf_model.specs.Walk.{Finding, Ends, GoesOn, Leads, WalkAnswers, By, walk_limit, unmodified_in, behind_modifier, modified_type, Resolves}
 
 next_or : {P A : Type 0} → P → Finding P A → P
 next_or place (Ends answer) = place
@@ -20,52 +20,70 @@ IsEnd : {P A : Type 0} → Finding P A → Type 0
 IsEnd (Ends answer) = Unit {0}
 IsEnd (GoesOn next) = ⊥
 
-same_next : {P A : Type 0} (f : Finding P A) (a b : P) → f ≡ GoesOn a → f ≡ GoesOn b → a ≡ b
+same_next : {P A : Type 0} (a b : P) → ◌≡◌ {A = Finding P A} (GoesOn a) (GoesOn b) → a ≡ b
 unfolding next_or
-same_next f a b p q = ap (next_or a) (sym p ∙ q)
+same_next a b is = ap (next_or a) is
 
-same_answer : {P A : Type 0} (f : Finding P A) (a b : Result A Refusal) → f ≡ Ends a → f ≡ Ends b → a ≡ b
+same_answer : {P A : Type 0} (a b : Result A Refusal) → ◌≡◌ {A = Finding P A} (Ends a) (Ends b) → a ≡ b
 unfolding answer_or
-same_answer f a b p q = ap (answer_or a) (sym p ∙ q)
+same_answer a b is = ap (answer_or a) is
 
 not_both : {P A : Type 0} (f : Finding P A) (a : Result A Refusal) (next : P) → f ≡ Ends a → f ≡ GoesOn next → ⊥
 unfolding IsEnd
 not_both f a next p q = subst IsEnd (sym p ∙ q) tt
 
--- two walks that end do so with one answer
-same_end : {P A : Type 0} (find : P → Finding P A) (n m : ℕ) (start a b : P) (x y : Result A Refusal) → Leads find n start a → find a ≡ Ends x → Leads find m start b → find b ≡ Ends y → x ≡ y
-same_end find zero zero start a b x y p ends q ends-b = same_answer (find a) x y ends (ap find (sym p ∙ q) ∙ ends-b)
-same_end find zero (suc m) start a b x y p ends q ends-b = absurd (not_both (find a) x q.0 ends (ap find (sym p) ∙ q.1))
-same_end find (suc n) zero start a b x y p ends q ends-b = absurd (not_both (find b) y p.0 ends-b (ap find (sym q) ∙ p.1))
-same_end {P = P} find (suc n) (suc m) start a b x y p ends q ends-b =
-    same_end find n m p.0 a b x y p.2 ends (subst (λ (s : P). Leads find m s b) (same_next (find start) q.0 p.0 q.1 p.1) q.2) ends-b
+-- one thing is found at a place
+abbrev pub FindsOne : {P A : Type 0} → (P → Finding P A → Type 0) → Type 0
+FindsOne {P = P} {A = A} Finds = (place : P) (f g : Finding P A) → Finds place f → Finds place g → f ≡ g
 
--- no walk is longer than one that ends
-no_longer : {P A : Type 0} (find : P → Finding P A) (n m : ℕ) (start a b : P) (x : Result A Refusal) → Leads find n start a → find a ≡ Ends x → Leads find m start b → n < m → ⊥
-no_longer find n zero start a b x p ends q lt = omega (arith, lt)
-no_longer find zero (suc m) start a b x p ends q lt = not_both (find a) x q.0 ends (ap find (sym p) ∙ q.1)
-no_longer {P = P} find (suc n) (suc m) start a b x p ends q lt =
-    no_longer find n m p.0 a b x p.2 ends (subst (λ (s : P). Leads find m s b) (same_next (find start) q.0 p.0 q.1 p.1) q.2) (omega (arith, lt))
+-- what is found by a function is one thing
+pub by_one : {P A : Type 0} (find : P → Finding P A) → FindsOne (By find)
+by_one find place f g p q = sym p ∙ q
 
-pub one_answer : {P A : Type 0} (find : P → Finding P A) (start : P) (too_deep : Refusal) (x y : Result A Refusal) → WalkAnswers find start too_deep x → WalkAnswers find start too_deep y → x ≡ y
-one_answer find start too_deep x y (inl p) (inl q) = same_end find p.0 q.0 start p.1 q.1 x y p.3 p.4 q.3 q.4
-one_answer find start too_deep x y (inl p) (inr q) = absurd (no_longer find p.0 walk_limit start p.1 q.0 x p.3 p.4 q.1 p.2)
-one_answer find start too_deep x y (inr p) (inl q) = absurd (no_longer find q.0 walk_limit start q.1 p.0 y q.3 q.4 p.1 q.2)
-one_answer find start too_deep x y (inr p) (inr q) = p.2 ∙ sym q.2
+module _ {P A : Type 0} (Finds : P → Finding P A → Type 0) (one : FindsOne Finds) where
+  found_there : (start a b : P) (f : Finding P A) → start ≡ a → start ≡ b → Finds b f → Finds a f
+  found_there start a b f p q h = subst (λ (s : P). Finds s f) (sym q ∙ p) h
+
+  on_from : (m : ℕ) (start a b end : P) → Finds start (GoesOn a) → Finds start (GoesOn b) → Leads Finds m b end → Leads Finds m a end
+  on_from m start a b end p q h = subst (λ (s : P). Leads Finds m s end) (same_next b a (one start (GoesOn b) (GoesOn a) q p)) h
+
+  -- two walks that end do so with one answer
+  same_end : (n m : ℕ) (start a b : P) (x y : Result A Refusal) → Leads Finds n start a → Finds a (Ends x) → Leads Finds m start b → Finds b (Ends y) → x ≡ y
+  same_end zero zero start a b x y p ends q ends-b = same_answer x y (one a (Ends x) (Ends y) ends (found_there start a b (Ends y) p q ends-b))
+  same_end zero (suc m) start a b x y p ends q ends-b = absurd (not_both (Ends x) x q.0 refl (one start (Ends x) (GoesOn q.0) (subst (λ (s : P). Finds s (Ends x)) (sym p) ends) q.1))
+  same_end (suc n) zero start a b x y p ends q ends-b = absurd (not_both (Ends y) y p.0 refl (one start (Ends y) (GoesOn p.0) (subst (λ (s : P). Finds s (Ends y)) (sym q) ends-b) p.1))
+  same_end (suc n) (suc m) start a b x y p ends q ends-b = same_end n m p.0 a b x y p.2 ends (on_from m start p.0 q.0 b p.1 q.1 q.2) ends-b
+
+  -- no walk is longer than one that ends
+  no_longer : (n m : ℕ) (start a b : P) (x : Result A Refusal) → Leads Finds n start a → Finds a (Ends x) → Leads Finds m start b → n < m → ⊥
+  no_longer n zero start a b x p ends q lt = omega (arith, lt)
+  no_longer zero (suc m) start a b x p ends q lt = not_both (Ends x) x q.0 refl (one start (Ends x) (GoesOn q.0) (subst (λ (s : P). Finds s (Ends x)) (sym p) ends) q.1)
+  no_longer (suc n) (suc m) start a b x p ends q lt = no_longer n m p.0 a b x p.2 ends (on_from m start p.0 q.0 b p.1 q.1 q.2) (omega (arith, lt))
+
+  -- two walks of one length lead to one place
+  same_place : (n : ℕ) (start a b : P) → Leads Finds n start a → Leads Finds n start b → a ≡ b
+  same_place zero start a b p q = sym p ∙ q
+  same_place (suc n) start a b p q = same_place n p.0 a b p.2 (on_from n start p.0 q.0 b p.1 q.1 q.2)
+
+  pub one_answer : (start : P) (too_deep : P → Refusal) (x y : Result A Refusal) → WalkAnswers Finds start too_deep x → WalkAnswers Finds start too_deep y → x ≡ y
+  one_answer start too_deep x y (inl p) (inl q) = same_end p.0 q.0 start p.1 q.1 x y p.3 p.4 q.3 q.4
+  one_answer start too_deep x y (inl p) (inr q) = absurd (no_longer p.0 walk_limit start p.1 q.0 x p.3 p.4 q.1 p.2)
+  one_answer start too_deep x y (inr p) (inl q) = absurd (no_longer q.0 walk_limit start q.1 p.0 y q.3 q.4 p.1 q.2)
+  one_answer start too_deep x y (inr p) (inr q) = p.2 ∙ ap (λ (at : P). Err (too_deep at)) (same_place walk_limit start p.0 q.0 p.1 q.1) ∙ sym q.2
 
 -- one more place at the end of a walk
-pub lead_on : {P A : Type 0} (find : P → Finding P A) (n : ℕ) (start end next : P) → Leads find n start end → find end ≡ GoesOn next → Leads find (suc n) start next
-lead_on find zero start end next p q = (next, ap find p ∙ q, refl)
-lead_on find (suc n) start end next p q = (p.0, p.1, lead_on find n p.0 end next p.2 q)
+pub lead_on : {P A : Type 0} (Finds : P → Finding P A → Type 0) (n : ℕ) (start end next : P) → Leads Finds n start end → Finds end (GoesOn next) → Leads Finds (suc n) start next
+lead_on {P = P} Finds zero start end next p q = (next, subst (λ (s : P). Finds s (GoesOn next)) (sym p) q, refl)
+lead_on Finds (suc n) start end next p q = (p.0, p.1, lead_on Finds n p.0 end next p.2 q)
 
 -- a walk over modifiers that ends with an id ends at that id
 behind_ends : (id end : ℕ) (o : Option ℕ) → behind_modifier id o ≡ Ends (Ok end) → id ≡ end
 behind_ends id end (Some next) is = absurd (not_both (GoesOn next) (Ok end) next is refl)
-behind_ends id end None is = same_Some id end (ap result_ok (same_answer (Ends (Ok id)) (Ok id) (Ok end) refl is))
+behind_ends id end None is = same_Some id end (ap result_ok (same_answer (Ok id) (Ok end) is))
 
 ends_there : (id end : ℕ) (o : Option Record) → unmodified_in id o ≡ Ends (Ok end) → id ≡ end
 ends_there id end (Some r) is = behind_ends id end (modified_type r) is
-ends_there id end None is = absurd (none-some end (ap result_ok (same_answer (Ends (Err (UnknownBtfType id))) (Err (UnknownBtfType id)) (Ok end) refl is)))
+ends_there id end None is = absurd (none-some end (ap result_ok (same_answer (Err (UnknownBtfType id)) (Ok end) is)))
 
 pub resolves_to_itself : (records : List Record) (id end : ℕ) → Resolves records id (Ok end) → Resolves records end (Ok end)
 resolves_to_itself records id end (inl p) =

@@ -10,19 +10,24 @@ pub data Finding (Place Answer : Type 0) : Type 0 where
   GoesOn : Place → Finding Place Answer
 
 -- n places, each going on to the next, lead from one place to another
-abbrev pub Leads : {Place Answer : Type 0} → (Place → Finding Place Answer) → ℕ → Place → Place → Type 0
-Leads find zero place end = place ≡ end
-Leads find (suc n) place end = (next : _) × (find place ≡ GoesOn next) × Leads find n next end
+abbrev pub Leads : {Place Answer : Type 0} → (Place → Finding Place Answer → Type 0) → ℕ → Place → Place → Type 0
+Leads Finds zero place end = place ≡ end
+Leads Finds (suc n) place end = (next : _) × Finds place (GoesOn next) × Leads Finds n next end
 
 -- the number of records that a walk looks at
 abbrev pub walk_limit : ℕ
 walk_limit = 32
 
--- The answer of a walk: that of its end, behind fewer than 32 places that go on; or that it is too deep.
-abbrev pub WalkAnswers : {Place Answer : Type 0} → (Place → Finding Place Answer) → Place → Refusal → Result Answer Refusal → Type 0
-WalkAnswers find start too_deep answer =
-    ((n : ℕ) × (end : _) × (n < walk_limit) × Leads find n start end × (find end ≡ Ends answer))
-    ⊎ ((end : _) × Leads find walk_limit start end × (answer ≡ Err too_deep))
+-- The answer of a walk: that of its end, behind fewer than 32 places that go on; or that it is too deep, by the place that
+-- would come next.
+abbrev pub WalkAnswers : {Place Answer : Type 0} → (Place → Finding Place Answer → Type 0) → Place → (Place → Refusal) → Result Answer Refusal → Type 0
+WalkAnswers Finds start too_deep answer =
+    ((n : ℕ) × (end : _) × (n < walk_limit) × Leads Finds n start end × Finds end (Ends answer))
+    ⊎ ((end : _) × Leads Finds walk_limit start end × (answer ≡ Err (too_deep end)))
+
+-- what a walk finds where it is a function of the place
+abbrev pub By : {Place Answer : Type 0} → (Place → Finding Place Answer) → Place → Finding Place Answer → Type 0
+By find place found = find place ≡ found
 
 -- ---- resolving
 
@@ -51,7 +56,7 @@ unmodified_in id None = Ends (Err (UnknownBtfType id))
 
 -- What an id resolves to: the first type that is no modifier, or why there is none.
 abbrev pub Resolves : List Record → ℕ → Result ℕ Refusal → Type 0
-Resolves records id = WalkAnswers (λ at. unmodified_in at (slice_get records at)) id (MaximumTypeDepthReached id)
+Resolves records id = WalkAnswers (By (λ at. unmodified_in at (slice_get records at))) id (λ _. MaximumTypeDepthReached id)
 
 -- ---- sizes
 
@@ -106,4 +111,4 @@ size_in at None = Ends (Err (UnknownBtfType at.type))
 
 -- The size of one of a type in bytes, or why it has none.
 abbrev pub HasSize : List Record → ℕ → Result ℕ Refusal → Type 0
-HasSize records id = WalkAnswers (λ at. size_in at (slice_get records at.type)) (record { count = 1; type = id }) (MaximumTypeDepthReached id)
+HasSize records id = WalkAnswers (By (λ at. size_in at (slice_get records at.type))) (record { count = 1; type = id }) (λ _. MaximumTypeDepthReached id)

@@ -8,7 +8,7 @@ use Rattle.std.proofs.lemmas.Option.{slice_get-map, slice_get_past, slice_get_re
 use Rattle.std.proofs.lemmas.Result.{err_from_is_err_and}
 use Rattle.btf_model.specs.Record.{kind_of}
 use Rattle.btf_model.specs.Refusal.{InvalidTypeInfo}
-use Rattle.btf_model.specs.Walk.{Finding, Ends, GoesOn, Leads, walk_limit, Extent, Bytes, Times, extent, Elements, size_by, size_in, HasSize}
+use Rattle.btf_model.specs.Walk.{Finding, Ends, GoesOn, Leads, By, walk_limit, Extent, Bytes, Times, extent, Elements, size_by, size_in, HasSize}
 use Rattle.btf_plain.specs.Error.{Tells, refusal_of}
 use Rattle.btf_plain.specs.declared.error.BtfError.{BtfError}
 use Rattle.btf_plain.specs.declared.error.BtfError.TheVariants as errors
@@ -24,8 +24,8 @@ pub missing : (types : List BtfType) (id : ℕ) → false ≡ nat_lt id (length 
 missing types id lt = slice_get_past (map record_of types) id (omega (arith, length-map types record_of, ltb-false id (length types) (sym lt)))
 
 -- a walk over as many places
-pub as_many : {P A : Type 0} (find : P → Finding P A) (n m : ℕ) (start end : P) → n ≡ m → Leads find n start end → Leads find m start end
-as_many find n m start end is p = subst (λ (k : ℕ). Leads find k start end) is p
+pub as_many : {P A : Type 0} (Finds : P → Finding P A → Type 0) (n m : ℕ) (start end : P) → n ≡ m → Leads Finds n start end → Leads Finds m start end
+as_many Finds n m start end is p = subst (λ (k : ℕ). Leads Finds k start end) is p
 
 -- what the walk for a size finds at so many of a type
 abbrev pub find_size : List BtfType → Elements → Finding Elements ℕ
@@ -52,12 +52,12 @@ times_too_many : (at : Elements) (times next : ℕ) → 2 ^ 32 ≤ at.count * ti
 times_too_many at times next le = rw (le-ltb (at.count * times) (2 ^ 32) le) refl
 
 -- the walk ends with bytes
-pub ends_with_bytes : (types : List BtfType) (n id bytes : ℕ) (at : Elements) (r : Result ℕ BtfError) → n < walk_limit → Leads (find_size types) n (one id) at → find_size types at ≡ size_by at (Bytes bytes) → MatchResult r (λ x. (x ≡ bytes * at.count) × (bytes * at.count < 2 ^ 32)) (λ e. (2 ^ 32 ≤ bytes * at.count) × (e ≡ errors.InvalidTypeInfo)) → Tells (λ x. x) r (HasSize (map record_of types) id)
+pub ends_with_bytes : (types : List BtfType) (n id bytes : ℕ) (at : Elements) (r : Result ℕ BtfError) → n < walk_limit → Leads (By (find_size types)) n (one id) at → find_size types at ≡ size_by at (Bytes bytes) → MatchResult r (λ x. (x ≡ bytes * at.count) × (bytes * at.count < 2 ^ 32)) (λ e. (2 ^ 32 ≤ bytes * at.count) × (e ≡ errors.InvalidTypeInfo)) → Tells (λ x. x) r (HasSize (map record_of types) id)
 ends_with_bytes types n id bytes at (Ok x) lt p is m = inl (n, at, lt, p, is ∙ bytes_fit at bytes m.1 ∙ ap (λ (v : ℕ). Ends (Ok v)) (sym m.0))
 ends_with_bytes types n id bytes at (Err e) lt p is m = (InvalidTypeInfo, ap refusal_of m.1, inl (n, at, lt, p, is ∙ bytes_too_many at bytes m.0))
 
 -- the walk ends with a product that is too large
-pub ends_at_product : (types : List BtfType) (n id times next : ℕ) (at : Elements) (e : BtfError) (r : Result ℕ BtfError) → n < walk_limit → Leads (find_size types) n (one id) at → find_size types at ≡ size_by at (Times times next) → 2 ^ 32 ≤ at.count * times → e ≡ errors.InvalidTypeInfo → IsErrAnd r (λ y. y ≡ e) → Tells (λ x. x) r (HasSize (map record_of types) id)
+pub ends_at_product : (types : List BtfType) (n id times next : ℕ) (at : Elements) (e : BtfError) (r : Result ℕ BtfError) → n < walk_limit → Leads (By (find_size types)) n (one id) at → find_size types at ≡ size_by at (Times times next) → 2 ^ 32 ≤ at.count * times → e ≡ errors.InvalidTypeInfo → IsErrAnd r (λ y. y ≡ e) → Tells (λ x. x) r (HasSize (map record_of types) id)
 ends_at_product types n id times next at e r lt p is le e-is err =
     let q = err_from_is_err_and r err in
     let refused : Tells {X = ℕ} (λ x. x) (Err e) (HasSize (map record_of types) id) = (InvalidTypeInfo, ap refusal_of e-is, inl (n, at, lt, p, is ∙ times_too_many at times next le)) in

@@ -8,9 +8,9 @@ use Rattle.btf_model.specs.Record.{Record}
 use Rattle.btf_model.specs.Refusal.{Refusal, MaximumTypeDepthReached}
 use Rattle.btf_model.specs.Table.{Table}
 use Rattle.btf_model.specs.Blob.{IsTable}
-use Rattle.btf_model.specs.Walk.{HasSize, size_in}
+use Rattle.btf_model.specs.Walk.{By, HasSize, size_in}
 use Rattle.btf_model.proofs.Blobs.{same_table, table_not_refused}
-use Rattle.btf_model.proofs.Walks.{one_answer}
+use Rattle.btf_model.proofs.Walks.{one_answer, by_one}
 use Rattle.btf_plain.specs.Endianness.{order_of}
 use Rattle.btf_plain.specs.Error.{refusal_of}
 use Rattle.btf_plain.specs.declared.error.BtfError.{BtfError}
@@ -22,7 +22,7 @@ use Rattle.btftool.specs.Answer.{Declines, IsDeclined}
 -- a size and a refusal are two answers
 sized_or_refused : (records : List Record) (id n : ℕ) (refusal : Refusal) → HasSize records id (Ok n) → HasSize records id (Err refusal) → ⊥
 sized_or_refused records id n refusal has not =
-    none-some n (ap result_ok (one_answer (λ at. size_in at (slice_get records at.type)) (record { count = 1; type = id }) (MaximumTypeDepthReached id) (Err refusal) (Ok n) not has))
+    none-some n (ap result_ok (one_answer (By (λ at. size_in at (slice_get records at.type))) (by_one (λ at. size_in at (slice_get records at.type))) (record { count = 1; type = id }) (λ _. MaximumTypeDepthReached id) (Err refusal) (Ok n) not has))
 
 -- nor is a table that gives a size
 pub sized_not_declined : (line : Line) (bytes : List ℕ) (t : Table) (id n : ℕ) (refusal : Refusal) → line.command ≡ Size id → IsTable (order_of line.endianness) bytes t → HasSize t.records id (Ok n) → IsDeclined line bytes refusal → ⊥
