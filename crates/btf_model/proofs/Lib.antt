@@ -4,4 +4,5 @@ pub mod Blobs
 pub mod Reading
 pub mod Usual
 pub mod Texts
+pub mod Flavors
 pub mod Walks

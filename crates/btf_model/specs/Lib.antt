@@ -6,5 +6,6 @@ pub mod Table
 pub mod Blob
 pub mod Text
 pub mod Walk
+pub mod Fields
 pub mod Laws
 pub mod Examples

@@ -1,3 +1,4 @@
+pub mod FieldSteps
 pub mod Sections
 pub mod Tables
 pub mod Names

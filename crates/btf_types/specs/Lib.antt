@@ -1,4 +1,5 @@
 pub mod Btf
+pub mod Fields
 pub mod Header
 pub mod Records
 pub mod Text

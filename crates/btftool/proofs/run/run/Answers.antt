@@ -1,4 +1,4 @@
-use Rattle.std.proofs.Common.{ℕ, subst, refl}
+use Rattle.std.proofs.Common.{subst, refl}
 use Rattle.std.proofs.lemmas.Bool.{false≢true}
 use Rattle.btftool.specs.declared.line.Line.{Line}
 use Rattle.btftool.specs.Answer.{IsDeclined}
