@@ -5,3 +5,4 @@ pub mod Reading
 pub mod Usual
 pub mod Texts
 pub mod Walks
+pub mod Sections

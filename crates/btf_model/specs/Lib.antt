@@ -6,5 +6,7 @@ pub mod Table
 pub mod Blob
 pub mod Text
 pub mod Walk
+pub mod Ext
+pub mod ExtExamples
 pub mod Laws
 pub mod Examples

@@ -2,3 +2,4 @@ pub mod Sections
 pub mod Tables
 pub mod Names
 pub mod Walks
+pub mod SecInfos
