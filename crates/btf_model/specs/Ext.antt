@@ -5,7 +5,7 @@
 use Rattle.std.specs.Prelude.{◌≡◌, ◌≢◌, ◌⊎◌, ℕ, zero, suc, ◌+◌, ◌*◌, ◌-◌, ◌/◌, ◌<◌, ◌≤◌, ◌^◌, ◌==◌, min, nat_lt, if◌then◌else◌, List, [], ◌∷◌, ◌++◌, length, take, drop, map, filter, replicate, option_map, Option, None, Result, Ok, Err}
 use Rattle.std.specs.List.{flat_map, AllByRecursion, last_or}
 use Rattle.std.specs.Str.{bytes_eq}
-use Rattle.btf_model.specs.Word.{Order, word, words_at}
+use Rattle.btf_model.specs.Word.{Order, Little, word, words_at}
 use Rattle.btf_model.specs.Refusal.{Refusal, InvalidHeader, InvalidInfo}
 use Rattle.btf_model.specs.Blob.{slice, word_at}
 use Rattle.btf_model.specs.Text.{text_at}
@@ -117,6 +117,10 @@ pub record Records : Type 0 where
 abbrev pub no_records : Records
 no_records = record { count = 0; words = [] }
 
+-- The bytes that are handed to the kernel: the words of each record, the lowest byte first whatever order they came in.
+abbrev pub little_bytes : List (List ℕ) → List ℕ
+little_bytes records = flat_map (flat_map (word Little)) records
+
 -- function and line records: of each so many words
 abbrev pub instruction_records : Order → ℕ → ℕ → Section → Records
 instruction_records order size width s = record { count = s.count; words = map in_instructions (record_words order size width s.count s.bytes) }
@@ -127,15 +131,17 @@ section_named named name = option_map (λ n. n.section) (last_or None (filter (�
 
 -- ---- the whole
 
--- The header: its length, and three ranges, each by its offset behind the header and its length.
+-- A range of the bytes: where it begins, how many bytes it has, and the least size of its records.
+pub record Range : Type 0 where
+  pub start : ℕ
+  pub len : ℕ
+  pub least : ℕ
+
+-- The header: the ranges of functions, of lines and of relocations.
 pub record Header : Type 0 where
-  pub hdr_len : ℕ
-  pub func_off : ℕ
-  pub func_len : ℕ
-  pub line_off : ℕ
-  pub line_len : ℕ
-  pub core_off : ℕ
-  pub core_len : ℕ
+  pub func : Range
+  pub line : Range
+  pub core : Range
 
 -- the length of the header with all its words
 abbrev pub full_header : ℕ
@@ -145,15 +151,16 @@ full_header = 32
 abbrev pub header_bytes : Order → List ℕ → List ℕ
 header_bytes order bytes = let given = take (min (word_at order 4 bytes) full_header) bytes in given ++ replicate (full_header - length given) 0
 
+-- a range by the two words at a place: its offset behind the header, whose length is the second word, and its length
+abbrev pub range_at : Order → ℕ → ℕ → List ℕ → Range
+range_at order at least bytes = record { start = word_at order 4 bytes + word_at order at bytes; len = word_at order (at + 4) bytes; least = least }
+
+-- A function record has two words at least, a line record and a relocation record have four.
 abbrev pub header_words : Order → List ℕ → Header
 header_words order bytes = record {
-  hdr_len = word_at order 4 bytes;
-  func_off = word_at order 8 bytes;
-  func_len = word_at order 12 bytes;
-  line_off = word_at order 16 bytes;
-  line_len = word_at order 20 bytes;
-  core_off = word_at order 24 bytes;
-  core_len = word_at order 28 bytes;
+  func = range_at order 8 8 bytes;
+  line = range_at order 16 16 bytes;
+  core = range_at order 24 16 bytes;
 }
 
 -- The header stands there up to its length, which is its second word, or is cut.
@@ -161,23 +168,7 @@ abbrev pub HasHeader : Order → List ℕ → Result Header Refusal → Type 0
 HasHeader order bytes (Ok h) = (8 ≤ length bytes) × (word_at order 4 bytes ≤ length bytes) × (h ≡ header_words order (header_bytes order bytes))
 HasHeader order bytes (Err refusal) = ((length bytes < 8) ⊎ (length bytes < word_at order 4 bytes)) × (refusal ≡ InvalidHeader)
 
--- A range of the data: where it begins, how many bytes it has, and the least size of its records.
-pub record Range : Type 0 where
-  pub start : ℕ
-  pub len : ℕ
-  pub least : ℕ
-
--- those of function records, of two words at least, of line records and of relocation records, of four
-abbrev pub func_range : Header → Range
-func_range h = record { start = h.hdr_len + h.func_off; len = h.func_len; least = 8 }
-
-abbrev pub line_range : Header → Range
-line_range h = record { start = h.hdr_len + h.line_off; len = h.line_len; least = 16 }
-
-abbrev pub core_range : Header → Range
-core_range h = record { start = h.hdr_len + h.core_off; len = h.core_len; least = 16 }
-
--- It lies in the data. If it is not empty, it begins with a word, the size of its records, which is not below the least.
+-- A range lies in the bytes. If it is not empty, it begins with a word, the size of its records, which is not below the least.
 pub record IsRange (order : Order) (bytes : List ℕ) (r : Range) : Type 0 where
   pub within : r.start + r.len ≤ length bytes
   pub has_word : 0 < r.len → 4 ≤ r.len
@@ -231,9 +222,9 @@ Then first second (Err refusal) = first (Err refusal) ⊎ ((a : _) × first (Ok 
 abbrev pub IsExt : Order → List ℕ → List ℕ → Result Ext Refusal → Type 0
 IsExt order bytes strings =
     Then (HasHeader order bytes) (λ h.
-    Then (HasPart order bytes (func_range h)) (λ func.
-    Then (HasPart order bytes (line_range h)) (λ line.
-    Then (HasPart order bytes (core_range h)) (λ core.
+    Then (HasPart order bytes h.func) (λ func.
+    Then (HasPart order bytes h.line) (λ line.
+    Then (HasPart order bytes h.core) (λ core.
     Then (AreNamed order func.size strings func.bytes) (λ funcs.
     Then (AreNamed order line.size strings line.bytes) (λ lines.
     Then (AreSections order core.size core.bytes) (λ relocations answer.

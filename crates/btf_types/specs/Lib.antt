@@ -4,6 +4,7 @@ pub mod Records
 pub mod Text
 pub mod Walk
 pub mod SecInfo
+pub mod Info
 pub use Rattle.btf_model.specs.Word
 pub use Rattle.btf_model.specs.Record
 pub use Rattle.btf_model.specs.Spelling

@@ -5,13 +5,13 @@ use Rattle.btf_plain.specs.declared.error.BtfError.{BtfError}
 use Rattle.btf_plain.specs.Error.{refusal_of}
 use Rattle.btf_types.specs.declared.ext.sections.SecInfo.{SecInfo}
 
-abbrev pub section : SecInfo → Section
-section s = record { name = s.name_offset; count = s.num_info; bytes = s.bytes.now }
+abbrev pub section_of : SecInfo → Section
+section_of s = record { name = s.name_offset; count = s.num_info; bytes = s.bytes.now }
 
 -- Nothing comes where no byte is left; a section, and the bytes behind it are left; or why what is left begins with no
 -- section, and then no byte is left.
 abbrev pub GivesSection : SectionBytes → Option (Result SecInfo BtfError) → SectionBytes → Type 0
 GivesSection before None after = (before.bytes ≡ []) × (after ≡ before)
-GivesSection before (Some (Ok s)) after = IsSection before.size (section s) × (before ≡ record after { bytes = section_bytes before.order (section s) ++ after.bytes })
+GivesSection before (Some (Ok s)) after = IsSection before.size (section_of s) × (before ≡ record after { bytes = section_bytes before.order (section_of s) ++ after.bytes })
 GivesSection before (Some (Err e)) after =
     (before.bytes ≢ []) × BeginsNoSection before.order before.size before.bytes × (refusal_of e ≡ Some (cut_refusal before.order before.size before.bytes)) × (after ≡ record before { bytes = [] })

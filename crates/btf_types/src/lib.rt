@@ -2,7 +2,9 @@
 #![tactic(auto)]
 
 mod ext;
+mod info;
 mod table;
 
 pub use ext::{SecInfo, SecInfoIter};
+pub use info::{FuncInfo, FuncSecInfo, LineInfo, LineSecInfo, bpf_func_info, bpf_line_info};
 pub use table::{Btf, BtfStr};

@@ -5,7 +5,7 @@ ghost use Rattle.btf_model.specs.Blob.{word_at};
 ghost use Rattle.btf_model.specs.Ext.{IsSection, BeginsNoSection, section_bytes, cut_refusal};
 ghost use Rattle.btf_plain.specs.Error.{refusal_of};
 ghost use Rattle.btf_plain.specs.Endianness.{order_of};
-ghost use Rattle.btf_types.specs.SecInfo.{section};
+ghost use Rattle.btf_types.specs.SecInfo.{section_of};
 
 use btf_plain::{BtfError, Endianness};
 use std::marker::Model;
@@ -108,7 +108,7 @@ fn split_section(
     endianness: Endianness,
 ) -> Result<(SecInfo<'_>, &[u8]), BtfError>
     ensures { MatchResult result
-        (λ x. IsSection rec_size (section x.0) × (bytes.now ≡ section_bytes (order_of endianness) (section x.0) ++ x.1.now))
+        (λ x. IsSection rec_size (section_of x.0) × (bytes.now ≡ section_bytes (order_of endianness) (section_of x.0) ++ x.1.now))
         (λ e. BeginsNoSection (order_of endianness) rec_size bytes.now × (refusal_of e ≡ Some (cut_refusal (order_of endianness) rec_size bytes.now))) }
 {
     let section_len = bytes.len();

@@ -1,0 +1,86 @@
+//! Records of a section: so many of one size, of which the first words are read.
+
+ghost use Rattle.std.specs.Prelude.{◌≡◌, ℕ, ◌+◌, ◌*◌, ◌≤◌, ◌++◌, List, length, drop, map, take, IfOk, OnOk};
+ghost use Rattle.std.specs.List.{flat_map};
+ghost use Rattle.btf_model.specs.Word.{Little, word, word_of, words_at};
+ghost use Rattle.btf_model.specs.Ext.{IsSection, record_words};
+ghost use Rattle.btf_plain.specs.Endianness.{order_of};
+ghost use Rattle.btf_types.specs.SecInfo.{section_of};
+
+use crate::ext::SecInfo;
+use btf_plain::Endianness;
+use std::alloc::{AllocError, Global};
+
+/// The number of bytes that an instruction has.
+pub const INSTRUCTION_LEN: u32 = 8;
+
+/// A record of which the first words are read.
+pub trait Record: Sized + Drop {
+    /// How many words are read.
+    ghost width: { ℕ };
+
+    /// The words that a record is seen as.
+    ghost words: { Self → List ℕ };
+
+    /// Those words, of the words that are read.
+    ghost read_as: { List ℕ → List ℕ };
+
+    /// The record at the front of bytes.
+    fn read(bytes: &[u8], endianness: Endianness) -> Self
+        requires { 4 * width ≤ length bytes.now }
+        ensures { words result ≡ read_as (words_at (order_of endianness) width bytes.now) };
+}
+
+/// The first word of bytes, and what follows it.
+pub fn split_word(bytes: &[u8], endianness: Endianness) -> (u32, &[u8])
+    requires { 4 ≤ length bytes.now }
+    ensures word { result.0 ≡ word_of (order_of endianness) (take 4 bytes.now) }
+    ensures rest { result.1.now ≡ drop 4 bytes.now }
+    ensures length { length result.1.now + 4 ≡ length bytes.now }
+{
+    let (word, rest) = bytes.split_first_chunk::<4>().unwrap();
+    (endianness.read_u32(*word), rest)
+}
+
+/// The first four words of bytes.
+pub fn four_words(bytes: &[u8], endianness: Endianness) -> [u32; 4]
+    requires { 16 ≤ length bytes.now }
+    ensures { result ≡ words_at (order_of endianness) 4 bytes.now }
+{
+    let (first, rest) = split_word(bytes, endianness);
+    let (second, rest) = split_word(rest, endianness);
+    let (third, rest) = split_word(rest, endianness);
+    let (fourth, _) = split_word(rest, endianness);
+    [first, second, third, fourth]
+}
+
+/// The records of a section, which have so many bytes each, in a vector of just their number.
+pub fn read_records<T: Record>(
+    alloc: Global,
+    section: &SecInfo<'_>,
+    rec_size: usize,
+    endianness: Endianness,
+) -> Result<Vec<T>, AllocError>
+    requires whole { IsSection rec_size (section_of section.now) }
+    requires wide { 4 * T.width ≤ rec_size }
+    ensures { IfOk result (λ v. map T.words v.items ≡ map T.read_as (record_words (order_of endianness) rec_size T.width section.now.num_info section.now.bytes.now)) }
+{
+    let mut records = Vec::with_capacity(alloc, section.num_info as usize)?;
+    let mut rest = section.bytes;
+    for _ in 0..section.num_info {
+        let (_, behind) = rest.split_at(rec_size);
+        records.push(T::read(rest, endianness))?;
+        rest = behind;
+    }
+    Ok(records)
+}
+
+/// Writes words at the end of bytes, the lowest byte first.
+pub fn push_little(out: &mut Vec<u8>, words: &[u32]) -> Result<(), AllocError>
+    ensures { OnOk result (out.new.items ≡ out.old.items ++ flat_map (word Little) words.now) }
+{
+    for value in words {
+        out.extend_from_slice(&value.to_le_bytes())?;
+    }
+    Ok(())
+}
