@@ -200,8 +200,8 @@ pub record Ext : Type 0 where
 abbrev pub records_named : Order → ℕ → Part → List Named → List ℕ → Option Records
 records_named order width part named name = option_map (instruction_records order part.size width) (section_named named name)
 
-abbrev pub relocation_section : Order → Part → Section → ℕ × List (List ℕ)
-relocation_section order part s = (s.name, record_words order part.size 4 s.count s.bytes)
+abbrev pub relocation_section : Order → ℕ → Section → ℕ × List (List ℕ)
+relocation_section order size s = (s.name, record_words order size 4 s.count s.bytes)
 
 abbrev pub ext_of : Order → Part → List Named → Part → List Named → Part → List Section → Ext
 ext_of order func funcs line lines core relocations = record {
@@ -209,7 +209,7 @@ ext_of order func funcs line lines core relocations = record {
   func = records_named order 2 func funcs;
   line_size = line.size;
   line = records_named order 4 line lines;
-  relocations = map (relocation_section order core) relocations;
+  relocations = map (relocation_section order core.size) relocations;
 }
 
 -- One thing is read, and then another by it: what the second answers, or the refusal of the first that is refused.

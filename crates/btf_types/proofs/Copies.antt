@@ -32,7 +32,7 @@ moved : {X : Type 0} (view : X → Records) (b : Bool) (later before after : Opt
 moved view true later before after v w none same is = ap (λ o. option_or (option_map view o) (option_map view after)) (none refl) ∙ ap (option_map view) is ∙ ap (λ (x : Records). Some x) same
 moved view false later before after v w none same is = ap (λ o. option_or (option_map view later) (option_map view o)) is
 
-eq_flips : (xs ys : List ℕ) (b c : Bool) → bytes_eq xs ys ≡ b → bytes_eq ys xs ≡ c → b ≡ c
+pub eq_flips : (xs ys : List ℕ) (b c : Bool) → bytes_eq xs ys ≡ b → bytes_eq ys xs ≡ c → b ≡ c
 eq_flips xs ys true true p q = refl
 eq_flips xs ys false false p q = refl
 eq_flips xs ys true false p q = absurd (true≢false (sym ((bytes_eq-Decides ys xs).1 (sym ((bytes_eq-Decides xs ys).0 p))) ∙ q))

@@ -5,3 +5,8 @@ pub mod Walks
 pub mod SecInfos
 pub mod Infos
 pub mod Copies
+pub mod ExtHeaders
+pub mod Parts
+pub mod Refused
+pub mod NamedSections
+pub mod Exts

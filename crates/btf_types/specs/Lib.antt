@@ -5,6 +5,9 @@ pub mod Text
 pub mod Walk
 pub mod SecInfo
 pub mod Info
+pub mod ExtHeader
+pub mod NamedSection
+pub mod BtfExt
 pub use Rattle.btf_model.specs.Word
 pub use Rattle.btf_model.specs.Record
 pub use Rattle.btf_model.specs.Spelling

@@ -4,7 +4,8 @@
 mod ext;
 mod info;
 mod table;
+mod words;
 
-pub use ext::{SecInfo, SecInfoIter};
+pub use ext::{BtfExt, SecInfo, SecInfoIter};
 pub use info::{FuncInfo, FuncSecInfo, LineInfo, LineSecInfo, bpf_func_info, bpf_line_info};
 pub use table::{Btf, BtfStr};

@@ -1,14 +1,18 @@
 //! Line records.
 
-ghost use Rattle.std.specs.Prelude.{◌≡◌, ℕ, ◌≤◌, List, length, map, None, Ok, IfOk, unwrap_or};
-ghost use Rattle.btf_model.specs.Ext.{IsSection, instruction_records, little_bytes, no_records};
+ghost use Rattle.std.specs.Prelude.{◌≡◌, ℕ, ◌<◌, ◌≤◌, List, length, map, option_map, None, Ok, IfOk, unwrap_or};
+ghost use Rattle.std.specs.List.{AllByRecursion};
+ghost use Rattle.btf_model.specs.Ext.{IsSection, instruction_records, little_bytes, no_records, section_named, sections_of};
 ghost use Rattle.btf_plain.specs.Error.{Gives};
 ghost use Rattle.btf_plain.specs.Endianness.{order_of};
 ghost use Rattle.btf_types.specs.SecInfo.{section_of};
+ghost use Rattle.btf_types.specs.NamedSection.{named};
 ghost use Rattle.btf_types.specs.Info.{line_words, line_records, lines_by_name};
 
 use crate::ext::SecInfo;
-use crate::info::records::{INSTRUCTION_LEN, Record, four_words, push_little, read_records};
+use crate::ext::read::NamedSection;
+use crate::info::records::{INSTRUCTION_LEN, Record, read_records};
+use crate::words::{four_words, push_little};
 use btf_plain::{BtfError, Endianness};
 use std::alloc::{AllocError, Global};
 use std::collections::HashMap;
@@ -139,6 +143,26 @@ impl LineInfo {
             sections: HashMap::new(alloc),
             alloc,
         }
+    }
+
+    /// The records of sections, of so many bytes each, under the names of the sections. Of a name the last section
+    /// counts.
+    pub(crate) fn read(
+        alloc: Global,
+        sections: &[NamedSection<'_>],
+        rec_size: usize,
+        endianness: Endianness,
+    ) -> Result<Self, AllocError>
+        requires whole { AllByRecursion (IsSection rec_size) (sections_of (map named sections.now)) }
+        requires wide { 0 < length sections.now → 16 ≤ rec_size }
+        ensures { IfOk result (λ f. (name : List ℕ) → lines_by_name f name ≡ option_map (instruction_records (order_of endianness) rec_size 4) (section_named (map named sections.now) name)) }
+    {
+        let mut info = Self::new(alloc);
+        for named in sections {
+            let section = LineSecInfo::read(alloc, &named.section, rec_size, endianness)?;
+            info.sections.insert(named.name.clone()?, section)?;
+        }
+        Ok(info)
     }
 
     /// A copy of the records under a name, or of none. `OutOfMemory` is the only error.

@@ -1,13 +1,13 @@
 //! Records of a section: so many of one size, of which the first words are read.
 
-ghost use Rattle.std.specs.Prelude.{◌≡◌, ℕ, ◌+◌, ◌*◌, ◌≤◌, ◌++◌, List, length, drop, map, take, IfOk, OnOk};
-ghost use Rattle.std.specs.List.{flat_map};
-ghost use Rattle.btf_model.specs.Word.{Little, word, word_of, words_at};
+ghost use Rattle.std.specs.Prelude.{◌≡◌, ℕ, ◌*◌, ◌≤◌, List, length, map, IfOk};
+ghost use Rattle.btf_model.specs.Word.{words_at};
 ghost use Rattle.btf_model.specs.Ext.{IsSection, record_words};
 ghost use Rattle.btf_plain.specs.Endianness.{order_of};
 ghost use Rattle.btf_types.specs.SecInfo.{section_of};
 
 use crate::ext::SecInfo;
+use crate::words::four_words;
 use btf_plain::Endianness;
 use std::alloc::{AllocError, Global};
 
@@ -31,27 +31,17 @@ pub trait Record: Sized + Drop {
         ensures { words result ≡ read_as (words_at (order_of endianness) width bytes.now) };
 }
 
-/// The first word of bytes, and what follows it.
-pub fn split_word(bytes: &[u8], endianness: Endianness) -> (u32, &[u8])
-    requires { 4 ≤ length bytes.now }
-    ensures word { result.0 ≡ word_of (order_of endianness) (take 4 bytes.now) }
-    ensures rest { result.1.now ≡ drop 4 bytes.now }
-    ensures length { length result.1.now + 4 ≡ length bytes.now }
-{
-    let (word, rest) = bytes.split_first_chunk::<4>().unwrap();
-    (endianness.read_u32(*word), rest)
-}
+/// Four words as they stand.
+impl Record for [u32; 4] {
+    ghost width = { 4 };
 
-/// The first four words of bytes.
-pub fn four_words(bytes: &[u8], endianness: Endianness) -> [u32; 4]
-    requires { 16 ≤ length bytes.now }
-    ensures { result ≡ words_at (order_of endianness) 4 bytes.now }
-{
-    let (first, rest) = split_word(bytes, endianness);
-    let (second, rest) = split_word(rest, endianness);
-    let (third, rest) = split_word(rest, endianness);
-    let (fourth, _) = split_word(rest, endianness);
-    [first, second, third, fourth]
+    ghost words = { λ words. words };
+
+    ghost read_as = { λ words. words };
+
+    fn read(bytes: &[u8], endianness: Endianness) -> Self {
+        four_words(bytes, endianness)
+    }
 }
 
 /// The records of a section, which have so many bytes each, in a vector of just their number.
@@ -73,14 +63,4 @@ pub fn read_records<T: Record>(
         rest = behind;
     }
     Ok(records)
-}
-
-/// Writes words at the end of bytes, the lowest byte first.
-pub fn push_little(out: &mut Vec<u8>, words: &[u32]) -> Result<(), AllocError>
-    ensures { OnOk result (out.new.items ≡ out.old.items ++ flat_map (word Little) words.now) }
-{
-    for value in words {
-        out.extend_from_slice(&value.to_le_bytes())?;
-    }
-    Ok(())
 }
