@@ -6,3 +6,4 @@ pub mod Usual
 pub mod Texts
 pub mod Flavors
 pub mod Walks
+pub mod Sections

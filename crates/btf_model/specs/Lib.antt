@@ -7,5 +7,7 @@ pub mod Blob
 pub mod Text
 pub mod Walk
 pub mod Fields
+pub mod Ext
+pub mod ExtExamples
 pub mod Laws
 pub mod Examples

@@ -4,6 +4,8 @@
 #[cfg(test)]
 mod errors;
 #[cfg(test)]
+mod ext;
+#[cfg(test)]
 mod kinds;
 #[cfg(test)]
 mod names;

@@ -3,3 +3,11 @@ pub mod Sections
 pub mod Tables
 pub mod Names
 pub mod Walks
+pub mod SecInfos
+pub mod Infos
+pub mod Copies
+pub mod ExtHeaders
+pub mod Parts
+pub mod Refused
+pub mod NamedSections
+pub mod Exts

@@ -4,11 +4,17 @@ pub mod Header
 pub mod Records
 pub mod Text
 pub mod Walk
+pub mod SecInfo
+pub mod Info
+pub mod ExtHeader
+pub mod NamedSection
+pub mod BtfExt
 pub use Rattle.btf_model.specs.Word
 pub use Rattle.btf_model.specs.Record
 pub use Rattle.btf_model.specs.Spelling
 pub use Rattle.btf_model.specs.Table
 pub use Rattle.btf_model.specs.Blob
+pub use Rattle.btf_model.specs.Ext
 pub use Rattle.btf_plain.specs.Error
 pub use Rattle.btf_plain.specs.Endianness
 pub use Rattle.btf_records.specs.BtfType

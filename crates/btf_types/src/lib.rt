@@ -2,7 +2,12 @@
 #![tactic(auto)]
 
 mod compat;
+mod ext;
+mod info;
 mod table;
+mod words;
 
 pub use compat::fields_are_compatible;
+pub use ext::{BtfExt, SecInfo, SecInfoIter};
+pub use info::{FuncInfo, FuncSecInfo, LineInfo, LineSecInfo, bpf_func_info, bpf_line_info};
 pub use table::{Btf, BtfStr};

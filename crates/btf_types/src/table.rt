@@ -278,6 +278,11 @@ impl Btf {
         })
     }
 
+    /// The allocator of the table's memory.
+    pub(crate) fn allocator(&self) -> Global {
+        *self.strings.allocator()
+    }
+
     /// The byte order in which the table is written.
     pub fn endianness(&self) -> Endianness
         ensures { order_of result ≡ self.now.order }

@@ -1,0 +1,207 @@
+//! The `.BTF.ext` section: its sections, one by one and as a whole, in both orders.
+
+use crate::spelled::{ORDERS, push_words};
+use btf_plain::{BtfError, Endianness};
+use btf_types::{Btf, BtfExt, SecInfoIter};
+use std::alloc::Global;
+use std::test::Fail;
+
+/// The bytes of words, which stand in a text in decimal.
+fn spelled_text(alloc: Global, text: &str, order: Endianness) -> Result<Vec<u8>, Fail> {
+    let mut bytes = Vec::new(alloc);
+    for word in text.split_whitespace() {
+        push_words(&mut bytes, &[word.parse::<u32>()?], order)?;
+    }
+    Ok(bytes)
+}
+
+/// The first four bytes of a header: magic, version and flags.
+fn front(order: Endianness) -> [u8; 4] {
+    match order {
+        Endianness::Little => [0x9f, 0xeb, 1, 0],
+        Endianness::Big => [0xeb, 0x9f, 1, 0],
+    }
+}
+
+/// A section with the first four bytes of a header, and these words behind them.
+fn ext_bytes(alloc: Global, words: &str, order: Endianness) -> Result<Vec<u8>, Fail> {
+    let mut bytes = Vec::from_slice(alloc, &front(order))?;
+    bytes.extend_from_slice(&spelled_text(alloc, words, order)?)?;
+    Ok(bytes)
+}
+
+/// What parsing answers: `ok`, or the text of the error.
+fn parse_text(alloc: Global, data: &[u8], order: Endianness, table: &Btf) -> Result<String, Fail> {
+    match BtfExt::parse(data, order, table) {
+        Ok(_) => Ok(String::from_str(alloc, "ok")?),
+        Err(e) => Ok(e.to_string(alloc)?),
+    }
+}
+
+/// What an iterator over sections gives: of each its name, its number of records and of bytes, or the text of an
+/// error; and then a dot.
+fn sections_text(
+    alloc: Global,
+    data: &[u8],
+    rec_size: usize,
+    order: Endianness,
+) -> Result<String, Fail> {
+    let mut text = String::new(alloc);
+    for section in SecInfoIter::new(data, rec_size, order) {
+        match section {
+            Ok(section) => {
+                let name_offset = section.name_offset;
+                let num_info = section.num_info;
+                let len = section.bytes.len();
+                text.push_str(format!(in alloc; "{name_offset} {num_info} {len}; ")?.as_str())?;
+            }
+            Err(e) => text.push_str(format!(in alloc; "{e}; ")?.as_str())?,
+        }
+    }
+    text.push_str(".")?;
+    Ok(text)
+}
+
+#[test]
+fn sections_come_one_by_one(rt: HostRuntime) -> Result<(), Fail> {
+    let alloc = rt.alloc();
+    let rows: [(&str, usize, &str); 8] = [
+        ("", 8, "."),
+        ("7 2 1 2 3 4", 8, "7 2 16; ."),
+        (
+            "0 0",
+            8,
+            "invalid BTF info, offset: 8 len: 0 section_len: 8; .",
+        ),
+        (
+            "0 1 0",
+            8,
+            "invalid BTF info, offset: 8 len: 8 section_len: 12; .",
+        ),
+        (
+            "0 4294967295 0",
+            8,
+            "invalid BTF info, offset: 8 len: 34359738360 section_len: 12; .",
+        ),
+        (
+            "0 1",
+            0,
+            "invalid BTF info, offset: 8 len: 0 section_len: 8; .",
+        ),
+        (
+            "0 536870912 0",
+            8,
+            "invalid BTF info, offset: 8 len: 4294967296 section_len: 12; .",
+        ),
+        (
+            "0 2",
+            usize::MAX,
+            "invalid BTF info, offset: 8 len: 18446744073709551615 section_len: 8; .",
+        ),
+    ];
+    for order in ORDERS {
+        for (words, rec_size, text) in rows {
+            let bytes = spelled_text(alloc, words, order)?;
+            assert_eq!(rt;
+                sections_text(alloc, &bytes, rec_size, order)?.as_str(),
+                text
+            );
+        }
+    }
+    Ok(())
+}
+
+#[test]
+fn cut_words_end_the_sections(rt: HostRuntime) -> Result<(), Fail> {
+    let alloc = rt.alloc();
+    for order in ORDERS {
+        let section = spelled_text(alloc, "0 1 0 0", order)?;
+        for n in 1usize..8 {
+            let text = format!(in alloc; "invalid BTF info, offset: 0 len: 8 section_len: {n}; .")?;
+            let mut bytes = vec![in alloc; 0u8; n]?;
+            assert_eq!(rt; sections_text(alloc, &bytes, 8, order)?, text);
+            let mut behind = Vec::from_slice(alloc, &section)?;
+            behind.append(&mut bytes)?;
+            let text = format!(in alloc; "0 1 8; {text}")?;
+            assert_eq!(rt; sections_text(alloc, &behind, 8, order)?, text);
+        }
+    }
+    Ok(())
+}
+
+#[test]
+fn headers_are_cut_and_filled_up(rt: HostRuntime) -> Result<(), Fail> {
+    let alloc = rt.alloc();
+    let table = Btf::new(alloc)?;
+    let four_in_big = [0xeb, 0x9f, 1, 0, 0, 0, 0, 4];
+    let ext = BtfExt::parse(&four_in_big, Endianness::Big, &table)?;
+    assert_eq!(rt; ext.func_info_rec_size(), 0);
+    assert_eq!(rt; ext.line_info_rec_size(), 0);
+    assert!(rt; ext.relocations().is_empty());
+    assert_eq!(rt;
+        parse_text(alloc, &four_in_big, Endianness::Little, &table)?.as_str(),
+        "error parsing BTF header"
+    );
+    let rows: [(&str, &str); 3] = [
+        ("9", "error parsing BTF header"),
+        (
+            "32 4294967295 0 0 0 0 0",
+            "invalid BTF info, offset: 4294967327 len: 0 section_len: 32",
+        ),
+        ("24 0 4 4 4 8 16", "ok"),
+    ];
+    for order in ORDERS {
+        for (words, text) in rows {
+            let bytes = ext_bytes(alloc, words, order)?;
+            assert_eq!(rt; parse_text(alloc, &bytes, order, &table)?.as_str(), text);
+        }
+        // Behind a header of 24 bytes no relocations are named.
+        let ext = BtfExt::parse(&ext_bytes(alloc, "24 0 4 4 4 8 16", order)?, order, &table)?;
+        assert_eq!(rt; ext.func_info_rec_size(), 8);
+        assert_eq!(rt; ext.line_info_rec_size(), 16);
+    }
+    Ok(())
+}
+
+#[test]
+fn relocations_keep_four_words(rt: HostRuntime) -> Result<(), Fail> {
+    let alloc = rt.alloc();
+    let table = Btf::new(alloc)?;
+    let rows: [&str; 2] = [
+        "32 0 0 0 0 0 28 16 5 1 1 2 3 4",
+        "32 0 0 0 0 0 32 20 5 1 1 2 3 4 9",
+    ];
+    for order in ORDERS {
+        for words in rows {
+            let ext = BtfExt::parse(&ext_bytes(alloc, words, order)?, order, &table)?;
+            for copy in [ext.try_clone()?, ext] {
+                assert_eq!(rt; copy.relocations().len(), 1);
+                for (name_offset, records) in copy.relocations() {
+                    assert_eq!(rt; *name_offset, 5);
+                    assert_eq!(rt; records.as_slice(), [[1, 2, 3, 4]].as_slice());
+                }
+            }
+        }
+    }
+    Ok(())
+}
+
+#[test]
+fn the_last_section_of_a_name_counts(rt: HostRuntime) -> Result<(), Fail> {
+    let alloc = rt.alloc();
+    let table = Btf::new(alloc)?;
+    for order in ORDERS {
+        let bytes = ext_bytes(alloc, "32 0 36 0 0 0 0 8 0 1 16 42 0 1 24 7", order)?;
+        let ext = BtfExt::parse(&bytes, order, &table)?;
+        let section = ext.func_info().get("")?;
+        assert_eq!(rt; section.num_info, 1);
+        assert_eq!(rt; section.len(), 1);
+        let words = spelled_text(alloc, "3 7", Endianness::Little)?;
+        assert_eq!(rt; section.func_info_bytes()?, words);
+        let none = ext.func_info().get("none")?;
+        assert_eq!(rt; none.num_info, 0);
+        assert_eq!(rt; none.len(), 0);
+        assert!(rt; none.func_info_bytes()?.is_empty());
+    }
+    Ok(())
+}

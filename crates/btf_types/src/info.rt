@@ -1,0 +1,8 @@
+//! Function and line records, by the sections of a program.
+
+mod func;
+mod line;
+pub mod records;
+
+pub use crate::info::func::{FuncInfo, FuncSecInfo, bpf_func_info};
+pub use crate::info::line::{LineInfo, LineSecInfo, bpf_line_info};
