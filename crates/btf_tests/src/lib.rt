@@ -6,6 +6,8 @@ mod errors;
 #[cfg(test)]
 mod ext;
 #[cfg(test)]
+mod fields;
+#[cfg(test)]
 mod kinds;
 #[cfg(test)]
 mod names;
