@@ -2,6 +2,12 @@
 #![tactic(auto)]
 
 #[cfg(test)]
+mod built_records;
+#[cfg(test)]
+mod checks;
+#[cfg(test)]
+mod clang;
+#[cfg(test)]
 mod errors;
 #[cfg(test)]
 mod ext;
@@ -10,7 +16,11 @@ mod fields;
 #[cfg(test)]
 mod kinds;
 #[cfg(test)]
+mod kinds_of_records;
+#[cfg(test)]
 mod names;
+#[cfg(test)]
+mod program_table;
 #[cfg(test)]
 mod records;
 #[cfg(test)]

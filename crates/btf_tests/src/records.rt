@@ -1,88 +1,111 @@
 //! Records, read from bytes and written.
 
+use crate::checks::has_bytes;
+use crate::spelled::{bytes, spelled_text};
 use btf_plain::{Endianness, Int, IntEncoding, Ptr};
 use btf_records::BtfType;
 use std::alloc::Global;
 use std::test::Fail;
 
-/// The text of what reading answers: `ok`, or the error.
-fn read_text(alloc: Global, data: &[u8]) -> Result<String, Fail> {
-    match BtfType::read(alloc, data, Endianness::Little) {
-        Ok(_) => Ok(String::from_str(alloc, "ok")?),
-        Err(e) => Ok(e.to_string(alloc)?),
+/// The bytes of an INT of 64 bits and of a PTR, in each order.
+const WHOLE: [(Endianness, &str); 4] = [
+    (
+        Endianness::Little,
+        "01 00 00 00  00 00 00 01  08 00 00 00  40 00 00 00",
+    ),
+    (
+        Endianness::Big,
+        "00 00 00 01  01 00 00 00  00 00 00 08  00 00 00 40",
+    ),
+    (Endianness::Little, "00 00 00 00  00 00 00 02  06 00 00 00"),
+    (Endianness::Big, "00 00 00 00  02 00 00 00  00 00 00 06"),
+];
+
+/// Whether bytes are read as a record, and written again.
+fn is_read(alloc: Global, text: &str, endianness: Endianness) -> Result<bool, Fail> {
+    let bytes = bytes(alloc, text)?;
+    let record = BtfType::read(alloc, &bytes, endianness)?;
+    Ok(
+        record.type_info_size() == bytes.len()
+            && has_bytes(alloc, &record, text, endianness)?
+            && has_64_bits(&record),
+    )
+}
+
+/// Whether a record, if it is an INT, has 64 bits.
+fn has_64_bits(record: &BtfType) -> bool {
+    match record {
+        BtfType::Int(int) => int.bits() == 64,
+        _ => true,
     }
 }
 
 #[test]
 fn records_are_read_and_written_again(rt: HostRuntime) -> Result<(), Fail> {
-    let alloc = rt.alloc();
-    let rows: [(Endianness, &[u8]); 4] = [
-        (
-            Endianness::Little,
-            &[1, 0, 0, 0, 0, 0, 0, 1, 8, 0, 0, 0, 0x40, 0, 0, 0],
-        ),
-        (
-            Endianness::Big,
-            &[0, 0, 0, 1, 1, 0, 0, 0, 0, 0, 0, 8, 0, 0, 0, 0x40],
-        ),
-        (Endianness::Little, &[0, 0, 0, 0, 0, 0, 0, 2, 6, 0, 0, 0]),
-        (Endianness::Big, &[0, 0, 0, 0, 2, 0, 0, 0, 0, 0, 0, 6]),
-    ];
-    for (endianness, bytes) in rows {
-        let record = BtfType::read(alloc, bytes, endianness)?;
-        assert_eq!(rt; record.type_info_size(), bytes.len());
-        let written = record.to_bytes(alloc, endianness)?;
-        assert_eq!(rt; written.as_slice(), bytes);
-        if let BtfType::Int(int) = &record {
-            assert_eq!(rt; int.bits(), 64);
-        }
+    for (endianness, text) in WHOLE {
+        assert!(rt; is_read(rt.alloc(), text, endianness)?, "{text}");
     }
     Ok(())
 }
 
+/// Whether a built PTR is written as these bytes.
+fn is_ptr(alloc: Global, text: &str, endianness: Endianness) -> Result<bool, Fail> {
+    has_bytes(alloc, &BtfType::Ptr(Ptr::new(0, 6)), text, endianness)
+}
+
 #[test]
 fn built_records_are_written(rt: HostRuntime) -> Result<(), Fail> {
-    let alloc = rt.alloc();
-    let ptr = BtfType::Ptr(Ptr::new(0, 6));
-    let little = ptr.to_bytes(alloc, Endianness::Little)?;
-    assert_eq!(rt;
-        little.as_slice(),
-        [0, 0, 0, 0, 0, 0, 0, 2, 6, 0, 0, 0].as_slice()
-    );
-    let big = ptr.to_bytes(alloc, Endianness::Big)?;
-    assert_eq!(rt;
-        big.as_slice(),
-        [0, 0, 0, 0, 2, 0, 0, 0, 0, 0, 0, 6].as_slice()
-    );
+    let text = "00 00 00 00  00 00 00 02  06 00 00 00";
+    assert!(rt; is_ptr(rt.alloc(), text, Endianness::Little)?);
+    let text = "00 00 00 00  02 00 00 00  00 00 00 06";
+    assert!(rt; is_ptr(rt.alloc(), text, Endianness::Big)?);
 
     // 32 bytes are 256 bits, which are kept modulo 256.
-    let int = Int::new(0, 32, IntEncoding::None, 0);
-    assert_eq!(rt; int.bits(), 0);
-    let int = Int::new(0, 4, IntEncoding::Signed, 0);
-    assert_eq!(rt; int.encoding(), IntEncoding::Signed);
+    assert!(rt; Int::new(0, 32, IntEncoding::None, 0).bits() == 0);
+    assert!(rt; Int::new(0, 4, IntEncoding::Signed, 0).encoding() == IntEncoding::Signed);
     Ok(())
+}
+
+/// Bytes that begin with no record, and the text of their fault.
+const BROKEN: [(&str, &str); 4] = [
+    (
+        "00 00 00 00  00 00 00 14  00 00 00 00  00",
+        "invalid BTF type kind `20`",
+    ),
+    (
+        "00 00 00 00  00 00 00 14  00 00 00",
+        "invalid BTF type info segment",
+    ),
+    (
+        "00 00 00 00  00 00 00 01  04 00 00 00  20 00 00",
+        "invalid BTF type info segment",
+    ),
+    ("", "invalid BTF type info segment"),
+];
+
+/// Whether reading bytes in the little order answers an error of this text.
+fn is_refused_with(alloc: Global, data: &[u8], text: &str) -> Result<bool, Fail> {
+    match BtfType::read(alloc, data, Endianness::Little) {
+        Ok(_) => Ok(false),
+        Err(e) => Ok(e.to_string(alloc)?.as_str() == text),
+    }
 }
 
 #[test]
 fn broken_records_are_refused(rt: HostRuntime) -> Result<(), Fail> {
     let alloc = rt.alloc();
-    let rows: [(&[u8], &str); 4] = [
-        (
-            &[0, 0, 0, 0, 0, 0, 0, 0x14, 0, 0, 0, 0],
-            "invalid BTF type kind `20`",
-        ),
-        (
-            &[0, 0, 0, 0, 0, 0, 0, 0x14, 0, 0, 0],
-            "invalid BTF type info segment",
-        ),
-        (
-            &[0, 0, 0, 0, 0, 0, 0, 1, 4, 0, 0, 0, 0x20, 0, 0],
-            "invalid BTF type info segment",
-        ),
-        (&[], "invalid BTF type info segment"),
-    ];
-    for (bytes, text) in rows {
-        assert_eq!(rt; read_text(alloc, bytes)?.as_str(), text);
+    for (data, text) in &BROKEN {
+        let data = bytes(alloc, data)?;
+        assert!(rt; is_refused_with(alloc, &data, text)?, "{data:?}");
     }
+    Ok(())
+}
+
+#[test]
+fn record_has_its_own_info_word(rt: HostRuntime) -> Result<(), Fail> {
+    let alloc = rt.alloc();
+    let bytes = spelled_text(alloc, "1 e2ffffff 6", Endianness::Big)?;
+    let record = BtfType::read(alloc, &bytes, Endianness::Big)?;
+    assert!(rt; record.info() == 0xe2ff_ffff);
     Ok(())
 }

@@ -1,10 +1,29 @@
-//! Words, spelled in an order by the tests themselves.
+//! Words and bytes, read from text as a person writes them, and spelled in an order by the tests themselves.
 
 use btf_plain::Endianness;
 use std::alloc::{AllocError, Global};
+use std::test::Fail;
 
 /// Both orders.
 pub const ORDERS: [Endianness; 2] = [Endianness::Little, Endianness::Big];
+
+/// The words of a text: hexadecimal numbers with white space between them.
+pub fn words(alloc: Global, text: &str) -> Result<Vec<u32>, Fail> {
+    let mut words = Vec::new(alloc);
+    for word in text.split_whitespace() {
+        words.push(u32::from_str_radix(word, 16)?)?;
+    }
+    Ok(words)
+}
+
+/// The bytes of a text: hexadecimal numbers with white space between them.
+pub fn bytes(alloc: Global, text: &str) -> Result<Vec<u8>, Fail> {
+    let mut bytes = Vec::new(alloc);
+    for byte in text.split_whitespace() {
+        bytes.push(u8::from_str_radix(byte, 16)?)?;
+    }
+    Ok(bytes)
+}
 
 /// Spells words at the end of bytes.
 pub fn push_words(
@@ -30,5 +49,32 @@ pub fn spelled(
 ) -> Result<Vec<u8>, AllocError> {
     let mut bytes = Vec::new(alloc);
     push_words(&mut bytes, words, endianness)?;
+    Ok(bytes)
+}
+
+/// The bytes of a text's words.
+pub fn spelled_text(alloc: Global, text: &str, endianness: Endianness) -> Result<Vec<u8>, Fail> {
+    let words = words(alloc, text)?;
+    Ok(spelled(alloc, &words, endianness)?)
+}
+
+/// The header of a table whose types stand first: the length of the types, and where the strings stand.
+pub fn header(
+    alloc: Global,
+    type_len: u32,
+    str_off: u32,
+    str_len: u32,
+    endianness: Endianness,
+) -> Result<Vec<u8>, AllocError> {
+    let magic: [u8; 4] = match endianness {
+        Endianness::Little => [0x9f, 0xeb, 1, 0],
+        Endianness::Big => [0xeb, 0x9f, 1, 0],
+    };
+    let mut bytes = magic.to_vec(alloc)?;
+    push_words(
+        &mut bytes,
+        &[0x18, 0, type_len, str_off, str_len],
+        endianness,
+    )?;
     Ok(bytes)
 }

@@ -1,0 +1,94 @@
+//! The `.BTF` sections of a small C program, as a compiler writes them.
+
+use crate::checks::{check_kinds, has_no_type, is_written_as};
+use crate::spelled::bytes;
+use btf_plain::{BtfKind, Endianness};
+use btf_types::Btf;
+use std::test::Fail;
+
+/// The bytes of data/small.bpfel.btf.
+const LITTLE: &str = "
+    9f eb 01 00 18 00 00 00 00 00 00 00 d8 00 00 00
+    d8 00 00 00 9b 00 00 00 01 00 00 00 00 00 00 0e
+    00 00 00 00 01 00 00 00 00 00 00 00 00 00 00 02
+    03 00 00 00 00 00 00 00 00 00 00 0a 04 00 00 00
+    08 00 00 00 03 00 00 84 10 00 00 00 0d 00 00 00
+    05 00 00 00 00 00 00 04 12 00 00 00 05 00 00 00
+    04 00 00 1c 18 00 00 00 06 00 00 00 40 00 00 00
+    1e 00 00 00 00 00 00 01 04 00 00 00 20 00 00 00
+    00 00 00 00 00 00 00 02 07 00 00 00 18 00 00 00
+    02 00 00 06 04 00 00 00 2b 00 00 00 00 00 00 00
+    2f 00 00 00 05 00 00 00 00 00 00 00 01 00 00 0d
+    09 00 00 00 08 00 00 00 02 00 00 00 32 00 00 00
+    00 00 00 01 04 00 00 00 20 00 00 01 36 00 00 00
+    01 00 00 0c 08 00 00 00 95 00 00 00 01 00 00 0f
+    00 00 00 00 01 00 00 00 00 00 00 00 08 00 00 00
+    00 63 68 6f 73 65 6e 00 70 61 69 72 00 6c 65 66
+    74 00 72 69 67 68 74 00 73 74 61 74 65 00 75 6e
+    73 69 67 6e 65 64 20 69 6e 74 00 4f 46 46 00 4f
+    4e 00 69 6e 74 00 66 69 72 73 74 00 2e 74 65 78
+    74 00 2e 2f 73 6d 61 6c 6c 2e 63 00 69 6e 74 20
+    66 69 72 73 74 28 63 6f 6e 73 74 20 73 74 72 75
+    63 74 20 70 61 69 72 20 2a 70 61 69 72 29 00 09
+    72 65 74 75 72 6e 20 63 68 6f 73 65 6e 20 3f 20
+    63 68 6f 73 65 6e 28 70 61 69 72 2c 20 33 29 20
+    3a 20 30 3b 00 2e 6d 61 70 73 00
+";
+
+/// The bytes of data/small.bpfeb.btf.
+const BIG: &str = "
+    eb 9f 01 00 00 00 00 18 00 00 00 00 00 00 00 d8
+    00 00 00 d8 00 00 00 9b 00 00 00 01 0e 00 00 00
+    00 00 00 00 00 00 00 01 00 00 00 00 02 00 00 00
+    00 00 00 03 00 00 00 00 0a 00 00 00 00 00 00 04
+    00 00 00 08 84 00 00 03 00 00 00 10 00 00 00 0d
+    00 00 00 05 04 00 00 00 00 00 00 12 00 00 00 05
+    1c 00 00 04 00 00 00 18 00 00 00 06 00 00 00 40
+    00 00 00 1e 01 00 00 00 00 00 00 04 00 00 00 20
+    00 00 00 00 02 00 00 00 00 00 00 07 00 00 00 18
+    06 00 00 02 00 00 00 04 00 00 00 2b 00 00 00 00
+    00 00 00 2f 00 00 00 05 00 00 00 00 0d 00 00 01
+    00 00 00 09 00 00 00 08 00 00 00 02 00 00 00 32
+    01 00 00 00 00 00 00 04 01 00 00 20 00 00 00 36
+    0c 00 00 01 00 00 00 08 00 00 00 95 0f 00 00 01
+    00 00 00 00 00 00 00 01 00 00 00 00 00 00 00 08
+    00 63 68 6f 73 65 6e 00 70 61 69 72 00 6c 65 66
+    74 00 72 69 67 68 74 00 73 74 61 74 65 00 75 6e
+    73 69 67 6e 65 64 20 69 6e 74 00 4f 46 46 00 4f
+    4e 00 69 6e 74 00 66 69 72 73 74 00 2e 74 65 78
+    74 00 2e 2f 73 6d 61 6c 6c 2e 63 00 69 6e 74 20
+    66 69 72 73 74 28 63 6f 6e 73 74 20 73 74 72 75
+    63 74 20 70 61 69 72 20 2a 70 61 69 72 29 00 09
+    72 65 74 75 72 6e 20 63 68 6f 73 65 6e 20 3f 20
+    63 68 6f 73 65 6e 28 70 61 69 72 2c 20 33 29 20
+    3a 20 30 3b 00 2e 6d 61 70 73 00
+";
+
+const KINDS: [BtfKind; 12] = [
+    BtfKind::Unknown,
+    BtfKind::Var,
+    BtfKind::Ptr,
+    BtfKind::Const,
+    BtfKind::Struct,
+    BtfKind::Int,
+    BtfKind::Ptr,
+    BtfKind::Enum,
+    BtfKind::FuncProto,
+    BtfKind::Int,
+    BtfKind::Func,
+    BtfKind::DataSec,
+];
+
+#[test]
+fn compiled_sections_are_parsed_and_written_again(rt: HostRuntime) -> Result<(), Fail> {
+    let alloc = rt.alloc();
+    for (endianness, text) in [(Endianness::Little, LITTLE), (Endianness::Big, BIG)] {
+        let section = bytes(alloc, text)?;
+        assert!(rt; section.len() == 395);
+        let table = Btf::parse(alloc, &section, endianness)?;
+        check_kinds(&rt, &table, &KINDS);
+        assert!(rt; has_no_type(&table, 12));
+        assert!(rt; is_written_as(&table, &section)?);
+    }
+    Ok(())
+}
