@@ -113,3 +113,18 @@ begins_section order bytes s more fits le name count cut =
 -- what is read of the first two words fits them
 pub word_at_fits : (order : Order) (at : ℕ) (bytes : List ℕ) → IsBytes bytes → word_at order at bytes < 2 ^ 32
 word_at_fits order at bytes fits = word_of_below order (take 4 (drop at bytes)) (IsBytes-take 4 (drop at bytes) (IsBytes-drop at bytes fits))
+
+-- sections and a rest of one length are one
+same_cut : (order : Order) (size : ℕ) (ss ts : List Section) (rest more : List ℕ) → AllByRecursion (IsSection size) ss → AllByRecursion (IsSection size) ts → length rest ≡ length more → flat_map (section_bytes order) ss ++ rest ≡ flat_map (section_bytes order) ts ++ more → (ss ≡ ts) × (rest ≡ more)
+same_cut order size [] [] rest more hs ht len e = (refl, e)
+same_cut order size [] (t ∷ ts) rest more hs ht len e =
+    absurd (omega (arith, len, ap length e, length-append (section_bytes order t ++ flat_map (section_bytes order) ts) more, length-append (section_bytes order t) (flat_map (section_bytes order) ts), length-section_bytes order t))
+same_cut order size (s ∷ ss) [] rest more hs ht len e =
+    absurd (omega (arith, len, ap length e, length-append (section_bytes order s ++ flat_map (section_bytes order) ss) rest, length-append (section_bytes order s) (flat_map (section_bytes order) ss), length-section_bytes order s))
+same_cut order size (s ∷ ss) (t ∷ ts) rest more hs ht len e =
+    let first = same_section order size s t (flat_map (section_bytes order) ss ++ rest) (flat_map (section_bytes order) ts ++ more) hs.0 ht.0 (sym (append_assoc (section_bytes order s) (flat_map (section_bytes order) ss) rest) ∙ e ∙ append_assoc (section_bytes order t) (flat_map (section_bytes order) ts) more) in
+    let others = same_cut order size ss ts rest more hs.1 ht.1 len first.rest in
+    (ap (λ (x : Section). x ∷ ss) first.section_is ∙ ap (λ (xs : List Section). t ∷ xs) others.0, others.1)
+
+pub same_sections : (order : Order) (size : ℕ) (bytes : List ℕ) (a b : List Section) (x y : List ℕ) → Sections order size bytes a x → Sections order size bytes b y → (a ≡ b) × (x ≡ y)
+same_sections order size bytes a b x y h g = same_cut order size a b x y h.cut.0 g.cut.0 (omega (arith, h.longest b y g.cut, g.longest a x h.cut)) (sym h.cut.1 ∙ g.cut.1)

@@ -9,6 +9,7 @@ use Rattle.btf_model.specs.Refusal.{Refusal}
 use Rattle.btf_model.specs.Table.{Table, Fallback, strip, with_string, with_type}
 use Rattle.btf_model.specs.Text.{text_at, FindsName}
 use Rattle.btf_model.specs.Walk.{Resolves, HasSize}
+use Rattle.btf_model.specs.Ext.{Section, Sections}
 use Rattle.btf_model.specs.Blob.{IsTable, IsRefusal, IsValid, canon, header_len, header_of, strings_end, type_section}
 
 -- No spelling is a proper beginning of another, and bytes spell one record.
@@ -76,3 +77,8 @@ pub record WalksAreDetermined : Type 0 where
 -- What an id resolves to resolves to itself.
 abbrev pub ResolvingTwiceIsOnce : Type 0
 ResolvingTwiceIsOnce = (records : List Record) (id end : ℕ) → Resolves records id (Ok end) → Resolves records end (Ok end)
+
+-- The sections that bytes begin with, and the rest behind them, are determined.
+abbrev pub SectionsAreDetermined : Type 0
+SectionsAreDetermined =
+    (order : Order) (size : ℕ) (bytes : List ℕ) (a b : List Section) (x y : List ℕ) → Sections order size bytes a x → Sections order size bytes b y → (a ≡ b) × (x ≡ y)

@@ -3,7 +3,7 @@
 //! The definitions lie in `specs/`. Each law is the contract of a function here that does nothing.
 #![tactic(auto)]
 
-ghost use Rattle.btf_model.specs.Laws.{NoSpellingBeginsAnother, BlobIsDetermined, WrittenParsesBack, ParsedWritesBack, AddedStringReadsBack, NameFindsOne, AddedTypeIsFound, WalksAreDetermined, ResolvingTwiceIsOnce};
+ghost use Rattle.btf_model.specs.Laws.{NoSpellingBeginsAnother, BlobIsDetermined, WrittenParsesBack, ParsedWritesBack, AddedStringReadsBack, NameFindsOne, AddedTypeIsFound, WalksAreDetermined, ResolvingTwiceIsOnce, SectionsAreDetermined};
 
 /// No record's spelling is a proper beginning of another's, and bytes spell one record: so a row of
 /// spellings is cut in one way.
@@ -51,4 +51,9 @@ pub fn walks_are_determined()
 /// What an id resolves to resolves to itself.
 pub fn resolving_twice_is_once()
     ensures { ResolvingTwiceIsOnce }
+{}
+
+/// The sections of `.BTF.ext` that bytes begin with, and the rest behind them, are determined.
+pub fn sections_are_determined()
+    ensures { SectionsAreDetermined }
 {}

@@ -205,3 +205,128 @@ fn the_last_section_of_a_name_counts(rt: HostRuntime) -> Result<(), Fail> {
     }
     Ok(())
 }
+
+/// A section with the full header, of which the ranges hold these words, one behind the other.
+fn full_ext(alloc: Global, ranges: [&str; 3], order: Endianness) -> Result<Vec<u8>, Fail> {
+    let [func, line, core] = ranges;
+    let func = spelled_text(alloc, func, order)?;
+    let line = spelled_text(alloc, line, order)?;
+    let core = spelled_text(alloc, core, order)?;
+    let (a, b, c) = (func.len(), line.len(), core.len());
+    let line_off = a;
+    let core_off = a.saturating_add(b);
+    let words = format!(in alloc; "32 0 {a} {line_off} {b} {core_off} {c}")?;
+    let mut bytes = ext_bytes(alloc, words.as_str(), order)?;
+    bytes.extend_from_slice(&func)?;
+    bytes.extend_from_slice(&line)?;
+    bytes.extend_from_slice(&core)?;
+    Ok(bytes)
+}
+
+#[test]
+fn broken_ranges_and_names_are_refused(rt: HostRuntime) -> Result<(), Fail> {
+    let alloc = rt.alloc();
+    let table = Btf::new(alloc)?;
+    let rows: [([&str; 3], &str); 9] = [
+        (["8 1 1 0 0", "", ""], "invalid BTF string offset: 1"),
+        (["", "16 1 1 0 0 0 0", ""], "invalid BTF string offset: 1"),
+        (["", "", "16 1 1 0 0 0 0"], "ok"),
+        (
+            ["4 0 1 0", "", ""],
+            "invalid BTF info, offset: 32 len: 16 section_len: 48",
+        ),
+        (
+            ["", "12 0 1 0 0 0", ""],
+            "invalid BTF info, offset: 32 len: 24 section_len: 56",
+        ),
+        (
+            ["", "", "12 0 1 0 0 0"],
+            "invalid BTF info, offset: 32 len: 24 section_len: 56",
+        ),
+        // The cut of a section is told before its name, which no table has.
+        (
+            ["8 1 4294967295 0", "", ""],
+            "invalid BTF info, offset: 8 len: 34359738360 section_len: 12",
+        ),
+        // And a range before any section.
+        (
+            ["8 1 4294967295 0", "15", ""],
+            "invalid BTF info, offset: 48 len: 4 section_len: 52",
+        ),
+        (
+            ["", "", "16 0 4294967295 0"],
+            "invalid BTF info, offset: 8 len: 68719476720 section_len: 12",
+        ),
+    ];
+    for order in ORDERS {
+        for (ranges, text) in rows {
+            let bytes = full_ext(alloc, ranges, order)?;
+            assert_eq!(rt; parse_text(alloc, &bytes, order, &table)?.as_str(), text);
+        }
+    }
+    Ok(())
+}
+
+#[test]
+fn wider_records_give_their_first_words(rt: HostRuntime) -> Result<(), Fail> {
+    let alloc = rt.alloc();
+    let table = Btf::new(alloc)?;
+    let rows: [[&str; 3]; 2] = [
+        ["8 0 1 16 42", "16 0 1 24 1 2 3", ""],
+        ["12 0 1 16 42 0", "20 0 1 24 1 2 3 0", ""],
+    ];
+    let func_words = spelled_text(alloc, "2 42", Endianness::Little)?;
+    let line_words = spelled_text(alloc, "3 1 2 3", Endianness::Little)?;
+    for order in ORDERS {
+        for ranges in rows {
+            let ext = BtfExt::parse(&full_ext(alloc, ranges, order)?, order, &table)?;
+            let funcs = ext.func_info().try_clone()?.get("")?;
+            assert_eq!(rt; funcs.try_clone()?.func_info_bytes()?, func_words);
+            let lines = ext.line_info().try_clone()?.get("")?;
+            assert_eq!(rt; lines.len(), 1);
+            assert_eq!(rt; lines.try_clone()?.line_info_bytes()?, line_words);
+        }
+    }
+    Ok(())
+}
+
+/// 112 bytes: with a zero byte in front of it and one behind, the next text has offset 114.
+const BEFORE_THE_NAME: &str =
+    "................................................................................................................";
+
+/// The section of a program that returns at once, as a compiler writes it.
+const SMALL_EXT: [&str; 3] = ["8 114 1 0 7", "16 114 1 0 123 162 11269", ""];
+
+#[test]
+fn a_small_section_is_read_whole_or_refused(rt: HostRuntime) -> Result<(), Fail> {
+    let alloc = rt.alloc();
+    let mut table = Btf::new(alloc)?;
+    table.add_string(BEFORE_THE_NAME)?;
+    assert_eq!(rt; table.add_string("xdp/pass")?, 114);
+    for order in ORDERS {
+        let bytes = full_ext(alloc, SMALL_EXT, order)?;
+        let len = bytes.len();
+        assert_eq!(rt; len, 80);
+        let ext = BtfExt::parse(&bytes, order, &table)?;
+        assert_eq!(rt; ext.func_info_rec_size(), 8);
+        assert_eq!(rt; ext.line_info_rec_size(), 16);
+        assert!(rt; ext.relocations().is_empty());
+        let funcs = ext.func_info().get("xdp/pass")?.func_info_bytes()?;
+        assert_eq!(rt; funcs, spelled_text(alloc, "0 7", Endianness::Little)?);
+        let lines = ext.line_info().get("xdp/pass")?.line_info_bytes()?;
+        let words = spelled_text(alloc, "0 123 162 11269", Endianness::Little)?;
+        assert_eq!(rt; lines, words);
+        for (n, _) in bytes.iter().enumerate() {
+            let text = match n {
+                0..32 => String::from_str(alloc, "error parsing BTF header")?,
+                32..52 => format!(in alloc;
+                    "invalid BTF info, offset: 32 len: 20 section_len: {n}"
+                )?,
+                _ => format!(in alloc; "invalid BTF info, offset: 52 len: 28 section_len: {n}")?,
+            };
+            let (front, _) = bytes.split_at(n);
+            assert_eq!(rt; parse_text(alloc, front, order, &table)?, text);
+        }
+    }
+    Ok(())
+}
