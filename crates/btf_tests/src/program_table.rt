@@ -179,3 +179,15 @@ fn types_of_program_have_sizes(rt: HostRuntime) -> Result<(), Fail> {
     assert!(rt; matches!(answer, Err(BtfError::UnexpectedBtfType { type_id: 7 })));
     Ok(())
 }
+
+#[test]
+fn types_of_program_are_found_by_name(rt: HostRuntime) -> Result<(), Fail> {
+    let alloc = rt.alloc();
+    let blob = program(alloc, Endianness::Little, 0x10c)?;
+    let table = Btf::parse(alloc, &blob, Endianness::Little)?;
+    assert!(rt; table.id_by_type_name_kind("__u32", BtfKind::Typedef)? == 3);
+    assert!(rt; table.id_by_type_name_kind("xdp_pass", BtfKind::Func)? == 7);
+    let answer = table.id_by_type_name_kind("xdp_pass", BtfKind::Var);
+    assert!(rt; matches!(answer, Err(BtfError::UnknownBtfTypeName { .. })));
+    Ok(())
+}

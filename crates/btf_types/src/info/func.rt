@@ -1,6 +1,6 @@
 //! Function records.
 
-ghost use Rattle.std.specs.Prelude.{◌≡◌, ℕ, ◌<◌, ◌≤◌, List, length, map, option_map, Ok, IfOk, unwrap_or};
+ghost use Rattle.std.specs.Prelude.{◌≡◌, ℕ, ◌<◌, ◌≤◌, List, length, map, option_map, None, Ok, IfOk, unwrap_or};
 ghost use Rattle.std.specs.List.{AllByRecursion};
 ghost use Rattle.btf_model.specs.Ext.{IsSection, instruction_records, little_bytes, no_records, section_named, sections_of};
 ghost use Rattle.btf_plain.specs.Error.{Gives};
@@ -123,6 +123,16 @@ pub struct FuncInfo {
 }
 
 impl FuncInfo {
+    /// No section. No memory is taken.
+    fn new(alloc: Global) -> Self
+        ensures { (name : List ℕ) → funcs_by_name result name ≡ None }
+    {
+        Self {
+            sections: HashMap::new(alloc),
+            alloc,
+        }
+    }
+
     /// The records of sections, of so many bytes each, under the names of the sections. Of a name the last section
     /// counts.
     pub(crate) fn read(
