@@ -3,7 +3,7 @@
 use crate::checks::{check_kinds, has_no_type, is_written_as};
 use crate::spelled::bytes;
 use btf_plain::{BtfKind, Endianness};
-use btf_types::Btf;
+use btf_types::{Btf, BtfExt};
 use std::test::Fail;
 
 /// The bytes of data/small.bpfel.btf.
@@ -89,6 +89,39 @@ fn compiled_sections_are_parsed_and_written_again(rt: HostRuntime) -> Result<(),
         check_kinds(&rt, &table, &KINDS);
         assert!(rt; has_no_type(&table, 12));
         assert!(rt; is_written_as(&table, &section)?);
+    }
+    Ok(())
+}
+
+/// The bytes of data/small.bpfel.btf_ext.
+const LITTLE_EXT: &str = "
+    9f eb 01 00 20 00 00 00 00 00 00 00 14 00 00 00 14 00 00 00 4c 00 00 00 60 00 00 00 00 00 00 00
+    08 00 00 00 3c 00 00 00 01 00 00 00 00 00 00 00 0a 00 00 00 10 00 00 00 3c 00 00 00 04 00 00 00
+    00 00 00 00 42 00 00 00 4c 00 00 00 00 3c 00 00 08 00 00 00 42 00 00 00 6f 00 00 00 09 44 00 00
+    28 00 00 00 42 00 00 00 6f 00 00 00 12 44 00 00 40 00 00 00 42 00 00 00 6f 00 00 00 02 44 00 00
+";
+
+/// The bytes of data/small.bpfeb.btf_ext.
+const BIG_EXT: &str = "
+    eb 9f 01 00 00 00 00 20 00 00 00 00 00 00 00 14 00 00 00 14 00 00 00 4c 00 00 00 60 00 00 00 00
+    00 00 00 08 00 00 00 3c 00 00 00 01 00 00 00 00 00 00 00 0a 00 00 00 10 00 00 00 3c 00 00 00 04
+    00 00 00 00 00 00 00 42 00 00 00 4c 00 00 3c 00 00 00 00 08 00 00 00 42 00 00 00 6f 00 00 44 09
+    00 00 00 28 00 00 00 42 00 00 00 6f 00 00 44 12 00 00 00 40 00 00 00 42 00 00 00 6f 00 00 44 02
+";
+
+#[test]
+fn compiled_records_are_counted(rt: HostRuntime) -> Result<(), Fail> {
+    let alloc = rt.alloc();
+    let rows = [
+        (Endianness::Little, LITTLE, LITTLE_EXT),
+        (Endianness::Big, BIG, BIG_EXT),
+    ];
+    for (endianness, table, ext) in rows {
+        let table = Btf::parse(alloc, &bytes(alloc, table)?, endianness)?;
+        let ext = BtfExt::parse(&bytes(alloc, ext)?, endianness, &table)?;
+        assert!(rt; ext.func_info().get(".text")?.len() == 1);
+        assert!(rt; ext.line_info().get(".text")?.len() == 4);
+        assert!(rt; ext.relocations().is_empty());
     }
     Ok(())
 }

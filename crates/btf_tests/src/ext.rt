@@ -330,3 +330,78 @@ fn a_small_section_is_read_whole_or_refused(rt: HostRuntime) -> Result<(), Fail>
     }
     Ok(())
 }
+
+#[test]
+fn the_header_s_length_says_what_is_read(rt: HostRuntime) -> Result<(), Fail> {
+    let alloc = rt.alloc();
+    let table = Btf::new(alloc)?;
+    for order in ORDERS {
+        let [func, line, core] = SMALL_EXT;
+        let mut bytes = full_ext(alloc, [func, line, core], order)?;
+        // Up to 12 bytes, no range is named.
+        for len in 0u32..13 {
+            set_header_len(&mut bytes, len, order);
+            let ext = BtfExt::parse(&bytes, order, &table)?;
+            assert_eq!(rt; ext.func_info_rec_size(), 0);
+            assert_eq!(rt; ext.line_info_rec_size(), 0);
+        }
+        set_header_len(&mut bytes, 40, order);
+        assert_eq!(rt;
+            parse_text(alloc, &bytes, order, &table)?.as_str(),
+            "invalid BTF info, offset: 40 len: 20 section_len: 80"
+        );
+        set_header_len(&mut bytes, 81, order);
+        assert_eq!(rt;
+            parse_text(alloc, &bytes, order, &table)?.as_str(),
+            "error parsing BTF header"
+        );
+    }
+    Ok(())
+}
+
+/// Puts the length of the header into its second word.
+fn set_header_len(bytes: &mut [u8], len: u32, order: Endianness) {
+    if let Some(word) = bytes.get_mut(4..8) {
+        word.copy_from_slice(&order.write_u32(len));
+    }
+}
+
+/// A section whose header has these words, and of which one range holds one record of so many zero bytes.
+fn narrow_ext(
+    alloc: Global,
+    header: &str,
+    rec_size: u32,
+    order: Endianness,
+) -> Result<Vec<u8>, Fail> {
+    let mut bytes = ext_bytes(alloc, header, order)?;
+    push_words(&mut bytes, &[rec_size, 0, 1], order)?;
+    bytes.append(&mut vec![in alloc; 0u8; rec_size as usize]?)?;
+    Ok(bytes)
+}
+
+#[test]
+fn records_below_the_least_size_are_refused(rt: HostRuntime) -> Result<(), Fail> {
+    let alloc = rt.alloc();
+    let table = Btf::new(alloc)?;
+    for order in ORDERS {
+        for rec_size in [0u32, 1, 7, 12, 15] {
+            let len = rec_size.saturating_add(12);
+            let end = rec_size.saturating_add(44);
+            let text = format!(in alloc;
+                "invalid BTF info, offset: 32 len: {len} section_len: {end}"
+            )?;
+            let line = format!(in alloc; "32 0 0 0 {len} 0 0")?;
+            let bytes = narrow_ext(alloc, line.as_str(), rec_size, order)?;
+            assert_eq!(rt; parse_text(alloc, &bytes, order, &table)?, text);
+            let core = format!(in alloc; "32 0 0 0 0 0 {len}")?;
+            let bytes = narrow_ext(alloc, core.as_str(), rec_size, order)?;
+            assert_eq!(rt; parse_text(alloc, &bytes, order, &table)?, text);
+            if rec_size < 8 {
+                let func = format!(in alloc; "32 0 {len} 0 0 0 0")?;
+                let bytes = narrow_ext(alloc, func.as_str(), rec_size, order)?;
+                assert_eq!(rt; parse_text(alloc, &bytes, order, &table)?, text);
+            }
+        }
+    }
+    Ok(())
+}
