@@ -7,6 +7,8 @@ pub mod Blob
 pub mod Text
 pub mod Walk
 pub mod Fields
+pub mod Compat
+pub mod CompatExamples
 pub mod Ext
 pub mod ExtExamples
 pub mod Laws
