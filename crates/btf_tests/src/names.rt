@@ -3,7 +3,7 @@
 use crate::spelled::push_words;
 use btf_plain::{BtfError, BtfKind, Endianness, Int, IntEncoding};
 use btf_records::BtfType;
-use btf_types::{Btf, BtfStr};
+use btf_types::Btf;
 use std::alloc::Global;
 use std::test::Fail;
 
@@ -16,6 +16,22 @@ fn table_of(alloc: Global, strings: &[u8]) -> Result<Btf, Fail> {
     Ok(Btf::parse(alloc, &blob, Endianness::Little)?)
 }
 
+/// Whether an offset is refused, with the offset.
+fn is_no_text(table: &Btf, place: u32) -> bool {
+    matches!(
+        table.string_at(place),
+        Err(BtfError::InvalidStringOffset { offset }) if offset == place as usize
+    )
+}
+
+/// Whether the search for a name ends with the name.
+fn is_unknown(table: &Btf, name: &str, kind: BtfKind) -> bool {
+    match &table.id_by_type_name_kind(name, kind) {
+        Err(BtfError::UnknownBtfTypeName { type_name }) => type_name.as_str() == name,
+        _ => false,
+    }
+}
+
 #[test]
 fn texts_are_read_at_their_offsets(rt: HostRuntime) -> Result<(), Fail> {
     let alloc = rt.alloc();
@@ -25,11 +41,7 @@ fn texts_are_read_at_their_offsets(rt: HostRuntime) -> Result<(), Fail> {
     assert!(rt; table.string_at(0)?.as_str() == "");
     assert!(rt; table.string_at(1)?.as_str() == "foo");
     for place in [5u32, 6, 4294967295] {
-        let answer = table.string_at(place);
-        assert!(rt;
-            matches!(answer, Err(BtfError::InvalidStringOffset { offset }) if offset == place as usize),
-            "{place}"
-        );
+        assert!(rt; is_no_text(&table, place), "{place}");
     }
     Ok(())
 }
@@ -38,38 +50,43 @@ fn texts_are_read_at_their_offsets(rt: HostRuntime) -> Result<(), Fail> {
 fn bytes_that_are_not_utf8_are_replaced(rt: HostRuntime) -> Result<(), Fail> {
     let alloc = rt.alloc();
     let table = table_of(alloc, b"\x00\xff\x41\x00")?;
-    let text = table.string_at(1)?;
-    assert!(rt; matches!(text, BtfStr::Owned(_)));
-    assert!(rt; text.as_str() == "\u{fffd}A");
-
-    let mut table = table_of(alloc, b"")?;
-    let answer = table.string_at(0);
-    assert!(rt; matches!(answer, Err(BtfError::InvalidStringOffset { offset: 0 })));
-    assert!(rt; table.add_string("")? == 0);
+    assert!(rt; table.string_at(1)?.as_str() == "\u{fffd}A");
     Ok(())
 }
 
 #[test]
-fn unreadable_names_are_told(rt: HostRuntime) -> Result<(), Fail> {
-    let alloc = rt.alloc();
-    let mut table = Btf::new(alloc)?;
-    let nameless = Int::new(9, 4, IntEncoding::Signed, 0);
-    assert!(rt; table.add_type(BtfType::Int(nameless))? == 1);
-    assert!(rt; table.add_string("int")? == 1);
-    let named = Int::new(1, 4, IntEncoding::Signed, 0);
-    assert!(rt; table.add_type(BtfType::Int(named))? == 2);
+fn a_table_may_have_no_strings(rt: HostRuntime) -> Result<(), Fail> {
+    let mut table = table_of(rt.alloc(), b"")?;
+    assert!(rt; is_no_text(&table, 0));
+    assert!(rt; table.add_string("")? == 0);
+    Ok(())
+}
 
+/// A table of an INT whose name cannot be read, and of one named `int`.
+fn table_of_ints(alloc: Global) -> Result<Btf, BtfError> {
+    let mut table = Btf::new(alloc)?;
+    table.add_type(BtfType::Int(Int::new(9, 4, IntEncoding::Signed, 0)))?;
+    let place = table.add_string("int")?;
+    table.add_type(BtfType::Int(Int::new(place, 4, IntEncoding::Signed, 0)))?;
+    Ok(table)
+}
+
+#[test]
+fn unreadable_names_are_told(rt: HostRuntime) -> Result<(), Fail> {
+    let table = table_of_ints(rt.alloc())?;
     let answer = table.id_by_type_name_kind("int", BtfKind::Int);
     assert!(rt; matches!(answer, Err(BtfError::InvalidStringOffset { offset: 9 })));
-    let answer = table.id_by_type_name_kind("int", BtfKind::Ptr);
-    assert!(rt;
-        matches!(answer, Err(BtfError::UnknownBtfTypeName { type_name }) if type_name.as_str() == "int")
-    );
+    assert!(rt; is_unknown(&table, "int", BtfKind::Ptr));
     assert!(rt; table.err_type_name(table.type_by_id(1)?)?.is_none());
     let name = table.err_type_name(table.type_by_id(2)?)?.ok_or("a name")?;
     assert!(rt; name.as_str() == "int");
     assert!(rt; table.type_name(table.type_by_id(2)?)?.as_str() == "int");
+    Ok(())
+}
 
+#[test]
+fn ids_without_a_size_are_told(rt: HostRuntime) -> Result<(), Fail> {
+    let table = table_of_ints(rt.alloc())?;
     let answer = table.type_size(0);
     assert!(rt; matches!(answer, Err(BtfError::UnexpectedBtfType { type_id: 0 })));
     let answer = table.type_size(3);
