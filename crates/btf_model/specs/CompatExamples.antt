@@ -15,7 +15,7 @@ use Rattle.btf_model.specs.Compat.Walked.{on, unpaid}
 use Rattle.btf_model.specs.Compat.Paid.{unresolved, other}
 
 -- a table of these records from id 1 on
-abbrev table_of : List Record → Table
+abbrev pub table_of : List Record → Table
 table_of rs = record empty_table { records = unknown ∷ rs }
 
 abbrev pair : ℕ → ℕ → Pair

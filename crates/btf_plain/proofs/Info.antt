@@ -5,7 +5,7 @@ use Rattle.btf_model.specs.Record.{kind_number, kind_of}
 use Rattle.btf_plain.specs.declared.records.linkage.FuncLinkage.{FuncLinkage}
 use Rattle.btf_plain.specs.declared.records.linkage.FuncLinkage.TheVariants as func
 use Rattle.btf_plain.specs.Linkage.{func_linkage_number}
-use Rattle.btf_plain.specs.Info.{with_vlen}
+use Rattle.btf_model.specs.Info.{with_vlen}
 
 -- the high half of a word
 high_half : (info : ℕ) → info < 2 ^ 32 → bit_and info 4294901760 ≡ info / 2 ^ 16 * 2 ^ 16

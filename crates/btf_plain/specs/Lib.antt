@@ -3,4 +3,3 @@ pub mod Endianness
 pub mod Kind
 pub mod Encoding
 pub mod Linkage
-pub mod Info

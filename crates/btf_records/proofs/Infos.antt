@@ -2,7 +2,7 @@
 use Rattle.std.proofs.Common.{◌≡◌, ℕ, ◌+◌, ◌*◌, ◌%◌, ◌^◌, ◌<◌, Bool, true, false, ◌∙◌, arith, bit_and, bit_or}
 use Rattle.std.proofs.lemmas.Nat.{and_mask, or_shifted, or_comm}
 use Rattle.btf_model.specs.Record.{kind_number, vlen}
-use Rattle.btf_plain.specs.Info.{flag_bit, with_flag}
+use Rattle.btf_model.specs.Info.{flag_bit, with_flag}
 
 -- a flag above a number of 31 bits
 flag_above : (n : ℕ) (s : Bool) → n < 2 ^ 31 → bit_or n (flag_bit s) ≡ n + flag_bit s

@@ -10,5 +10,5 @@ pub use Rattle.btf_model.specs.Table
 pub use Rattle.btf_model.specs.Blob
 pub use Rattle.btf_plain.specs.Error
 pub use Rattle.btf_plain.specs.Endianness
-pub use Rattle.btf_plain.specs.Info
+pub use Rattle.btf_model.specs.Info
 pub use Rattle.btf_plain.specs.Kind

@@ -3,7 +3,7 @@
 ghost use Rattle.std.specs.Prelude.{◌≡◌, ◌+◌, ◌*◌, ◌^◌, [], length, Some};
 ghost use Rattle.btf_model.specs.Record as model;
 ghost use Rattle.btf_model.specs.Record.{kind_of, vlen};
-ghost use Rattle.btf_plain.specs.Info.{with_vlen};
+ghost use Rattle.btf_model.specs.Info.{with_vlen};
 ghost use Rattle.btf_plain.specs.Linkage.{func_linkage_number, func_linkage_of};
 
 use crate::records::{BtfKind, FuncLinkage};

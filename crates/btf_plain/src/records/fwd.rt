@@ -3,7 +3,7 @@
 ghost use Rattle.std.specs.Prelude.{◌≡◌, ◌+◌, ◌*◌, ◌^◌, [], length, Some};
 ghost use Rattle.btf_model.specs.Record as model;
 ghost use Rattle.btf_model.specs.Record.{kind_of};
-ghost use Rattle.btf_plain.specs.Info.{flag_bit};
+ghost use Rattle.btf_model.specs.Info.{flag_bit};
 
 use crate::records::BtfKind;
 use std::marker::Model;

@@ -8,7 +8,7 @@ ghost use Rattle.btf_model.specs.Record.{kind_of, vlen, kind_flag};
 ghost use Rattle.btf_model.specs.Spelling.{spell, IsWhole};
 ghost use Rattle.btf_plain.specs.Endianness.{order_of};
 ghost use Rattle.btf_plain.specs.Error.{Gives};
-ghost use Rattle.btf_plain.specs.Info.{flag_bit, with_flag};
+ghost use Rattle.btf_model.specs.Info.{flag_bit, with_flag};
 ghost use Rattle.btf_records.specs.Items.{enum_words};
 
 use crate::items::{clone_items, push_items};

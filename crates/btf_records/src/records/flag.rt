@@ -1,7 +1,7 @@
 //! The kind flag of info.
 
 ghost use Rattle.std.specs.Prelude.{◌≡◌};
-ghost use Rattle.btf_plain.specs.Info.{flag_bit};
+ghost use Rattle.btf_model.specs.Info.{flag_bit};
 
 /// Bit 31, where values have a sign.
 pub fn sign_bit(signed: bool) -> u32

@@ -1,0 +1,52 @@
+-- The tests of a rewrite: each is passed, or says why not, and the first that is not passed counts.
+-- Source: aya-obj's `fixup_and_sanitize`, in whose order they are told; the limits of both sections are the kernel's, whose header
+-- has 32 bits for a length.
+use Rattle.std.specs.Prelude.{ℕ, ◌+◌, ◌*◌, ◌^◌, nat_le, nat_lt, if◌then◌else◌, List, [], ◌∷◌, length, slice_get, Option, Some, None, Result, Ok, Err}
+use Rattle.btf_model.specs.Record.{Record}
+use Rattle.btf_model.specs.Refusal.{Refusal, InvalidTypeInfo, InvalidStringOffset, UnknownBtfType}
+use Rattle.btf_model.specs.Table.{Table, section_limit}
+
+-- passed, or why not
+abbrev pub Check : Type 0
+Check = Option Refusal
+
+-- the first test that is not passed
+abbrev pub first_fault : List Check → Option Refusal
+first_fault [] = None
+first_fault (None ∷ checks) = first_fault checks
+first_fault (Some refusal ∷ checks) = Some refusal
+
+-- a name can be read
+abbrev pub is_read : Result (List ℕ) Refusal → Check
+is_read (Ok name) = None
+is_read (Err refusal) = Some refusal
+
+-- an id has a record
+abbrev pub is_record : ℕ → Option Record → Check
+is_record id (Some r) = None
+is_record id None = Some (UnknownBtfType id)
+
+abbrev pub is_known : Table → ℕ → Check
+is_known t id = is_record id (slice_get t.records id)
+
+-- a text has room, with its zero byte, behind so many bytes of strings
+abbrev pub has_room : ℕ → List ℕ → Check
+has_room offset text = if nat_le (offset + length text + 1) section_limit then None else Some (InvalidStringOffset offset)
+
+-- texts have room, one behind the other
+abbrev pub have_room : ℕ → List (List ℕ) → List Check
+have_room offset [] = []
+have_room offset (text ∷ texts) = has_room offset text ∷ have_room (offset + length text + 1) texts
+
+-- so many bytes of records have room behind others
+abbrev pub fits : ℕ → ℕ → Check
+fits used bytes = if nat_le (used + bytes) section_limit then None else Some InvalidTypeInfo
+
+-- the number of bytes of a record
+abbrev pub record_len : Record → ℕ
+record_len r = 4 * (3 + length r.tail)
+
+-- a number of at most 32 bits
+abbrev pub in_a_word : Option ℕ → Option ℕ
+in_a_word (Some n) = if nat_lt n (2 ^ 32) then Some n else None
+in_a_word None = None

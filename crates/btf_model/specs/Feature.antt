@@ -1,0 +1,80 @@
+-- The features of a kernel's BTF that a rewrite asks for, and those that a record needs.
+-- Source: aya-obj's `BtfFeatures`, and which kind came with which in the kernel's BTF documentation; when the lack of a DATASEC
+-- without entries is asked for is this project's profile.
+use Rattle.std.specs.Prelude.{ℕ, ◌==◌, ◌&&◌, not, Bool, false, if◌then◌else◌, List, [], ◌∷◌, Option, Some}
+use Rattle.btf_model.specs.Record as kinds
+use Rattle.btf_model.specs.Record.{Kind, Record, kind_of, vlen, kind_flag}
+
+pub data Feature : Type 0 where
+  -- FUNC and FUNC_PROTO
+  Func : Feature
+  -- a FUNC of linkage Global
+  FuncGlobal : Feature
+  -- VAR and DATASEC
+  DataSec : Feature
+  -- a DATASEC without entries
+  DataSecZero : Feature
+  Float : Feature
+  DeclTag : Feature
+  TypeTag : Feature
+  -- ENUM64, and the sign of an ENUM
+  Enum64 : Feature
+
+-- the place of a feature among the eight
+abbrev pub number : Feature → ℕ
+number Func = 0
+number FuncGlobal = 1
+number DataSec = 2
+number DataSecZero = 3
+number Float = 4
+number DeclTag = 5
+number TypeTag = 6
+number Enum64 = 7
+
+abbrev pub same_feature : Feature → Feature → Bool
+same_feature f g = number f == number g
+
+-- a feature that was asked for, and whether the kernel has it
+pub record Answer : Type 0 where
+  pub feature : Feature
+  pub granted : Bool
+
+-- Whether the answers grant a feature: one of them is for it, and the first such is yes. What they do not grant is denied.
+abbrev pub grants : List Answer → Feature → Bool
+grants [] f = false
+grants (answer ∷ answers) f = if same_feature answer.feature f then answer.granted else grants answers f
+
+-- the linkage of a FUNC, by its vlen: Static is 0, Global is 1
+abbrev pub is_global : Record → Bool
+is_global r = vlen r.info == 1
+
+-- the sign of an ENUM or ENUM64
+abbrev pub is_signed : Record → Bool
+is_signed r = kind_flag r.info == 1
+
+-- a DATASEC that has no entries
+abbrev pub has_no_entries : Record → Bool
+has_no_entries r = vlen r.info == 0
+
+-- The features that a kernel needs to take a record of this kind. A DATASEC without entries needs DataSecZero too, unless it is
+-- exempt.
+abbrev pub needs_by : Bool → Option Kind → Record → List Feature
+needs_by is_exempt (Some kinds.Func) r = if is_global r then Func ∷ FuncGlobal ∷ [] else Func ∷ []
+needs_by is_exempt (Some kinds.FuncProto) r = Func ∷ []
+needs_by is_exempt (Some kinds.Var) r = DataSec ∷ []
+needs_by is_exempt (Some kinds.DataSec) r = if has_no_entries r && not is_exempt then DataSec ∷ DataSecZero ∷ [] else DataSec ∷ []
+needs_by is_exempt (Some kinds.Float) r = Float ∷ []
+needs_by is_exempt (Some kinds.DeclTag) r = DeclTag ∷ []
+needs_by is_exempt (Some kinds.TypeTag) r = TypeTag ∷ []
+needs_by is_exempt (Some kinds.Enum64) r = Enum64 ∷ []
+needs_by is_exempt (Some kinds.Enum) r = if is_signed r then Enum64 ∷ [] else []
+needs_by is_exempt k r = []
+
+-- A DATASEC that has a size and no entries: a rewrite leaves it as it is, so the kernel is not asked about it.
+abbrev pub is_sized_and_empty : Option Kind → Record → Bool
+is_sized_and_empty (Some kinds.DataSec) r = has_no_entries r && not (r.third == 0)
+is_sized_and_empty k r = false
+
+-- The features that a record needs, by the record that its id had before the pass.
+abbrev pub needs : Record → Record → List Feature
+needs before r = needs_by (is_sized_and_empty (kind_of before.info) before) (kind_of r.info) r
