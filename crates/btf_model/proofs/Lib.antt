@@ -7,3 +7,10 @@ pub mod Texts
 pub mod Flavors
 pub mod Walks
 pub mod Sections
+pub mod Asking
+pub mod Ruled
+pub mod Granted
+pub mod GrantedOnce
+pub mod GrantedAll
+pub mod Lengths
+pub mod Kept

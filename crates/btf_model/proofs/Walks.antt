@@ -20,15 +20,15 @@ IsEnd : {P A : Type 0} → Finding P A → Type 0
 IsEnd (Ends answer) = Unit {0}
 IsEnd (GoesOn next) = ⊥
 
-same_next : {P A : Type 0} (a b : P) → ◌≡◌ {A = Finding P A} (GoesOn a) (GoesOn b) → a ≡ b
+pub same_next : {P A : Type 0} (a b : P) → ◌≡◌ {A = Finding P A} (GoesOn a) (GoesOn b) → a ≡ b
 unfolding next_or
 same_next a b is = ap (next_or a) is
 
-same_answer : {P A : Type 0} (a b : Result A Refusal) → ◌≡◌ {A = Finding P A} (Ends a) (Ends b) → a ≡ b
+pub same_answer : {P A : Type 0} (a b : Result A Refusal) → ◌≡◌ {A = Finding P A} (Ends a) (Ends b) → a ≡ b
 unfolding answer_or
 same_answer a b is = ap (answer_or a) is
 
-not_both : {P A : Type 0} (f : Finding P A) (a : Result A Refusal) (next : P) → f ≡ Ends a → f ≡ GoesOn next → ⊥
+pub not_both : {P A : Type 0} (f : Finding P A) (a : Result A Refusal) (next : P) → f ≡ Ends a → f ≡ GoesOn next → ⊥
 unfolding IsEnd
 not_both f a next p q = subst IsEnd (sym p ∙ q) tt
 
@@ -81,7 +81,7 @@ behind_ends : (id end : ℕ) (o : Option ℕ) → behind_modifier id o ≡ Ends 
 behind_ends id end (Some next) is = absurd (not_both (GoesOn next) (Ok end) next is refl)
 behind_ends id end None is = same_Some id end (ap result_ok (same_answer (Ok id) (Ok end) is))
 
-ends_there : (id end : ℕ) (o : Option Record) → unmodified_in id o ≡ Ends (Ok end) → id ≡ end
+pub ends_there : (id end : ℕ) (o : Option Record) → unmodified_in id o ≡ Ends (Ok end) → id ≡ end
 ends_there id end (Some r) is = behind_ends id end (modified_type r) is
 ends_there id end None is = absurd (none-some end (ap result_ok (same_answer (Err (UnknownBtfType id)) (Ok end) is)))
 

@@ -23,5 +23,6 @@ pub mod Rewritten
 pub mod RewriteExamples
 pub mod DataSecExamples
 pub mod KsymsExamples
+pub mod RewriteLaws
 pub mod Laws
 pub mod Examples

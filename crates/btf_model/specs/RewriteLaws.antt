@@ -1,0 +1,87 @@
+-- The laws of the rewrite. Each is the contract of a public function of this crate.
+use Rattle.std.specs.Prelude.{◌≡◌, ◌≢◌, ℕ, suc, ◌<◌, Bool, true, false, List, [], ◌∷◌, length, map, slice_get, Option, Some, Ok}
+use Rattle.std.specs.List.{list_any, filter}
+use Rattle.btf_model.specs.Record as kinds
+use Rattle.btf_model.specs.Record.{Kind, Record, kind_of}
+use Rattle.btf_model.specs.Refusal.{MaximumTypeDepthReached}
+use Rattle.btf_model.specs.Spelling.{HasKind}
+use Rattle.btf_model.specs.Table.{Table}
+use Rattle.btf_model.specs.Walk.{Finding, WalkAnswers, Elements, size_in, Resolves, HasSize}
+use Rattle.btf_model.specs.Feature as features
+use Rattle.btf_model.specs.Feature.{Feature, Answer, same_feature, grants, needs}
+use Rattle.btf_model.specs.Made.{record_at, kind_at, fallback_of}
+use Rattle.btf_model.specs.Checks.{record_len}
+use Rattle.btf_model.specs.Ksyms.{KsymsIds}
+use Rattle.btf_model.specs.Pass.{Pass, Layout, has, asks, asks_below, Asked, texts_below, added_below, gets_filler}
+use Rattle.btf_model.specs.Rule.{becomes, ruled_below}
+use Rattle.btf_model.specs.Fault.{fault}
+use Rattle.btf_model.specs.Rewritten.{begun, pass_of, AreRuled, Rewritten}
+
+-- a feature is among these
+abbrev pub IsAmong : Feature → List Feature → Type 0
+IsAmong f fs = list_any (same_feature f) fs ≡ true
+
+-- A feature is asked for of a record only if the kernel needs it for that record.
+abbrev pub AskedOnlyIfNeeded : Type 0
+AskedOnlyIfNeeded = (p : Pass) (id : ℕ) (f : Feature) → IsAmong f (asks p id) → IsAmong f (needs (record_at p.table id) (record_at p.table id))
+
+-- one of the answers is for this feature, and it is yes
+abbrev pub IsGrantedOnce : List Answer → Feature → Type 0
+IsGrantedOnce answers f = map (λ (answer : Answer). answer.granted) (filter (λ (answer : Answer). same_feature answer.feature f) answers) ≡ true ∷ []
+
+-- Where the answers are those to what the pass asks for, the features that the kernel needs for a record of the new table, one that was
+-- appended among them, were asked for once each, and granted.
+abbrev pub GrantedFeaturesSuffice : Type 0
+GrantedFeaturesSuffice =
+    (old new : Table) (ids : Option KsymsIds) (layout : Layout) (answers : List Answer) → Rewritten old ids layout answers new → map (λ (answer : Answer). answer.feature) answers ≡ Asked (pass_of old ids layout answers)
+    → (id : ℕ) (r : Record) → slice_get new.records id ≡ Some r → (f : Feature) → IsAmong f (needs (record_at (begun old ids) id) r) → IsGrantedOnce answers f
+
+-- The record of an id keeps its length in bytes, but for a DATASEC that gets a filler.
+pub record RecordLengthsStay : Type 0 where
+  pub others : (p : Pass) (id : ℕ) (k : Kind) → HasKind k (record_at p.table id) → gets_filler p id ≡ false → record_len (becomes p id) ≡ record_len (record_at p.table id)
+  pub filled : (p : Pass) (id : ℕ) (k : Kind) → HasKind k (record_at p.table id) → gets_filler p id ≡ true → (record_len (record_at p.table id) ≡ 12) × (record_len (becomes p id) ≡ 24)
+
+-- An ENUM64 that becomes a UNION leaves its sign, and of each variant in order its name and its value.
+abbrev pub Enum64KeepsItsValues : Type 0
+Enum64KeepsItsValues =
+    (old new : Table) (ids : Option KsymsIds) (layout : Layout) (answers : List Answer) → Rewritten old ids layout answers new
+    → (id : ℕ) → id < length (begun old ids).records → kind_at (begun old ids) id ≡ Some kinds.Enum64 → grants answers features.Enum64 ≡ false
+    → (kind_at new id ≡ Some kinds.Union) × (slice_get new.fallbacks id ≡ Some (Some (fallback_of (record_at (begun old ids) id))))
+
+-- Records of these kinds may change their size, or what they lead to.
+abbrev pub keeps_size : Option Kind → Bool
+keeps_size (Some kinds.Var) = false
+keeps_size (Some kinds.Func) = false
+keeps_size (Some kinds.FuncProto) = false
+keeps_size (Some kinds.DataSec) = false
+keeps_size (Some kinds.DeclTag) = false
+keeps_size k = true
+
+-- what a walk for a size finds, where it meets none of those
+abbrev pub FindsKept : Table → Elements → Finding Elements ℕ → Type 0
+FindsKept t at found = (keeps_size (kind_at t at.type) ≡ true) × (size_in at (slice_get t.records at.type) ≡ found)
+
+-- The size of a type, by such a walk, is its size in the new table.
+abbrev pub SizesStay : Type 0
+SizesStay =
+    (old new : Table) (ids : Option KsymsIds) (layout : Layout) (answers : List Answer) → Rewritten old ids layout answers new
+    → (id size : ℕ) → WalkAnswers (FindsKept old) (record { count = 1; type = id }) (λ _. MaximumTypeDepthReached id) (Ok size) → HasSize new.records id (Ok size)
+
+-- What an id resolves to, but for a FUNC, it resolves to in the new table.
+abbrev pub ResolutionsStay : Type 0
+ResolutionsStay =
+    (old new : Table) (ids : Option KsymsIds) (layout : Layout) (answers : List Answer) → Rewritten old ids layout answers new
+    → (id end : ℕ) → Resolves old.records id (Ok end) → kind_at old end ≢ Some kinds.Func → Resolves new.records id (Ok end)
+
+-- Two passes over one table that differ in their answers alone, and agree on what the ids below this one ask for in the first.
+pub record Agree (p q : Pass) (id : ℕ) : Type 0 where
+  pub table : q.table ≡ p.table
+  pub layout : q.layout ≡ p.layout
+  pub answers : (f : Feature) → IsAmong f (asks_below p id) → has q f ≡ has p f
+
+-- What ids ask for, append and become depends on the answers to what they and lower ids ask for, and on no others.
+pub record OtherAnswersChangeNothing : Type 0 where
+  -- of the ids below, where none of them is refused
+  pub below : (p q : Pass) (id : ℕ) → Agree p q id → AreRuled p id → (asks_below q id ≡ asks_below p id) × (texts_below q id ≡ texts_below p id) × (added_below q id ≡ added_below p id) × (ruled_below q id ≡ ruled_below p id)
+  -- and of the id itself
+  pub itself : (p q : Pass) (id : ℕ) → Agree p q (suc id) → AreRuled p id → (asks q id ≡ asks p id) × (fault q id ≡ fault p id)
