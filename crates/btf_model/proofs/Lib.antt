@@ -6,4 +6,5 @@ pub mod Usual
 pub mod Texts
 pub mod Flavors
 pub mod Walks
+pub mod Comparisons
 pub mod Sections
