@@ -1,15 +1,16 @@
--- Comparisons: what is found at a position is one thing.
-use Rattle.std.proofs.Common.{◌≡◌, ℕ, List, Result, Ok, Err, sym, ap, subst, ◌∙◌, inl, inr}
+-- Comparisons: at a position one thing is found, and something is found in tables whose records have kinds.
+use Rattle.std.proofs.Common.{◌≡◌, ℕ, List, Result, Ok, Err, sym, ap, subst, ◌∙◌, refl, false, inl, inr}
 use Rattle.std.specs.Prelude.{slice_get}
 use Rattle.std.specs.Result.{result_ok, result_err}
 use Rattle.std.proofs.lemmas.Option.{same_Some, none-some}
-use Rattle.btf_model.specs.Record.{Record, Kind, kind_of}
+use Rattle.btf_model.specs.Record.{Record, Kind, kind_of, compared_kind}
 use Rattle.btf_model.specs.Refusal.{Refusal, MaximumTypeDepthReached}
 use Rattle.btf_model.specs.Table.{Table}
 use Rattle.btf_model.specs.Walk.{By, unmodified_in, Resolves}
-use Rattle.btf_model.specs.Fields.{Pair, IsAt}
-use Rattle.btf_model.specs.Compat.{Position, Told, PositionFound, ResolvesPair, Finds}
-use Rattle.btf_model.proofs.Walks.{one_answer, by_one}
+use Rattle.btf_model.specs.Fields.{Pair, IsAt, HaveKinds}
+use Rattle.btf_model.specs.Compat.{Position, Told, position_by, PositionFound, ResolvesPair, Finds}
+use Rattle.btf_model.proofs.Walks.{one_answer, by_one, resolving_has_answer, resolved_is_known}
+use Rattle.btf_model.proofs.SameKinds.{same_kind_or_not}
 
 -- an id resolves to one type, or for one cause to none
 pub one_id : (records : List Record) (id : ℕ) (a b : Result ℕ Refusal) → Resolves records id a → Resolves records id b → a ≡ b
@@ -85,3 +86,43 @@ one_position local target at a b (inr p) (inr q) =
     found_one p.0.local p.1 p.2 p.3 p.4 a b p.8
     (found_of_same p.0.local q.0.local p.1 q.1 p.2 q.2 p.3 q.3 p.4 q.4 b (ap (λ (x : Pair). x.local) pairs) (one_kind local p.0.local p.1 q.1 p.3 q.3 p.6 here) (one_kind target p.0.target p.2 q.2 p.4 q.4 p.7 there)
     (one_record local p.0.local p.1 q.1 p.3 q.3 p.6 here) (one_record target p.0.target p.2 q.2 p.4 q.4 p.7 there) q.8)
+
+-- ---- something is found
+
+pair_answer_by : (local target : Table) (at : Pair) (a b : Result ℕ Refusal) → Resolves local.records at.local a → Resolves target.records at.target b → (answer : Result Pair Refusal) × ResolvesPair local target at answer
+pair_answer_by local target at (Err refusal) b p q = (Err refusal, inl p)
+pair_answer_by local target at (Ok id) (Err refusal) p q = (Err refusal, inr (id, p, q))
+pair_answer_by local target at (Ok id) (Ok other) p q = (Ok (record { local = id; target = other }), (p, q))
+
+-- a pair resolves to a pair, or to a refusal
+pub pair_answer : (local target : Table) (at : Pair) → (answer : Result Pair Refusal) × ResolvesPair local target at answer
+pair_answer local target at =
+    let here = resolving_has_answer local.records at.local in
+    let there = resolving_has_answer target.records at.target in
+    pair_answer_by local target at here.0 there.0 here.1 there.1
+
+something_found : (id : ℕ) (k q : Kind) (r s : Record) → (found : Position) × PositionFound id k q r s found
+something_found id k q r s =
+    elim (same_kind_or_not (compared_kind k) (compared_kind q)) [
+      | inl same ↦ (position_by id k r s, inr (same, refl))
+      | inr differ ↦ (Told (Ok false), inl (differ, refl))
+    ]
+
+-- the type that an id resolves to has a record and a kind
+pub resolved_is_at : (t : Table) (id end : ℕ) → HaveKinds t → Resolves t.records id (Ok end) → (k : Kind) × (r : Record) × IsAt t end k r
+resolved_is_at t id end kinds h =
+    let here = resolved_is_known t.records id end h in
+    let is = kinds end here.0 here.1 in
+    (is.0, here.0, (here.1, is.1))
+
+position_of : (local target : Table) (at : Pair) (a : Result Pair Refusal) → HaveKinds local → HaveKinds target → ResolvesPair local target at a → (found : Position) × Finds local target at found
+position_of local target at (Err refusal) ls ts h = (Told (Err refusal), inl (refusal, h, refl))
+position_of local target at (Ok p) ls ts h =
+    let here = resolved_is_at local at.local p.local ls h.0 in
+    let there = resolved_is_at target at.target p.target ts h.1 in
+    let found = something_found p.local here.0 there.0 here.1 there.1 in
+    (found.0, inr (p, here.0, there.0, here.1, there.1, h, here.2, there.2, found.1))
+
+-- at each position something is found
+pub position_answer : (local target : Table) (at : Pair) → HaveKinds local → HaveKinds target → (found : Position) × Finds local target at found
+position_answer local target at ls ts = position_of local target at (pair_answer local target at).0 ls ts (pair_answer local target at).1

@@ -6,5 +6,8 @@ pub mod Usual
 pub mod Texts
 pub mod Flavors
 pub mod Walks
+pub mod SameKinds
 pub mod Comparisons
+pub mod Known
+pub mod PlainAnswers
 pub mod Sections
