@@ -10,4 +10,6 @@ pub mod SameKinds
 pub mod Comparisons
 pub mod Known
 pub mod PlainAnswers
+pub mod PlainSteps
+pub mod OnePlain
 pub mod Sections
