@@ -16,10 +16,10 @@ use Rattle.btf_model.proofs.SameKinds.{same_kind_or_not}
 pub one_id : (records : List Record) (id : ℕ) (a b : Result ℕ Refusal) → Resolves records id a → Resolves records id b → a ≡ b
 one_id records id a b p q = one_answer (By (λ at. unmodified_in at (slice_get records at))) (by_one (λ at. unmodified_in at (slice_get records at))) id (λ _. MaximumTypeDepthReached id) a b p q
 
-same_ok : {A E : Type 0} (a b : A) → ◌≡◌ {A = Result A E} (Ok a) (Ok b) → a ≡ b
+pub same_ok : {A E : Type 0} (a b : A) → ◌≡◌ {A = Result A E} (Ok a) (Ok b) → a ≡ b
 same_ok a b is = same_Some a b (ap result_ok is)
 
-same_err : {A E : Type 0} (a b : E) → ◌≡◌ {A = Result A E} (Err a) (Err b) → a ≡ b
+pub same_err : {A E : Type 0} (a b : E) → ◌≡◌ {A = Result A E} (Err a) (Err b) → a ≡ b
 same_err a b is = same_Some a b (ap result_err is)
 
 ok_or_err : {A E : Type 0} (a : A) (b : E) → ◌≡◌ {A = Result A E} (Ok a) (Err b) → ⊥
@@ -30,7 +30,7 @@ pub same_pair : (a b : Pair) → a.local ≡ b.local → a.target ≡ b.target �
 same_pair a b p q = ap (λ (id : ℕ). record { local = id; target = a.target }) p ∙ ap (λ (id : ℕ). record { local = b.local; target = id }) q
 
 -- an id that resolves to a type is refused for no cause
-not_refused : (records : List Record) (id end : ℕ) (refusal : Refusal) → Resolves records id (Ok end) → Resolves records id (Err refusal) → ⊥
+pub not_refused : (records : List Record) (id end : ℕ) (refusal : Refusal) → Resolves records id (Ok end) → Resolves records id (Err refusal) → ⊥
 not_refused records id end refusal p q = ok_or_err end refusal (one_id records id (Ok end) (Err refusal) p q)
 
 pair_not_refused : (local target : Table) (at p : Pair) (refusal : Refusal) → ResolvesPair local target at (Ok p) → ResolvesPair local target at (Err refusal) → ⊥

@@ -12,4 +12,5 @@ pub mod Known
 pub mod PlainAnswers
 pub mod PlainSteps
 pub mod OnePlain
+pub mod FieldWalks
 pub mod Sections

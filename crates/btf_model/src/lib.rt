@@ -3,7 +3,7 @@
 //! The definitions lie in `specs/`. Each law is the contract of a function here that does nothing.
 #![tactic(auto)]
 
-ghost use Rattle.btf_model.specs.Laws.{NoSpellingBeginsAnother, BlobIsDetermined, WrittenParsesBack, ParsedWritesBack, AddedStringReadsBack, NameFindsOne, AddedTypeIsFound, WalksAreDetermined, ResolvingTwiceIsOnce, SectionsAreDetermined};
+ghost use Rattle.btf_model.specs.Laws.{NoSpellingBeginsAnother, BlobIsDetermined, WrittenParsesBack, ParsedWritesBack, AddedStringReadsBack, NameFindsOne, AddedTypeIsFound, WalksAreDetermined, ResolvingTwiceIsOnce, SectionsAreDetermined, ComparisonsAreDetermined, ComparisonsHaveAnswers};
 
 /// No record's spelling is a proper beginning of another's, and bytes spell one record: so a row of
 /// spellings is cut in one way.
@@ -56,4 +56,15 @@ pub fn resolving_twice_is_once()
 /// The sections of `.BTF.ext` that bytes begin with, and the rest behind them, are determined.
 pub fn sections_are_determined()
     ensures { SectionsAreDetermined }
+{}
+
+/// A comparison has one answer, and that of types one list of pairs that it starts.
+pub fn comparisons_are_determined()
+    ensures { ComparisonsAreDetermined }
+{}
+
+/// In tables whose records have kinds a comparison has an answer: that of types ends also where the types lead
+/// back to themselves.
+pub fn comparisons_have_answers()
+    ensures { ComparisonsHaveAnswers }
 {}
