@@ -13,4 +13,7 @@ pub mod PlainAnswers
 pub mod PlainSteps
 pub mod OnePlain
 pub mod FieldWalks
+pub mod Mirrors
+pub mod MirroredFields
+pub mod MirroredPlain
 pub mod Sections
