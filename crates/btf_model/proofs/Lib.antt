@@ -16,4 +16,6 @@ pub mod FieldWalks
 pub mod Mirrors
 pub mod MirroredFields
 pub mod MirroredPlain
+pub mod ChainExamples
+pub mod FieldsExamples
 pub mod Sections

@@ -1,18 +1,19 @@
--- Worked examples of the comparison of types: small tables, with their answers and starts.
-use Rattle.std.specs.Prelude.{◌≡◌, ◌≢◌, ℕ, zero, suc, ◌<◌, Option, Some, None, slice_index_or, List, [], ◌∷◌, Bool, true, false, Result, Ok, Err, Contains, refl}
+-- Worked examples of the comparison of types: small tables, with their answers and starts. Those that take steps of their own
+-- stand in proofs/ChainExamples.antt, and those of fields in proofs/FieldsExamples.antt.
+use Rattle.std.specs.Prelude.{◌≡◌, ◌≢◌, ℕ, List, [], ◌∷◌, Bool, true, false, Result, Ok, Err, Contains, refl}
 use Rattle.std.specs.Result.{is_ok}
-use Rattle.std.proofs.Common.{ap, ◌∙◌, arith, inl, inr}
+use Rattle.std.proofs.Common.{ap, arith, inl, inr}
 use Rattle.std.proofs.lemmas.Bool.{false≢true}
 use Rattle.btf_model.specs.Record.{Record, Kind, Int, Ptr, Const, FuncProto, unknown, tail_words}
 use Rattle.btf_model.specs.Refusal.{Refusal, UnknownBtfType, MaximumTypeDepthReached}
 use Rattle.btf_model.specs.Table.{Table, empty_table}
 use Rattle.std.specs.Prelude.{slice_get}
-use Rattle.btf_model.specs.Walk.{Ends, Resolves, unmodified_in, behind_modifier, modified, walk_limit}
-use Rattle.btf_model.specs.Fields.{Pair, IsAt}
-use Rattle.btf_model.specs.Compat.{Plain, Walked, Finds, ResolvesPair, position_by}
+use Rattle.btf_model.specs.Walk.{Ends, Resolves, unmodified_in}
+use Rattle.btf_model.specs.Fields.{Pair}
+use Rattle.btf_model.specs.Compat.{Plain}
 use Rattle.btf_model.specs.Compat.Plain.{again, kinds_differ, walked}
-use Rattle.btf_model.specs.Compat.Walked.{told, on, paid, unpaid}
-use Rattle.btf_model.specs.Compat.Paid.{all, unresolved, other, next}
+use Rattle.btf_model.specs.Compat.Walked.{on, unpaid}
+use Rattle.btf_model.specs.Compat.Paid.{unresolved, other}
 
 -- a table of these records from id 1 on
 abbrev pub table_of : List Record → Table
@@ -75,56 +76,3 @@ open_pair_is_refused =
     (again (pair 1 1 ∷ []) (pair 1 1) (0, omega arith, refl))
     (refused_is_not_true (MaximumTypeDepthReached 1)))
     (refused_is_not_true (MaximumTypeDepthReached 1))))
-
--- ---- types compared with themselves
-
--- What a type that is no modifier finds when it is compared with itself.
-pub on_itself : (t : Table) (id : ℕ) (k : Kind) (r : Record) → IsAt t id k r → modified (Some k) r ≡ None → Finds t t (pair id id) (position_by id k r r)
-on_itself t id k r is plain =
-    let ends : unmodified_in id (slice_get t.records id) ≡ Ends (Ok id) = ap (unmodified_in id) is.0 ∙ ap (λ (x : Option Kind). behind_modifier id (modified x r)) is.1 ∙ ap (behind_modifier id) plain in
-    inr (pair id id, k, k, r, r, (itself t id ends, itself t id ends), is, is, inr (refl, refl))
-
--- its comparison with itself is started, where nothing is open or one other type
-pub alone : (t : Table) (id : ℕ) (k : Kind) (r : Record) (answer : Result Bool Refusal) (starts : List Pair) → IsAt t id k r → Walked t t (pair id id ∷ []) walk_limit (pair id id) answer starts → Plain t t [] (pair id id) answer (pair id id ∷ starts)
-alone t id k r answer starts is walk = walked [] (pair id id) k k answer starts (none_open (pair id id)) (r, r, is, is) refl walk
-
-other_open : (above id : ℕ) → above ≢ id → ¬ (Contains (pair above above ∷ []) (pair id id))
-other_open above id differ c = at_place c.0 c.1 c.2
-  where
-    at_place : (k : ℕ) → k < 1 → slice_index_or (pair above above ∷ []) k (pair id id) ≡ pair id id → ⊥
-    at_place zero lt is = differ (ap (λ (x : Pair). x.local) is)
-    at_place (suc k) lt is = omega (arith, lt)
-
-pub under_one : (t : Table) (above id : ℕ) (k : Kind) (r : Record) (answer : Result Bool Refusal) (starts : List Pair) → above ≢ id → IsAt t id k r → Walked t t (pair id id ∷ pair above above ∷ []) walk_limit (pair id id) answer starts
-    → Plain t t (pair above above ∷ []) (pair id id) answer (pair id id ∷ starts)
-under_one t above id k r answer starts differ is walk = walked (pair above above ∷ []) (pair id id) k k answer starts (other_open above id differ) (r, r, is, is) refl walk
-
--- an owed pair of types that are no modifiers resolves to itself
-pub owed_itself : (t : Table) (id : ℕ) (k : Kind) (r : Record) → IsAt t id k r → modified (Some k) r ≡ None → ResolvesPair t t (pair id id) (Ok (pair id id))
-owed_itself t id k r is plain =
-    let ends : unmodified_in id (slice_get t.records id) ≡ Ends (Ok id) = ap (unmodified_in id) is.0 ∙ ap (λ (x : Option Kind). behind_modifier id (modified x r)) is.1 ∙ ap (behind_modifier id) plain in
-    (itself t id ends, itself t id ends)
-
--- INT 1 begins at bit 8: it is not compatible even with itself.
-abbrev shifted : Table
-shifted = table_of (record { name = 0; info = 0x01000000; third = 4; tail = 0x00080010 ∷ [] } ∷ [])
-
-shifted_is_not_itself : Plain shifted shifted [] (pair 1 1) (Ok false) (pair 1 1 ∷ [])
-shifted_is_not_itself = alone shifted 1 Int _ (Ok false) [] (refl, refl) (told _ 31 (pair 1 1) (Ok false) (on_itself shifted 1 Int _ (refl, refl) refl))
-
--- FUNC_PROTO 1 has two parameters of type 2 and returns it, INT 2: the pair of 2 is started for each parameter, since nothing is
--- remembered; the return type is a position, and no pair that is started.
-abbrev two_parameters : Table
-two_parameters = table_of (record { name = 0; info = 0x0d000002; third = 2; tail = 0 ∷ 2 ∷ 0 ∷ 2 ∷ [] } ∷ record { name = 0; info = 0x01000000; third = 4; tail = 0x20 ∷ [] } ∷ [])
-
-int_parameter : Plain two_parameters two_parameters (pair 1 1 ∷ []) (pair 2 2) (Ok true) (pair 2 2 ∷ [])
-int_parameter = under_one two_parameters 1 2 Int _ (Ok true) [] (λ e. omega (arith, e)) (refl, refl) (told _ 31 (pair 2 2) (Ok true) (on_itself two_parameters 2 Int _ (refl, refl) refl))
-
-parameters_are_started_again : Plain two_parameters two_parameters [] (pair 1 1) (Ok true) (pair 1 1 ∷ pair 2 2 ∷ pair 2 2 ∷ [])
-parameters_are_started_again =
-    let owed = owed_itself two_parameters 2 Int _ (refl, refl) refl in
-    alone two_parameters 1 FuncProto _ (Ok true) (pair 2 2 ∷ pair 2 2 ∷ []) (refl, refl)
-    (paid _ 31 (pair 1 1) (pair 2 2) (pair 2 2 ∷ pair 2 2 ∷ []) (Ok true) (pair 2 2 ∷ pair 2 2 ∷ []) [] (on_itself two_parameters 1 FuncProto _ (refl, refl) refl)
-    (next _ (pair 2 2) (pair 2 2) (pair 2 2 ∷ []) (Ok true) (pair 2 2 ∷ []) (pair 2 2 ∷ []) owed int_parameter
-    (next _ (pair 2 2) (pair 2 2) [] (Ok true) (pair 2 2 ∷ []) [] owed int_parameter (all _)))
-    (told _ 30 (pair 2 2) (Ok true) (on_itself two_parameters 2 Int _ (refl, refl) refl)))

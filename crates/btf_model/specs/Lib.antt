@@ -9,7 +9,6 @@ pub mod Walk
 pub mod Fields
 pub mod Compat
 pub mod CompatExamples
-pub mod ChainExamples
 pub mod Ext
 pub mod ExtExamples
 pub mod Laws

@@ -1,14 +1,46 @@
--- Worked examples of the comparison of types: walks that are cut behind 32 positions.
-use Rattle.std.specs.Prelude.{◌≡◌, ℕ, zero, suc, ◌+◌, ◌<◌, List, [], ◌∷◌, replicate, slice_get, Some, true, Ok, Err, refl}
-use Rattle.std.proofs.Common.{ap, ◌∙◌, arith}
-use Rattle.btf_model.specs.Record.{Record, Int, Ptr, FuncProto}
-use Rattle.btf_model.specs.Refusal.{MaximumTypeDepthReached}
+-- Worked examples of the comparison of types with themselves: what is started twice, and walks that are cut.
+use Rattle.std.specs.Prelude.{◌≡◌, ◌≢◌, ℕ, zero, suc, ◌+◌, ◌<◌, List, [], ◌∷◌, replicate, slice_get, slice_index_or, Option, Some, None, Bool, true, false, Result, Ok, Err, Contains, refl}
+use Rattle.std.proofs.Common.{ap, ◌∙◌, arith, inr}
+use Rattle.btf_model.specs.Record.{Record, Kind, Int, Ptr, FuncProto}
+use Rattle.btf_model.specs.Refusal.{Refusal, MaximumTypeDepthReached}
 use Rattle.btf_model.specs.Table.{Table}
+use Rattle.btf_model.specs.Walk.{Resolves, unmodified_in, behind_modifier, modified, walk_limit}
 use Rattle.btf_model.specs.Fields.{Pair, IsAt}
-use Rattle.btf_model.specs.Compat.{Plain, Walked, Paid}
+use Rattle.btf_model.specs.Compat.{Plain, Walked, Paid, Finds, ResolvesPair, position_by}
+use Rattle.btf_model.specs.Compat.Plain.{walked}
 use Rattle.btf_model.specs.Compat.Walked.{too_deep, told, on, paid}
 use Rattle.btf_model.specs.Compat.Paid.{all, next}
-use Rattle.btf_model.specs.CompatExamples.{table_of, pair, on_itself, owed_itself, alone, under_one}
+use Rattle.btf_model.specs.CompatExamples.{table_of, pair, itself, none_open}
+
+-- ---- steps
+
+-- a type that is no modifier resolves to itself
+no_modifier : (t : Table) (id : ℕ) (k : Kind) (r : Record) → IsAt t id k r → modified (Some k) r ≡ None → Resolves t.records id (Ok id)
+no_modifier t id k r is plain = itself t id (ap (unmodified_in id) is.0 ∙ ap (λ (x : Option Kind). behind_modifier id (modified x r)) is.1 ∙ ap (behind_modifier id) plain)
+
+owed_itself : (t : Table) (id : ℕ) (k : Kind) (r : Record) → IsAt t id k r → modified (Some k) r ≡ None → ResolvesPair t t (pair id id) (Ok (pair id id))
+owed_itself t id k r is plain = (no_modifier t id k r is plain, no_modifier t id k r is plain)
+
+-- what it finds when it is compared with itself
+on_itself : (t : Table) (id : ℕ) (k : Kind) (r : Record) → IsAt t id k r → modified (Some k) r ≡ None → Finds t t (pair id id) (position_by id k r r)
+on_itself t id k r is plain = inr (pair id id, k, k, r, r, owed_itself t id k r is plain, is, is, inr (refl, refl))
+
+-- the start of that, where nothing is open, and where another type is compared with itself
+alone : (t : Table) (id : ℕ) (k : Kind) (r : Record) (answer : Result Bool Refusal) (starts : List Pair) → IsAt t id k r → Walked t t (pair id id ∷ []) walk_limit (pair id id) answer starts → Plain t t [] (pair id id) answer (pair id id ∷ starts)
+alone t id k r answer starts is walk = walked [] (pair id id) k k answer starts (none_open (pair id id)) (r, r, is, is) refl walk
+
+other_open : (above id : ℕ) → above ≢ id → ¬ (Contains (pair above above ∷ []) (pair id id))
+other_open above id differ c = at_place c.0 c.1 c.2
+  where
+    at_place : (k : ℕ) → k < 1 → slice_index_or (pair above above ∷ []) k (pair id id) ≡ pair id id → ⊥
+    at_place zero lt is = differ (ap (λ (x : Pair). x.local) is)
+    at_place (suc k) lt is = omega (arith, lt)
+
+under_one : (t : Table) (above id : ℕ) (k : Kind) (r : Record) (answer : Result Bool Refusal) (starts : List Pair) → above ≢ id → IsAt t id k r → Walked t t (pair id id ∷ pair above above ∷ []) walk_limit (pair id id) answer starts
+    → Plain t t (pair above above ∷ []) (pair id id) answer (pair id id ∷ starts)
+under_one t above id k r answer starts differ is walk = walked (pair above above ∷ []) (pair id id) k k answer starts (other_open above id differ) (r, r, is, is) refl walk
+
+-- ---- small tables
 
 abbrev int : Record
 int = record { name = 0; info = 0x01000000; third = 4; tail = 0x20 ∷ [] }
@@ -19,6 +51,30 @@ pointer type = record { name = 0; info = 0x02000000; third = type; tail = [] }
 -- a prototype with one parameter of a type, that returns another
 abbrev prototype : ℕ → ℕ → Record
 prototype parameter type = record { name = 0; info = 0x0d000001; third = type; tail = 0 ∷ parameter ∷ [] }
+
+-- INT 1 begins at bit 8: it is not compatible even with itself.
+abbrev shifted : Table
+shifted = table_of (record { name = 0; info = 0x01000000; third = 4; tail = 0x00080010 ∷ [] } ∷ [])
+
+shifted_is_not_itself : Plain shifted shifted [] (pair 1 1) (Ok false) (pair 1 1 ∷ [])
+shifted_is_not_itself = alone shifted 1 Int _ (Ok false) [] (refl, refl) (told _ 31 (pair 1 1) (Ok false) (on_itself shifted 1 Int _ (refl, refl) refl))
+
+-- FUNC_PROTO 1 has two parameters of type 2 and returns it, INT 2: the pair of 2 is started for each parameter, since nothing is
+-- remembered; the return type is a position, and no pair that is started.
+abbrev two_parameters : Table
+two_parameters = table_of (record { name = 0; info = 0x0d000002; third = 2; tail = 0 ∷ 2 ∷ 0 ∷ 2 ∷ [] } ∷ int ∷ [])
+
+int_parameter : Plain two_parameters two_parameters (pair 1 1 ∷ []) (pair 2 2) (Ok true) (pair 2 2 ∷ [])
+int_parameter = under_one two_parameters 1 2 Int _ (Ok true) [] (λ e. omega (arith, e)) (refl, refl) (told _ 31 (pair 2 2) (Ok true) (on_itself two_parameters 2 Int _ (refl, refl) refl))
+
+parameters_are_started_again : Plain two_parameters two_parameters [] (pair 1 1) (Ok true) (pair 1 1 ∷ pair 2 2 ∷ pair 2 2 ∷ [])
+parameters_are_started_again =
+    let owed = owed_itself two_parameters 2 Int _ (refl, refl) refl in
+    alone two_parameters 1 FuncProto _ (Ok true) (pair 2 2 ∷ pair 2 2 ∷ []) (refl, refl)
+    (paid _ 31 (pair 1 1) (pair 2 2) (pair 2 2 ∷ pair 2 2 ∷ []) (Ok true) (pair 2 2 ∷ pair 2 2 ∷ []) [] (on_itself two_parameters 1 FuncProto _ (refl, refl) refl)
+    (next _ (pair 2 2) (pair 2 2) (pair 2 2 ∷ []) (Ok true) (pair 2 2 ∷ []) (pair 2 2 ∷ []) owed int_parameter
+    (next _ (pair 2 2) (pair 2 2) [] (Ok true) (pair 2 2 ∷ []) [] owed int_parameter (all _)))
+    (told _ 30 (pair 2 2) (Ok true) (on_itself two_parameters 2 Int _ (refl, refl) refl)))
 
 -- ---- a walk in a circle
 
