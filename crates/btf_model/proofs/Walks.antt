@@ -1,10 +1,10 @@
 -- Walks: each has one answer.
 use Rattle.std.proofs.Common.{◌≡◌, ℕ, zero, suc, ◌<◌, List, Option, None, Some, Result, Ok, Err, refl, sym, ap, subst, ◌∙◌, arith, inl, inr}
-use Rattle.std.specs.Prelude.{slice_get}
+use Rattle.std.specs.Prelude.{slice_get, ◌⊎◌}
 use Rattle.std.specs.Result.{result_ok}
 use Rattle.std.proofs.lemmas.Option.{same_Some, none-some}
 use Rattle.btf_model.specs.Record.{Record}
-use Rattle.btf_model.specs.Refusal.{Refusal, UnknownBtfType}
+use Rattle.btf_model.specs.Refusal.{Refusal, UnknownBtfType, MaximumTypeDepthReached}
 use Rattle.btf_model.specs.Walk.{Finding, Ends, GoesOn, Leads, WalkAnswers, By, walk_limit, unmodified_in, behind_modifier, modified_type, Resolves}
 
 next_or : {P A : Type 0} → P → Finding P A → P
@@ -90,3 +90,45 @@ resolves_to_itself records id end (inl p) =
     let there : p.1 ≡ end = ends_there p.1 end (slice_get records p.1) p.4 in
     inl (zero, end, omega arith, refl, subst (λ (at : ℕ). unmodified_in at (slice_get records at) ≡ Ends (Ok end)) there p.4)
 resolves_to_itself records id end (inr p) = absurd (none-some end (ap result_ok (sym p.2)))
+
+-- ---- every walk has an answer
+
+-- so many places: the walk ends at one of them, or they lead on
+abbrev EndsWithin : {P A : Type 0} → (P → Finding P A → Type 0) → ℕ → P → Type 0
+EndsWithin {P = P} {A = A} Finds n start =
+    ((answer : Result A Refusal) × (m : ℕ) × (end : P) × (m < n) × Leads Finds m start end × Finds end (Ends answer)) ⊎ ((end : P) × Leads Finds n start end)
+
+module _ {P A : Type 0} (Finds : P → Finding P A → Type 0) (has : (place : P) → (f : Finding P A) × Finds place f) where
+  one_more : (n : ℕ) (start next : P) → Finds start (GoesOn next) → EndsWithin Finds n next → EndsWithin Finds (suc n) start
+  one_more n start next h (inl p) = inl (p.0, suc p.1, p.2, omega (arith, p.3), (next, h, p.4), p.5)
+  one_more n start next h (inr p) = inr (p.0, (next, h, p.1))
+
+  ends_behind : (n : ℕ) (start : P) (f : Finding P A) → Finds start f → ((next : P) → EndsWithin Finds n next) → EndsWithin Finds (suc n) start
+  ends_behind n start (Ends answer) h within = inl (answer, zero, start, omega arith, refl, h)
+  ends_behind n start (GoesOn next) h within = one_more n start next h (within next)
+
+  ends_within : (n : ℕ) (start : P) → EndsWithin Finds n start
+  ends_within zero start = inr (start, refl)
+  ends_within (suc n) start = ends_behind n start (has start).0 (has start).1 (λ next. ends_within n next)
+
+  -- a walk that finds something at each place has an answer
+  pub walk_has_answer : (start : P) (too_deep : P → Refusal) → (answer : Result A Refusal) × WalkAnswers Finds start too_deep answer
+  walk_has_answer start too_deep =
+      elim (ends_within walk_limit start) [
+        | inl p ↦ (p.0, inl (p.1, p.2, p.3, p.4, p.5))
+        | inr p ↦ (Err (too_deep p.0), inr (p.0, p.1, refl))
+      ]
+
+pub resolving_has_answer : (records : List Record) (id : ℕ) → (answer : Result ℕ Refusal) × Resolves records id answer
+resolving_has_answer records id = walk_has_answer (By (λ at. unmodified_in at (slice_get records at))) (λ at. (unmodified_in at (slice_get records at), refl)) id (λ _. MaximumTypeDepthReached id)
+
+-- the type that an id resolves to is known
+known_end : (id end : ℕ) (o : Option Record) → unmodified_in id o ≡ Ends (Ok end) → (r : Record) × (o ≡ Some r)
+known_end id end (Some r) is = (r, refl)
+known_end id end None is = absurd (none-some end (ap result_ok (same_answer (Err (UnknownBtfType id)) (Ok end) is)))
+
+pub resolved_is_known : (records : List Record) (id end : ℕ) → Resolves records id (Ok end) → (r : Record) × (slice_get records end ≡ Some r)
+resolved_is_known records id end (inl p) =
+    let here = known_end p.1 end (slice_get records p.1) p.4 in
+    (here.0, ap (λ (at : ℕ). slice_get records at) (sym (ends_there p.1 end (slice_get records p.1) p.4)) ∙ here.1)
+resolved_is_known records id end (inr p) = absurd (none-some end (ap result_ok (sym p.2)))

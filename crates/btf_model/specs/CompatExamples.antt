@@ -1,4 +1,5 @@
--- Worked examples of the comparison of types: small tables, with their answers and starts.
+-- Worked examples of the comparison of types: small tables, with their answers and starts. Those that take steps of their own
+-- stand in proofs/ChainExamples.antt, and those of fields in proofs/FieldsExamples.antt.
 use Rattle.std.specs.Prelude.{◌≡◌, ◌≢◌, ℕ, List, [], ◌∷◌, Bool, true, false, Result, Ok, Err, Contains, refl}
 use Rattle.std.specs.Result.{is_ok}
 use Rattle.std.proofs.Common.{ap, arith, inl, inr}
@@ -18,11 +19,11 @@ use Rattle.btf_model.specs.Compat.Paid.{unresolved, other}
 abbrev pub table_of : List Record → Table
 table_of rs = record empty_table { records = unknown ∷ rs }
 
-abbrev pair : ℕ → ℕ → Pair
+abbrev pub pair : ℕ → ℕ → Pair
 pair id target = record { local = id; target = target }
 
 -- nothing is open
-none_open : (p : Pair) → ¬ (Contains [] p)
+pub none_open : (p : Pair) → ¬ (Contains [] p)
 none_open p c = absurd (omega (arith, c.1))
 
 -- CONST and INT are two kinds
@@ -37,7 +38,7 @@ qualified_is_not_plain : Plain qualified qualified [] (pair 3 1) (Ok false) (pai
 qualified_is_not_plain = kinds_differ [] (pair 3 1) Const Int (none_open (pair 3 1)) (_, _, (refl, refl), (refl, refl)) const_is_no_int
 
 -- an id that is no modifier resolves to itself
-itself : (t : Table) (id : ℕ) → unmodified_in id (slice_get t.records id) ≡ Ends (Ok id) → Resolves t.records id (Ok id)
+pub itself : (t : Table) (id : ℕ) → unmodified_in id (slice_get t.records id) ≡ Ends (Ok id) → Resolves t.records id (Ok id)
 itself t id ends = inl (0, id, omega arith, refl, ends)
 
 -- an id that has no record is refused

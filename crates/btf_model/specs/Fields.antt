@@ -65,6 +65,10 @@ FieldsFound local target id k q r s found =
 abbrev pub IsAt : Table → ℕ → Kind → Record → Type 0
 IsAt t id k r = (slice_get t.records id ≡ Some r) × (kind_of r.info ≡ Some k)
 
+-- each record of the table has a kind that is read
+abbrev pub HaveKinds : Table → Type 0
+HaveKinds t = (id : ℕ) (r : Record) → slice_get t.records id ≡ Some r → (k : Kind) × (kind_of r.info ≡ Some k)
+
 -- What is found at two ids: each is resolved, the local one first.
 abbrev pub FieldsFind : Table → Table → Pair → Finding Pair Bool → Type 0
 FieldsFind local target at found =

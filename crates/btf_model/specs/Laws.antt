@@ -1,5 +1,5 @@
 -- The laws of the definitions. Each is the contract of a public function of this crate.
-use Rattle.std.specs.Prelude.{All, Contains, ◌≤◌, ◌^◌, ◌↔◌, ◌≡◌, ℕ, ◌<◌, List, [], ◌++◌, length, Option, Some, Result, Ok, slice_get}
+use Rattle.std.specs.Prelude.{All, Contains, ◌≤◌, ◌^◌, ◌↔◌, ◌≡◌, ℕ, ◌<◌, Bool, List, [], ◌++◌, map, length, Option, Some, Result, Ok, Err, slice_get}
 use Rattle.btf_model.specs.Word.{Order}
 use Rattle.std.specs.List.{flat_map, AllByRecursion}
 use Rattle.std.specs.Str.{IsUtf8}
@@ -9,6 +9,8 @@ use Rattle.btf_model.specs.Refusal.{Refusal}
 use Rattle.btf_model.specs.Table.{Table, Fallback, strip, with_string, with_type}
 use Rattle.btf_model.specs.Text.{text_at, FindsName}
 use Rattle.btf_model.specs.Walk.{Resolves, HasSize}
+use Rattle.btf_model.specs.Fields.{Pair, HaveKinds, Fields}
+use Rattle.btf_model.specs.Compat.{Plain}
 use Rattle.btf_model.specs.Ext.{Section, Sections}
 use Rattle.btf_model.specs.Blob.{IsTable, IsRefusal, IsValid, canon, header_len, header_of, strings_end, type_section}
 
@@ -82,3 +84,28 @@ ResolvingTwiceIsOnce = (records : List Record) (id end : ℕ) → Resolves recor
 abbrev pub SectionsAreDetermined : Type 0
 SectionsAreDetermined =
     (order : Order) (size : ℕ) (bytes : List ℕ) (a b : List Section) (x y : List ℕ) → Sections order size bytes a x → Sections order size bytes b y → (a ≡ b) × (x ≡ y)
+
+-- A comparison has one answer, and that of types one list of starts, whatever pairs are open above it.
+pub record ComparisonsAreDetermined : Type 0 where
+  pub fields : (local : Table) (id : ℕ) (target : Table) (other : ℕ) (a b : Result Bool Refusal) → Fields local id target other a → Fields local id target other b → a ≡ b
+  pub types : (local target : Table) (above : List Pair) (p : Pair) (a b : Result Bool Refusal) (s t : List Pair) → Plain local target above p a s → Plain local target above p b t → (a ≡ b) × (s ≡ t)
+
+-- In tables whose records have kinds, as in each that can be written, a comparison has an answer: that of types ends also where
+-- the types lead back to themselves.
+pub record ComparisonsHaveAnswers : Type 0 where
+  pub fields : (local target : Table) → HaveKinds local → HaveKinds target → (id other : ℕ) → (answer : Result Bool Refusal) × Fields local id target other answer
+  pub types : (local target : Table) → HaveKinds local → HaveKinds target → (above : List Pair) (p : Pair) → (answer : Result Bool Refusal) × (starts : List Pair) × Plain local target above p answer starts
+  pub kinds : (t : Table) → IsValid t → HaveKinds t
+
+-- the pair with its two sides exchanged
+abbrev pub exchanged : Pair → Pair
+exchanged p = record { local = p.target; target = p.local }
+
+-- A comparison that answers true or false answers the same from the other side, and starts the same pairs. In tables whose
+-- records have kinds a refusal is a refusal from there too, but may name another id or cause: the local side is looked at first.
+pub record ComparisonsAreSymmetric : Type 0 where
+  pub fields : (local target : Table) (id other : ℕ) (b : Bool) → Fields local id target other (Ok b) → Fields target other local id (Ok b)
+  pub types : (local target : Table) (above : List Pair) (p : Pair) (b : Bool) (starts : List Pair) → Plain local target above p (Ok b) starts → Plain target local (map exchanged above) (exchanged p) (Ok b) (map exchanged starts)
+  pub refused_fields : (local target : Table) → HaveKinds local → HaveKinds target → (id other : ℕ) (refusal : Refusal) → Fields local id target other (Err refusal) → (f : Refusal) × Fields target other local id (Err f)
+  pub refused_types : (local target : Table) → HaveKinds local → HaveKinds target → (above : List Pair) (p : Pair) (refusal : Refusal) (starts : List Pair) → Plain local target above p (Err refusal) starts
+      → (f : Refusal) × (others : List Pair) × Plain target local (map exchanged above) (exchanged p) (Err f) others

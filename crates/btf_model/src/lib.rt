@@ -4,7 +4,7 @@
 #![tactic(auto)]
 
 ghost use Rattle.btf_model.specs.RewriteLaws.{AskedOnlyIfNeeded, GrantedFeaturesSuffice, Enum64KeepsItsValues, RecordLengthsStay, SizesStay, ResolutionsStay};
-ghost use Rattle.btf_model.specs.Laws.{NoSpellingBeginsAnother, BlobIsDetermined, WrittenParsesBack, ParsedWritesBack, AddedStringReadsBack, NameFindsOne, AddedTypeIsFound, WalksAreDetermined, ResolvingTwiceIsOnce, SectionsAreDetermined};
+ghost use Rattle.btf_model.specs.Laws.{NoSpellingBeginsAnother, BlobIsDetermined, WrittenParsesBack, ParsedWritesBack, AddedStringReadsBack, NameFindsOne, AddedTypeIsFound, WalksAreDetermined, ResolvingTwiceIsOnce, SectionsAreDetermined, ComparisonsAreDetermined, ComparisonsHaveAnswers, ComparisonsAreSymmetric};
 
 /// No record's spelling is a proper beginning of another's, and bytes spell one record: so a row of
 /// spellings is cut in one way.
@@ -57,6 +57,23 @@ pub fn resolving_twice_is_once()
 /// The sections of `.BTF.ext` that bytes begin with, and the rest behind them, are determined.
 pub fn sections_are_determined()
     ensures { SectionsAreDetermined }
+{}
+
+/// A comparison has one answer, and that of types one list of pairs that it starts.
+pub fn comparisons_are_determined()
+    ensures { ComparisonsAreDetermined }
+{}
+
+/// In tables whose records have kinds a comparison has an answer: that of types ends also where the types lead
+/// back to themselves.
+pub fn comparisons_have_answers()
+    ensures { ComparisonsHaveAnswers }
+{}
+
+/// A comparison that answers true or false answers the same from the other side, and starts the same pairs; a
+/// refusal is a refusal from there too, perhaps another one.
+pub fn comparisons_are_symmetric()
+    ensures { ComparisonsAreSymmetric }
 {}
 
 /// A rewrite asks for a feature only where the kernel needs it for a record of the table.

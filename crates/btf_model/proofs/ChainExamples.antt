@@ -1,0 +1,145 @@
+-- Worked examples of the comparison of types with themselves: what is started twice, and walks that are cut.
+use Rattle.std.specs.Prelude.{◌≡◌, ◌≢◌, ℕ, zero, suc, ◌+◌, ◌<◌, List, [], ◌∷◌, replicate, slice_get, slice_index_or, Option, Some, None, Bool, true, false, Result, Ok, Err, Contains, refl}
+use Rattle.std.proofs.Common.{ap, ◌∙◌, arith, inr}
+use Rattle.btf_model.specs.Record.{Record, Kind, Int, Ptr, FuncProto}
+use Rattle.btf_model.specs.Refusal.{Refusal, MaximumTypeDepthReached}
+use Rattle.btf_model.specs.Table.{Table}
+use Rattle.btf_model.specs.Walk.{Resolves, unmodified_in, behind_modifier, modified, walk_limit}
+use Rattle.btf_model.specs.Fields.{Pair, IsAt}
+use Rattle.btf_model.specs.Compat.{Plain, Walked, Paid, Finds, ResolvesPair, position_by}
+use Rattle.btf_model.specs.Compat.Plain.{walked}
+use Rattle.btf_model.specs.Compat.Walked.{too_deep, told, on, paid}
+use Rattle.btf_model.specs.Compat.Paid.{all, next}
+use Rattle.btf_model.specs.CompatExamples.{table_of, pair, itself, none_open}
+
+-- ---- steps
+
+-- a type that is no modifier resolves to itself
+no_modifier : (t : Table) (id : ℕ) (k : Kind) (r : Record) → IsAt t id k r → modified (Some k) r ≡ None → Resolves t.records id (Ok id)
+no_modifier t id k r is plain = itself t id (ap (unmodified_in id) is.0 ∙ ap (λ (x : Option Kind). behind_modifier id (modified x r)) is.1 ∙ ap (behind_modifier id) plain)
+
+owed_itself : (t : Table) (id : ℕ) (k : Kind) (r : Record) → IsAt t id k r → modified (Some k) r ≡ None → ResolvesPair t t (pair id id) (Ok (pair id id))
+owed_itself t id k r is plain = (no_modifier t id k r is plain, no_modifier t id k r is plain)
+
+-- what it finds when it is compared with itself
+on_itself : (t : Table) (id : ℕ) (k : Kind) (r : Record) → IsAt t id k r → modified (Some k) r ≡ None → Finds t t (pair id id) (position_by id k r r)
+on_itself t id k r is plain = inr (pair id id, k, k, r, r, owed_itself t id k r is plain, is, is, inr (refl, refl))
+
+-- the start of that, where nothing is open, and where another type is compared with itself
+alone : (t : Table) (id : ℕ) (k : Kind) (r : Record) (answer : Result Bool Refusal) (starts : List Pair) → IsAt t id k r → Walked t t (pair id id ∷ []) walk_limit (pair id id) answer starts → Plain t t [] (pair id id) answer (pair id id ∷ starts)
+alone t id k r answer starts is walk = walked [] (pair id id) k k answer starts (none_open (pair id id)) (r, r, is, is) refl walk
+
+other_open : (above id : ℕ) → above ≢ id → ¬ (Contains (pair above above ∷ []) (pair id id))
+other_open above id differ c = at_place c.0 c.1 c.2
+  where
+    at_place : (k : ℕ) → k < 1 → slice_index_or (pair above above ∷ []) k (pair id id) ≡ pair id id → ⊥
+    at_place zero lt is = differ (ap (λ (x : Pair). x.local) is)
+    at_place (suc k) lt is = omega (arith, lt)
+
+under_one : (t : Table) (above id : ℕ) (k : Kind) (r : Record) (answer : Result Bool Refusal) (starts : List Pair) → above ≢ id → IsAt t id k r → Walked t t (pair id id ∷ pair above above ∷ []) walk_limit (pair id id) answer starts
+    → Plain t t (pair above above ∷ []) (pair id id) answer (pair id id ∷ starts)
+under_one t above id k r answer starts differ is walk = walked (pair above above ∷ []) (pair id id) k k answer starts (other_open above id differ) (r, r, is, is) refl walk
+
+-- ---- small tables
+
+abbrev int : Record
+int = record { name = 0; info = 0x01000000; third = 4; tail = 0x20 ∷ [] }
+
+abbrev pointer : ℕ → Record
+pointer type = record { name = 0; info = 0x02000000; third = type; tail = [] }
+
+-- a prototype with one parameter of a type, that returns another
+abbrev prototype : ℕ → ℕ → Record
+prototype parameter type = record { name = 0; info = 0x0d000001; third = type; tail = 0 ∷ parameter ∷ [] }
+
+-- INT 1 begins at bit 8: it is not compatible even with itself.
+abbrev shifted : Table
+shifted = table_of (record { name = 0; info = 0x01000000; third = 4; tail = 0x00080010 ∷ [] } ∷ [])
+
+shifted_is_not_itself : Plain shifted shifted [] (pair 1 1) (Ok false) (pair 1 1 ∷ [])
+shifted_is_not_itself = alone shifted 1 Int _ (Ok false) [] (refl, refl) (told _ 31 (pair 1 1) (Ok false) (on_itself shifted 1 Int _ (refl, refl) refl))
+
+-- FUNC_PROTO 1 has two parameters of type 2 and returns it, INT 2: the pair of 2 is started for each parameter, since nothing is
+-- remembered; the return type is a position, and no pair that is started.
+abbrev two_parameters : Table
+two_parameters = table_of (record { name = 0; info = 0x0d000002; third = 2; tail = 0 ∷ 2 ∷ 0 ∷ 2 ∷ [] } ∷ int ∷ [])
+
+int_parameter : Plain two_parameters two_parameters (pair 1 1 ∷ []) (pair 2 2) (Ok true) (pair 2 2 ∷ [])
+int_parameter = under_one two_parameters 1 2 Int _ (Ok true) [] (λ e. omega (arith, e)) (refl, refl) (told _ 31 (pair 2 2) (Ok true) (on_itself two_parameters 2 Int _ (refl, refl) refl))
+
+parameters_are_started_again : Plain two_parameters two_parameters [] (pair 1 1) (Ok true) (pair 1 1 ∷ pair 2 2 ∷ pair 2 2 ∷ [])
+parameters_are_started_again =
+    let owed = owed_itself two_parameters 2 Int _ (refl, refl) refl in
+    alone two_parameters 1 FuncProto _ (Ok true) (pair 2 2 ∷ pair 2 2 ∷ []) (refl, refl)
+    (paid _ 31 (pair 1 1) (pair 2 2) (pair 2 2 ∷ pair 2 2 ∷ []) (Ok true) (pair 2 2 ∷ pair 2 2 ∷ []) [] (on_itself two_parameters 1 FuncProto _ (refl, refl) refl)
+    (next _ (pair 2 2) (pair 2 2) (pair 2 2 ∷ []) (Ok true) (pair 2 2 ∷ []) (pair 2 2 ∷ []) owed int_parameter
+    (next _ (pair 2 2) (pair 2 2) [] (Ok true) (pair 2 2 ∷ []) [] owed int_parameter (all _)))
+    (told _ 30 (pair 2 2) (Ok true) (on_itself two_parameters 2 Int _ (refl, refl) refl)))
+
+-- ---- a walk in a circle
+
+-- FUNC_PROTO 1 with a parameter of type 2 returns type 3, INT 2, PTR 3 to 1: the walk goes round and round, and so it is cut. At
+-- each turn the parameter's pair is started again, since nothing is remembered.
+abbrev circle : Table
+circle = table_of (prototype 2 3 ∷ int ∷ pointer 1 ∷ [])
+
+its_parameter : Paid circle circle (pair 1 1 ∷ []) (pair 2 2 ∷ []) (Ok true) (pair 2 2 ∷ [])
+its_parameter =
+    next _ (pair 2 2) (pair 2 2) [] (Ok true) (pair 2 2 ∷ []) [] (owed_itself circle 2 Int _ (refl, refl) refl)
+    (under_one circle 1 2 Int _ (Ok true) [] (λ e. omega (arith, e)) (refl, refl) (told _ 31 (pair 2 2) (Ok true) (on_itself circle 2 Int _ (refl, refl) refl)))
+    (all _)
+
+-- a turn is two positions
+abbrev positions : ℕ → ℕ
+positions zero = zero
+positions (suc turns) = suc (suc (positions turns))
+
+turns : (n : ℕ) → Walked circle circle (pair 1 1 ∷ []) (positions n) (pair 1 1) (Err (MaximumTypeDepthReached 1)) (replicate n (pair 2 2))
+turns zero = too_deep _ (pair 1 1)
+turns (suc n) =
+    paid _ (suc (positions n)) (pair 1 1) (pair 3 3) (pair 2 2 ∷ []) (Err (MaximumTypeDepthReached 1)) (pair 2 2 ∷ []) (replicate n (pair 2 2)) (on_itself circle 1 FuncProto _ (refl, refl) refl) its_parameter
+    (on _ (positions n) (pair 3 3) (pair 1 1) (Err (MaximumTypeDepthReached 1)) (replicate n (pair 2 2)) (on_itself circle 3 Ptr _ (refl, refl) refl) (turns n))
+
+circle_is_cut : Plain circle circle [] (pair 1 1) (Err (MaximumTypeDepthReached 1)) (pair 1 1 ∷ replicate 16 (pair 2 2))
+circle_is_cut = alone circle 1 FuncProto _ (Err (MaximumTypeDepthReached 1)) (replicate 16 (pair 2 2)) (refl, refl) (turns 16)
+
+-- ---- a walk that comes upon a pair that came out true
+
+-- so many pointers, the first to this type, and each of the others to the one before; then a prototype
+abbrev pointers : ℕ → ℕ → List Record
+pointers type zero = prototype 32 32 ∷ []
+pointers type (suc n) = pointer type ∷ pointers (suc type) n
+
+-- INT 1, PTR 2 to 1 and so on up to PTR 32 to 31, and FUNC_PROTO 33 with a parameter of type 32 that returns type 32.
+abbrev chain : Table
+chain = table_of (int ∷ pointers 1 31)
+
+pointer_at : (type n k : ℕ) → k < n → slice_get (pointers type n) k ≡ Some (pointer (type + k))
+pointer_at type zero k lt = absurd (omega (arith, lt))
+pointer_at type (suc n) zero lt = ap (λ (id : ℕ). Some (pointer id)) (omega arith)
+pointer_at type (suc n) (suc k) lt = pointer_at (suc type) n k (omega (arith, lt)) ∙ ap (λ (id : ℕ). Some (pointer id)) (omega arith)
+
+is_pointer : (k : ℕ) → k < 31 → IsAt chain (suc (suc k)) Ptr (pointer (suc k))
+is_pointer k lt = (pointer_at 1 31 k lt ∙ ap (λ (id : ℕ). Some (pointer id)) (omega arith), refl)
+
+-- from the pointer k + 1 the INT is k + 1 positions away
+comes_to_int : (above : List Pair) (k : ℕ) → k < 32 → Walked chain chain above (suc k) (pair (suc k) (suc k)) (Ok true) []
+comes_to_int above zero lt = told above zero (pair 1 1) (Ok true) (on_itself chain 1 Int _ (refl, refl) refl)
+comes_to_int above (suc k) lt =
+    on above (suc k) (pair (suc (suc k)) (suc (suc k))) (pair (suc k) (suc k)) (Ok true) [] (on_itself chain (suc (suc k)) Ptr (pointer (suc k)) (is_pointer k (omega (arith, lt))) refl) (comes_to_int above k (omega (arith, lt)))
+
+-- and with one position less the walk is cut in front of it
+is_cut : (above : List Pair) (k : ℕ) → k < 32 → Walked chain chain above k (pair (suc k) (suc k)) (Err (MaximumTypeDepthReached 1)) []
+is_cut above zero lt = too_deep above (pair 1 1)
+is_cut above (suc k) lt =
+    on above k (pair (suc (suc k)) (suc (suc k))) (pair (suc k) (suc k)) (Err (MaximumTypeDepthReached 1)) [] (on_itself chain (suc (suc k)) Ptr (pointer (suc k)) (is_pointer k (omega (arith, lt))) refl) (is_cut above k (omega (arith, lt)))
+
+-- The pair of the parameter comes out true; the walk comes to it with 31 positions left, walks on through it, and is cut.
+true_pair_is_walked_through : Plain chain chain [] (pair 33 33) (Err (MaximumTypeDepthReached 1)) (pair 33 33 ∷ pair 32 32 ∷ [])
+true_pair_is_walked_through =
+    alone chain 33 FuncProto _ (Err (MaximumTypeDepthReached 1)) (pair 32 32 ∷ []) (refl, refl)
+    (paid _ 31 (pair 33 33) (pair 32 32) (pair 32 32 ∷ []) (Err (MaximumTypeDepthReached 1)) (pair 32 32 ∷ []) [] (on_itself chain 33 FuncProto _ (refl, refl) refl)
+    (next _ (pair 32 32) (pair 32 32) [] (Ok true) (pair 32 32 ∷ []) [] (owed_itself chain 32 Ptr _ (refl, refl) refl)
+    (under_one chain 33 32 Ptr _ (Ok true) [] (λ e. omega (arith, e)) (refl, refl) (comes_to_int _ 31 (omega arith)))
+    (all _))
+    (is_cut _ 31 (omega arith)))

@@ -1,0 +1,113 @@
+-- One step of a comparison, read off its answer: what was found decides what stands behind it.
+use Rattle.std.proofs.Common.{◌≡◌, ◌≢◌, ℕ, suc, List, [], ◌∷◌, ◌++◌, refl, sym, subst, inl, inr, Bool, true, false, Option, Some, None, Result, Ok, Err, Contains, slice_get}
+use Rattle.std.specs.Prelude.{◌⊎◌}
+use Rattle.btf_model.specs.Record.{Record, Kind, compared_kind, kind_of}
+use Rattle.btf_model.specs.Refusal.{Refusal, UnknownBtfType, MaximumTypeDepthReached}
+use Rattle.btf_model.specs.Table.{Table}
+use Rattle.btf_model.specs.Walk.{walk_limit}
+use Rattle.btf_model.specs.Fields.{Pair}
+use Rattle.btf_model.specs.Compat.{Position, Told, On, Owes, ResolvesPair, Finds, AreKnown, Plain, Walked, Paid}
+use Rattle.btf_model.proofs.Comparisons.{one_position, one_resolved}
+
+-- the answer and the starts are these
+abbrev pub Are : Result Bool Refusal → List Pair → Result Bool Refusal → List Pair → Type 0
+Are a s b t = (a ≡ b) × (s ≡ t)
+
+module _ (local target : Table) where
+  -- ---- a walk
+
+  -- what stands behind a position, by what is found there
+  abbrev pub Follows : List Pair → ℕ → Position → Result Bool Refusal → List Pair → Type 0
+  Follows above n (Told a) b t = Are b t a []
+  Follows above n (On to) b t = Walked local target above n to b t
+  Follows above n (Owes owed to) b t =
+      ((first behind : List Pair) × Paid local target above owed (Ok true) first × Walked local target above n to b behind × (t ≡ first ++ behind)) ⊎ (Paid local target above owed b t × (b ≢ Ok true))
+
+  walked_finds : (above : List Pair) (n : ℕ) (at : Pair) (b : Result Bool Refusal) (t : List Pair) → Walked local target above (suc n) at b t → (found : Position) × Finds local target at found × Follows above n found b t
+  walked_finds above n at b t (Walked.told _ _ _ answer found) = (Told answer, found, (refl, refl))
+  walked_finds above n at b t (Walked.on _ _ _ to answer starts found behind) = (On to, found, behind)
+  walked_finds above n at b t (Walked.paid _ _ _ to owed answer first behind found pays goes) = (Owes owed to, found, inl (first, behind, pays, goes, refl))
+  walked_finds above n at b t (Walked.unpaid _ _ _ to owed answer starts found pays not_true) = (Owes owed to, found, inr (pays, not_true))
+
+  -- behind what is found there
+  pub walked_follows : (above : List Pair) (n : ℕ) (at : Pair) (found : Position) (b : Result Bool Refusal) (t : List Pair) → Finds local target at found → Walked local target above (suc n) at b t → Follows above n found b t
+  walked_follows above n at found b t is h =
+      let step = walked_finds above n at b t h in
+      subst (λ (x : Position). Follows above n x b t) (one_position local target at step.0 found step.1 is) step.2
+
+  -- ---- owed pairs
+
+  -- what stands behind the first owed pair, by what it resolves to
+  abbrev pub Pays : List Pair → List Pair → Result Pair Refusal → Result Bool Refusal → List Pair → Type 0
+  Pays above owed (Err refusal) b t = Are b t (Err refusal) []
+  Pays above owed (Ok p) b t =
+      ((first behind : List Pair) × Plain local target above p (Ok true) first × Paid local target above owed b behind × (t ≡ first ++ behind)) ⊎ (Plain local target above p b t × (b ≢ Ok true))
+
+  pub paid_none : (above : List Pair) (b : Result Bool Refusal) (t : List Pair) → Paid local target above [] b t → Are b t (Ok true) []
+  paid_none above b t (Paid.all _) = (refl, refl)
+
+  paid_resolves : (above : List Pair) (at : Pair) (owed : List Pair) (b : Result Bool Refusal) (t : List Pair) → Paid local target above (at ∷ owed) b t → (a : Result Pair Refusal) × ResolvesPair local target at a × Pays above owed a b t
+  paid_resolves above at owed b t (Paid.unresolved _ _ _ refusal resolved) = (Err refusal, resolved, (refl, refl))
+  paid_resolves above at owed b t (Paid.other _ _ p _ answer starts resolved plain not_true) = (Ok p, resolved, inr (plain, not_true))
+  paid_resolves above at owed b t (Paid.next _ _ p _ answer first behind resolved plain pays) = (Ok p, resolved, inl (first, behind, plain, pays, refl))
+
+  pub paid_follows : (above : List Pair) (at : Pair) (owed : List Pair) (a : Result Pair Refusal) (b : Result Bool Refusal) (t : List Pair) → ResolvesPair local target at a → Paid local target above (at ∷ owed) b t → Pays above owed a b t
+  paid_follows above at owed a b t is h =
+      let step = paid_resolves above at owed b t h in
+      subst (λ (x : Result Pair Refusal). Pays above owed x b t) (one_resolved local target at step.0 a step.1 is) step.2
+
+  -- ---- a pair
+
+  -- what stands behind a pair that is started, by the kinds
+  abbrev pub Starts : List Pair → Pair → Kind → Kind → Result Bool Refusal → List Pair → Type 0
+  Starts above p k q b t =
+      ((compared_kind k ≢ compared_kind q) × Are b t (Ok false) (p ∷ [])) ⊎ ((compared_kind k ≡ compared_kind q) × (starts : List Pair) × Walked local target (p ∷ above) walk_limit p b starts × (t ≡ p ∷ starts))
+
+  abbrev pub StartsBy : List Pair → Pair → Option Kind → Option Kind → Result Bool Refusal → List Pair → Type 0
+  StartsBy above p (Some k) (Some q) b t = Starts above p k q b t
+  StartsBy above p (Some k) None b t = ⊥
+  StartsBy above p None q b t = ⊥
+
+  -- what stands behind a pair that is looked up, by its records
+  abbrev pub LookedUp : List Pair → Pair → Option Record → Option Record → Result Bool Refusal → List Pair → Type 0
+  LookedUp above p None s b t = Are b t (Err (UnknownBtfType p.local)) []
+  LookedUp above p (Some r) None b t = Are b t (Err (UnknownBtfType p.target)) []
+  LookedUp above p (Some r) (Some s) b t = StartsBy above p (kind_of r.info) (kind_of s.info) b t
+
+  -- and behind any pair
+  abbrev pub Compares : List Pair → Pair → Result Bool Refusal → List Pair → Type 0
+  Compares above p b t =
+      (Contains above p × Are b t (Err (MaximumTypeDepthReached p.local)) []) ⊎ (¬ (Contains above p) × LookedUp above p (slice_get local.records p.local) (slice_get target.records p.target) b t)
+
+  looked_up : (above : List Pair) (p : Pair) (o u : Option Record) (b : Result Bool Refusal) (t : List Pair) → slice_get local.records p.local ≡ o → slice_get target.records p.target ≡ u → LookedUp above p o u b t → LookedUp above p (slice_get local.records p.local) (slice_get target.records p.target) b t
+  looked_up above p o u b t is there h = subst (λ (x : Option Record). LookedUp above p x (slice_get target.records p.target) b t) (sym is) (subst (λ (x : Option Record). LookedUp above p o x b t) (sym there) h)
+
+  starts_by : (above : List Pair) (p : Pair) (k q : Kind) (o u : Option Kind) (b : Result Bool Refusal) (t : List Pair) → o ≡ Some k → u ≡ Some q → Starts above p k q b t → StartsBy above p o u b t
+  starts_by above p k q o u b t is there h = subst (λ (x : Option Kind). StartsBy above p x u b t) (sym is) (subst (λ (x : Option Kind). StartsBy above p (Some k) x b t) (sym there) h)
+
+  pub compares : (above : List Pair) (p : Pair) (b : Result Bool Refusal) (t : List Pair) → Plain local target above p b t → Compares above p b t
+  compares above p b t (Plain.again _ _ is_open) = inl (is_open, (refl, refl))
+  compares above p b t (Plain.no_local _ _ new here) = inr (new, looked_up above p None (slice_get target.records p.target) b t here refl (refl, refl))
+  compares above p b t (Plain.no_target _ _ r new here there) = inr (new, looked_up above p (Some r) None b t here there (refl, refl))
+  compares above p b t (Plain.kinds_differ _ _ k q new known differ) =
+      inr (new, looked_up above p (Some known.0) (Some known.1) b t known.2.0 known.3.0 (starts_by above p k q (kind_of known.0.info) (kind_of known.1.info) b t known.2.1 known.3.1 (inl (differ, (refl, refl)))))
+  compares above p b t (Plain.walked _ _ k q answer starts new known same behind) =
+      inr (new, looked_up above p (Some known.0) (Some known.1) b t known.2.0 known.3.0 (starts_by above p k q (kind_of known.0.info) (kind_of known.1.info) b t known.2.1 known.3.1 (inr (same, starts, behind, refl))))
+
+  -- ---- the same, by what is known of the pair
+
+  pub is_new : (above : List Pair) (p : Pair) (b : Result Bool Refusal) (t : List Pair) → ¬ (Contains above p) → Plain local target above p b t → LookedUp above p (slice_get local.records p.local) (slice_get target.records p.target) b t
+  is_new above p b t new h = elim (compares above p b t h) [ inl g ↦ absurd (new g.0) | inr g ↦ g.1 ]
+
+  pub is_again : (above : List Pair) (p : Pair) (b : Result Bool Refusal) (t : List Pair) → Contains above p → Plain local target above p b t → Are b t (Err (MaximumTypeDepthReached p.local)) []
+  is_again above p b t is_open h = elim (compares above p b t h) [ inl g ↦ g.1 | inr g ↦ absurd (g.0 is_open) ]
+
+  -- the records of the pair are these, or missing
+  pub is_looked_up : (above : List Pair) (p : Pair) (o u : Option Record) (b : Result Bool Refusal) (t : List Pair) → ¬ (Contains above p) → slice_get local.records p.local ≡ o → slice_get target.records p.target ≡ u → Plain local target above p b t → LookedUp above p o u b t
+  is_looked_up above p o u b t new is there h = subst (λ (x : Option Record). LookedUp above p o x b t) there (subst (λ (x : Option Record). LookedUp above p x (slice_get target.records p.target) b t) is (is_new above p b t new h))
+
+  -- the pair is known, with these kinds
+  pub is_started : (above : List Pair) (p : Pair) (k q : Kind) (b : Result Bool Refusal) (t : List Pair) → ¬ (Contains above p) → AreKnown local target p k q → Plain local target above p b t → Starts above p k q b t
+  is_started above p k q b t new known h =
+      subst (λ (x : Option Kind). StartsBy above p (Some k) x b t) known.3.1
+      (subst (λ (x : Option Kind). StartsBy above p x (kind_of known.1.info) b t) known.2.1 (is_looked_up above p (Some known.0) (Some known.1) b t new known.2.0 known.3.0 h))
