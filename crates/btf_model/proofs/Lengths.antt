@@ -90,7 +90,7 @@ lengths_stay p id k has_kind unfilled =
 
 -- ---- a DATASEC that gets the filler
 
-unsized_section : (k : Option Kind) (r : Record) → is_unsized k r ≡ true → (k ≡ Some kinds.DataSec) × ((r.third == 0) ≡ true)
+pub unsized_section : (k : Option Kind) (r : Record) → is_unsized k r ≡ true → (k ≡ Some kinds.DataSec) × ((r.third == 0) ≡ true)
 unsized_section (Some kinds.DataSec) r is = (refl, is)
 unsized_section k r is = absurd (false≢true is)
 

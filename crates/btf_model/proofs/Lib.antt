@@ -26,3 +26,4 @@ pub mod GrantedOnce
 pub mod GrantedAll
 pub mod Lengths
 pub mod Kept
+pub mod Agreeing

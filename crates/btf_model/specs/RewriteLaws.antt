@@ -12,7 +12,7 @@ use Rattle.btf_model.specs.Feature.{Feature, Answer, same_feature, grants, needs
 use Rattle.btf_model.specs.Made.{record_at, kind_at, fallback_of}
 use Rattle.btf_model.specs.Checks.{record_len}
 use Rattle.btf_model.specs.Ksyms.{KsymsIds}
-use Rattle.btf_model.specs.Pass.{Pass, Layout, has, asks, asks_below, Asked, texts_below, added_below, gets_filler}
+use Rattle.btf_model.specs.Pass.{Pass, Layout, has, asks, asks_below, Asked, texts_below, added_below, gets_filler, growth_below}
 use Rattle.btf_model.specs.Rule.{becomes, ruled_below}
 use Rattle.btf_model.specs.Fault.{fault}
 use Rattle.btf_model.specs.Rewritten.{begun, pass_of, AreRuled, Rewritten}
@@ -73,15 +73,25 @@ ResolutionsStay =
     (old new : Table) (ids : Option KsymsIds) (layout : Layout) (answers : List Answer) → Rewritten old ids layout answers new
     → (id end : ℕ) → Resolves old.records id (Ok end) → kind_at old end ≢ Some kinds.Func → Resolves new.records id (Ok end)
 
--- Two passes over one table that differ in their answers alone, and agree on what the ids below this one ask for in the first.
-pub record Agree (p q : Pass) (id : ℕ) : Type 0 where
-  pub table : q.table ≡ p.table
-  pub layout : q.layout ≡ p.layout
-  pub answers : (f : Feature) → IsAmong f (asks_below p id) → has q f ≡ has p f
+-- the same pass under other answers
+abbrev pub with_answers : Pass → List Answer → Pass
+with_answers p answers = record p { answers = answers }
 
--- What ids ask for, append and become depends on the answers to what they and lower ids ask for, and on no others.
+-- Other answers agree with those of a pass on what the ids below this one ask for.
+abbrev pub Agree : Pass → List Answer → ℕ → Type 0
+Agree p answers id = (f : Feature) → IsAmong f (asks_below p id) → grants answers f ≡ has p f
+
+-- What the ids below ask for, append and become under other answers.
+pub record IsSameBelow (p : Pass) (answers : List Answer) (id : ℕ) : Type 0 where
+  pub asks : asks_below (with_answers p answers) id ≡ asks_below p id
+  pub texts : texts_below (with_answers p answers) id ≡ texts_below p id
+  pub added : added_below (with_answers p answers) id ≡ added_below p id
+  pub growth : growth_below (with_answers p answers) id ≡ growth_below p id
+  pub ruled : ruled_below (with_answers p answers) id ≡ ruled_below p id
+
+-- What ids ask for, append and become, and why they are refused, depends on the answers to what they and lower ids ask for, and on no
+-- others.
 pub record OtherAnswersChangeNothing : Type 0 where
-  -- of the ids below, where none of them is refused
-  pub below : (p q : Pass) (id : ℕ) → Agree p q id → AreRuled p id → (asks_below q id ≡ asks_below p id) × (texts_below q id ≡ texts_below p id) × (added_below q id ≡ added_below p id) × (ruled_below q id ≡ ruled_below p id)
-  -- and of the id itself
-  pub itself : (p q : Pass) (id : ℕ) → Agree p q (suc id) → AreRuled p id → (asks q id ≡ asks p id) × (fault q id ≡ fault p id)
+  pub below : (p : Pass) (answers : List Answer) (id : ℕ) → Agree p answers id → AreRuled p id → IsSameBelow p answers id
+  pub asked : (p : Pass) (answers : List Answer) (id : ℕ) → Agree p answers (suc id) → AreRuled p id → asks (with_answers p answers) id ≡ asks p id
+  pub refused : (p : Pass) (answers : List Answer) (id : ℕ) → Agree p answers (suc id) → AreRuled p id → fault (with_answers p answers) id ≡ fault p id

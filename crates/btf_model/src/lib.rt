@@ -3,7 +3,7 @@
 //! The definitions lie in `specs/`. Each law is the contract of a function here that does nothing.
 #![tactic(auto)]
 
-ghost use Rattle.btf_model.specs.RewriteLaws.{AskedOnlyIfNeeded, GrantedFeaturesSuffice, Enum64KeepsItsValues, RecordLengthsStay, SizesStay, ResolutionsStay};
+ghost use Rattle.btf_model.specs.RewriteLaws.{AskedOnlyIfNeeded, GrantedFeaturesSuffice, Enum64KeepsItsValues, RecordLengthsStay, SizesStay, ResolutionsStay, OtherAnswersChangeNothing};
 ghost use Rattle.btf_model.specs.Laws.{NoSpellingBeginsAnother, BlobIsDetermined, WrittenParsesBack, ParsedWritesBack, AddedStringReadsBack, NameFindsOne, AddedTypeIsFound, WalksAreDetermined, ResolvingTwiceIsOnce, SectionsAreDetermined, ComparisonsAreDetermined, ComparisonsHaveAnswers, ComparisonsAreSymmetric};
 
 /// No record's spelling is a proper beginning of another's, and bytes spell one record: so a row of
@@ -107,4 +107,10 @@ pub fn sizes_stay()
 /// An id resolves to the same type in the rewritten table, unless that is a FUNC.
 pub fn resolutions_stay()
     ensures { ResolutionsStay }
+{}
+
+/// What ids ask for, append and become, and why they are refused, depends on the answers to what they and lower ids
+/// ask for, and on no others.
+pub fn other_answers_change_nothing()
+    ensures { OtherAnswersChangeNothing }
 {}
