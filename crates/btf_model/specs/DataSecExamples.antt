@@ -126,6 +126,14 @@ own_entry_is_no_variable : fault (own_entry (features.DataSec ∷ [])) 1 ≡ Som
 unfolding pieces_from encode
 own_entry_is_no_variable = refl
 
+-- ".x" at 1: one of 5 bytes without entries becomes a STRUCT of size 0, since that is the number of its entries
+abbrev sized_structure : Pass
+sized_structure = record { table = named_table (codes ".x" ∷ []) (data_sec 1 5 0 [] ∷ []); layout = no_layout; answers = [] }
+
+sized_section_becomes_struct : (becomes sized_structure 1 ≡ record { name = 4; info = 0x04000000; third = 0; tail = [] }) × (texts_below sized_structure 2 ≡ codes "_x" ∷ []) × (Asked sized_structure ≡ features.DataSec ∷ [])
+unfolding pieces_from encode
+sized_section_becomes_struct = (refl, refl, refl)
+
 -- bits past 32 bits, and the last that are not
 abbrev member_at : ℕ → Pass
 member_at offset = record { table = named_table (codes "d" ∷ []) (data_sec 1 0 1 (0 ∷ offset ∷ 4 ∷ []) ∷ []); layout = no_layout; answers = [] }
