@@ -33,28 +33,39 @@ has p feature = grants p.answers feature
 abbrev pub name_of : Pass → ℕ → Result (List ℕ) Refusal
 name_of p id = text_at p.table.strings (record_at p.table id).name
 
--- the least number up to this one at which the test passes, or this one
+-- what was found, where the test passes there, or else this
 abbrev pub or_this : (ℕ → Bool) → ℕ → ℕ → ℕ
 or_this test found this = if test found then found else this
 
+-- The least number up to this one at which the test passes, or this one where it passes at no lower one.
 abbrev pub least : (ℕ → Bool) → ℕ → ℕ
 least test zero = zero
 least test (suc n) = or_this test (least test n) (suc n)
 
--- no lower one passes it
+-- The test passes here, and at no lower number.
 abbrev pub is_least : (ℕ → Bool) → ℕ → Bool
 is_least test n = test n && (least test n == n)
 
 -- ---- names of sections
 
--- each such byte replaced
+-- the bytes of these characters
+abbrev pub slash : ℕ
+slash = 0x2f
+
+abbrev pub dot : ℕ
+dot = 0x2e
+
+abbrev pub underscore : ℕ
+underscore = 0x5f
+
+-- a name with one byte in place of another, wherever that stands
 abbrev pub replaced : ℕ → ℕ → List ℕ → List ℕ
 replaced byte other name = map (λ b. if b == byte then other else b) name
 
--- The name that the DATASEC of this one gets: as a DATASEC with `.` for `/`, which kernels refuse; as a STRUCT with `_` for `.`,
+-- The name that a DATASEC of this name gets: as a DATASEC with `.` for `/`, which kernels refuse; as a STRUCT with `_` for `.`,
 -- which is in no C name.
 abbrev pub section_name : Pass → List ℕ → List ℕ
-section_name p name = if has p features.DataSec then replaced 0x2f 0x2e name else replaced 0x2e 0x5f name
+section_name p name = if has p features.DataSec then replaced slash dot name else replaced dot underscore name
 
 -- the text that is appended for it: none, where the name stays
 abbrev pub renaming : Pass → Result (List ℕ) Refusal → List (List ℕ)
@@ -84,7 +95,7 @@ abbrev pub is_unsized : Option Kind → Record → Bool
 is_unsized (Some kinds.DataSec) r = r.third == 0
 is_unsized k r = false
 
--- such a one without entries, of a section that has this size, is asked about apart from one that is empty
+-- a size that is known and 0, or known and this holds
 abbrev pub is_zero_or : Bool → Option ℕ → Bool
 is_zero_or other (Some size) = (size == 0) || other
 is_zero_or other None = false
@@ -148,7 +159,7 @@ abbrev pub texts_below : Pass → ℕ → List (List ℕ)
 texts_below p zero = []
 texts_below p (suc id) = texts_below p id ++ texts p id
 
--- so many bytes are texts, each with its zero byte
+-- how many bytes texts are, each with its zero byte
 abbrev pub texts_len : List (List ℕ) → ℕ
 texts_len ts = sum_by (λ text. length text + 1) ts
 
