@@ -36,6 +36,13 @@ variable_gets_a_type = refl
 int_is_named : (ksyms_table extern_variable (ids 2 None)).strings ≡ extern_variable.strings ++ codes "int" ++ 0 ∷ []
 int_is_named = refl
 
+-- "int" at 1, "a" at 5, "b" at 7: INT 1, Extern VARs 2 and 3, and DATASEC 4 with both as entries: they are laid out 4 bytes apart
+abbrev two_variables : Table
+two_variables = named_table (codes "int" ∷ codes "a" ∷ codes "b" ∷ []) (int 1 ∷ var 5 0 2 ∷ var 7 0 2 ∷ record { name = 0; info = 0x0f000002; third = 0; tail = 2 ∷ 0 ∷ 0 ∷ 3 ∷ 0 ∷ 8 ∷ [] } ∷ [])
+
+entries_are_laid_out : (ksyms_table two_variables (ids 4 None)).records ≡ unknown ∷ int 1 ∷ var 5 1 1 ∷ var 7 1 1 ∷ record { name = 0; info = 0x0f000002; third = 8; tail = 2 ∷ 0 ∷ 4 ∷ 3 ∷ 4 ∷ 4 ∷ [] } ∷ []
+entries_are_laid_out = refl
+
 -- the INT is appended, and is no type of the table as the step began
 appended_int_is_unknown : ksyms_fault extern_variable (ids 3 None) ≡ Some (UnknownBtfType 3)
 appended_int_is_unknown = refl
