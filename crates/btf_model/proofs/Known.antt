@@ -37,7 +37,7 @@ same_or_not p q =
       ]
     ]
 
-among_or_not : (qs : List Pair) (p : Pair) → Among qs p ⊎ (Among qs p → ⊥)
+pub among_or_not : (qs : List Pair) (p : Pair) → Among qs p ⊎ (Among qs p → ⊥)
 among_or_not [] p = inr (λ h. h)
 among_or_not (q ∷ qs) p =
     elim (same_or_not q p) [

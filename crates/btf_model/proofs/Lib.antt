@@ -27,3 +27,7 @@ pub mod GrantedAll
 pub mod Lengths
 pub mod Kept
 pub mod Agreeing
+pub mod Firsts
+pub mod Runs
+pub mod RunStates
+pub mod RunLengths

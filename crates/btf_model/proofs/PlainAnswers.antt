@@ -15,7 +15,7 @@ use Rattle.btf_model.proofs.Comparisons.{pair_answer, position_answer}
 use Rattle.btf_model.proofs.Known.{Among, HasIds, Covers, known_pairs, known_pairs_cover, without, still_covers, open_or_not}
 
 -- an answer is true or another
-true_or_not : (answer : Result Bool Refusal) → (answer ≡ Ok true) ⊎ (answer ≢ Ok true)
+pub true_or_not : (answer : Result Bool Refusal) → (answer ≡ Ok true) ⊎ (answer ≢ Ok true)
 true_or_not (Ok true) = inl refl
 true_or_not (Ok false) = inr (λ e. false≢true (same_Some false true (ap result_ok e)))
 true_or_not (Err refusal) = inr (λ e. none-some true (ap result_ok e))

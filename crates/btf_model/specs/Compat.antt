@@ -1,7 +1,8 @@
 -- The comparison of two types, each in its own table.
 -- Source: aya-obj's `types_are_compatible`, after libbpf's `bpf_core_types_are_compat`. That a pair which is met again while
 -- it is open is refused, and how many positions a walk has, is this project's profile.
-use Rattle.std.specs.Prelude.{◌≡◌, ◌≢◌, ◌⊎◌, ℕ, zero, suc, ◌==◌, ◌&&◌, Bool, true, false, if◌then◌else◌, List, [], ◌∷◌, ◌++◌, length, slice_get, Some, None, Result, Ok, Err, Contains}
+use Rattle.std.specs.Prelude.{◌≡◌, ◌≢◌, ◌⊎◌, ℕ, zero, suc, ◌==◌, ◌&&◌, not, Bool, true, false, if◌then◌else◌, List, [], ◌∷◌, ◌++◌, length, slice_get, Some, None, Result, Ok, Err, Contains}
+use Rattle.std.specs.List.{filter}
 use Rattle.btf_model.specs.Record.{Kind, Unknown, Int, Ptr, Array, Struct, Union, Enum, Fwd, FuncProto, Float, Enum64, Record, compared_kind}
 use Rattle.btf_model.specs.Refusal.{Refusal, UnknownBtfType, UnexpectedBtfType, MaximumTypeDepthReached}
 use Rattle.btf_model.specs.Table.{Table}
@@ -104,3 +105,14 @@ mutual
         → Paid local target above (at ∷ owed) answer starts
     next : (above : List Pair) (at p : Pair) (owed : List Pair) (answer : Result Bool Refusal) (first behind : List Pair) → ResolvesPair local target at (Ok p) → Plain local target above p (Ok true) first
         → Paid local target above owed answer behind → Paid local target above (at ∷ owed) answer (first ++ behind)
+
+-- ---- what is listed
+
+-- whether two pairs are one
+abbrev pub pair_eq : Pair → Pair → Bool
+pair_eq p q = p.local == q.local && p.target == q.target
+
+-- the pairs of a list, each at its first place only
+abbrev pub firsts : List Pair → List Pair
+firsts [] = []
+firsts (p ∷ ps) = p ∷ filter (λ q. not (pair_eq p q)) (firsts ps)

@@ -10,7 +10,8 @@ use Rattle.btf_plain.specs.Error.{Answers, refusal_of}
 use Rattle.btf_plain.specs.declared.error.BtfError.{BtfError}
 use Rattle.btf_types.specs.declared.compat.fields.Step.{Step}
 use Rattle.btf_types.specs.declared.compat.fields.Step.TheVariants as steps
-use Rattle.btf_types.specs.Fields.{StepIs, pair}
+use Rattle.btf_types.specs.Fields.{StepIs}
+use Rattle.btf_types.specs.Pairs.{pair}
 
 refused_weaker : (o : Option Refusal) (P Q : Refusal → Type 0) → ((f : Refusal) → P f → Q f) → IfSome o P → IfSome o Q
 refused_weaker (Some f) P Q more h = more f h

@@ -1,3 +1,4 @@
+pub mod KnownKinds
 pub mod FieldSteps
 pub mod Sections
 pub mod Tables
@@ -11,3 +12,6 @@ pub mod Parts
 pub mod Refused
 pub mod NamedSections
 pub mod Exts
+pub mod Positions
+pub mod Steps
+pub mod Comparing

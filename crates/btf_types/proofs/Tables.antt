@@ -1,5 +1,5 @@
 -- What a `Btf` keeps, and that its parsing is determined.
-use Rattle.std.proofs.Common.{◌≡◌, ℕ, ◌+◌, ◌*◌, ◌^◌, ◌<◌, ◌≤◌, List, [], ◌∷◌, ◌++◌, length, drop, Result, Ok, Err, refl, sym, ap, subst, ◌∙◌, arith, Vec, Global}
+use Rattle.std.proofs.Common.{◌≡◌, ℕ, ◌+◌, ◌*◌, ◌^◌, ◌<◌, ◌≤◌, List, [], ◌∷◌, ◌++◌, length, drop, Some, Result, Ok, Err, refl, sym, ap, subst, ◌∙◌, arith, Vec, Global}
 use Rattle.std.specs.Prelude.{map}
 use Rattle.std.specs.List.{flat_map, AllByRecursion}
 use Rattle.std.proofs.lemmas.Bool.{le-leb, lt-leb}
@@ -7,7 +7,7 @@ use Rattle.std.proofs.lemmas.List.{append-nil, map-append, length-append, length
 use Rattle.std.proofs.lemmas.List.Concat.{flat_map-append}
 use Rattle.std.proofs.lemmas.Option.{IfSome_then}
 use Rattle.btf_model.specs.Word.{Order}
-use Rattle.btf_model.specs.Record.{Record, unknown}
+use Rattle.btf_model.specs.Record.{Record, Kind, kind_of, unknown}
 use Rattle.btf_model.specs.Refusal.{Refusal, InvalidTypeInfo}
 use Rattle.btf_model.specs.Spelling.{spell, IsWhole}
 use Rattle.btf_model.specs.Table.{Table, type_bytes, section_limit, type_place}
@@ -24,6 +24,7 @@ use Rattle.btf_records.specs.declared.btf_type.BtfType.{BtfType}
 use Rattle.btf_types.specs.declared.table.Btf.{Btf}
 use Rattle.btf_types.specs.declared.table.Btf.TheInside.{Inside}
 use Rattle.btf_types.specs.declared.table.header.Header.{Header}
+use Rattle.btf_types.proofs.KnownKinds.{AllHaveKinds, one_more_kind}
 use Rattle.btf_types.specs.Header.{header}
 use Rattle.btf_types.specs.Btf.{table_of, IsKept}
 
@@ -38,8 +39,8 @@ few_types b h =
     omega (arith, h.limit, h.types, ap length (types_behind (order_of b.endianness) b.types.items rs h.first.1), records_are_long (order_of b.endianness) rs, ap length h.first.1, length-map b.types.items record_of)
 
 -- one more type is kept
-pub kept_push : (b : Inside) (types : Vec BtfType Global) (t : BtfType) (size : ℕ) → IsKept b → types.items ≡ b.types.items ++ t ∷ [] → size ≡ 12 + 4 * length (record_of t).tail → b.type_len + size ≤ section_limit → IsKept (record b { types = types; type_len = b.type_len + size })
-kept_push b types t size h is size-is fits =
+pub kept_push : (b : Inside) (types : Vec BtfType Global) (t : BtfType) (size : ℕ) (k : Kind) → IsKept b → kind_of (record_of t).info ≡ Some k → types.items ≡ b.types.items ++ t ∷ [] → size ≡ 12 + 4 * length (record_of t).tail → b.type_len + size ≤ section_limit → IsKept (record b { types = types; type_len = b.type_len + size })
+kept_push b types t size k h kind is size-is fits =
     let order = order_of b.endianness in
     let rs = h.first.0 in
     let r = record_of t in
@@ -53,6 +54,7 @@ kept_push b types t size h is size-is fits =
       strings = h.strings;
       types = omega (arith, h.types, size-is, ap length spelled, length-append (flat_map (spell order) rs) (spell order r ++ []), ap length (append-nil (spell order r)), length-spell order r, ap length (types_behind order b.types.items rs h.first.1));
       first = (rs ++ r ∷ [], records);
+      kinds = subst AllHaveKinds (sym (ap (map record_of) is ∙ map-append record_of b.types.items (t ∷ []))) (one_more_kind (map record_of b.types.items) r k h.kinds kind);
     }
 
 -- the type section that was read has the length that the header says

@@ -1,5 +1,7 @@
 pub mod Btf
+pub mod Pairs
 pub mod Fields
+pub mod Compared
 pub mod Header
 pub mod Records
 pub mod Text

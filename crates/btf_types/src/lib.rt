@@ -7,7 +7,7 @@ mod info;
 mod table;
 mod words;
 
-pub use compat::fields_are_compatible;
+pub use compat::{fields_are_compatible, types_are_compatible, types_are_compatible_traced};
 pub use ext::{BtfExt, SecInfo, SecInfoIter};
 pub use info::{FuncInfo, FuncSecInfo, LineInfo, LineSecInfo, bpf_func_info, bpf_line_info};
 pub use table::{Btf, BtfStr};

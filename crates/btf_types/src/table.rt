@@ -10,6 +10,7 @@ ghost use Rattle.std.specs.Slice.Iter.{iter_rest};
 ghost use Rattle.btf_model.specs.Record.{unknown};
 ghost use Rattle.btf_model.specs.Refusal.{Refusal};
 ghost use Rattle.btf_model.specs.Table.{Table, empty_table, strip, with_string, with_type, string_place, type_place};
+ghost use Rattle.btf_model.specs.Fields.{HaveKinds};
 ghost use Rattle.btf_model.specs.Blob.{IsTable, IsRefusal, Parses, canon};
 ghost use Rattle.btf_model.specs.Text as model;
 ghost use Rattle.btf_model.specs.Text.{FindsName};
@@ -28,6 +29,7 @@ use crate::table::header::{HEADER_LEN, Header, section};
 pub use crate::table::text::BtfStr;
 use crate::table::text::{find_named, text_at};
 use crate::table::types::{append_types, clone_types, read_types};
+pub(crate) use crate::table::walk::WALK_LIMIT;
 use crate::table::walk::{resolve, size};
 use btf_plain::{BtfError, BtfKind, Endianness};
 use btf_records::BtfType;
@@ -119,6 +121,8 @@ impl Btf {
             return Err(BtfError::InvalidTypeInfo);
         }
         let id = self.types.len() as u32;
+        // Each record of a table has a kind, which a use of the info word shows of this one.
+        let _ = btf_type.info();
         self.types.push(btf_type)?;
         self.type_len = (type_len + size) as u32;
         Ok(id)
@@ -279,7 +283,10 @@ impl Btf {
     }
 
     /// The allocator of the table's memory.
-    pub(crate) fn allocator(&self) -> Global {
+    pub(crate) fn allocator(&self) -> Global
+        // Each record has a kind.
+        ensures { HaveKinds self.now }
+    {
         *self.strings.allocator()
     }
 

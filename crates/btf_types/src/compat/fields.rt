@@ -3,17 +3,16 @@
 ghost use Rattle.std.specs.Prelude.{◌≡◌};
 ghost use Rattle.btf_model.specs.Fields.{Fields, FieldsFind, FieldsFound, field_by, before_flavor, same_names};
 ghost use Rattle.btf_model.specs.Text.{text_at};
-ghost use Rattle.btf_plain.specs.Error.{Answers, Tells};
+ghost use Rattle.btf_plain.specs.Error.{Answers};
 ghost use Rattle.btf_records.specs.BtfType.{record_of, type_kind};
-ghost use Rattle.btf_types.specs.Fields.{StepIs, IsResolved, pair};
+ghost use Rattle.btf_types.specs.Fields.{StepIs};
+ghost use Rattle.btf_types.specs.Pairs.{pair};
 
-use crate::table::Btf;
+use crate::compat::resolved::resolved;
+use crate::table::{Btf, WALK_LIMIT};
 use bstr::ByteSlice;
 use btf_plain::BtfError;
 use btf_records::BtfType;
-
-/// The number of pairs of types that the comparison looks at.
-const WALK_LIMIT: usize = 32;
 
 /// What separates a name from its flavor.
 const FLAVOR_MARK: &[u8] = b"___";
@@ -68,17 +67,6 @@ fn found_at(local: &Btf, local_id: u32, target: &Btf, target_id: u32) -> Step
         Ok((_, target_type)) => compared(local, local_at, local_type, target, target_type),
         Err(e) => Step::Ends(Err(e)),
     }
-}
-
-/// The id and the type that an id resolves to.
-fn resolved(table: &Btf, type_id: u32) -> Result<(u32, &BtfType), BtfError>
-    ensures { Tells (λ found. (found.0, type_kind found.1.now, record_of found.1.now)) result (IsResolved table.now type_id) }
-{
-    let id = table.resolve_type(type_id)?;
-    let btf_type = table.type_by_id(id)?;
-    // The contract speaks of the kind in the info word, which a use of it shows.
-    let _ = btf_type.info();
-    Ok((id, btf_type))
 }
 
 /// What the comparison finds at two types that are no modifiers.

@@ -11,8 +11,8 @@ ghost use Rattle.btf_types.specs.Walk.{extent_of};
 use btf_plain::BtfError;
 use btf_records::BtfType;
 
-/// The number of types that a walk looks at.
-const WALK_LIMIT: usize = 32;
+/// The number of types, or of pairs of types, that a walk looks at.
+pub const WALK_LIMIT: usize = 32;
 
 /// The id of the first type that is no modifier, on the walk over modifiers from an id on.
 pub fn resolve(types: &[BtfType], type_id: u32) -> Result<u32, BtfError>

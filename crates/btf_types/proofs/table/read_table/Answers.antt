@@ -1,5 +1,6 @@
 use Rattle.std.proofs.Common.{◌∙◌, sym, ap, arith, length}
 use Rattle.btf_plain.specs.Endianness.{order_of}
+use Rattle.btf_types.proofs.KnownKinds.{section_has_kinds}
 use Rattle.btf_types.proofs.Tables.{read_len, read_header_fits, length-slice}
 use Rattle.btf_types.proofs.table.read_table.Goals as goal
 
@@ -17,4 +18,5 @@ invariant_of-result c =
       strings = omega (arith, strings, h.str_len);
       types = sym types ∙ read_len order _ c.in_ok-types.types.items c.in_ok-types.ensures.0 c.in_ok-types.ensures.1 c.in_ok-types.ensures.2;
       first = (c.in_ok-types.ensures.0, c.in_ok-types.ensures.1);
+      kinds = section_has_kinds order _ c.in_ok-types.ensures.0 _ c.in_ok-types.ensures.1 c.in_ok-types.ensures.2;
     }

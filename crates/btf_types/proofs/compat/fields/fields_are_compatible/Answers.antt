@@ -2,7 +2,7 @@ use Rattle.std.proofs.Common.{refl, inr, ◌+◌, suc, arith}
 use Rattle.btf_model.specs.Walk.{walk_limit}
 use Rattle.btf_model.specs.Fields.{FieldsFind}
 use Rattle.btf_model.proofs.Walks.{lead_on}
-use Rattle.btf_types.specs.Fields.{pair}
+use Rattle.btf_types.specs.Pairs.{pair}
 use Rattle.btf_types.proofs.Walks.{as_many}
 use Rattle.btf_types.proofs.compat.fields.fields_are_compatible.Goals as goal
 

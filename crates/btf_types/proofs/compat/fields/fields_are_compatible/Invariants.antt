@@ -1,6 +1,6 @@
 use Rattle.btf_model.specs.Fields.{FieldsFind}
 use Rattle.btf_model.specs.Walk.{Leads}
-use Rattle.btf_types.specs.Fields.{pair}
+use Rattle.btf_types.specs.Pairs.{pair}
 use Rattle.btf_types.proofs.compat.fields.fields_are_compatible.Given as goal
 
 abbrev pub invariant-loop : goal.invariant-loop

@@ -1,7 +1,8 @@
 use Rattle.std.proofs.Common.{length, ap, sym, ◌∙◌, arith}
 use Rattle.std.proofs.lemmas.List.{length-map}
 use Rattle.btf_model.specs.Table.{Table, type_bytes}
-use Rattle.btf_records.specs.BtfType.{record_of}
+use Rattle.btf_model.specs.Record.{kind_of}
+use Rattle.btf_records.specs.BtfType.{record_of, type_kind}
 use Rattle.btf_types.proofs.Tables.{few_types, kept_push, no_room, has_room}
 use Rattle.btf_types.proofs.table.Btf.add_type.Goals as goal
 
@@ -10,7 +11,7 @@ overflow_cast-id c = omega (arith, c.len-id.ensures, few_types c.self.inside c.s
 
 pub invariant_of-self-2 : goal.invariant_of-self-2
 invariant_of-self-2 c =
-    kept_push c.self.inside c.push.new.self c.args.btf_type c.type_info_size-size.result c.self.invariant c.in_ok-push.ensures.items c.type_info_size-size.ensures (omega (arith, c.self.invariant.limit, c.if-size-type_len.false))
+    kept_push c.self.inside c.push.new.self c.args.btf_type c.type_info_size-size.result (type_kind c.args.btf_type) c.self.invariant (ap kind_of (sym c.info-self-inside.ensures.value) ∙ c.info-self-inside.ensures.kind) c.in_ok-push.ensures.items c.type_info_size-size.ensures (omega (arith, c.self.invariant.limit, c.if-size-type_len.false))
 
 pub returns-then-size-type_len-clause-answer : goal.returns-then-size-type_len-clause-answer
 returns-then-size-type_len-clause-answer c =

@@ -1,0 +1,128 @@
+-- How long a run of the comparison can be: each step leaves less to do.
+use Rattle.std.proofs.Common.{◌≡◌, ℕ, zero, suc, ◌+◌, ◌*◌, ◌-◌, ◌<◌, ◌≤◌, List, [], ◌∷◌, ◌++◌, length, refl, sym, ap, subst, ◌∙◌, inl, inr, Bool, true, false, Some, None, Result, Ok, Err, arith, slice_get}
+use Rattle.std.specs.Prelude.{◌⊎◌, ◌==◌, ◌&&◌, if◌then◌else◌}
+use Rattle.std.proofs.lemmas.Option.{same_Some, none-some, slice_get_within}
+use Rattle.btf_model.specs.Record.{Record, Kind, Unknown, Int, Ptr, Array, Struct, Union, Enum, Fwd, Typedef, Volatile, Const, Restrict, Func, FuncProto, Var, DataSec, Float, DeclTag, TypeTag, Enum64}
+use Rattle.btf_model.specs.Table.{Table}
+use Rattle.btf_model.specs.Walk.{walk_limit}
+use Rattle.btf_model.specs.Fields.{Pair}
+use Rattle.btf_model.specs.Compat.{Position, Told, On, Owes, Finds, parameter_types, pairs, prototypes, position_by, PositionFound}
+use Rattle.btf_model.proofs.Runs.{Frame, new_frame, Next, GoesOn, Waits, IsNext}
+
+-- ---- how many parameters a prototype has
+
+-- more words than any record has behind its third
+abbrev pub widest : List Record → ℕ
+widest [] = 0
+widest (r ∷ rs) = length r.tail + widest rs
+
+tail_within : (rs : List Record) (id : ℕ) (r : Record) → slice_get rs id ≡ Some r → length r.tail ≤ widest rs
+tail_within [] id r is = absurd (omega (arith, slice_get_within [] id r is))
+tail_within (s ∷ rs) zero r is = omega (arith, ap (λ (x : Record). length x.tail) (same_Some s r is))
+tail_within (s ∷ rs) (suc id) r is = omega (arith, tail_within rs id r is)
+
+abbrev owed_at : Position → List Pair
+owed_at (Told answer) = []
+owed_at (On to) = []
+owed_at (Owes owed to) = owed
+
+length-parameter_types : (words : List ℕ) → length (parameter_types words) ≤ length words
+length-parameter_types [] = omega arith
+length-parameter_types (name ∷ []) = omega arith
+length-parameter_types (name ∷ type ∷ words) = omega (arith, length-parameter_types words)
+
+length-pairs : (ids others : List ℕ) → length (pairs ids others) ≤ length ids
+length-pairs [] others = omega arith
+length-pairs (id ∷ ids) [] = omega arith
+length-pairs (id ∷ ids) (other ∷ others) = omega (arith, length-pairs ids others)
+
+few_owed_if : (b : Bool) (r : Record) (owed : List Pair) (to : Pair) → length owed ≤ length r.tail → length (owed_at (if b then Owes owed to else Told (Ok false))) ≤ length r.tail
+few_owed_if true r owed to le = le
+few_owed_if false r owed to le = omega arith
+
+few_owed_by : (id : ℕ) (k : Kind) (r s : Record) → length (owed_at (position_by id k r s)) ≤ length r.tail
+few_owed_by id FuncProto r s =
+    few_owed_if (length (parameter_types r.tail) == length (parameter_types s.tail)) r (pairs (parameter_types r.tail) (parameter_types s.tail)) (record { local = r.third; target = s.third })
+    (omega (arith, length-pairs (parameter_types r.tail) (parameter_types s.tail), length-parameter_types r.tail))
+few_owed_by id Unknown r s = omega arith
+few_owed_by id Int r s = omega arith
+few_owed_by id Ptr r s = omega arith
+few_owed_by id Array r s = omega arith
+few_owed_by id Struct r s = omega arith
+few_owed_by id Union r s = omega arith
+few_owed_by id Enum r s = omega arith
+few_owed_by id Fwd r s = omega arith
+few_owed_by id Typedef r s = omega arith
+few_owed_by id Volatile r s = omega arith
+few_owed_by id Const r s = omega arith
+few_owed_by id Restrict r s = omega arith
+few_owed_by id Func r s = omega arith
+few_owed_by id Var r s = omega arith
+few_owed_by id DataSec r s = omega arith
+few_owed_by id Float r s = omega arith
+few_owed_by id DeclTag r s = omega arith
+few_owed_by id TypeTag r s = omega arith
+few_owed_by id Enum64 r s = omega arith
+
+few_owed_found : (id : ℕ) (k q : Kind) (r s : Record) (found : Position) → PositionFound id k q r s found → length (owed_at found) ≤ length r.tail
+few_owed_found id k q r s found (inl h) = omega (arith, ap (λ (x : Position). length (owed_at x)) h.1)
+few_owed_found id k q r s found (inr h) = omega (arith, ap (λ (x : Position). length (owed_at x)) h.1, few_owed_by id k r s)
+
+-- no more pairs are owed than the widest record has words
+pub few_owed : (local target : Table) (at : Pair) (found : Position) → Finds local target at found → length (owed_at found) ≤ widest local.records
+few_owed local target at found (inl h) = omega (arith, ap (λ (x : Position). length (owed_at x)) h.2)
+few_owed local target at found (inr h) = omega (arith, few_owed_found h.0.local h.1 h.2 h.3 h.4 found h.8, tail_within local.records h.0.local h.3 h.6.0)
+
+-- ---- what is left to do
+
+-- of the walk of one pair, where no prototype has more than w parameters
+abbrev pub work : ℕ → Frame → ℕ
+work w f = f.left * suc w + (w - f.parameter) + 1
+
+abbrev pub works : ℕ → List Frame → ℕ
+works w [] = 0
+works w (f ∷ fs) = work w f + works w fs
+
+-- of the run: the pairs that are not listed yet, each with a whole walk, and what is left of the walks that began
+abbrev pub left_to_do : (known listed w : ℕ) → Frame → List Frame → ℕ
+left_to_do known listed w top below = (known - listed) * (33 * suc w) + work w top + works w below
+
+fewer_positions : (n w j : ℕ) → n * suc w + (w - 0) + 1 < suc n * suc w + (w - j) + 1
+fewer_positions n w j = omega arith
+
+fewer_pairs : (known listed w new done old : ℕ) → listed < known → done < old → new ≡ 33 * suc w → (known - (listed + 1)) * (33 * suc w) + new + done < (known - listed) * (33 * suc w) + old
+fewer_pairs known listed w new done old lt less is =
+    let one : known - listed ≡ suc (known - (listed + 1)) = omega arith in
+    rw (one, is) (omega (arith, less))
+
+module _ (local target : Table) where
+  on_is_less : (w : ℕ) (f g : Frame) → IsNext local target f (GoesOn g) → work w g < work w f
+  on_is_less w f g next =
+      let left : g.left ≡ next.0 = ap (λ (x : Frame). x.left) next.3 in
+      let parameter : g.parameter ≡ 0 = ap (λ (x : Frame). x.parameter) next.3 in
+      let was : f.left ≡ suc next.0 = next.2 in
+      rw (left, parameter, was) (fewer_positions next.0 w f.parameter)
+
+  waits_is_less : (f g : Frame) (p : Pair) → IsNext local target f (Waits p g) → work (widest local.records) g < work (widest local.records) f
+  waits_is_less f g p next =
+      let left : g.left ≡ f.left = ap (λ (x : Frame). x.left) next.5 in
+      let parameter : g.parameter ≡ suc f.parameter = ap (λ (x : Frame). x.parameter) next.5 in
+      let owes = next.4 in
+      let few : length next.1 ≤ widest local.records = few_owed local target f.at (Owes next.1 next.2) owes.0 in
+      let lt : f.parameter < length next.1 = slice_get_within next.1 f.parameter owes.1.0 owes.1.1 in
+      rw (left, parameter) (omega (arith, few, lt))
+
+  pub less_on : (known listed w : ℕ) (f g : Frame) (below : List Frame) → IsNext local target f (GoesOn g) → left_to_do known listed w g below < left_to_do known listed w f below
+  less_on known listed w f g below next = omega (arith, on_is_less w f g next)
+
+  pub less_paid : (known listed : ℕ) (f g : Frame) (p : Pair) (below : List Frame) → IsNext local target f (Waits p g) → left_to_do known listed (widest local.records) g below < left_to_do known listed (widest local.records) f below
+  less_paid known listed f g p below next = omega (arith, waits_is_less f g p next)
+
+  pub less_started : (known listed : ℕ) (f g : Frame) (p : Pair) (below : List Frame) → IsNext local target f (Waits p g) → listed < known → left_to_do known (listed + 1) (widest local.records) (new_frame p) (g ∷ below) < left_to_do known listed (widest local.records) f below
+  less_started known listed f g p below next lt =
+      let w = widest local.records in
+      let new : work w (new_frame p) ≡ 33 * suc w = omega arith in
+      omega (arith, fewer_pairs known listed w (work w (new_frame p)) (work w g) (work w f) lt (waits_is_less f g p next) new)
+
+  pub less_settled : (known listed w : ℕ) (f g : Frame) (below : List Frame) → left_to_do known listed w g below < left_to_do known listed w f (g ∷ below)
+  less_settled known listed w f g below = omega arith

@@ -1,0 +1,167 @@
+-- A run of the comparison of types that remembers the pairs which came out true: the pairs that are open, each with the position
+-- of its walk, and what the run has to say of the comparison that remembers nothing.
+use Rattle.std.proofs.Common.{◌≡◌, ◌≢◌, ℕ, zero, suc, ◌+◌, ◌≤◌, List, [], ◌∷◌, ◌++◌, length, drop, refl, sym, ap, subst, ◌∙◌, inl, inr, Bool, true, false, Some, None, Result, Ok, Err, arith, append_assoc, slice_get, Contains}
+use Rattle.std.specs.Prelude.{◌⊎◌, map}
+use Rattle.std.specs.Result.{result_ok}
+use Rattle.std.proofs.Math.Seq.{drop-cons}
+use Rattle.std.proofs.lemmas.List.{append-nil, length-append, drop_all}
+use Rattle.std.proofs.lemmas.Option.{none-some, slice_get_within, get_or_from_slice_get}
+use Rattle.btf_model.specs.Record.{Record, Kind, compared_kind}
+use Rattle.btf_model.specs.Refusal.{Refusal, UnknownBtfType, MaximumTypeDepthReached}
+use Rattle.btf_model.specs.Table.{Table}
+use Rattle.btf_model.specs.Walk.{walk_limit}
+use Rattle.btf_model.specs.Fields.{Pair, HaveKinds}
+use Rattle.btf_model.specs.Compat.{Position, Told, On, Owes, ResolvesPair, Finds, AreKnown, Plain, Walked, Paid, firsts}
+use Rattle.btf_model.proofs.Comparisons.{one_position, position_answer}
+use Rattle.btf_model.proofs.Known.{Among, among_from_contains, contains_from_among, among_or_not, HasIds, Covers, known_pairs, known_pairs_cover, Without, without, still_covers}
+use Rattle.btf_model.proofs.PlainAnswers.{true_or_not, walked_answers, paid_answers}
+use Rattle.btf_model.proofs.PlainSteps.{Are}
+use Rattle.btf_model.proofs.Firsts.{firsts_new, firsts_of_known, firsts_begin}
+
+-- An open pair: where its walk is, how many positions are left of it, and the parameter that comes next.
+pub record Frame : Type 0 where
+  pub pair : Pair
+  pub at : Pair
+  pub left : ℕ
+  pub parameter : ℕ
+
+-- a pair whose walk begins
+abbrev pub new_frame : Pair → Frame
+new_frame p = record { pair = p; at = p; left = walk_limit; parameter = zero }
+
+-- What comes next for an open pair: its walk ends; it goes on; or a pair has to be compatible first, and then it goes on.
+pub data Next : Type 0 where
+  Ends : Result Bool Refusal → Next
+  GoesOn : Frame → Next
+  Waits : Pair → Frame → Next
+
+module _ (local target : Table) where
+  -- the parameters that come next resolve to a, and then next is the position
+  abbrev pub OwesNext : Frame → List Pair → Pair → Result Pair Refusal → Type 0
+  OwesNext f owed to a = Finds local target f.at (Owes owed to) × ((at : Pair) × (slice_get owed f.parameter ≡ Some at) × ResolvesPair local target at a)
+
+  -- What comes next for an open pair.
+  abbrev pub IsNext : Frame → Next → Type 0
+  IsNext f (Ends answer) =
+      ((f.left ≡ zero) × (answer ≡ Err (MaximumTypeDepthReached f.at.local)))
+      ⊎ ((n : ℕ) × (f.left ≡ suc n) × (Finds local target f.at (Told answer) ⊎ ((owed : List Pair) × (to : Pair) × (refusal : Refusal) × OwesNext f owed to (Err refusal) × (answer ≡ Err refusal))))
+  IsNext f (GoesOn g) =
+      (n : ℕ) × (to : Pair) × (f.left ≡ suc n) × (g ≡ record { pair = f.pair; at = to; left = n; parameter = zero })
+      × (Finds local target f.at (On to) ⊎ ((owed : List Pair) × Finds local target f.at (Owes owed to) × (length owed ≤ f.parameter)))
+  IsNext f (Waits p g) =
+      (n : ℕ) × (owed : List Pair) × (to : Pair) × (f.left ≡ suc n) × OwesNext f owed to (Ok p) × (g ≡ record f { parameter = suc f.parameter })
+
+  -- ---- what is left of a walk
+
+  -- behind what is found at a position, where so many of its parameters are settled
+  abbrev pub RestBy : List Pair → ℕ → ℕ → Position → Result Bool Refusal → List Pair → Type 0
+  RestBy above n j (Told a) b t = Are b t a []
+  RestBy above n j (On to) b t = Walked local target above n to b t
+  RestBy above n j (Owes owed to) b t =
+      ((first behind : List Pair) × Paid local target above (drop j owed) (Ok true) first × Walked local target above n to b behind × (t ≡ first ++ behind)) ⊎ (Paid local target above (drop j owed) b t × (b ≢ Ok true))
+
+  abbrev pub Rest : List Pair → ℕ → Pair → ℕ → Result Bool Refusal → List Pair → Type 0
+  Rest above zero at j b t = Are b t (Err (MaximumTypeDepthReached at.local)) []
+  Rest above (suc n) at j b t = (found : Position) × Finds local target at found × RestBy above n j found b t
+
+  walked_as : (above : List Pair) (n : ℕ) (at : Pair) (a b : Result Bool Refusal) (s t : List Pair) → Are b t a s → Walked local target above n at a s → Walked local target above n at b t
+  walked_as above n at a b s t is h = subst (λ (x : Result Bool Refusal). Walked local target above n at x t) (sym is.0) (subst (λ (x : List Pair). Walked local target above n at a x) (sym is.1) h)
+
+  walked_by_rest : (above : List Pair) (n : ℕ) (at : Pair) (found : Position) (b : Result Bool Refusal) (t : List Pair) → Finds local target at found → RestBy above n zero found b t → Walked local target above (suc n) at b t
+  walked_by_rest above n at (Told a) b t found is = walked_as above (suc n) at a b [] t is (Walked.told above n at a found)
+  walked_by_rest above n at (On to) b t found h = Walked.on above n at to b t found h
+  walked_by_rest above n at (Owes owed to) b t found (inl h) = subst (λ (x : List Pair). Walked local target above (suc n) at b x) (sym h.4) (Walked.paid above n at to owed b h.0 h.1 found h.2 h.3)
+  walked_by_rest above n at (Owes owed to) b t found (inr h) = Walked.unpaid above n at to owed b t found h.0 h.1
+
+  -- where no parameter is settled, the whole of it
+  pub walked_from_rest : (above : List Pair) (n : ℕ) (at : Pair) (b : Result Bool Refusal) (t : List Pair) → Rest above n at zero b t → Walked local target above n at b t
+  walked_from_rest above zero at b t is = walked_as above zero at (Err (MaximumTypeDepthReached at.local)) b [] t is (Walked.too_deep above at)
+  walked_from_rest above (suc n) at b t h = walked_by_rest above n at h.0 b t h.1 h.2
+
+  abbrev pub RestOf : List Pair → Frame → Result Bool Refusal → List Pair → Type 0
+  RestOf above f b t = Rest (f.pair ∷ above) f.left f.at f.parameter b t
+
+  abbrev pub WalkOf : List Pair → Pair → Result Bool Refusal → List Pair → Type 0
+  WalkOf above p b t = Walked local target (p ∷ above) walk_limit p b t
+
+  -- ---- one step of a walk
+
+  left_over : (f : Frame) (n : ℕ) → f.left ≡ suc n → (above : List Pair) (b : Result Bool Refusal) (t : List Pair) → Rest (f.pair ∷ above) (suc n) f.at f.parameter b t → RestOf above f b t
+  left_over f n is above b t h = subst (λ (m : ℕ). Rest (f.pair ∷ above) m f.at f.parameter b t) (sym is) h
+
+  first_owed : (owed : List Pair) (j : ℕ) (at : Pair) → slice_get owed j ≡ Some at → at ∷ drop (suc j) owed ≡ drop j owed
+  first_owed owed j at is = sym (drop-cons owed j at (slice_get_within owed j at is) ∙ ap (λ (q : Pair). q ∷ drop (suc j) owed) (get_or_from_slice_get owed j at at is))
+
+  pays_from : (above owed : List Pair) (j : ℕ) (at : Pair) (b : Result Bool Refusal) (t : List Pair) → slice_get owed j ≡ Some at → Paid local target above (at ∷ drop (suc j) owed) b t → Paid local target above (drop j owed) b t
+  pays_from above owed j at b t is h = subst (λ (qs : List Pair). Paid local target above qs b t) (first_owed owed j at is) h
+
+  -- a walk that ends, ends under any open pairs
+  pub ends_rest : (f : Frame) (b : Result Bool Refusal) → IsNext f (Ends b) → (above : List Pair) → RestOf above f b []
+  ends_rest f b (inl h) above = subst (λ (m : ℕ). Rest (f.pair ∷ above) m f.at f.parameter b []) (sym h.0) (h.1, refl)
+  ends_rest f b (inr h) above =
+      left_over f h.0 h.1 above b []
+      (elim h.2 [
+        | inl found ↦ (Told b, found, (refl, refl))
+        | inr g ↦ (Owes g.0 g.1, g.3.0, inr (
+          subst (λ (x : Result Bool Refusal). Paid local target (f.pair ∷ above) (drop f.parameter g.0) x []) (sym g.4)
+              (pays_from (f.pair ∷ above) g.0 f.parameter g.3.1.0 (Err g.2) [] g.3.1.1 (Paid.unresolved (f.pair ∷ above) g.3.1.0 (drop (suc f.parameter) g.0) g.2 g.3.1.2)),
+          λ is. none-some true (ap result_ok (sym g.4 ∙ is)),
+        ))
+      ])
+
+  pub goes_on_rest : (f g : Frame) → IsNext f (GoesOn g) → (above : List Pair) (b : Result Bool Refusal) (t : List Pair) → RestOf above g b t → RestOf above f b t
+  goes_on_rest f g next above b t h =
+      let behind : Walked local target (f.pair ∷ above) next.0 next.1 b t = walked_from_rest (f.pair ∷ above) next.0 next.1 b t (subst (λ (x : Frame). RestOf above x b t) next.3 h) in
+      left_over f next.0 next.2 above b t
+      (elim next.4 [
+        | inl found ↦ (On next.1, found, behind)
+        | inr o ↦ (Owes o.0 next.1, o.1, inl ([], t, subst (λ (qs : List Pair). Paid local target (f.pair ∷ above) qs (Ok true) []) (sym (drop_all f.parameter o.0 o.2)) (Paid.all (f.pair ∷ above)), behind, refl))
+      ])
+
+  pub fails_rest : (f g : Frame) (p : Pair) → IsNext f (Waits p g) → (above : List Pair) (b : Result Bool Refusal) (t : List Pair) → Plain local target (f.pair ∷ above) p b t → b ≢ Ok true → RestOf above f b t
+  fails_rest f g p next above b t plain not_true =
+      let owes = next.4 in
+      left_over f next.0 next.3 above b t
+      (Owes next.1 next.2, owes.0, inr (pays_from (f.pair ∷ above) next.1 f.parameter owes.1.0 b t owes.1.1 (Paid.other (f.pair ∷ above) owes.1.0 p (drop (suc f.parameter) next.1) b t owes.1.2 plain not_true), not_true))
+
+  pays_rest_by : (above owed : List Pair) (n j : ℕ) (at p to : Pair) (first : List Pair) → slice_get owed j ≡ Some at → ResolvesPair local target at (Ok p) → Plain local target above p (Ok true) first
+      → (b : Result Bool Refusal) (t : List Pair) → RestBy above n (suc j) (Owes owed to) b t → RestBy above n j (Owes owed to) b (first ++ t)
+  pays_rest_by above owed n j at p to first is resolved plain b t (inl h) =
+      inl (
+        first ++ h.0,
+        h.1,
+        pays_from above owed j at (Ok true) (first ++ h.0) is (Paid.next above at p (drop (suc j) owed) (Ok true) first h.0 resolved plain h.2),
+        h.3,
+        ap (λ (x : List Pair). first ++ x) h.4 ∙ sym (append_assoc first h.0 h.1),
+      )
+  pays_rest_by above owed n j at p to first is resolved plain b t (inr h) = inr (pays_from above owed j at b (first ++ t) is (Paid.next above at p (drop (suc j) owed) b first t resolved plain h.0), h.1)
+
+  pub pays_rest : (f g : Frame) (p : Pair) → IsNext f (Waits p g) → (above : List Pair) (first : List Pair) → Plain local target (f.pair ∷ above) p (Ok true) first → (b : Result Bool Refusal) (t : List Pair) → RestOf above g b t → RestOf above f b (first ++ t)
+  pays_rest f g p next above first plain b t h =
+      let owes = next.4 in
+      let here : RestOf above (record f { parameter = suc f.parameter }) b t = subst (λ (x : Frame). RestOf above x b t) next.5 h in
+      let rest : Rest (f.pair ∷ above) (suc next.0) f.at (suc f.parameter) b t = subst (λ (m : ℕ). Rest (f.pair ∷ above) m f.at (suc f.parameter) b t) next.3 here in
+      left_over f next.0 next.3 above b (first ++ t)
+      (Owes next.1 next.2, owes.0, pays_rest_by (f.pair ∷ above) next.1 next.0 f.parameter owes.1.0 p next.2 first owes.1.1 owes.1.2 plain b t
+      (subst (λ (x : Position). RestBy (f.pair ∷ above) next.0 (suc f.parameter) x b t) (one_position local target f.at rest.0 (Owes next.1 next.2) rest.1 owes.0) rest.2))
+
+  rest_by_answers : HaveKinds local → HaveKinds target → (above : List Pair) (n j : ℕ) (found : Position) → (b : Result Bool Refusal) × (t : List Pair) × RestBy above n j found b t
+  rest_by_answers ls ts above n j (Told a) = (a, [], (refl, refl))
+  rest_by_answers ls ts above n j (On to) = walked_answers local target ls ts above n to
+  rest_by_answers ls ts above n j (Owes owed to) =
+      let first = paid_answers local target ls ts above (drop j owed) in
+      let behind = walked_answers local target ls ts above n to in
+      elim (true_or_not first.0) [
+        | inl is ↦ (behind.0, first.1 ++ behind.1, inl (first.1, behind.1, subst (λ (x : Result Bool Refusal). Paid local target above (drop j owed) x first.1) is first.2, behind.2, refl))
+        | inr not_true ↦ (first.0, first.1, inr (first.2, not_true))
+      ]
+
+  rest_at_answers : HaveKinds local → HaveKinds target → (above : List Pair) (n : ℕ) (at : Pair) (j : ℕ) → (b : Result Bool Refusal) × (t : List Pair) × Rest above n at j b t
+  rest_at_answers ls ts above zero at j = (Err (MaximumTypeDepthReached at.local), [], (refl, refl))
+  rest_at_answers ls ts above (suc n) at j =
+      let found = position_answer local target at ls ts in
+      let behind = rest_by_answers ls ts above n j found.0 in
+      (behind.0, behind.1, (found.0, found.1, behind.2))
+
+  pub rest_answers : HaveKinds local → HaveKinds target → (above : List Pair) (f : Frame) → (b : Result Bool Refusal) × (t : List Pair) × RestOf above f b t
+  rest_answers ls ts above f = rest_at_answers ls ts (f.pair ∷ above) f.left f.at f.parameter
