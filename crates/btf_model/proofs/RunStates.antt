@@ -101,7 +101,7 @@ module _ (local target : Table) where
       pub starts : (q : Pair) → Among went q → Settled q
       pub fails : (above : List Pair) → AvoidsAll Settled above → (b : Result Bool Refusal) (t : List Pair) → Plain local target (g.pair ∷ above) p b t → b ≢ Ok true → WalkOf local target above g.pair b (went ++ t)
       pub pays : (above : List Pair) → AvoidsAll Settled above → (first : List Pair) → Plain local target (g.pair ∷ above) p (Ok true) first → (b : Result Bool Refusal) (t : List Pair) → RestOf local target above g b t
-        → WalkOf local target above g.pair b (went ++ (first ++ t))
+          → WalkOf local target above g.pair b (went ++ (first ++ t))
 
     -- Each settled pair is compatible under any pairs that are not settled, and starts settled pairs only, always the same.
     abbrev pub IsClosed : Type 0
@@ -323,12 +323,11 @@ module _ (local target : Table) where
 
     pub run_differs : (root : Pair) (f g : Frame) (p : Pair) (below : List Frame) (listed : List Pair) → Run root f below listed → IsNext local target f (Waits p g) → (Among (f.pair ∷ open_pairs below) p → ⊥) → (Settled p → ⊥)
         → (b : Result Bool Refusal) → Plain local target (f.pair ∷ open_pairs below) p b (p ∷ []) → b ≢ Ok true → Outcome root b (listed ++ p ∷ [])
-    run_differs root f g p below listed run next not_open_yet not_settled b plain not_true =
-        (
-          (run.before ++ f.pair ∷ run.went) ++ p ∷ [],
-          fails_with root f below listed run b (p ∷ []) (fails_rest local target f g p next (open_pairs below) b (p ∷ []) plain not_true) not_true,
-          firsts_new (run.before ++ f.pair ∷ run.went) p (not_listed root f below listed p run not_open_yet not_settled) ∙ ap (λ (x : List Pair). x ++ p ∷ []) run.lists,
-        )
+    run_differs root f g p below listed run next not_open_yet not_settled b plain not_true = (
+      (run.before ++ f.pair ∷ run.went) ++ p ∷ [],
+      fails_with root f below listed run b (p ∷ []) (fails_rest local target f g p next (open_pairs below) b (p ∷ []) plain not_true) not_true,
+      firsts_new (run.before ++ f.pair ∷ run.went) p (not_listed root f below listed p run not_open_yet not_settled) ∙ ap (λ (x : List Pair). x ++ p ∷ []) run.lists,
+    )
 
     -- the last open pair is the root
     pub run_ends : (root : Pair) (f : Frame) (listed : List Pair) → Run root f [] listed → IsNext local target f (Ends (Ok true)) → Outcome root (Ok true) listed
@@ -345,8 +344,7 @@ module _ (local target : Table) where
     run_begins ls ts root f below listed run =
         let more = rest_answers local target ls ts (open_pairs below) f in
         let whole = goes_somewhere ls ts root below f.pair run.before more.0 (f.pair ∷ (run.went ++ more.1)) run.stack (λ q m. run.avoids q (inr m)) run.apart.1 (top_answers root f below listed run more.0 more.1 more.2) in
-        let behind = firsts_begin (run.before ++ f.pair ∷ run.went) (more.1 ++ whole.1) in
-        (
+        let behind = firsts_begin (run.before ++ f.pair ∷ run.went) (more.1 ++ whole.1) in (
           whole.0,
           run.before ++ ((f.pair ∷ (run.went ++ more.1)) ++ whole.1),
           behind.0,

@@ -102,11 +102,15 @@ module _ (local target : Table) where
       left_over f h.0 h.1 above b []
       (elim h.2 [
         | inl found ↦ (Told b, found, (refl, refl))
-        | inr g ↦ (Owes g.0 g.1, g.3.0, inr (
-          subst (λ (x : Result Bool Refusal). Paid local target (f.pair ∷ above) (drop f.parameter g.0) x []) (sym g.4)
-              (pays_from (f.pair ∷ above) g.0 f.parameter g.3.1.0 (Err g.2) [] g.3.1.1 (Paid.unresolved (f.pair ∷ above) g.3.1.0 (drop (suc f.parameter) g.0) g.2 g.3.1.2)),
-          λ is. none-some true (ap result_ok (sym g.4 ∙ is)),
-        ))
+        | inr g ↦ (
+          Owes g.0 g.1,
+          g.3.0,
+          inr (
+            subst (λ (x : Result Bool Refusal). Paid local target (f.pair ∷ above) (drop f.parameter g.0) x []) (sym g.4)
+                (pays_from (f.pair ∷ above) g.0 f.parameter g.3.1.0 (Err g.2) [] g.3.1.1 (Paid.unresolved (f.pair ∷ above) g.3.1.0 (drop (suc f.parameter) g.0) g.2 g.3.1.2)),
+            λ is. none-some true (ap result_ok (sym g.4 ∙ is)),
+          ),
+        )
       ])
 
   pub goes_on_rest : (f g : Frame) → IsNext f (GoesOn g) → (above : List Pair) (b : Result Bool Refusal) (t : List Pair) → RestOf above g b t → RestOf above f b t
@@ -141,9 +145,12 @@ module _ (local target : Table) where
       let owes = next.4 in
       let here : RestOf above (record f { parameter = suc f.parameter }) b t = subst (λ (x : Frame). RestOf above x b t) next.5 h in
       let rest : Rest (f.pair ∷ above) (suc next.0) f.at (suc f.parameter) b t = subst (λ (m : ℕ). Rest (f.pair ∷ above) m f.at (suc f.parameter) b t) next.3 here in
-      left_over f next.0 next.3 above b (first ++ t)
-      (Owes next.1 next.2, owes.0, pays_rest_by (f.pair ∷ above) next.1 next.0 f.parameter owes.1.0 p next.2 first owes.1.1 owes.1.2 plain b t
-      (subst (λ (x : Position). RestBy (f.pair ∷ above) next.0 (suc f.parameter) x b t) (one_position local target f.at rest.0 (Owes next.1 next.2) rest.1 owes.0) rest.2))
+      left_over f next.0 next.3 above b (first ++ t) (
+        Owes next.1 next.2,
+        owes.0,
+        pays_rest_by (f.pair ∷ above) next.1 next.0 f.parameter owes.1.0 p next.2 first owes.1.1 owes.1.2 plain b t
+            (subst (λ (x : Position). RestBy (f.pair ∷ above) next.0 (suc f.parameter) x b t) (one_position local target f.at rest.0 (Owes next.1 next.2) rest.1 owes.0) rest.2),
+      )
 
   rest_by_answers : HaveKinds local → HaveKinds target → (above : List Pair) (n j : ℕ) (found : Position) → (b : Result Bool Refusal) × (t : List Pair) × RestBy above n j found b t
   rest_by_answers ls ts above n j (Told a) = (a, [], (refl, refl))
