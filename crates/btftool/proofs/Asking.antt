@@ -8,7 +8,7 @@ use Rattle.btf_plain.specs.declared.words.Endianness.{Endianness}
 use Rattle.btf_plain.specs.declared.words.Endianness.TheVariants as orders
 use Rattle.btftool.specs.declared.line.Line.{Line}
 use Rattle.btftool.specs.declared.line.Command.{Command}
-use Rattle.btftool.specs.declared.line.Command.TheVariants.{Copy, Types, Size}
+use Rattle.btftool.specs.declared.line.Command.TheVariants.{Copy, Types, Size, Compat}
 use Rattle.btftool.specs.Line.{texts, order_word, AsksCommand, Asks}
 
 -- what the words tell, if they ask for something
@@ -21,7 +21,8 @@ word_told word = if bytes_eq word (codes "copy") then Copy else Types
 abbrev command_told : List (List ℕ) → Command
 command_told [] = Copy
 command_told (word ∷ []) = word_told word
-command_told (word ∷ id ∷ more) = Size (digits_value 10 id)
+command_told (word ∷ id ∷ []) = Size (digits_value 10 id)
+command_told (word ∷ id ∷ other ∷ more) = Compat (digits_value 10 id) (digits_value 10 other)
 
 abbrev line_told : List (List ℕ) → Line
 line_told [] = record { endianness = orders.Little; command = Copy }
@@ -35,6 +36,7 @@ command_is_told : (rest : List (List ℕ)) (command : Command) → AsksCommand r
 command_is_told rest Copy asks = ap command_told asks
 command_is_told rest Types asks = ap command_told asks
 command_is_told rest (Size id) asks = ap command_told asks.1 ∙ ap (λ (n : ℕ). Size n) asks.2.1
+command_is_told rest (Compat id other) asks = ap command_told asks.2 ∙ ap (λ (n : ℕ). Compat n (digits_value 10 asks.1)) asks.3.1 ∙ ap (λ (n : ℕ). Compat id n) asks.4.1
 
 line_is_told : (words : List (String Global)) (line : Line) → Asks words line → line_told (texts words) ≡ line
 line_is_told words line asks =

@@ -1,3 +1,4 @@
 pub mod Asking
 pub mod Listings
 pub mod Sizes
+pub mod Comparisons

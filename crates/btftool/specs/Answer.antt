@@ -1,27 +1,37 @@
 -- What the program writes.
-use Rattle.std.specs.Prelude.{◌≡◌, ◌⊎◌, ℕ, List, Option, Ok, Err}
+use Rattle.std.specs.Prelude.{◌≡◌, ◌⊎◌, ℕ, Bool, List, [], length, Option, Result, Ok, Err}
 use Rattle.std.specs.Io.KnownBytes.{Appends}
 use Rattle.btf_model.specs.Refusal.{Refusal}
 use Rattle.btf_model.specs.Table.{Table}
 use Rattle.btf_model.specs.Blob.{IsTable, IsRefusal, canon}
 use Rattle.btf_model.specs.Walk.{HasSize}
+use Rattle.btf_model.specs.Fields.{Pair}
+use Rattle.btf_model.specs.Compat.{Plain, firsts}
+use Rattle.btf_types.specs.Pairs.{pair}
 use Rattle.btf_plain.specs.Endianness.{order_of}
 use Rattle.btftool.specs.declared.line.Line.{Line}
 use Rattle.btftool.specs.declared.line.Command.{Command}
-use Rattle.btftool.specs.declared.line.Command.TheVariants.{Copy, Types, Size}
-use Rattle.btftool.specs.Listing.{listing, size_line}
+use Rattle.btftool.specs.declared.line.Command.TheVariants.{Copy, Types, Size, Compat}
+use Rattle.btftool.specs.Listing.{listing, size_line, comparison_lines}
+
+-- The comparison of two types of a table answers this, with so many pairs that it starts; or is refused.
+abbrev pub Compares : Table → ℕ → ℕ → Result (Bool × ℕ) Refusal → Type 0
+Compares t id other (Ok found) = (starts : List Pair) × Plain t t [] (pair id other) (Ok found.0) starts × (found.1 ≡ length (firsts starts))
+Compares t id other (Err refusal) = (starts : List Pair) × Plain t t [] (pair id other) (Err refusal) starts
 
 -- what a command writes of a table
 abbrev pub Writes : Command → Table → List ℕ → Type 0
 Writes Copy t written = written ≡ canon t
 Writes Types t written = written ≡ listing t
 Writes (Size id) t written = (n : ℕ) × HasSize t.records id (Ok n) × (written ≡ size_line n)
+Writes (Compat id other) t written = (b : Bool) × (n : ℕ) × Compares t id other (Ok (b, n)) × (written ≡ comparison_lines b n)
 
 -- why a command refuses a table
 abbrev pub Declines : Command → Table → Refusal → Type 0
 Declines Copy t refusal = ⊥
 Declines Types t refusal = ⊥
 Declines (Size id) t refusal = HasSize t.records id (Err refusal)
+Declines (Compat id other) t refusal = Compares t id other (Err refusal)
 
 -- the bytes stand for a table, and the command writes this of it
 abbrev pub IsAnswer : Line → List ℕ → List ℕ → Type 0

@@ -7,7 +7,7 @@ use Rattle.btf_model.specs.Word.{Order, Little, Big}
 use Rattle.btf_plain.specs.Endianness.{order_of}
 use Rattle.btftool.specs.declared.line.Line.{Line}
 use Rattle.btftool.specs.declared.line.Command.{Command}
-use Rattle.btftool.specs.declared.line.Command.TheVariants.{Copy, Types, Size}
+use Rattle.btftool.specs.declared.line.Command.TheVariants.{Copy, Types, Size, Compat}
 
 -- the texts of the words
 abbrev pub texts : List (String Global) → List (List ℕ)
@@ -27,6 +27,7 @@ abbrev pub AsksCommand : List (List ℕ) → Command → Type 0
 AsksCommand words Copy = words ≡ codes "copy" ∷ []
 AsksCommand words Types = words ≡ codes "types" ∷ []
 AsksCommand words (Size id) = (word : List ℕ) × (words ≡ codes "size" ∷ word ∷ []) × IsId word id
+AsksCommand words (Compat id other) = (word second : List ℕ) × (words ≡ codes "compat" ∷ word ∷ second ∷ []) × IsId word id × IsId second other
 
 -- The words ask for this: an order, and then a command
 abbrev pub Asks : List (String Global) → Line → Type 0

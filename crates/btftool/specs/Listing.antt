@@ -1,6 +1,6 @@
--- The listing of a table's types, and a size as it is printed.
+-- The listing of a table's types, and a size and a comparison as they are printed.
 -- Source: this project's program.
-use Rattle.std.specs.Prelude.{ℕ, ◌+◌, List, [], ◌∷◌, ◌++◌, drop, codes, Option, Some, None, Result, Ok, Err}
+use Rattle.std.specs.Prelude.{ℕ, ◌+◌, Bool, true, false, List, [], ◌∷◌, ◌++◌, drop, codes, Option, Some, None, Result, Ok, Err}
 use Rattle.std.specs.Fmt.{decimal}
 use Rattle.btf_model.specs.Record.{Kind, Record, kind_of}
 use Rattle.btf_model.specs.Refusal.{Refusal}
@@ -35,3 +35,12 @@ listing t = lines_from t.strings 1 (drop 1 t.records)
 -- a size as it is printed
 abbrev pub size_line : ℕ → List ℕ
 size_line n = decimal n ++ codes "\n"
+
+-- the answer of a comparison as it is printed
+abbrev pub answer_line : Bool → List ℕ
+answer_line true = codes "true\n"
+answer_line false = codes "false\n"
+
+-- the answer, and how many pairs were started for it
+abbrev pub comparison_lines : Bool → ℕ → List ℕ
+comparison_lines answer starts = answer_line answer ++ codes "starts " ++ decimal starts ++ codes "\n"

@@ -16,6 +16,8 @@ pub enum Command {
     Types,
     /// The size of the type of an id.
     Size(u32),
+    /// Whether the types of two ids are compatible.
+    Compat(u32, u32),
 }
 
 /// A command line that can be read.
@@ -67,6 +69,13 @@ impl Command {
             },
             [word, id] => match word.as_str() {
                 "size" => Some(Command::Size(read_id(id.as_str())?)),
+                _ => None,
+            },
+            [word, id, other] => match word.as_str() {
+                "compat" => {
+                    let id = read_id(id.as_str())?;
+                    Some(Command::Compat(id, read_id(other.as_str())?))
+                }
                 _ => None,
             },
             _ => None,

@@ -81,3 +81,12 @@ pub fn size_line(alloc: Global, size: usize) -> Result<Vec<u8>, BtfError>
     let text = format!(in alloc; "{size}\n")?;
     Ok(text.into_bytes())
 }
+
+/// The lines that tell the answer of a comparison, and how many pairs it started.
+pub fn comparison_lines(alloc: Global, answer: bool, starts: usize) -> Result<Vec<u8>, BtfError>
+    ensures { Gives (λ v. v.items) result (Ok (spec.comparison_lines answer starts)) }
+{
+    let answer = if answer { "true" } else { "false" };
+    let text = format!(in alloc; "{answer}\nstarts {starts}\n")?;
+    Ok(text.into_bytes())
+}

@@ -1,6 +1,7 @@
 //! `btftool`: reads a BTF table from standard input, and writes what a command makes of it.
 #![tactic(auto)]
 
+mod comparison;
 mod fault;
 mod line;
 mod listing;

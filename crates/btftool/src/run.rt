@@ -8,9 +8,10 @@ ghost use Rattle.btftool.specs.declared.line.Line.{Line};
 ghost use Rattle.btftool.specs.Line.{Asks};
 ghost use Rattle.btftool.specs.Answer.{IsAnswer, IsDeclined, IsWritten};
 
+use crate::comparison::compared;
 use crate::fault::Fault;
 use crate::line::{Command, Line};
-use crate::listing::{listing, size_line};
+use crate::listing::{comparison_lines, listing, size_line};
 use btf_plain::{BtfError, Endianness};
 use btf_types::Btf;
 use std::alloc::Global;
@@ -42,6 +43,10 @@ fn answer(alloc: Global, line: Line, blob: &[u8]) -> Result<Vec<u8>, BtfError>
         Command::Copy => table.to_bytes(),
         Command::Types => listing(alloc, &table),
         Command::Size(id) => size_line(alloc, table.type_size(id)?),
+        Command::Compat(id, other) => {
+            let (answer, starts) = compared(alloc, &table, id, other)?;
+            comparison_lines(alloc, answer, starts)
+        }
     }
 }
 

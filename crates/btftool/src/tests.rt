@@ -183,6 +183,24 @@ fn sizes_are_told(rt: HostRuntime) -> Result<(), Fail> {
 }
 
 #[test]
+fn comparisons_are_told(rt: HostRuntime) -> Result<(), Fail> {
+    let alloc = rt.alloc();
+    let blob = blob_of(alloc, RECORDS, STRINGS)?;
+    let rows = [
+        ("little compat 3 4", "0 false\nstarts 1\n"),
+        ("little compat 5 5", "0 true\nstarts 2\n"),
+        ("little compat 7 7", "1 unexpected BTF type id `7`\n"),
+        ("little compat 13 1", "1 unknown BTF type id `13`\n"),
+        ("little compat 1 14", "1 unknown BTF type id `14`\n"),
+    ];
+    for (line, told) in rows {
+        let answer = outcome(alloc, line, &blob)?;
+        assert!(rt; answer.as_str() == told, "{line}");
+    }
+    Ok(())
+}
+
+#[test]
 fn refused_input_has_the_fault_s_text(rt: HostRuntime) -> Result<(), Fail> {
     let alloc = rt.alloc();
     let mut cut_types = EMPTY;
@@ -221,7 +239,10 @@ fn unreadable_lines_have_the_usage(rt: HostRuntime) -> Result<(), Fail> {
         "little size 4294967296",
         "little size 1x",
         "little size ",
-        "little compat 1 1",
+        "little compat 1",
+        "little compat 1 2 3",
+        "little compat 1 +1",
+        "little compat 1 4294967296",
         "little rewrite",
     ];
     for line in lines {
