@@ -1,5 +1,5 @@
 -- A comparison that answers true or false is not refused.
-use Rattle.std.proofs.Common.{◌≡◌, ℕ, Bool, List, [], ◌++◌, length, map, Ok, Err, refl, sym, ap, subst, ◌∙◌, ⊎_elim, inl, inr, Result, Option, None, Some, Vec, Global}
+use Rattle.std.proofs.Common.{◌≡◌, ℕ, Bool, List, [], Ok, Err, sym, ap, subst, ◌∙◌, ⊎_elim, inr, Result, Option, None, Some, Vec, Global}
 use Rattle.std.specs.Result.{is_ok}
 use Rattle.std.specs.Prelude.{IfErr, IfSome, IsErrAnd}
 use Rattle.std.proofs.lemmas.Bool.{false≢true}
