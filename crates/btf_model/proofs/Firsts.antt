@@ -1,14 +1,14 @@
 -- The pairs of a list, each at its first place.
-use Rattle.std.proofs.Common.{◌≡◌, ℕ, List, [], ◌∷◌, ◌++◌, length, refl, sym, ap, subst, ◌∙◌, inl, inr, Bool, true, false, arith, append_assoc}
-use Rattle.std.specs.Prelude.{◌⊎◌, ◌==◌, ◌&&◌, not}
+use Rattle.std.proofs.Common.{◌≡◌, List, [], ◌∷◌, ◌++◌, refl, sym, ap, subst, ◌∙◌, inl, inr, Bool, true, false, append_assoc}
+use Rattle.std.specs.Prelude.{◌==◌, ◌&&◌, not}
 use Rattle.std.specs.List.{filter}
-use Rattle.std.proofs.lemmas.Bool.{eqb-true, eq-eqb, ne_eqb, cases_eq, false≢true}
-use Rattle.std.proofs.lemmas.List.{append-nil, length-append}
+use Rattle.std.proofs.lemmas.Bool.{eqb-true, eq-eqb, false≢true}
+use Rattle.std.proofs.lemmas.List.{append-nil}
 use Rattle.std.proofs.lemmas.List.Elements.{filter-append}
 use Rattle.btf_model.specs.Fields.{Pair}
 use Rattle.btf_model.specs.Compat.{pair_eq, firsts}
 use Rattle.btf_model.proofs.Comparisons.{same_pair}
-use Rattle.btf_model.proofs.Known.{Among, among_or_not, among_from_contains}
+use Rattle.btf_model.proofs.Known.{Among, among_or_not}
 
 -- ---- the test for one pair
 

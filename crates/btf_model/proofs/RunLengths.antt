@@ -1,13 +1,12 @@
 -- How long a run of the comparison can be: each step leaves less to do.
-use Rattle.std.proofs.Common.{◌≡◌, ℕ, zero, suc, ◌+◌, ◌*◌, ◌-◌, ◌<◌, ◌≤◌, List, [], ◌∷◌, ◌++◌, length, refl, sym, ap, subst, ◌∙◌, inl, inr, Bool, true, false, Some, None, Result, Ok, Err, arith, slice_get}
-use Rattle.std.specs.Prelude.{◌⊎◌, ◌==◌, ◌&&◌, if◌then◌else◌}
-use Rattle.std.proofs.lemmas.Option.{same_Some, none-some, slice_get_within}
+use Rattle.std.proofs.Common.{◌≡◌, ℕ, zero, suc, ◌+◌, ◌*◌, ◌-◌, ◌<◌, ◌≤◌, List, [], ◌∷◌, length, ap, inl, inr, Bool, true, false, Some, Ok, arith, slice_get}
+use Rattle.std.specs.Prelude.{◌==◌, if◌then◌else◌}
+use Rattle.std.proofs.lemmas.Option.{same_Some, slice_get_within}
 use Rattle.btf_model.specs.Record.{Record, Kind, Unknown, Int, Ptr, Array, Struct, Union, Enum, Fwd, Typedef, Volatile, Const, Restrict, Func, FuncProto, Var, DataSec, Float, DeclTag, TypeTag, Enum64}
 use Rattle.btf_model.specs.Table.{Table}
-use Rattle.btf_model.specs.Walk.{walk_limit}
 use Rattle.btf_model.specs.Fields.{Pair}
-use Rattle.btf_model.specs.Compat.{Position, Told, On, Owes, Finds, parameter_types, pairs, prototypes, position_by, PositionFound}
-use Rattle.btf_model.proofs.Runs.{Frame, new_frame, Next, GoesOn, Waits, IsNext}
+use Rattle.btf_model.specs.Compat.{Position, Told, On, Owes, Finds, parameter_types, pairs, position_by, PositionFound}
+use Rattle.btf_model.proofs.Runs.{Frame, new_frame, GoesOn, Waits, IsNext}
 
 -- ---- how many parameters a prototype has
 

@@ -1,19 +1,19 @@
 -- What holds at each step of a run of the comparison: of the pairs that are settled, of those that are open, and of what is listed.
-use Rattle.std.proofs.Common.{◌≡◌, ◌≢◌, ℕ, zero, suc, ◌+◌, ◌<◌, List, [], ◌∷◌, ◌++◌, length, refl, sym, ap, subst, ◌∙◌, inl, inr, Bool, true, false, Some, None, Result, Ok, Err, arith, append_assoc, slice_get, Contains}
+use Rattle.std.proofs.Common.{◌≡◌, ◌≢◌, zero, suc, ◌+◌, List, [], ◌∷◌, ◌++◌, length, refl, sym, ap, subst, ◌∙◌, inl, inr, Bool, true, false, Result, Ok, arith, append_assoc, Contains}
 use Rattle.std.specs.Prelude.{◌⊎◌, map, not, cond}
 use Rattle.std.proofs.lemmas.List.{append-nil, length-append}
 use Rattle.std.proofs.lemmas.List.Elements.{Contains-append_left, Contains-push}
-use Rattle.btf_model.specs.Record.{Record, Kind, compared_kind}
-use Rattle.btf_model.specs.Refusal.{Refusal, UnknownBtfType, MaximumTypeDepthReached}
+use Rattle.btf_model.specs.Record.{Kind, compared_kind}
+use Rattle.btf_model.specs.Refusal.{Refusal}
 use Rattle.btf_model.specs.Table.{Table}
 use Rattle.btf_model.specs.Walk.{walk_limit}
 use Rattle.btf_model.specs.Fields.{Pair, HaveKinds}
 use Rattle.std.specs.List.{filter}
-use Rattle.btf_model.specs.Compat.{AreKnown, Plain, Walked, pair_eq, firsts}
-use Rattle.btf_model.proofs.Known.{Among, among_from_contains, contains_from_among, among_or_not, HasIds, Covers, known_pairs, known_pairs_cover, Without, without, still_covers}
+use Rattle.btf_model.specs.Compat.{AreKnown, Plain, pair_eq, firsts}
+use Rattle.btf_model.proofs.Known.{Among, among_from_contains, HasIds, Covers, known_pairs, known_pairs_cover, Without, without}
 use Rattle.btf_model.proofs.PlainAnswers.{true_or_not}
 use Rattle.btf_model.proofs.Firsts.{firsts_new, firsts_of_known, firsts_begin}
-use Rattle.btf_model.proofs.Runs.{Frame, new_frame, Next, Ends, GoesOn, Waits, IsNext, RestOf, WalkOf, walked_from_rest, ends_rest, goes_on_rest, fails_rest, pays_rest, rest_answers}
+use Rattle.btf_model.proofs.Runs.{Frame, new_frame, Ends, GoesOn, Waits, IsNext, RestOf, WalkOf, walked_from_rest, ends_rest, goes_on_rest, fails_rest, pays_rest, rest_answers}
 
 -- ---- lists of pairs
 

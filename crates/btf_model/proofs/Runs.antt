@@ -1,22 +1,19 @@
 -- A run of the comparison of types that remembers the pairs which came out true: the pairs that are open, each with the position
 -- of its walk, and what the run has to say of the comparison that remembers nothing.
-use Rattle.std.proofs.Common.{◌≡◌, ◌≢◌, ℕ, zero, suc, ◌+◌, ◌≤◌, List, [], ◌∷◌, ◌++◌, length, drop, refl, sym, ap, subst, ◌∙◌, inl, inr, Bool, true, false, Some, None, Result, Ok, Err, arith, append_assoc, slice_get, Contains}
-use Rattle.std.specs.Prelude.{◌⊎◌, map}
+use Rattle.std.proofs.Common.{◌≡◌, ◌≢◌, ℕ, zero, suc, ◌≤◌, List, [], ◌∷◌, ◌++◌, length, drop, refl, sym, ap, subst, ◌∙◌, inl, inr, Bool, true, Some, Result, Ok, Err, append_assoc, slice_get}
+use Rattle.std.specs.Prelude.{◌⊎◌}
 use Rattle.std.specs.Result.{result_ok}
 use Rattle.std.proofs.Math.Seq.{drop-cons}
-use Rattle.std.proofs.lemmas.List.{append-nil, length-append, drop_all}
+use Rattle.std.proofs.lemmas.List.{drop_all}
 use Rattle.std.proofs.lemmas.Option.{none-some, slice_get_within, get_or_from_slice_get}
-use Rattle.btf_model.specs.Record.{Record, Kind, compared_kind}
-use Rattle.btf_model.specs.Refusal.{Refusal, UnknownBtfType, MaximumTypeDepthReached}
+use Rattle.btf_model.specs.Refusal.{Refusal, MaximumTypeDepthReached}
 use Rattle.btf_model.specs.Table.{Table}
 use Rattle.btf_model.specs.Walk.{walk_limit}
 use Rattle.btf_model.specs.Fields.{Pair, HaveKinds}
-use Rattle.btf_model.specs.Compat.{Position, Told, On, Owes, ResolvesPair, Finds, AreKnown, Plain, Walked, Paid, firsts}
+use Rattle.btf_model.specs.Compat.{Position, Told, On, Owes, ResolvesPair, Finds, Plain, Walked, Paid}
 use Rattle.btf_model.proofs.Comparisons.{one_position, position_answer}
-use Rattle.btf_model.proofs.Known.{Among, among_from_contains, contains_from_among, among_or_not, HasIds, Covers, known_pairs, known_pairs_cover, Without, without, still_covers}
 use Rattle.btf_model.proofs.PlainAnswers.{true_or_not, walked_answers, paid_answers}
 use Rattle.btf_model.proofs.PlainSteps.{Are}
-use Rattle.btf_model.proofs.Firsts.{firsts_new, firsts_of_known, firsts_begin}
 
 -- An open pair: where its walk is, how many positions are left of it, and the parameter that comes next.
 pub record Frame : Type 0 where

@@ -1,7 +1,7 @@
 -- The loop of the comparison of types, as a run of the definitions.
-use Rattle.std.proofs.Common.{◌≡◌, ◌≢◌, ℕ, zero, suc, ◌+◌, ◌-◌, ◌<◌, ◌≤◌, List, [], ◌∷◌, ◌++◌, length, map, reverse, refl, sym, ap, subst, ◌∙◌, inl, inr, Bool, true, false, Some, None, Option, Ok, Err, Result, Contains, BuildHasherDefault, FoldHasher, arith, append_assoc}
+use Rattle.std.proofs.Common.{◌≡◌, ℕ, ◌+◌, ◌-◌, ◌<◌, ◌≤◌, List, [], ◌∷◌, ◌++◌, length, map, reverse, refl, sym, ap, subst, ◌∙◌, inl, inr, Bool, true, false, Some, None, Ok, Err, Result, Contains, BuildHasherDefault, FoldHasher, arith, append_assoc}
 use Rattle.std.specs.List.{list_any}
-use Rattle.std.specs.Prelude.{◌⊎◌, ◌==◌, ◌&&◌, cond, slice_get, IsErrAnd}
+use Rattle.std.specs.Prelude.{◌⊎◌, ◌==◌, ◌&&◌, cond, IsErrAnd}
 use Rattle.std.specs.HashSet as hash
 use Rattle.std.specs.HashSet.{HashSet}
 use Rattle.std.specs.Result.{result_ok}
@@ -9,11 +9,10 @@ use Rattle.std.proofs.lemmas.Bool.{false≢true}
 use Rattle.std.proofs.lemmas.List.{reverse-append, map-append, length-append, length-map}
 use Rattle.std.proofs.lemmas.Option.{none-some, same_Some}
 use Rattle.std.proofs.lemmas.Result.{err_from_is_err_and}
-use Rattle.btf_model.specs.Record.{Record, Kind, compared_kind}
 use Rattle.btf_model.specs.Refusal.{Refusal, UnknownBtfType, MaximumTypeDepthReached}
 use Rattle.btf_model.specs.Table.{Table}
 use Rattle.btf_model.specs.Fields.{Pair, HaveKinds}
-use Rattle.btf_model.specs.Compat.{Plain, AreKnown, pair_eq, firsts}
+use Rattle.btf_model.specs.Compat.{Plain, pair_eq, firsts}
 use Rattle.btf_model.proofs.Firsts.{eq_itself, eq_same, eq_other}
 use Rattle.btf_model.proofs.Known.{Among, among_from_contains, contains_from_among, known_pairs}
 use Rattle.btf_model.proofs.PlainAnswers.{plain_answers}
@@ -21,7 +20,7 @@ use Rattle.btf_model.proofs.Runs as runs
 use Rattle.btf_model.proofs.Runs.{new_frame, IsNext}
 use Rattle.btf_model.proofs.RunStates as states
 use Rattle.btf_model.proofs.RunStates.{Begins, open_pairs, Outcome, BeginsWith, run_begun, run_on, run_paid, run_starts, run_fails, run_refused, run_differs, run_ends, run_begins, run_settles}
-use Rattle.btf_model.proofs.RunLengths.{widest, left_to_do, less_on, less_paid, less_started, less_settled}
+use Rattle.btf_model.proofs.RunLengths.{widest, left_to_do, less_started}
 use Rattle.btf_plain.specs.Error.{Answers, Tells, refusal_of}
 use Rattle.btf_plain.specs.declared.error.BtfError.{BtfError}
 use Rattle.btf_plain.specs.declared.error.BtfError.TheVariants as errors

@@ -1,6 +1,5 @@
 -- Positions of the comparison of types.
-use Rattle.std.proofs.Common.{◌≡◌, ◌≢◌, ℕ, zero, suc, ◌≤◌, arith, nat_lt, slice_get, slice_index_or, None, List, [], ◌∷◌, length, refl, sym, ap, subst, ◌∙◌, inl, inr, Bool, true, false, Some, Ok, Err, Result}
-use Rattle.std.specs.Prelude.{map, ◌==◌, if◌then◌else◌}
+use Rattle.std.proofs.Common.{◌≡◌, ℕ, zero, suc, ◌≤◌, arith, nat_lt, slice_get, slice_index_or, None, List, [], ◌∷◌, length, refl, sym, ap, ◌∙◌, inl, inr, Bool, true, false, Some, Ok, Err, Result}
 use Rattle.std.specs.List.{flat_map}
 use Rattle.std.specs.Option.{option_map}
 use Rattle.std.proofs.lemmas.Bool.{eq-eqb, ne_eqb, ltb-true, ltb-false}
@@ -9,11 +8,11 @@ use Rattle.std.proofs.lemmas.List.{length-map}
 use Rattle.btf_model.specs.Record.{Record, Kind}
 use Rattle.btf_model.specs.Refusal.{Refusal}
 use Rattle.btf_model.specs.Table.{Table}
-use Rattle.btf_model.specs.Fields.{Pair, IsAt}
+use Rattle.btf_model.specs.Fields.{Pair}
 use Rattle.btf_model.specs.Compat as model
 use Rattle.btf_model.specs.Compat.{Told, On, Owes, Finds, PositionFound, parameter_types, pairs, prototypes, ResolvesPair}
 use Rattle.btf_model.proofs.Comparisons.{same_pair}
-use Rattle.btf_plain.specs.Error.{Tells, refusal_of}
+use Rattle.btf_plain.specs.Error.{Tells}
 use Rattle.btf_plain.specs.declared.error.BtfError.{BtfError}
 use Rattle.btf_records.specs.Items.{param_words}
 use Rattle.btf_records.specs.declared.records.items.BtfParam.{BtfParam}

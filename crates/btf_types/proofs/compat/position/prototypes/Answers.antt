@@ -1,6 +1,5 @@
-use Rattle.std.proofs.Common.{◌≡◌, ◌∙◌, sym, ap, subst}
-use Rattle.btf_model.specs.Record.{Record}
-use Rattle.btf_model.specs.Compat.{Told, prototypes}
+use Rattle.std.proofs.Common.{◌∙◌, sym, ap}
+use Rattle.btf_model.specs.Compat.{prototypes}
 use Rattle.btf_records.specs.BtfType.{record_of}
 use Rattle.btf_types.proofs.Positions.{as_many_parameters, other_parameters}
 use Rattle.btf_types.proofs.compat.position.prototypes.Goals as goal

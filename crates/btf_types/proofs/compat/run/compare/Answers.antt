@@ -1,7 +1,5 @@
-use Rattle.std.proofs.Common.{◌≡◌, ℕ, List, ◌∷◌, Option, Some, Bool, Result, Ok, Err, ◌∙◌, sym, ap, subst, refl, length, ◌-◌}
+use Rattle.std.proofs.Common.{◌≡◌, ℕ, List, ◌∷◌, Option, Some, Bool, Result, Ok, Err, ◌∙◌, sym, ap, subst, length, ◌-◌}
 use Rattle.std.proofs.lemmas.List.{append-nil}
-use Rattle.btf_model.specs.Refusal.{Refusal}
-use Rattle.btf_model.specs.Fields.{Pair}
 use Rattle.btf_model.proofs.Known.{known_pairs}
 use Rattle.btf_model.proofs.Runs as runs
 use Rattle.btf_model.proofs.Runs.{IsNext}

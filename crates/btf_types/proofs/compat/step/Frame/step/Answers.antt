@@ -1,4 +1,4 @@
-use Rattle.std.proofs.Common.{refl, sym, arith}
+use Rattle.std.proofs.Common.{refl, sym}
 use Rattle.btf_types.specs.Compared.{types_of}
 use Rattle.btf_types.specs.Pairs.{pair_of}
 use Rattle.btf_model.specs.Compat.{pairs}
