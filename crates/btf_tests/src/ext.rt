@@ -1,32 +1,15 @@
 //! The `.BTF.ext` section: its sections, one by one and as a whole, in both orders.
 
-use crate::spelled::{ORDERS, push_words};
+use crate::spelled::{ORDERS, front, push_words, spelled_decimals};
 use btf_plain::{BtfError, Endianness};
 use btf_types::{Btf, BtfExt, SecInfoIter};
 use std::alloc::Global;
 use std::test::Fail;
 
-/// The bytes of words, which stand in a text in decimal.
-fn spelled_text(alloc: Global, text: &str, order: Endianness) -> Result<Vec<u8>, Fail> {
-    let mut bytes = Vec::new(alloc);
-    for word in text.split_whitespace() {
-        push_words(&mut bytes, &[word.parse::<u32>()?], order)?;
-    }
-    Ok(bytes)
-}
-
-/// The first four bytes of a header: magic, version and flags.
-fn front(order: Endianness) -> [u8; 4] {
-    match order {
-        Endianness::Little => [0x9f, 0xeb, 1, 0],
-        Endianness::Big => [0xeb, 0x9f, 1, 0],
-    }
-}
-
 /// A section with the first four bytes of a header, and these words behind them.
 fn ext_bytes(alloc: Global, words: &str, order: Endianness) -> Result<Vec<u8>, Fail> {
     let mut bytes = Vec::from_slice(alloc, &front(order))?;
-    bytes.extend_from_slice(&spelled_text(alloc, words, order)?)?;
+    bytes.extend_from_slice(&spelled_decimals(alloc, words, order)?)?;
     Ok(bytes)
 }
 
@@ -101,7 +84,7 @@ fn sections_come_one_by_one(rt: HostRuntime) -> Result<(), Fail> {
     ];
     for order in ORDERS {
         for (words, rec_size, text) in rows {
-            let bytes = spelled_text(alloc, words, order)?;
+            let bytes = spelled_decimals(alloc, words, order)?;
             assert_eq!(rt;
                 sections_text(alloc, &bytes, rec_size, order)?.as_str(),
                 text
@@ -115,7 +98,7 @@ fn sections_come_one_by_one(rt: HostRuntime) -> Result<(), Fail> {
 fn cut_words_end_the_sections(rt: HostRuntime) -> Result<(), Fail> {
     let alloc = rt.alloc();
     for order in ORDERS {
-        let section = spelled_text(alloc, "0 1 0 0", order)?;
+        let section = spelled_decimals(alloc, "0 1 0 0", order)?;
         for n in 1usize..8 {
             let text = format!(in alloc; "invalid BTF info, offset: 0 len: 8 section_len: {n}; .")?;
             let mut bytes = vec![in alloc; 0u8; n]?;
@@ -196,7 +179,7 @@ fn the_last_section_of_a_name_counts(rt: HostRuntime) -> Result<(), Fail> {
         let section = ext.func_info().get("")?;
         assert_eq!(rt; section.num_info, 1);
         assert_eq!(rt; section.len(), 1);
-        let words = spelled_text(alloc, "3 7", Endianness::Little)?;
+        let words = spelled_decimals(alloc, "3 7", Endianness::Little)?;
         assert_eq!(rt; section.func_info_bytes()?, words);
         let none = ext.func_info().get("none")?;
         assert_eq!(rt; none.num_info, 0);
@@ -209,9 +192,9 @@ fn the_last_section_of_a_name_counts(rt: HostRuntime) -> Result<(), Fail> {
 /// A section with the full header, of which the ranges hold these words, one behind the other.
 fn full_ext(alloc: Global, ranges: [&str; 3], order: Endianness) -> Result<Vec<u8>, Fail> {
     let [func, line, core] = ranges;
-    let func = spelled_text(alloc, func, order)?;
-    let line = spelled_text(alloc, line, order)?;
-    let core = spelled_text(alloc, core, order)?;
+    let func = spelled_decimals(alloc, func, order)?;
+    let line = spelled_decimals(alloc, line, order)?;
+    let core = spelled_decimals(alloc, core, order)?;
     let (a, b, c) = (func.len(), line.len(), core.len());
     let line_off = a;
     let core_off = a.saturating_add(b);
@@ -275,8 +258,8 @@ fn wider_records_give_their_first_words(rt: HostRuntime) -> Result<(), Fail> {
         ["8 0 1 16 42", "16 0 1 24 1 2 3", ""],
         ["12 0 1 16 42 0", "20 0 1 24 1 2 3 0", ""],
     ];
-    let func_words = spelled_text(alloc, "2 42", Endianness::Little)?;
-    let line_words = spelled_text(alloc, "3 1 2 3", Endianness::Little)?;
+    let func_words = spelled_decimals(alloc, "2 42", Endianness::Little)?;
+    let line_words = spelled_decimals(alloc, "3 1 2 3", Endianness::Little)?;
     for order in ORDERS {
         for ranges in rows {
             let ext = BtfExt::parse(&full_ext(alloc, ranges, order)?, order, &table)?;
@@ -312,9 +295,9 @@ fn a_small_section_is_read_whole_or_refused(rt: HostRuntime) -> Result<(), Fail>
         assert_eq!(rt; ext.line_info_rec_size(), 16);
         assert!(rt; ext.relocations().is_empty());
         let funcs = ext.func_info().get("xdp/pass")?.func_info_bytes()?;
-        assert_eq!(rt; funcs, spelled_text(alloc, "0 7", Endianness::Little)?);
+        assert_eq!(rt; funcs, spelled_decimals(alloc, "0 7", Endianness::Little)?);
         let lines = ext.line_info().get("xdp/pass")?.line_info_bytes()?;
-        let words = spelled_text(alloc, "0 123 162 11269", Endianness::Little)?;
+        let words = spelled_decimals(alloc, "0 123 162 11269", Endianness::Little)?;
         assert_eq!(rt; lines, words);
         for (n, _) in bytes.iter().enumerate() {
             let text = match n {

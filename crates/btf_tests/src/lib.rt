@@ -19,6 +19,7 @@ mod kinds;
 mod kinds_of_records;
 #[cfg(test)]
 mod names;
+pub mod plain_comparison;
 #[cfg(test)]
 mod program_table;
 #[cfg(test)]
@@ -27,5 +28,7 @@ mod records;
 mod spelled;
 #[cfg(test)]
 mod tables;
+#[cfg(test)]
+mod types;
 #[cfg(test)]
 mod walks;

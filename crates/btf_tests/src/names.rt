@@ -1,20 +1,11 @@
 //! Texts of the string section, and names of types.
 
-use crate::spelled::push_words;
+use crate::spelled::parsed;
 use btf_plain::{BtfError, BtfKind, Endianness, Int, IntEncoding};
 use btf_records::BtfType;
-use btf_types::Btf;
+use btf_types::{Btf, BtfStr};
 use std::alloc::Global;
 use std::test::Fail;
-
-/// A table of these string bytes and no types.
-fn table_of(alloc: Global, strings: &[u8]) -> Result<Btf, Fail> {
-    let mut blob = b"\x9f\xeb\x01\x00".to_vec(alloc)?;
-    let len = u32::try_from(strings.len())?;
-    push_words(&mut blob, &[0x18, 0, 0, 0, len], Endianness::Little)?;
-    blob.extend_from_slice(strings)?;
-    Ok(Btf::parse(alloc, &blob, Endianness::Little)?)
-}
 
 /// Whether an offset is refused, with the offset.
 fn is_no_text(table: &Btf, place: u32) -> bool {
@@ -49,14 +40,18 @@ fn texts_are_read_at_their_offsets(rt: HostRuntime) -> Result<(), Fail> {
 #[test]
 fn bytes_that_are_not_utf8_are_replaced(rt: HostRuntime) -> Result<(), Fail> {
     let alloc = rt.alloc();
-    let table = table_of(alloc, b"\x00\xff\x41\x00")?;
-    assert!(rt; table.string_at(1)?.as_str() == "\u{fffd}A");
+    let table = parsed(alloc, &[], b"\x00\xff\x41\x00")?;
+    let text = table.string_at(1)?;
+    assert!(rt; text.as_str() == "\u{fffd}A");
+    assert!(rt; matches!(text, BtfStr::Owned(_)));
+    // Bytes that are UTF-8 are lent.
+    assert!(rt; matches!(table.string_at(2)?, BtfStr::Borrowed("A")));
     Ok(())
 }
 
 #[test]
 fn a_table_may_have_no_strings(rt: HostRuntime) -> Result<(), Fail> {
-    let mut table = table_of(rt.alloc(), b"")?;
+    let mut table = parsed(rt.alloc(), &[], b"")?;
     assert!(rt; is_no_text(&table, 0));
     assert!(rt; table.add_string("")? == 0);
     Ok(())

@@ -3,7 +3,7 @@
 use crate::checks::{check_kinds, has_no_type, has_size, is_written_as};
 use crate::spelled::{ORDERS, header, push_words, words};
 use btf_plain::{BtfError, BtfKind, Endianness};
-use btf_types::Btf;
+use btf_types::{Btf, types_are_compatible_traced};
 use std::alloc::Global;
 use std::process::Abort;
 use std::test::Fail;
@@ -189,5 +189,18 @@ fn types_of_program_are_found_by_name(rt: HostRuntime) -> Result<(), Fail> {
     assert!(rt; table.id_by_type_name_kind("xdp_pass", BtfKind::Func)? == 7);
     let answer = table.id_by_type_name_kind("xdp_pass", BtfKind::Var);
     assert!(rt; matches!(answer, Err(BtfError::UnknownBtfTypeName { .. })));
+    Ok(())
+}
+
+#[test]
+fn types_of_program_are_compared(rt: HostRuntime) -> Result<(), Fail> {
+    let alloc = rt.alloc();
+    let blob = program(alloc, Endianness::Little, 0x10c)?;
+    let table = Btf::parse(alloc, &blob, Endianness::Little)?;
+    let mut starts = Vec::new(alloc);
+    // A TYPEDEF and the INT that it names are of two kinds.
+    assert!(rt; !types_are_compatible_traced(&table, 3, &table, 4, &mut starts)?);
+    assert!(rt; types_are_compatible_traced(&table, 5, &table, 5, &mut starts)?);
+    assert!(rt; starts.as_slice() == [(3, 4), (5, 5), (1, 1)].as_slice());
     Ok(())
 }

@@ -1,6 +1,7 @@
 //! Words and bytes, read from text as a person writes them, and spelled in an order by the tests themselves.
 
 use btf_plain::Endianness;
+use btf_types::Btf;
 use std::alloc::{AllocError, Global};
 use std::test::Fail;
 
@@ -14,6 +15,15 @@ pub fn words(alloc: Global, text: &str) -> Result<Vec<u32>, Fail> {
         words.push(u32::from_str_radix(word, 16)?)?;
     }
     Ok(words)
+}
+
+/// The numbers of a text: decimal, with white space between them.
+pub fn decimals(alloc: Global, text: &str) -> Result<Vec<u32>, Fail> {
+    let mut numbers = Vec::new(alloc);
+    for number in text.split_whitespace() {
+        numbers.push(number.parse()?)?;
+    }
+    Ok(numbers)
 }
 
 /// The bytes of a text: hexadecimal numbers with white space between them.
@@ -58,6 +68,24 @@ pub fn spelled_text(alloc: Global, text: &str, endianness: Endianness) -> Result
     Ok(spelled(alloc, &words, endianness)?)
 }
 
+/// The bytes of a text's decimal numbers.
+pub fn spelled_decimals(
+    alloc: Global,
+    text: &str,
+    endianness: Endianness,
+) -> Result<Vec<u8>, Fail> {
+    let numbers = decimals(alloc, text)?;
+    Ok(spelled(alloc, &numbers, endianness)?)
+}
+
+/// The first four bytes of a header: magic, version and flags.
+pub fn front(endianness: Endianness) -> [u8; 4] {
+    match endianness {
+        Endianness::Little => [0x9f, 0xeb, 1, 0],
+        Endianness::Big => [0xeb, 0x9f, 1, 0],
+    }
+}
+
 /// The header of a table whose types stand first: the length of the types, and where the strings stand.
 pub fn header(
     alloc: Global,
@@ -66,15 +94,32 @@ pub fn header(
     str_len: u32,
     endianness: Endianness,
 ) -> Result<Vec<u8>, AllocError> {
-    let magic: [u8; 4] = match endianness {
-        Endianness::Little => [0x9f, 0xeb, 1, 0],
-        Endianness::Big => [0xeb, 0x9f, 1, 0],
-    };
-    let mut bytes = magic.to_vec(alloc)?;
+    let mut bytes = Vec::from_slice(alloc, &front(endianness))?;
     push_words(
         &mut bytes,
         &[0x18, 0, type_len, str_off, str_len],
         endianness,
     )?;
     Ok(bytes)
+}
+
+/// The blob of these type bytes and these string bytes behind them.
+pub fn blob(
+    alloc: Global,
+    types: &[u8],
+    strings: &[u8],
+    endianness: Endianness,
+) -> Result<Vec<u8>, Fail> {
+    let type_len = u32::try_from(types.len())?;
+    let str_len = u32::try_from(strings.len())?;
+    let mut blob = header(alloc, type_len, type_len, str_len, endianness)?;
+    blob.extend_from_slice(types)?;
+    blob.extend_from_slice(strings)?;
+    Ok(blob)
+}
+
+/// The table of these type bytes and these string bytes, which are in little-endian order.
+pub fn parsed(alloc: Global, types: &[u8], strings: &[u8]) -> Result<Btf, Fail> {
+    let blob = blob(alloc, types, strings, Endianness::Little)?;
+    Ok(Btf::parse(alloc, &blob, Endianness::Little)?)
 }

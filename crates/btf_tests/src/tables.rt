@@ -1,7 +1,7 @@
 //! Tables, parsed, built and written.
 
 use crate::checks::is_written_as;
-use crate::spelled::{bytes, header};
+use crate::spelled::{blob, bytes};
 use btf_plain::{BtfError, Endianness, Int, IntEncoding};
 use btf_records::BtfType;
 use btf_types::Btf;
@@ -87,11 +87,7 @@ fn cut_headers_are_refused(rt: HostRuntime) -> Result<(), Fail> {
 
 /// The blob of the type bytes of a text, and of no strings.
 fn blob_of(alloc: Global, text: &str) -> Result<Vec<u8>, Fail> {
-    let types = bytes(alloc, text)?;
-    let len = u32::try_from(types.len())?;
-    let mut blob = header(alloc, len, 0, 0, Endianness::Little)?;
-    blob.extend_from_slice(&types)?;
-    Ok(blob)
+    blob(alloc, &bytes(alloc, text)?, &[], Endianness::Little)
 }
 
 /// Type bytes that are no records, and the text of their fault.
