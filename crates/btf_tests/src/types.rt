@@ -376,13 +376,13 @@ fn each_type_stands_in_its_own_table(rt: HostRuntime) -> Result<(), Fail> {
     Ok(())
 }
 
-/// The number of prototypes with up to two parameters of types 1 to 4 that return a type from 0 to 4.
-const PROTOTYPES: u32 = 105;
+/// The number of prototypes with up to two parameters of types 1 to 4 that return type 0 or 1.
+const PROTOTYPES: u32 = 42;
 
 /// Adds the words of one of those prototypes.
 fn push_prototype(types: &mut Vec<u32>, number: u32) -> Result<(), AllocError> {
-    let returns = number % 5;
-    let params = number / 5 % 21;
+    let returns = number % 2;
+    let params = number / 2 % 21;
     if params == 0 {
         types.extend_from_slice(&[0, 0x0d00_0000, returns])
     } else if params < 5 {
@@ -404,8 +404,7 @@ fn table_of_prototypes(alloc: Global, number: u32) -> Result<Btf, Fail> {
     table_of(alloc, &types)
 }
 
-/// All 1,157,625 tables, which take a few seconds. Parameters of type 0, which is compatible as type 4 is, would make three times as
-/// many.
+/// All 74,088 tables. Parameters of type 0, which is compatible as type 4 is, and other types that are returned would make many more.
 #[test]
 fn small_tables_are_compared_plainly(rt: HostRuntime) -> Result<(), Fail> {
     let alloc = rt.alloc();
