@@ -24,7 +24,7 @@ kind_made n count k small few is =
     let number : kind_number (n * 2 ^ 24 + count) ≡ n = omega arith in
     ap (λ (m : ℕ). slice_get (take 20 kinds.kinds) m) number ∙ is
 
-vlen_small : (info : ℕ) → vlen info < 2 ^ 16
+pub vlen_small : (info : ℕ) → vlen info < 2 ^ 16
 vlen_small info = omega arith
 
 -- ---- features

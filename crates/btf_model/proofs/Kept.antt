@@ -20,7 +20,7 @@ use Rattle.btf_model.specs.Rule.{becomes, becomes_by, ruled_below, completed, ne
 use Rattle.btf_model.specs.Rewritten.{begun, pass_of, Rewritten}
 use Rattle.btf_model.specs.RewriteLaws.{keeps_size, FindsKept}
 use Rattle.btf_model.proofs.Blobs.{slice_get-append_left}
-use Rattle.btf_model.proofs.Granted.{kind_made}
+use Rattle.btf_model.proofs.Granted.{kind_made, vlen_small}
 use Rattle.btf_model.proofs.Lengths.{by_both}
 use Rattle.btf_model.proofs.Ruled.{new_at}
 use Rattle.btf_model.proofs.Walks.{ends_there, not_both, same_answer, same_next}
@@ -31,9 +31,6 @@ unsigned_kind : (r : Record) → kind_of r.info ≡ Some kinds.Enum → kind_of 
 unsigned_kind r kind =
     let same : kind_number (unsigned r).info ≡ kind_number r.info = omega arith in
     ap (λ (m : ℕ). slice_get kinds.kinds m) same ∙ kind
-
-vlen_small : (info : ℕ) → vlen info < 2 ^ 16
-vlen_small info = omega arith
 
 -- by what a record of this kind says of its size
 sized_as : (q : Record) (k : Kind) → kind_of q.info ≡ Some k → extent (kind_of q.info) q ≡ extent (Some k) q
