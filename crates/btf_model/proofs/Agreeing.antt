@@ -35,7 +35,7 @@ least_alike test other (suc n) alike =
     let below : least test n ≡ least other n = least_alike test other n (λ j le. alike j (omega (arith, le))) in
     ap (λ (found : ℕ). or_this test found (suc n)) below ∙ ap (λ (b : Bool). if b then least other n else suc n) (alike (least other n) (omega (arith, least_le other n)))
 
-is_least_alike : (test other : ℕ → Bool) (n : ℕ) → ((j : ℕ) → j ≤ n → test j ≡ other j) → is_least test n ≡ is_least other n
+pub is_least_alike : (test other : ℕ → Bool) (n : ℕ) → ((j : ℕ) → j ≤ n → test j ≡ other j) → is_least test n ≡ is_least other n
 is_least_alike test other n alike = ap (λ (b : Bool). b && (least test n == n)) (alike n (omega arith)) ∙ ap (λ (m : ℕ). other n && (m == n)) (least_alike test other n alike)
 
 -- ---- what agrees
@@ -45,14 +45,14 @@ agree_below p answers id agree f among =
     agree f (list_any-append (same_feature f) (asks_below p id) (asks p id) ∙ or_left (list_any (same_feature f) (asks_below p id)) (list_any (same_feature f) (asks p id)) among)
 
 -- Other answers agree on what an id itself asks for.
-abbrev AgreeAt : Pass → List Answer → ℕ → Type 0
+abbrev pub AgreeAt : Pass → List Answer → ℕ → Type 0
 AgreeAt p answers id = (f : Feature) → IsAmong f (asks p id) → grants answers f ≡ has p f
 
 agree_itself : (p : Pass) (answers : List Answer) (id : ℕ) → Agree p answers (suc id) → AgreeAt p answers id
 agree_itself p answers id agree f among =
     agree f (list_any-append (same_feature f) (asks_below p id) (asks p id) ∙ or_right (list_any (same_feature f) (asks_below p id)) (list_any (same_feature f) (asks p id)) among)
 
-agree_at : (p : Pass) (answers : List Answer) (n id : ℕ) → id < n → Agree p answers n → AgreeAt p answers id
+pub agree_at : (p : Pass) (answers : List Answer) (n id : ℕ) → id < n → Agree p answers n → AgreeAt p answers id
 agree_at p answers zero id lt agree = absurd (omega (arith, lt))
 agree_at p answers (suc n) id lt agree =
     elim (cases_order id n) as (λ c. AgreeAt p answers id) [
@@ -78,7 +78,7 @@ filler_alike true true true true z y (Some size) same_d same_z =
     elim (size == 0) as (λ (b : Bool). (not b ≡ true → y ≡ z) → (b || not y) ≡ (b || not z)) [ true ↦ λ same. refl | false ↦ λ same. ap not (same refl) ] (same_z refl refl refl)
 
 -- what an id of this kind asks for agrees
-agree_of : (p : Pass) (answers : List Answer) (id : ℕ) (k : Option Kind) (f : Feature) → AgreeAt p answers id → kind_at p.table id ≡ k → IsAmong f (asks_by p id k (record_at p.table id)) → grants answers f ≡ has p f
+pub agree_of : (p : Pass) (answers : List Answer) (id : ℕ) (k : Option Kind) (f : Feature) → AgreeAt p answers id → kind_at p.table id ≡ k → IsAmong f (asks_by p id k (record_at p.table id)) → grants answers f ≡ has p f
 agree_of p answers id k f agree kind among = agree f (subst (λ (j : Option Kind). IsAmong f (asks_by p id j (record_at p.table id))) (sym kind) among)
 
 first_among : (c : Bool) → IsAmong features.DataSec (if c then features.DataSec ∷ features.DataSecZero ∷ [] else features.DataSec ∷ [])
@@ -98,7 +98,7 @@ five true true true false e is_a is_b is_c is_d is_e = absurd (false≢true is_d
 five true true true true false is_a is_b is_c is_d is_e = absurd (false≢true is_e)
 
 -- the new name of a section has room
-abbrev has_name_room : Pass → ℕ → Bool
+abbrev pub has_name_room : Pass → ℕ → Bool
 has_name_room p id = is_none (first_fault (have_room (offset_at p id) (renaming p (name_of p id))))
 
 section_agrees : (p : Pass) (answers : List Answer) (id : ℕ) → AgreeAt p answers id → kind_at p.table id ≡ Some kinds.DataSec → grants answers features.DataSec ≡ has p features.DataSec
@@ -106,7 +106,7 @@ section_agrees p answers id agree kind =
     let r : Record = record_at p.table id in
     agree_of p answers id (Some kinds.DataSec) features.DataSec agree kind (first_among (has p features.DataSec && (r.third == 0) && has_no_entries r && has_name_room p id && is_positive (section_size p id)))
 
-filler_same : (p : Pass) (answers : List Answer) (id : ℕ) → AgreeAt p answers id → (kind_at p.table id ≡ Some kinds.DataSec → has_name_room p id ≡ true) → gets_filler (with_answers p answers) id ≡ gets_filler p id
+pub filler_same : (p : Pass) (answers : List Answer) (id : ℕ) → AgreeAt p answers id → (kind_at p.table id ≡ Some kinds.DataSec → has_name_room p id ≡ true) → gets_filler (with_answers p answers) id ≡ gets_filler p id
 filler_same p answers id agree room =
     let r : Record = record_at p.table id in
     let section : is_unsized (kind_at p.table id) r ≡ true → (kind_at p.table id ≡ Some kinds.DataSec) × ((r.third == 0) ≡ true) = unsized_section (kind_at p.table id) r in
@@ -117,7 +117,7 @@ filler_same p answers id agree room =
     (five (has p features.DataSec) (r.third == 0) (has_no_entries r) (has_name_room p id) (is_positive (section_size p id)) d (section u).1 e (room (section u).0) size)))
 
 -- an id that is not refused has room for its new name
-room_of_ruled : (p : Pass) (id : ℕ) → fault p id ≡ None → kind_at p.table id ≡ Some kinds.DataSec → has_name_room p id ≡ true
+pub room_of_ruled : (p : Pass) (id : ℕ) → fault p id ≡ None → kind_at p.table id ≡ Some kinds.DataSec → has_name_room p id ≡ true
 room_of_ruled p id ruled kind =
     let r : Record = record_at p.table id in
     let checks : first_fault (checks_by p id (Some kinds.DataSec) r) ≡ None = subst (λ (k : Option Kind). first_fault (checks_by p id k r) ≡ None) kind ruled in

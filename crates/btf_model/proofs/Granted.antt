@@ -74,7 +74,7 @@ sign_granted f g false h stays is = absurd (false≢true is)
 unsigned_flag : (info : ℕ) → kind_flag (with_flag info false) ≡ 0
 unsigned_flag info = omega arith
 
-unsigned_number : (info : ℕ) → kind_number (with_flag info false) ≡ kind_number info
+pub unsigned_number : (info : ℕ) → kind_number (with_flag info false) ≡ kind_number info
 unsigned_number info = omega arith
 
 unsigned_needs_none : {C : Type 0} (is_exempt : Bool) (f : Feature) (r : Record) → kind_of r.info ≡ Some kinds.Enum → Needs is_exempt f (unsigned r) → C
@@ -91,10 +91,10 @@ enum_granted p is_exempt f r kind is =
 
 -- ---- functions
 
-static_vlen : (info : ℕ) → vlen (with_vlen info 0) ≡ 0
+pub static_vlen : (info : ℕ) → vlen (with_vlen info 0) ≡ 0
 static_vlen info = omega arith
 
-static_number : (info : ℕ) → kind_number (with_vlen info 0) ≡ kind_number info
+pub static_number : (info : ℕ) → kind_number (with_vlen info 0) ≡ kind_number info
 static_number info = omega arith
 
 static_needs : (is_exempt : Bool) (f : Feature) (r : Record) → kind_of r.info ≡ Some kinds.Func → Needs is_exempt f (with_linkage 0 r) → IsAmong f (features.Func ∷ [])

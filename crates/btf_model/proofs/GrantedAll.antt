@@ -47,7 +47,7 @@ added_granted p free id (Some kinds.Enum64) = by_test p (makes_placeholder p id)
 added_granted p free id (Some kinds.DataSec) = by_test p (makes_filler p id) (filler (filler_offset p id) free) (λ made. filler_granted p (filler_offset p id) free (made_granted (has p features.DataSec) _ _ _ _ made))
 added_granted p free id k = tt
 
-all_of_both : (P : Record → Type 0) (rs more : List Record) → AllByRecursion P rs → AllByRecursion P more → AllByRecursion P (rs ++ more)
+pub all_of_both : (P : Record → Type 0) (rs more : List Record) → AllByRecursion P rs → AllByRecursion P more → AllByRecursion P (rs ++ more)
 all_of_both P [] more first second = second
 all_of_both P (r ∷ rs) more first second = (first.0, all_of_both P rs more first.1 second)
 
@@ -55,20 +55,20 @@ all_added_granted : (p : Pass) (id : ℕ) → AllByRecursion (AddedGranted p) (a
 all_added_granted p zero = tt
 all_added_granted p (suc id) = all_of_both (AddedGranted p) (added_below p id) _ (all_added_granted p id) (added_granted p _ id (kind_at p.table id))
 
-each_of : (P : Record → Type 0) (rs : List Record) (i : ℕ) (r : Record) → AllByRecursion P rs → slice_get rs i ≡ Some r → P r
+pub each_of : (P : Record → Type 0) (rs : List Record) (i : ℕ) (r : Record) → AllByRecursion P rs → slice_get rs i ≡ Some r → P r
 each_of P [] i r all at = absurd (omega (arith, slice_get_within [] i r at))
 each_of P (q ∷ rs) zero r all at = subst P (same_Some q r at) all.0
 each_of P (q ∷ rs) (suc i) r all at = each_of P rs i r all.1 at
 
 -- an element of two lists is of the first or of the second
-of_either : (rs more : List Record) (i : ℕ) (r : Record) → slice_get (rs ++ more) i ≡ Some r → ((i < length rs) × (slice_get rs i ≡ Some r)) ⊎ ((j : ℕ) × (slice_get more j ≡ Some r))
+pub of_either : (rs more : List Record) (i : ℕ) (r : Record) → slice_get (rs ++ more) i ≡ Some r → ((i < length rs) × (slice_get rs i ≡ Some r)) ⊎ ((j : ℕ) × (slice_get more j ≡ Some r))
 of_either [] more i r at = inr (i, at)
 of_either (q ∷ rs) more zero r at = inl (omega arith, at)
 of_either (q ∷ rs) more (suc i) r at =
     elim (of_either rs more i r at) as (λ c. ((suc i < suc (length rs)) × (slice_get rs i ≡ Some r)) ⊎ ((j : ℕ) × (slice_get more j ≡ Some r)))
     [ inl here ↦ inl (omega (arith, here.0), here.1) | inr there ↦ inr there ]
 
-has_granted : (p : Pass) (id : ℕ) (r : Record) (f : Feature) → ((low : ℕ) → low < old_count p → fault p low ≡ None)
+pub has_granted : (p : Pass) (id : ℕ) (r : Record) (f : Feature) → ((low : ℕ) → low < old_count p → fault p low ≡ None)
     → ((id < length (ruled_below p (old_count p))) × (slice_get (ruled_below p (old_count p)) id ≡ Some r)) ⊎ ((j : ℕ) × (slice_get (added_below p (old_count p)) j ≡ Some r))
     → IsAmong f (needs (record_at p.table id) r) → has p f ≡ true
 has_granted p id r f ruled (inl old) is =

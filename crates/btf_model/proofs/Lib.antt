@@ -27,6 +27,13 @@ pub mod GrantedAll
 pub mod Lengths
 pub mod Kept
 pub mod Agreeing
+pub mod Seconds
+pub mod SecondPass
+pub mod NewFacts
+pub mod Renaming
+pub mod Appending
+pub mod Passing
+pub mod FirstMade
 pub mod Firsts
 pub mod Runs
 pub mod RunStates

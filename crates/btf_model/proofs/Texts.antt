@@ -41,7 +41,7 @@ pub lossy_of_utf8 : (bytes : List ℕ) → IsUtf8 bytes → lossy bytes ≡ byte
 lossy_of_utf8 bytes is = lossy_chars-utf8_lossy bytes ∙ utf8_lossy-IsUtf8 bytes is
 
 -- what is mapped to something is something
-some_mapped : {A B : Type 0} (f : A → B) (o : Option A) (y : B) → option_map f o ≡ Some y → (x : A) × (o ≡ Some x) × (f x ≡ y)
+pub some_mapped : {A B : Type 0} (f : A → B) (o : Option A) (y : B) → option_map f o ≡ Some y → (x : A) × (o ≡ Some x) × (f x ≡ y)
 some_mapped f (Some x) y is = (x, refl, same_Some (f x) y is)
 some_mapped f None y is = absurd (none-some y is)
 
@@ -71,7 +71,7 @@ text_is : (strings : List ℕ) (offset : ℕ) (bytes : List ℕ) → bytes_at st
 text_is strings offset bytes is = ap (text_of offset) is
 
 -- an offset that is read as a text has bytes
-has_bytes : (offset : ℕ) (o : Option (List ℕ)) (text : List ℕ) → text_of offset o ≡ Ok text → (bytes : List ℕ) × (o ≡ Some bytes) × (lossy bytes ≡ text)
+pub has_bytes : (offset : ℕ) (o : Option (List ℕ)) (text : List ℕ) → text_of offset o ≡ Ok text → (bytes : List ℕ) × (o ≡ Some bytes) × (lossy bytes ≡ text)
 has_bytes offset (Some bytes) text is = (bytes, refl, same_Some (lossy bytes) text (ap result_ok is))
 has_bytes offset None text is = absurd (none-some text (ap result_ok is))
 

@@ -1,5 +1,5 @@
 -- The laws of the rewrite. Each is the contract of a public function of this crate.
-use Rattle.std.specs.Prelude.{◌≡◌, ◌≢◌, ℕ, suc, ◌<◌, Bool, true, false, List, [], ◌∷◌, length, map, slice_get, Option, Some, Ok}
+use Rattle.std.specs.Prelude.{◌≡◌, ◌≢◌, ℕ, suc, ◌<◌, Bool, true, false, List, [], ◌∷◌, length, map, slice_get, Option, None, Some, Ok}
 use Rattle.std.specs.List.{list_any, filter}
 use Rattle.btf_model.specs.Record as kinds
 use Rattle.btf_model.specs.Record.{Kind, Record, kind_of}
@@ -95,3 +95,12 @@ pub record OtherAnswersChangeNothing : Type 0 where
   pub below : (p : Pass) (answers : List Answer) (id : ℕ) → Agree p answers id → AreRuled p id → IsSameBelow p answers id
   pub asked : (p : Pass) (answers : List Answer) (id : ℕ) → Agree p answers (suc id) → AreRuled p id → asks (with_answers p answers) id ≡ asks p id
   pub refused : (p : Pass) (answers : List Answer) (id : ℕ) → Agree p answers (suc id) → AreRuled p id → fault (with_answers p answers) id ≡ fault p id
+
+-- Where a rewrite without symbols of the kernel succeeds, of a table that has strings, and leaves no DATASEC of size 0, a second rewrite
+-- changes nothing, under a kernel that grants again what it granted.
+abbrev pub SecondRewriteChangesNothing : Type 0
+SecondRewriteChangesNothing =
+    (old new : Table) (layout : Layout) (answers again : List Answer) → 0 < length old.strings → Rewritten old None layout answers new
+    → ((id : ℕ) → kind_at new id ≡ Some kinds.DataSec → (record_at new id).third ≢ 0)
+    → ((f : Feature) → IsAmong f (asks_below (pass_of new None layout again) (length new.records)) → grants answers f ≡ true → grants again f ≡ true)
+    → Rewritten new None layout again new

@@ -3,7 +3,7 @@
 //! The definitions lie in `specs/`. Each law is the contract of a function here that does nothing.
 #![tactic(auto)]
 
-ghost use Rattle.btf_model.specs.RewriteLaws.{AskedOnlyIfNeeded, GrantedFeaturesSuffice, Enum64KeepsItsValues, RecordLengthsStay, SizesStay, ResolutionsStay, OtherAnswersChangeNothing};
+ghost use Rattle.btf_model.specs.RewriteLaws.{AskedOnlyIfNeeded, GrantedFeaturesSuffice, Enum64KeepsItsValues, RecordLengthsStay, SizesStay, ResolutionsStay, OtherAnswersChangeNothing, SecondRewriteChangesNothing};
 ghost use Rattle.btf_model.specs.Laws.{NoSpellingBeginsAnother, BlobIsDetermined, WrittenParsesBack, ParsedWritesBack, AddedStringReadsBack, NameFindsOne, AddedTypeIsFound, WalksAreDetermined, ResolvingTwiceIsOnce, SectionsAreDetermined, ComparisonsAreDetermined, ComparisonsHaveAnswers, ComparisonsAreSymmetric};
 
 /// No record's spelling is a proper beginning of another's, and bytes spell one record: so a row of
@@ -113,4 +113,10 @@ pub fn resolutions_stay()
 /// ask for, and on no others.
 pub fn other_answers_change_nothing()
     ensures { OtherAnswersChangeNothing }
+{}
+
+/// Where a rewrite without symbols of the kernel succeeds, of a table that has strings, and leaves no DATASEC of size 0, a
+/// second rewrite changes nothing, under a kernel that grants again what it granted.
+pub fn second_rewrite_changes_nothing()
+    ensures { SecondRewriteChangesNothing }
 {}
