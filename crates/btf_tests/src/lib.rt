@@ -12,11 +12,15 @@ mod errors;
 #[cfg(test)]
 mod ext;
 #[cfg(test)]
+mod features;
+#[cfg(test)]
 mod fields;
 #[cfg(test)]
 mod kinds;
 #[cfg(test)]
 mod kinds_of_records;
+#[cfg(test)]
+mod ksyms;
 #[cfg(test)]
 mod names;
 pub mod plain_comparison;

@@ -1,3 +1,9 @@
+pub mod Answered
+pub mod Put
+pub mod KsymsSteps
+pub mod KsymsItems
+pub mod Checks
+pub mod KsymsEntries
 pub mod KnownKinds
 pub mod FieldSteps
 pub mod Sections

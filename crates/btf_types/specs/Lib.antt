@@ -1,4 +1,8 @@
+pub mod Changes
+pub mod Checked
+pub mod KsymsStep
 pub mod Btf
+pub mod Features
 pub mod Pairs
 pub mod Fields
 pub mod Compared
@@ -17,6 +21,8 @@ pub use Rattle.btf_model.specs.Spelling
 pub use Rattle.btf_model.specs.Table
 pub use Rattle.btf_model.specs.Blob
 pub use Rattle.btf_model.specs.Ext
+pub use Rattle.btf_model.specs.Feature
+pub use Rattle.btf_model.specs.Ksyms
 pub use Rattle.btf_plain.specs.Error
 pub use Rattle.btf_plain.specs.Endianness
 pub use Rattle.btf_records.specs.BtfType

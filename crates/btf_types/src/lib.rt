@@ -3,11 +3,14 @@
 
 mod compat;
 mod ext;
+mod features;
 mod info;
+mod sanitize;
 mod table;
 mod words;
 
 pub use compat::{fields_are_compatible, types_are_compatible, types_are_compatible_traced};
 pub use ext::{BtfExt, SecInfo, SecInfoIter};
+pub use features::{BtfFeature, BtfFeatureResolver, FeatureAnswer};
 pub use info::{FuncInfo, FuncSecInfo, LineInfo, LineSecInfo, bpf_func_info, bpf_line_info};
 pub use table::{Btf, BtfStr};

@@ -1,15 +1,16 @@
 //! A table of types and strings.
 
+mod changes;
 mod header;
 mod text;
 mod types;
 mod walk;
 
-ghost use Rattle.std.specs.Prelude.{◌≡◌, ◌≤◌, ◌↔◌, [], ◌∷◌, map, IsTrue, IfOk, OnOk, OnErr, MatchResult, Ok, Err, Some, slice_get, length};
+ghost use Rattle.std.specs.Prelude.{◌≡◌, List, ◌≤◌, ◌↔◌, [], ◌∷◌, map, IsTrue, IfOk, OnOk, OnErr, MatchResult, Ok, Err, Some, slice_get, length, ◌<◌, ◌^◌};
 ghost use Rattle.std.specs.Slice.Iter.{iter_rest};
-ghost use Rattle.btf_model.specs.Record.{unknown};
+ghost use Rattle.btf_model.specs.Record.{Record, unknown};
 ghost use Rattle.btf_model.specs.Refusal.{Refusal};
-ghost use Rattle.btf_model.specs.Table.{Table, empty_table, strip, with_string, with_type, string_place, type_place};
+ghost use Rattle.btf_model.specs.Table.{Table, empty_table, strip, type_bytes, with_string, with_type, string_place, type_place};
 ghost use Rattle.btf_model.specs.Fields.{HaveKinds};
 ghost use Rattle.btf_model.specs.Blob.{IsTable, IsRefusal, Parses, canon};
 ghost use Rattle.btf_model.specs.Text as model;
@@ -25,6 +26,7 @@ ghost use Rattle.std.specs.Option.{option_map};
 ghost use Rattle.std.specs.Result.{result_ok};
 ghost use Rattle.std.specs.Str.{IsUtf8};
 
+pub(crate) use crate::table::changes::Changes;
 use crate::table::header::{HEADER_LEN, Header, section};
 pub use crate::table::text::BtfStr;
 use crate::table::text::{find_named, text_at};
@@ -38,7 +40,7 @@ use std::marker::Model;
 use std::slice::Iter;
 
 /// The length that the strings, or the records behind id 0, have at most in bytes.
-const SECTION_LIMIT: usize = 4294967295;
+pub(crate) const SECTION_LIMIT: usize = 4294967295;
 
 /// A table of types: the byte order, the header's magic, version and flags, the strings, and the types by id.
 ///
@@ -288,6 +290,32 @@ impl Btf {
         ensures { HaveKinds self.now }
     {
         *self.strings.allocator()
+    }
+
+    /// The types by id.
+    pub(crate) fn as_slice(&self) -> &[BtfType]
+        ensures records { map record_of result.now ≡ self.now.records }
+        ensures fallbacks { map fallback_of result.now ≡ self.now.fallbacks }
+        ensures ids { length result.now < 2 ^ 32 }
+        ensures first { (rs : List Record) × (self.now.records ≡ unknown ∷ rs) }
+    {
+        &self.types
+    }
+
+    /// The length of the strings in bytes.
+    pub(crate) fn string_len(&self) -> usize
+        ensures len { result ≡ length self.now.strings }
+        ensures limit { result ≤ SECTION_LIMIT }
+    {
+        self.strings.len()
+    }
+
+    /// The length of the records from id 1 on, in bytes.
+    pub(crate) fn type_len(&self) -> usize
+        ensures len { result ≡ length (type_bytes self.now) }
+        ensures limit { result ≤ SECTION_LIMIT }
+    {
+        self.type_len as usize
     }
 
     /// The byte order in which the table is written.

@@ -1,0 +1,25 @@
+use Rattle.std.proofs.Common.{◌≡◌, List, ℕ, length, ap, subst, sym, ◌∙◌, ◌++◌, arith}
+use Rattle.std.specs.Vec.{with_items}
+use Rattle.std.proofs.lemmas.List.{with_items_is}
+use Rattle.btf_records.specs.declared.btf_type.BtfType.{BtfType}
+use Rattle.btf_types.specs.Changes.{AreOf, changed, put_all}
+use Rattle.btf_types.specs.Btf.{table_of}
+use Rattle.btf_types.proofs.Put.{view_changed, kept_changed}
+use Rattle.btf_types.proofs.table.Btf.apply.Goals as goal
+
+of : (c : goal.After-drop-changes-4) → AreOf (table_of c.self.inside) c.args.changes
+of c = subst (λ t. AreOf t c.args.changes) (sym c.self.view_is) c.requires
+
+strings : (c : goal.After-drop-changes-4) → c.extend_from_slice.new.self.items ≡ c.self.inside.strings.items ++ c.args.changes.new_strings.items
+strings c = c.in_ok-extend_from_slice.ensures.items ∙ ap (λ (xs : List ℕ). xs ++ c.deref.result.now) c.in_ok-reserve.ensures.items ∙ ap (λ (xs : List ℕ). c.self.inside.strings.items ++ xs) c.deref.ensures.value
+
+types : (c : goal.After-drop-changes-4) → (with_items c.append.new.self c.swap_types.new.types).items ≡ put_all c.args.changes.types.items (c.self.inside.types.items ++ c.args.changes.new_types.items)
+types c =
+    with_items_is c.append.new.self c.swap_types.new.types (omega (arith, c.swap_types.auto.types, ap length c.deref_mut.ensures.value, c.append.new.self.ok.0)) ∙ c.swap_types.ensures ∙ ap (λ xs. put_all xs c.deref_mut.result.now) c.deref_mut-2.ensures.value
+    ∙ ap (put_all c.args.changes.types.items) (c.deref_mut.ensures.value ∙ c.in_ok-append.ensures.items ∙ ap (λ (xs : List BtfType). xs ++ c.args.changes.new_types.items) c.in_ok-reserve-2.ensures.items)
+
+pub invariant_of-self-2 : goal.invariant_of-self-2
+invariant_of-self-2 c = kept_changed c.self.inside c.args.changes c.extend_from_slice.new.self (with_items c.append.new.self c.swap_types.new.types) c.self.invariant (of c) (strings c) (types c)
+
+pub returns-clause-ok : goal.returns-clause-ok
+returns-clause-ok c = view_changed c.self.inside c.args.changes c.extend_from_slice.new.self (with_items c.append.new.self c.swap_types.new.types) c.self.invariant (of c) (strings c) (types c) ∙ ap (λ t. changed t c.args.changes) c.self.view_is

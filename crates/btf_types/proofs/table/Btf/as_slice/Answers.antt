@@ -1,0 +1,6 @@
+use Rattle.std.proofs.Common.{length, ap, arith}
+use Rattle.btf_types.proofs.Tables.{few_types}
+use Rattle.btf_types.proofs.table.Btf.as_slice.Goals as goal
+
+pub returns-clause-ids : goal.returns-clause-ids
+returns-clause-ids c = omega (arith, few_types c.self.inside c.self.invariant, ap length c.deref.ensures.value)

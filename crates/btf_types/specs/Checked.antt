@@ -1,0 +1,8 @@
+-- Results of what is tested first.
+use Rattle.std.specs.Prelude.{Option, Some, None, Result, Ok, Err}
+use Rattle.btf_model.specs.Refusal.{Refusal}
+
+-- the value, where nothing is refused
+abbrev pub checked : {X : Type 0} → Option Refusal → X → Result X Refusal
+checked None x = Ok x
+checked (Some refusal) x = Err refusal
