@@ -19,7 +19,7 @@ use Rattle.btf_model.specs.Rule.{becomes, becomes_by, ruled_below, known_func, c
 
 -- ---- items
 
-named_len : (k offset : ℕ) (words : List ℕ) → length (named_params k offset words) ≡ length words
+pub named_len : (k offset : ℕ) (words : List ℕ) → length (named_params k offset words) ≡ length words
 named_len k offset [] = refl
 named_len k offset (name ∷ []) = refl
 named_len k offset (name ∷ type ∷ words) =
@@ -27,7 +27,7 @@ named_len k offset (name ∷ type ∷ words) =
     [ true ↦ ap (λ (n : ℕ). suc (suc n)) (named_len (k + 1) (offset + length (param_text k) + 1) words) | false ↦ ap (λ (n : ℕ). suc (suc n)) (named_len (k + 1) offset words) ]
 
 -- three words for each item
-entries_len : (f : Entry → List ℕ) → ((e : Entry) → length (f e) ≡ 3) → (n : ℕ) (words : List ℕ) → length words ≡ 3 * n → length (flat_map f (entries words)) ≡ length words
+pub entries_len : (f : Entry → List ℕ) → ((e : Entry) → length (f e) ≡ 3) → (n : ℕ) (words : List ℕ) → length words ≡ 3 * n → length (flat_map f (entries words)) ≡ length words
 entries_len f three n [] is = refl
 entries_len f three n (a ∷ []) is = absurd (omega (arith, is))
 entries_len f three n (a ∷ b ∷ []) is = absurd (omega (arith, is))
@@ -36,7 +36,7 @@ entries_len f three (suc n) (a ∷ b ∷ c ∷ words) is =
     let e : Entry = record { type = a; offset = b; size = c } in
     omega (arith, length-append (f e) (flat_map f (entries words)), three e, entries_len f three n words (omega (arith, is)))
 
-members_len : (type n : ℕ) (words : List ℕ) → length words ≡ 3 * n → length (variant_members type (variants words)) ≡ length words
+pub members_len : (type n : ℕ) (words : List ℕ) → length words ≡ 3 * n → length (variant_members type (variants words)) ≡ length words
 members_len type n [] is = refl
 members_len type n (a ∷ []) is = absurd (omega (arith, is))
 members_len type n (a ∷ b ∷ []) is = absurd (omega (arith, is))
@@ -53,7 +53,7 @@ by_both P false x y px py = py
 abbrev AsLong : Record → Record → Type 0
 AsLong r q = length q.tail ≡ length r.tail
 
-known_len : (p : Pass) (r : Record) (name : Result (List ℕ) Refusal) → AsLong r (known_func p r name)
+pub known_len : (p : Pass) (r : Record) (name : Result (List ℕ) Refusal) → AsLong r (known_func p r name)
 known_len p r (Ok name) = by_both (AsLong r) (is_global r && (is_builtin name || not (has p features.FuncGlobal))) (with_linkage 0 r) r refl refl
 known_len p r (Err refusal) = refl
 

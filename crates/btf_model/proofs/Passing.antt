@@ -1,11 +1,11 @@
 -- How a pass goes from id to id: the answers to what the ids below ask for are known, and further answers change nothing there.
-use Rattle.std.proofs.Common.{◌≡◌, ◌==◌, ℕ, zero, suc, ◌+◌, ◌<◌, Bool, true, false, not, cond, ◌||◌, ◌&&◌, List, [], ◌∷◌, ◌++◌, length, map, Option, None, Some, refl, sym, ap, subst, ◌∙◌, arith, inl, inr}
+use Rattle.std.proofs.Common.{◌≡◌, ◌==◌, ℕ, zero, suc, ◌+◌, ◌<◌, ◌≤◌, Bool, true, false, not, cond, ◌||◌, ◌&&◌, List, [], ◌∷◌, ◌++◌, length, map, Option, None, Some, refl, sym, ap, subst, ◌∙◌, arith, inl, inr}
 use Rattle.std.specs.Prelude.{if◌then◌else◌, slice_get}
 use Rattle.std.specs.List.{list_any, filter, flat_map, sum_by}
 use Rattle.std.specs.Option.{unwrap_or}
 use Rattle.std.proofs.lemmas.Bool.{false≢true, true≢false, eqb-true, eq-eqb, cases_order, or_parts, or_right}
 use Rattle.std.proofs.lemmas.Option.{none-some, same_Some}
-use Rattle.std.proofs.lemmas.List.{map-append, append-nil}
+use Rattle.std.proofs.lemmas.List.{map-append, append-nil, append_assoc}
 use Rattle.std.proofs.lemmas.List.Elements.{filter-append}
 use Rattle.std.proofs.lemmas.List.Folds.{list_any-append}
 use Rattle.std.proofs.lemmas.List.Concat.{flat_map-append}
@@ -172,6 +172,30 @@ asked_next fs answers new f granted asked next =
     absent_from_each g gs absent =
         elim (list_any (same_feature g) gs) as (λ (b : Bool). list_any (same_feature g) gs ≡ b → b ≡ false) [ true ↦ λ is. absurd (true≢false (sym (among_each g gs is) ∙ absent)) | false ↦ λ is. refl ] refl
 
+-- features that come behind others change nothing of what is there once
+pub each_once_begins : (fs gs : List Feature) → (rest : List Feature) × (each_once (fs ++ gs) ≡ each_once fs ++ rest)
+each_once_begins [] gs = (each_once gs, refl)
+each_once_begins (f ∷ fs) gs =
+    let others : List Feature → List Feature = filter (λ h. not (same_feature f h)) in
+    let inner = each_once_begins fs gs in
+    (others inner.0, ap (λ xs. f ∷ others xs) inner.1 ∙ ap (λ xs. f ∷ xs) (filter-append (λ h. not (same_feature f h)) (each_once fs) inner.0))
+
+-- what ids ask for begins with what lower ones do
+pub asks_begin : (p : Pass) (id count : ℕ) → id ≤ count → (rest : List Feature) × (asks_below p count ≡ asks_below p id ++ rest)
+asks_begin p id zero le =
+    let none : 0 ≡ id = omega (arith, le) in
+    ([], ap (asks_below p) none ∙ sym (append-nil (asks_below p id)))
+asks_begin p id (suc count) le =
+    elim (cases_order id (suc count)) as (λ c. (rest : List Feature) × (asks_below p (suc count) ≡ asks_below p id ++ rest)) [
+      | inl same ↦ ([], ap (asks_below p) (sym same) ∙ sym (append-nil (asks_below p id)))
+      | inr other ↦ elim other as (λ c. (rest : List Feature) × (asks_below p (suc count) ≡ asks_below p id ++ rest)) [
+        | inl less ↦
+            let inner = asks_begin p id count (omega (arith, less)) in
+            (inner.0 ++ asks p count, ap (λ fs. fs ++ asks p count) inner.1 ∙ append_assoc (asks_below p id) inner.0 (asks p count))
+        | inr more ↦ absurd (omega (arith, le, more))
+      ]
+    ]
+
 -- ---- the pass
 
 -- The answers of a pass are those to what the ids below this one ask for, and none of these is refused.
@@ -187,38 +211,46 @@ further_agree p id more asked f among = grants_append p.answers more f (ap (list
 pub further_same : (p : Pass) (id : ℕ) (more : List Answer) → IsAt p id → IsSameBelow p (p.answers ++ more) id
 further_same p id more at = same_below p (p.answers ++ more) id (further_agree p id more at.asked) at.ruled
 
+among_up_to : (p : Pass) (id j : ℕ) (f : Feature) → j < id → IsAmong f (asks_below p (suc j)) → IsAmong f (asks_below p id)
+among_up_to p zero j f less among = absurd (omega (arith, less))
+among_up_to p (suc id) j f less among =
+    elim (cases_order j id) as (λ c. IsAmong f (asks_below p (suc id))) [
+      | inl same ↦ subst (λ (n : ℕ). IsAmong f (asks_below p (suc n))) same among
+      | inr other ↦ elim other as (λ c. IsAmong f (asks_below p (suc id))) [
+        | inl lower ↦ list_any-append (same_feature f) (asks_below p id) (asks p id) ∙ from_left (list_any (same_feature f) (asks_below p id)) (list_any (same_feature f) (asks p id)) (among_up_to p id j f lower among)
+        | inr above ↦ absurd (omega (arith, less, above))
+      ]
+    ]
+  where
+    from_left : (a b : Bool) → a ≡ true → (a || b) ≡ true
+    from_left true b is = refl
+    from_left false b is = absurd (false≢true is)
+
+-- none of the ids below is refused under further answers
+pub further_ruled : (p : Pass) (id : ℕ) (more : List Answer) → IsAt p id → AreRuled (with_answers p (p.answers ++ more)) id
+further_ruled p id more at j less =
+    same_refused p (p.answers ++ more) j (λ f among. further_agree p id more at.asked f (among_up_to p id j f less among)) (λ k below. at.ruled k (omega (arith, below, less))) ∙ at.ruled j less
+
+-- the answers to what the ids up to one ask for
+pub asked_to : (p : Pass) (id : ℕ) (more : List Answer) → IsAt p id → AreAnswersTo (asks_below p id ++ asks (with_answers p (p.answers ++ more)) id) (p.answers ++ more) → AreAnswersTo (asks_below (with_answers p (p.answers ++ more)) (suc id)) (p.answers ++ more)
+asked_to p id more at asked = asked ∙ ap (λ (fs : List Feature). each_once (fs ++ asks (with_answers p (p.answers ++ more)) id)) (sym (further_same p id more at).asks)
+
 -- One more id is gone past: its asks are answered behind the others, and it is not refused.
 pub goes_on : (p : Pass) (id : ℕ) (more : List Answer) → IsAt p id → AreAnswersTo (asks_below p id ++ asks (with_answers p (p.answers ++ more)) id) (p.answers ++ more) → fault (with_answers p (p.answers ++ more)) id ≡ None
     → IsAt (with_answers p (p.answers ++ more)) (suc id)
 goes_on p id more at asked passed =
-    let all : List Answer = p.answers ++ more in
-    let agree : Agree p all id = further_agree p id more at.asked in
+    let q : Pass = with_answers p (p.answers ++ more) in
     record {
-      asked = asked ∙ ap (λ (fs : List Feature). each_once (fs ++ asks (with_answers p all) id)) (sym (further_same p id more at).asks);
+      asked = asked_to p id more at asked;
       ruled = λ j lt.
-          elim (cases_order j id) as (λ c. fault (with_answers p all) j ≡ None) [
-            | inl same ↦ ap (fault (with_answers p all)) same ∙ passed
-            | inr other ↦ elim other as (λ c. fault (with_answers p all) j ≡ None) [
-              | inl less ↦ same_refused p all j (λ f among. agree f (among_up_to p id j f less among)) (λ k below. at.ruled k (omega (arith, below, less))) ∙ at.ruled j less
+          elim (cases_order j id) as (λ c. fault q j ≡ None) [
+            | inl same ↦ ap (fault q) same ∙ passed
+            | inr other ↦ elim other as (λ c. fault q j ≡ None) [
+              | inl less ↦ further_ruled p id more at j less
               | inr above ↦ absurd (omega (arith, lt, above))
             ]
           ];
     }
-  where
-    among_up_to : (p : Pass) (id j : ℕ) (f : Feature) → j < id → IsAmong f (asks_below p (suc j)) → IsAmong f (asks_below p id)
-    among_up_to p zero j f less among = absurd (omega (arith, less))
-    among_up_to p (suc id) j f less among =
-        elim (cases_order j id) as (λ c. IsAmong f (asks_below p (suc id))) [
-          | inl same ↦ subst (λ (n : ℕ). IsAmong f (asks_below p (suc n))) same among
-          | inr other ↦ elim other as (λ c. IsAmong f (asks_below p (suc id))) [
-            | inl lower ↦ list_any-append (same_feature f) (asks_below p id) (asks p id) ∙ from_left (list_any (same_feature f) (asks_below p id)) (list_any (same_feature f) (asks p id)) (among_up_to p id j f lower among)
-            | inr above ↦ absurd (omega (arith, less, above))
-          ]
-        ]
-      where
-        from_left : (a b : Bool) → a ≡ true → (a || b) ≡ true
-        from_left true b is = refl
-        from_left false b is = absurd (false≢true is)
 
 -- What the ids up to one append and become, where those below are gone past.
 pub record Grows (p : Pass) (more : List Answer) (id : ℕ) : Type 0 where

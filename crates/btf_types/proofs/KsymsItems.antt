@@ -17,7 +17,7 @@ use Rattle.btf_types.specs.KsymsStep.{entry, laid_out_anew}
 use Rattle.btf_types.proofs.KsymsEntries.{entries_of_words}
 
 -- words in the place of others
-put_at : (before old rest new : List ℕ) (n m : ℕ) → length before ≡ n → n + length old ≡ m → take n (before ++ (old ++ rest)) ++ (new ++ drop m (before ++ (old ++ rest))) ≡ before ++ (new ++ rest)
+pub put_at : (before old rest new : List ℕ) (n m : ℕ) → length before ≡ n → n + length old ≡ m → take n (before ++ (old ++ rest)) ++ (new ++ drop m (before ++ (old ++ rest))) ≡ before ++ (new ++ rest)
 put_at before old rest new n m at past =
     let long : length (before ++ old) ≡ m = omega (arith, length-append before old, at, past) in
     ap (λ (xs : List ℕ). xs ++ (new ++ drop m (before ++ (old ++ rest)))) (take_at before (old ++ rest) n at)

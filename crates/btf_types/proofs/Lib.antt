@@ -1,3 +1,15 @@
+pub mod SectionRules
+pub mod Rewriting
+pub mod PassOne
+pub mod PassStates
+pub mod FuncRules
+pub mod Enums
+pub mod Prototypes
+pub mod PassAsking
+mod SectionItems
+mod SectionNames
+pub mod PassRules
+pub mod Adding
 pub mod Answered
 pub mod Put
 pub mod KsymsSteps

@@ -1,7 +1,7 @@
 -- Types in the place of others.
 use Rattle.std.proofs.Common.{◌≡◌, ℕ, zero, suc, ◌+◌, ◌<◌, ◌≤◌, List, [], ◌∷◌, ◌++◌, length, get_or, take, drop, map, set, Option, refl, sym, ap, subst, ◌∙◌, arith, Vec, Global}
-use Rattle.std.proofs.lemmas.List.{map-append, length-append, length-map, length-set, map-set, set-append_left, get_or_default, get_or-drop, drop-drop, drop-set-lt}
-use Rattle.std.proofs.Math.Seq.{set-append_seam, take-suc}
+use Rattle.std.proofs.lemmas.List.{map-append, length-append, length-map, length-set, map-set, set-append_left, get_or_default, get_or-drop, drop-drop, drop-set-lt, take_more, take_more_set, take-set, take-map, get_or-take, length-take}
+use Rattle.std.proofs.Math.Seq.{set-append_seam, take-append_seam, take-suc}
 use Rattle.btf_model.specs.Record.{Record, unknown}
 use Rattle.btf_model.specs.Table.{Table, Fallback, type_bytes}
 use Rattle.btf_model.specs.Fields.{HaveKinds}
@@ -10,7 +10,8 @@ use Rattle.btf_records.specs.declared.btf_type.BtfType.{BtfType}
 use Rattle.btf_types.specs.declared.table.Btf.TheInside.{Inside}
 use Rattle.btf_types.specs.declared.table.changes.Changes.{Changes}
 use Rattle.btf_types.specs.Btf.{table_of, IsKept}
-use Rattle.btf_types.specs.Changes.{put_all, each, AreInside, AreOf, changed}
+use Rattle.btf_types.specs.Changes.{put_all, put_back, replaced, each, AreInside, AreOf, changed, undone, Undoes}
+use Rattle.btf_types.specs.declared.table.changes.Undo.{Undo}
 
 -- in turn
 pub put_append : {X : Type 0} (cs ds : List (ℕ × X)) (xs : List X) → put_all (cs ++ ds) xs ≡ put_all ds (put_all cs xs)
@@ -128,3 +129,129 @@ module _ (b : Inside) (c : Changes) (strings : Vec ℕ Global) (types : Vec BtfT
         );
         kinds = subst HaveKinds (sym view_changed) of.kinds;
       }
+
+-- ---- what stood there before
+
+pub replaced_append : {X : Type 0} (cs : List (ℕ × X)) (c : ℕ × X) (xs : List X) → replaced (cs ++ c ∷ []) xs ≡ replaced cs xs ++ (c.0, get_or (put_all cs xs) c.0 c.1) ∷ []
+replaced_append [] c xs = refl
+replaced_append (b ∷ cs) c xs = ap (λ ds. (b.0, get_or xs b.0 b.1) ∷ ds) (replaced_append cs c (set xs b.0 b.1))
+
+-- what took the place of others is taken back
+pub put_back_all : {X : Type 0} (cs : List (ℕ × X)) (xs : List X) → put_back (replaced cs xs) (put_all cs xs) ≡ xs
+put_back_all [] xs = refl
+put_back_all (c ∷ cs) xs = ap (λ ys. set ys c.0 (get_or xs c.0 c.1)) (put_back_all cs (set xs c.0 c.1)) ∙ set-set xs c.0 c.1 (get_or xs c.0 c.1) ∙ set-own xs c.0 c.1
+  where
+    set-set : {X : Type 0} (xs : List X) (i : ℕ) (x y : X) → set (set xs i x) i y ≡ set xs i y
+    set-set [] i x y = refl
+    set-set (z ∷ xs) zero x y = refl
+    set-set (z ∷ xs) (suc i) x y = ap (λ ys. z ∷ ys) (set-set xs i x y)
+
+    set-own : {X : Type 0} (xs : List X) (i : ℕ) (d : X) → set xs i (get_or xs i d) ≡ xs
+    set-own [] i d = refl
+    set-own (z ∷ xs) zero d = refl
+    set-own (z ∷ xs) (suc i) d = ap (λ ys. z ∷ ys) (set-own xs i d)
+
+-- the last one is put back first
+pub put_back_last : {X : Type 0} (cs : List (ℕ × X)) (c : ℕ × X) (xs : List X) → put_back (cs ++ c ∷ []) xs ≡ put_back cs (set xs c.0 c.1)
+put_back_last [] c xs = refl
+put_back_last (b ∷ cs) c xs = ap (λ ys. set ys b.0 b.1) (put_back_last cs c xs)
+
+pub replaced_next : (cs old : List (ℕ × BtfType)) (types before : List BtfType) (k : ℕ) (d e : ℕ × BtfType) (x y : BtfType) → k < length cs → length cs ≡ length old → types ≡ put_all (take k old) before → drop k cs ≡ drop k old
+    → take k cs ≡ replaced (take k old) before → (get_or cs k d).0 < length types → y ≡ get_or types (get_or cs k d).0 x → take (k + 1) (set cs k ((get_or cs k e).0, y)) ≡ replaced (take (k + 1) old) before
+replaced_next cs old types before k d e x y lt long put rest has inside is =
+    let more : k + 1 ≡ suc k = omega arith in
+    let lt_old : k < length old = omega (arith, lt, long) in
+    let c : ℕ × BtfType = get_or old k e in
+    let same : (f : ℕ × BtfType) → (get_or cs k f).0 ≡ c.0 = λ f. ap (λ (p : ℕ × BtfType). p.0) (same_at cs old k f e rest lt) in
+    let here : c.0 < length types = omega (arith, inside, same d) in
+    let value : y ≡ get_or (put_all (take k old) before) c.0 c.1 = is ∙ ap (λ (n : ℕ). get_or types n x) (same d) ∙ get_or_default types c.0 x c.1 here ∙ ap (λ ts. get_or ts c.0 c.1) put in
+    take_more_set cs k ((get_or cs k e).0, y) lt ∙ ap (λ zs. zs ++ ((get_or cs k e).0, y) ∷ []) has
+    ∙ ap (λ (n : ℕ). replaced (take k old) before ++ (n, y) ∷ []) (same e) ∙ ap (λ t. replaced (take k old) before ++ (c.0, t) ∷ []) value
+    ∙ sym (ap (λ (n : ℕ). replaced (take n old) before) more ∙ ap (λ zs. replaced zs before) (take-suc old k e lt_old) ∙ replaced_append (take k old) c before)
+
+pub inside_replaced : (count : ℕ) (cs : List (ℕ × BtfType)) (xs : List BtfType) → AreInside count cs → AreInside count (replaced cs xs)
+inside_replaced count [] xs within = tt
+inside_replaced count (c ∷ cs) xs within = (within.0, inside_replaced count cs (set xs c.0 c.1) within.1)
+
+-- what each of the types is
+map-put_back : {X : Type 0} (f : BtfType → X) (cs : List (ℕ × BtfType)) (ts : List BtfType) → map f (put_back cs ts) ≡ put_back (each f cs) (map f ts)
+map-put_back f [] ts = refl
+map-put_back f (c ∷ cs) ts = map-set f (put_back cs ts) c.0 c.1 ∙ ap (λ xs. set xs c.0 (f c.1)) (map-put_back f cs ts)
+
+-- the front of a list is what it was
+front_is : {X : Type 0} (xs ys : List X) (n : ℕ) → n ≡ length xs → take n (xs ++ ys) ≡ xs
+front_is xs ys n is = ap (λ (m : ℕ). take m (xs ++ ys)) is ∙ take-append_seam xs ys
+
+taken_back : {X : Type 0} (f : BtfType → X) (cs : List (ℕ × BtfType)) (xs ys : List BtfType) (n : ℕ) → n ≡ length xs → take n (put_back (each f (replaced cs (xs ++ ys))) (map f (put_all cs (xs ++ ys)))) ≡ map f xs
+taken_back f cs xs ys n is =
+    ap (take n) (sym (map-put_back f (replaced cs (xs ++ ys)) (put_all cs (xs ++ ys))) ∙ ap (map f) (put_back_all cs (xs ++ ys))) ∙ take-map f n (xs ++ ys) ∙ ap (map f) (front_is xs ys n is)
+
+-- With what stood there before, the changes can be taken out again.
+pub undoes : (b : Inside) (c : Changes) (strings : Vec ℕ Global) (types : Vec BtfType Global) → IsKept b → AreOf (table_of b) c → strings.items ≡ b.strings.items ++ c.new_strings.items → types.items ≡ put_all c.types.items (b.types.items ++ c.new_types.items)
+    → (undo : Undo) → undo.types.items ≡ replaced c.types.items (b.types.items ++ c.new_types.items) → undo.string_len ≡ length b.strings.items → undo.count ≡ length b.types.items → undo.type_len ≡ b.type_len
+    → Undoes undo (table_of (record b { strings = strings; types = types; type_len = c.type_len })) (table_of b)
+undoes b c strings types kept of added put undo old string_len count type_len =
+    let t : Table = table_of b in
+    let all : List BtfType = b.types.items ++ c.new_types.items in
+    record {
+      table =
+          ap (λ (xs : List ℕ). record t { strings = xs; records = take undo.count (put_back (each record_of undo.types.items) (map record_of types.items)); fallbacks = take undo.count (put_back (each fallback_of undo.types.items) (map fallback_of types.items)) })
+          (ap (take undo.string_len) added ∙ front_is b.strings.items c.new_strings.items undo.string_len string_len)
+          ∙ ap (λ (rs : List Record). record t { records = rs; fallbacks = take undo.count (put_back (each fallback_of undo.types.items) (map fallback_of types.items)) })
+          (ap (λ ds. take undo.count (put_back (each record_of ds) (map record_of types.items))) old ∙ ap (λ ts. take undo.count (put_back (each record_of (replaced c.types.items all)) (map record_of ts))) put
+          ∙ taken_back record_of c.types.items b.types.items c.new_types.items undo.count count)
+          ∙ ap (λ (fs : List (Option Fallback)). record t { fallbacks = fs })
+          (ap (λ ds. take undo.count (put_back (each fallback_of ds) (map fallback_of types.items))) old ∙ ap (λ ts. take undo.count (put_back (each fallback_of (replaced c.types.items all)) (map fallback_of ts))) put
+          ∙ taken_back fallback_of c.types.items b.types.items c.new_types.items undo.count count);
+      ids = subst (AreInside (length (map record_of types.items))) (sym old)
+          (inside_replaced (length (map record_of types.items)) c.types.items all (inside_more (length t.records) (length (map record_of types.items)) c.types.items
+          (omega (arith, length-map types.items record_of, ap length put, length-put c.types.items all, length-append b.types.items c.new_types.items, length-map b.types.items record_of)) of.ids));
+      strings = kept.strings;
+      limit = omega (arith, kept.limit, type_len);
+      types = type_len ∙ kept.types;
+      first = kept.first;
+      kinds = kept.kinds;
+    }
+
+-- ---- taken out again
+
+-- the table is the old one, and keeps what it kept
+pub view_undone : (b : Inside) (undo : Undo) (old : Table) (strings : Vec ℕ Global) (types : Vec BtfType Global) → Undoes undo (table_of b) old → strings.items ≡ take undo.string_len b.strings.items → types.items ≡ take undo.count (put_back undo.types.items b.types.items)
+    → table_of (record b { strings = strings; types = types; type_len = undo.type_len }) ≡ old
+view_undone b undo old strings types undoes cut put =
+    let t : Table = table_of b in
+    ap (λ (xs : List ℕ). record t { strings = xs; records = map record_of types.items; fallbacks = map fallback_of types.items }) cut
+    ∙ ap (λ (rs : List Record). record t { strings = take undo.string_len t.strings; records = rs; fallbacks = map fallback_of types.items })
+    (ap (map record_of) put ∙ sym (take-map record_of undo.count (put_back undo.types.items b.types.items)) ∙ ap (take undo.count) (map-put_back record_of undo.types.items b.types.items))
+    ∙ ap (λ (fs : List (Option Fallback)). record (undone t undo) { fallbacks = fs })
+    (ap (map fallback_of) put ∙ sym (take-map fallback_of undo.count (put_back undo.types.items b.types.items)) ∙ ap (take undo.count) (map-put_back fallback_of undo.types.items b.types.items))
+    ∙ undoes.table
+
+pub kept_undone : (b : Inside) (undo : Undo) (old : Table) (strings : Vec ℕ Global) (types : Vec BtfType Global) → IsKept b → Undoes undo (table_of b) old → strings.items ≡ take undo.string_len b.strings.items → types.items ≡ take undo.count (put_back undo.types.items b.types.items)
+    → IsKept (record b { strings = strings; types = types; type_len = undo.type_len })
+kept_undone b undo old strings types kept undoes cut put =
+    let view = view_undone b undo old strings types undoes cut put in
+    record {
+      magic = kept.magic;
+      version = kept.version;
+      flags = kept.flags;
+      limit = undoes.limit;
+      strings = omega (arith, undoes.strings, ap (λ (t : Table). length t.strings) view);
+      types = undoes.types ∙ ap (λ (t : Table). length (type_bytes t)) (sym view);
+      first = (undoes.first.0, ap (λ (t : Table). t.records) view ∙ undoes.first.1);
+      kinds = subst HaveKinds (sym view) undoes.kinds;
+    }
+
+-- one more type is put back
+pub back_next : (cs old : List (ℕ × BtfType)) (types all : List BtfType) (k : ℕ) (d e : ℕ × BtfType) (new : BtfType) (v : ℕ × BtfType) → k < length cs → length cs ≡ length old → put_back (take (k + 1) old) types ≡ all → take (k + 1) cs ≡ take (k + 1) old
+    → new ≡ (get_or cs k d).1 → (put_back (take k old) (set types (get_or cs k e).0 new) ≡ all) × (take k (set cs k v) ≡ take k old)
+back_next cs old types all k d e new v lt long put front is =
+    let lt_old : k < length old = omega (arith, lt, long) in
+    let below : k < k + 1 = omega arith in
+    let c : ℕ × BtfType = get_or old k e in
+    let same : (f : ℕ × BtfType) → get_or cs k f ≡ c = λ f. sym (get_or-take (k + 1) cs k f below) ∙ ap (λ zs. get_or zs k f) front ∙ get_or-take (k + 1) old k f below ∙ get_or_default old k f e lt_old in
+    let both : take k cs ++ get_or cs k e ∷ [] ≡ take k old ++ c ∷ [] = sym (take_more cs k e lt) ∙ front ∙ take_more old k e lt_old in (
+      ap (λ (n : ℕ). put_back (take k old) (set types n new)) (ap (λ (p : ℕ × BtfType). p.0) (same e)) ∙ ap (λ (t : BtfType). put_back (take k old) (set types c.0 t)) (is ∙ ap (λ (p : ℕ × BtfType). p.1) (same d))
+          ∙ sym (put_back_last (take k old) c types) ∙ ap (λ zs. put_back zs types) (sym (take_more old k e lt_old)) ∙ put,
+      take-set cs k v ∙ sym (front_is (take k cs) (get_or cs k e ∷ []) k (omega (arith, length-take k cs, lt))) ∙ ap (take k) both ∙ front_is (take k old) (c ∷ []) k (omega (arith, length-take k old, lt_old)),
+    )

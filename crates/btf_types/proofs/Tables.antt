@@ -33,6 +33,12 @@ types_behind : (order : Order) (types : List BtfType) (rs : List Record) → map
 types_behind order types rs h = ap (λ (xs : List Record). flat_map (spell order) (drop 1 xs)) h
 
 -- ids have 32 bits
+-- each record but the first has at least 12 bytes
+pub long_types : (b : Inside) → IsKept b → 12 * length b.types.items ≤ length (type_bytes (table_of b)) + 12
+long_types b h =
+    let rs = h.first.0 in
+    omega (arith, ap length (types_behind (order_of b.endianness) b.types.items rs h.first.1), records_are_long (order_of b.endianness) rs, ap length h.first.1, length-map b.types.items record_of)
+
 pub few_types : (b : Inside) → IsKept b → length b.types.items < 2 ^ 32
 few_types b h =
     let rs = h.first.0 in

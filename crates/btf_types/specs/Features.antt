@@ -44,3 +44,12 @@ AsksFor step feature None old answer new = step old.0 feature answer new.0 × (n
 
 abbrev pub Asks : {F : Type 0} → (F → BtfFeature → Bool → F → Type 0) → BtfFeature → F × List FeatureAnswer → Bool → F × List FeatureAnswer → Type 0
 Asks step feature old answer new = AsksFor step feature (told old.1 (feature_of feature)) old answer new
+
+-- The predicate was called for these features, in order, and gave these answers; that and nothing else led from one state to the other.
+abbrev pub Called : {F : Type 0} → (F → BtfFeature → Bool → F → Type 0) → F → List FeatureAnswer → F → Type 0
+Called step before [] after = after ≡ before
+Called {F} step before (a ∷ answers) after = (mid : F) × step before a.feature a.granted mid × Called step mid answers after
+
+-- these answers, and others behind them
+abbrev pub IsFurther : List FeatureAnswer → List FeatureAnswer → Type 0
+IsFurther old new = (more : List FeatureAnswer) × (new ≡ old ++ more)

@@ -1,4 +1,9 @@
 pub mod Changes
+pub mod Adding
+pub mod PassStep
+pub mod SectionStep
+pub mod Rewrites
+pub mod Layout
 pub mod Checked
 pub mod KsymsStep
 pub mod Btf

@@ -1,9 +1,10 @@
 //! What a kernel's BTF may hold, as a caller's predicate tells.
 
-ghost use Rattle.std.specs.Prelude.{◌≡◌};
+ghost use Rattle.std.specs.Prelude.{◌≡◌, IfOk};
 ghost use Rattle.btf_types.specs.Features.{feature_of, told as told_of, Asks};
 
 use arrayvec::ArrayVec;
+use std::alloc::AllocError;
 use std::marker::Model;
 
 /// What older kernels refuse in BTF: a kind, or a use of one.
@@ -81,6 +82,13 @@ impl<F: FnMut(BtfFeature) -> bool> BtfFeatureResolver<F> {
         let granted = (self.predicate)(feature);
         self.answers.push(FeatureAnswer { feature, granted });
         granted
+    }
+
+    /// A copy of what the predicate has told so far. It stands on its own, and takes no memory but its eight places.
+    pub(crate) fn copied_answers(&self) -> Result<ArrayVec<FeatureAnswer, 8>, AllocError>
+        ensures { IfOk result (λ a. a.items ≡ self.now.1) }
+    {
+        self.answers.clone()
     }
 
     /// What the predicate has told so far, in the order in which it was asked.

@@ -13,4 +13,5 @@ pub use compat::{fields_are_compatible, types_are_compatible, types_are_compatib
 pub use ext::{BtfExt, SecInfo, SecInfoIter};
 pub use features::{BtfFeature, BtfFeatureResolver, FeatureAnswer};
 pub use info::{FuncInfo, FuncSecInfo, LineInfo, LineSecInfo, bpf_func_info, bpf_line_info};
+pub use sanitize::{KsymsIds, rewrite_bytes};
 pub use table::{Btf, BtfStr};

@@ -2,11 +2,12 @@
 
 mod changes;
 mod header;
+mod limits;
 mod text;
 mod types;
 mod walk;
 
-ghost use Rattle.std.specs.Prelude.{◌≡◌, List, ◌≤◌, ◌↔◌, [], ◌∷◌, map, IsTrue, IfOk, OnOk, OnErr, MatchResult, Ok, Err, Some, slice_get, length, ◌<◌, ◌^◌};
+ghost use Rattle.std.specs.Prelude.{◌≡◌, List, ◌+◌, ◌*◌, ◌≤◌, ◌↔◌, [], ◌∷◌, map, IsTrue, IfOk, OnOk, OnErr, MatchResult, Ok, Err, Some, slice_get, length, ◌<◌, ◌^◌};
 ghost use Rattle.std.specs.Slice.Iter.{iter_rest};
 ghost use Rattle.btf_model.specs.Record.{Record, unknown};
 ghost use Rattle.btf_model.specs.Refusal.{Refusal};
@@ -28,6 +29,7 @@ ghost use Rattle.std.specs.Str.{IsUtf8};
 
 pub(crate) use crate::table::changes::Changes;
 use crate::table::header::{HEADER_LEN, Header, section};
+pub(crate) use crate::table::limits::{record_fits, text_fits};
 pub use crate::table::text::BtfStr;
 use crate::table::text::{find_named, text_at};
 use crate::table::types::{append_types, clone_types, read_types};
@@ -297,6 +299,8 @@ impl Btf {
         ensures records { map record_of result.now ≡ self.now.records }
         ensures fallbacks { map fallback_of result.now ≡ self.now.fallbacks }
         ensures ids { length result.now < 2 ^ 32 }
+        // Each record but the first has at least 12 bytes.
+        ensures long { 12 * length result.now ≤ length (type_bytes self.now) + 12 }
         ensures first { (rs : List Record) × (self.now.records ≡ unknown ∷ rs) }
     {
         &self.types

@@ -12,8 +12,7 @@ ghost use Rattle.btf_records.specs.BtfType.{record_of};
 ghost use Rattle.btf_types.specs.Checked.{checked};
 ghost use Rattle.btf_types.specs.KsymsStep.{target_of, prototype_of, laid_out_anew, FindsSymbols, StepsWith, ksyms_ids, MakesKsyms};
 
-use crate::sanitize::limits::{record_fits, text_fits};
-use crate::table::{Btf, Changes};
+use crate::table::{Btf, Changes, record_fits, text_fits};
 use btf_plain::{BtfError, Func, FuncLinkage, Int, IntEncoding, Var, VarLinkage};
 use btf_records::{BtfParam, BtfType, DataSec, DataSecEntry, FuncProto};
 use std::alloc::{AllocError, Global};

@@ -2,7 +2,7 @@ use Rattle.std.proofs.Common.{refl, ap, sym, arith}
 use Rattle.btf_model.specs.Refusal.{InvalidStringOffset}
 use Rattle.btf_types.specs.Checked.{checked}
 use Rattle.btf_types.proofs.Checks.{no_room}
-use Rattle.btf_types.proofs.sanitize.limits.text_fits.Goals as goal
+use Rattle.btf_types.proofs.table.limits.text_fits.Goals as goal
 
 pub returns-then-text-offset : goal.returns-then-text-offset
 returns-then-text-offset c =
