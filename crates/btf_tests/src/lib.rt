@@ -29,6 +29,14 @@ mod program_table;
 #[cfg(test)]
 mod records;
 #[cfg(test)]
+mod rewrite;
+#[cfg(test)]
+mod rewrite_bytes;
+#[cfg(test)]
+mod rewrite_refusals;
+#[cfg(test)]
+mod rewrite_sections;
+#[cfg(test)]
 mod spelled;
 #[cfg(test)]
 mod tables;

@@ -28,7 +28,7 @@ const RECORDS: &str = "
 const ENDS: [u32; 13] = [0, 12, 96, 108, 124, 144, 160, 172, 188, 212, 228, 244, 268];
 
 /// The strings, each of which a zero byte ends. The first is empty.
-const STRINGS: &str = "\0xdp_md\0data\0data_end\0data_meta\0ingress_ifindex\0\
+pub const STRINGS: &str = "\0xdp_md\0data\0data_end\0data_meta\0ingress_ifindex\0\
 rx_queue_index\0egress_ifindex\0__u32\0unsigned int\0ctx\0int\0xdp_pass\0xdp/pass\0\
 /home/dave/dev/bpfd/bpf/xdp_pass.bpf.c\0    return XDP_PASS;\0char\0\
 __ARRAY_SIZE_TYPE__\0_license\0license\0";
@@ -50,7 +50,7 @@ const KINDS: [BtfKind; 13] = [
 ];
 
 /// The 517 bytes of the table in an order, with this length of its types in the header.
-fn program(alloc: Global, endianness: Endianness, type_len: u32) -> Result<Vec<u8>, Fail> {
+pub fn program(alloc: Global, endianness: Endianness, type_len: u32) -> Result<Vec<u8>, Fail> {
     let mut blob = header(alloc, type_len, 0x10c, 0xe1, endianness)?;
     push_words(&mut blob, &words(alloc, RECORDS)?, endianness)?;
     blob.extend_from_slice(STRINGS.as_bytes())?;
