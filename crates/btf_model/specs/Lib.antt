@@ -12,17 +12,5 @@ pub mod CompatExamples
 pub mod Ext
 pub mod ExtExamples
 pub mod Info
-pub mod Feature
-pub mod Made
-pub mod Checks
-pub mod Ksyms
-pub mod Pass
-pub mod Rule
-pub mod Fault
-pub mod Rewritten
-pub mod RewriteExamples
-pub mod DataSecExamples
-pub mod KsymsExamples
-pub mod RewriteLaws
 pub mod Laws
 pub mod Examples

@@ -3,8 +3,8 @@
 //! The definitions lie in `specs/`. Each law is the contract of a function here that does nothing.
 #![tactic(auto)]
 
-ghost use Rattle.btf_model.specs.RewriteLaws.{AskedOnlyIfNeeded, GrantedFeaturesSuffice, Enum64KeepsItsValues, RecordLengthsStay, SizesStay, ResolutionsStay, OtherAnswersChangeNothing, SecondRewriteChangesNothing};
 ghost use Rattle.btf_model.specs.Laws.{NoSpellingBeginsAnother, BlobIsDetermined, WrittenParsesBack, ParsedWritesBack, AddedStringReadsBack, NameFindsOne, AddedTypeIsFound, WalksAreDetermined, ResolvingTwiceIsOnce, SectionsAreDetermined, ComparisonsAreDetermined, ComparisonsHaveAnswers, ComparisonsAreSymmetric};
+
 
 /// No record's spelling is a proper beginning of another's, and bytes spell one record: so a row of
 /// spellings is cut in one way.
@@ -74,49 +74,4 @@ pub fn comparisons_have_answers()
 /// refusal is a refusal from there too, perhaps another one.
 pub fn comparisons_are_symmetric()
     ensures { ComparisonsAreSymmetric }
-{}
-
-/// A rewrite asks for a feature only where the kernel needs it for a record of the table.
-pub fn asked_only_if_needed()
-    ensures { AskedOnlyIfNeeded }
-{}
-
-/// What the kernel needs for the records of a rewritten table, it was asked for once each, and granted.
-pub fn granted_features_suffice()
-    ensures { GrantedFeaturesSuffice }
-{}
-
-/// An ENUM64 that a rewrite turns into a UNION leaves a fallback, with its sign and, in order, the name and the
-/// 64-bit value of each variant.
-pub fn enum64_keeps_its_values()
-    ensures { Enum64KeepsItsValues }
-{}
-
-/// Each record keeps its length when it is rewritten, but for a DATASEC that gets a filler, which grows from 12 to
-/// 24 bytes.
-pub fn record_lengths_stay()
-    ensures { RecordLengthsStay }
-{}
-
-/// A type has the same size in the rewritten table, if the walk for it meets no VAR, FUNC, FUNC_PROTO, DATASEC or
-/// DECL_TAG.
-pub fn sizes_stay()
-    ensures { SizesStay }
-{}
-
-/// An id resolves to the same type in the rewritten table, unless that is a FUNC.
-pub fn resolutions_stay()
-    ensures { ResolutionsStay }
-{}
-
-/// What ids ask for, append and become, and why they are refused, depends on the answers to what they and lower ids
-/// ask for, and on no others.
-pub fn other_answers_change_nothing()
-    ensures { OtherAnswersChangeNothing }
-{}
-
-/// Where a rewrite without symbols of the kernel succeeds, of a table that has strings, and leaves no DATASEC of size 0, a
-/// second rewrite changes nothing, under a kernel that grants again what it granted.
-pub fn second_rewrite_changes_nothing()
-    ensures { SecondRewriteChangesNothing }
 {}

@@ -6,8 +6,8 @@ use Rattle.std.proofs.lemmas.List.Concat.{flat_map-append}
 use Rattle.std.proofs.lemmas.List.Sums.{sum_by-append}
 use Rattle.btf_model.specs.Record.{Record}
 use Rattle.btf_model.specs.Table.{Table, no_fallbacks}
-use Rattle.btf_model.specs.Checks.{record_len}
-use Rattle.btf_model.specs.Rewritten.{ended}
+use Rattle.btf_rewrite_model.specs.Checks.{record_len}
+use Rattle.btf_rewrite_model.specs.Rewritten.{ended}
 use Rattle.btf_records.specs.BtfType.{record_of, fallback_of}
 use Rattle.btf_types.specs.declared.table.changes.Changes.{Changes}
 use Rattle.btf_types.specs.Adding.{HasRoom, Adds}

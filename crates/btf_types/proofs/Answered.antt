@@ -7,8 +7,8 @@ use Rattle.std.proofs.lemmas.Bool.{false≢true}
 use Rattle.std.proofs.lemmas.Option.{none-some}
 use Rattle.std.proofs.lemmas.List.{length-append, length-map, map-append}
 use Rattle.std.proofs.lemmas.Map.Steps.{length-le_from_distinct_below}
-use Rattle.btf_model.specs.Feature as features
-use Rattle.btf_model.specs.Feature.{Feature, number, same_feature}
+use Rattle.btf_rewrite_model.specs.Feature as features
+use Rattle.btf_rewrite_model.specs.Feature.{Feature, number, same_feature}
 use Rattle.btf_types.specs.declared.features.FeatureAnswer.{FeatureAnswer}
 use Rattle.btf_types.specs.Features.{feature_of, told, numbers, AreDistinct}
 

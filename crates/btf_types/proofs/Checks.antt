@@ -8,7 +8,7 @@ use Rattle.btf_types.specs.Checked.{checked}
 use Rattle.btf_model.proofs.Comparisons.{same_ok, same_err}
 use Rattle.btf_model.specs.Refusal.{Refusal, InvalidStringOffset, InvalidTypeInfo}
 use Rattle.btf_model.specs.Table.{section_limit}
-use Rattle.btf_model.specs.Checks.{Check, first_fault, has_room, fits}
+use Rattle.btf_rewrite_model.specs.Checks.{Check, first_fault, has_room, fits}
 
 -- where the first ones are passed, the others count
 pub fault_behind : (before after : List Check) → first_fault before ≡ None → first_fault (before ++ after) ≡ first_fault after

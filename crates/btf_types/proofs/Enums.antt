@@ -3,8 +3,8 @@ use Rattle.std.proofs.Common.{◌≡◌, ℕ, ◌+◌, ◌*◌, ◌^◌, ◌≤�
 use Rattle.std.specs.List.{flat_map}
 use Rattle.std.proofs.lemmas.List.{take_all}
 use Rattle.btf_model.specs.Table.{Variant}
-use Rattle.btf_model.specs.Made.{variants}
-use Rattle.btf_model.specs.Rule.{variant_members}
+use Rattle.btf_rewrite_model.specs.Made.{variants}
+use Rattle.btf_rewrite_model.specs.Rule.{variant_members}
 use Rattle.btf_records.specs.Fallback.{variant_of}
 use Rattle.btf_records.specs.Items.{enum64_words, member_words}
 use Rattle.btf_records.specs.declared.records.items.BtfEnum64.{BtfEnum64}

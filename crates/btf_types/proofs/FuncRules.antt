@@ -5,19 +5,19 @@ use Rattle.std.proofs.lemmas.Bool.{eqb-true, false_from_ne_true}
 use Rattle.btf_model.specs.Record as kinds
 use Rattle.btf_model.specs.Record.{Kind, Record, kind_of, vlen}
 use Rattle.btf_model.specs.Refusal.{Refusal}
-use Rattle.btf_model.specs.Feature as features
-use Rattle.btf_model.specs.Feature.{Feature, Answer, grants, is_global}
+use Rattle.btf_rewrite_model.specs.Feature as features
+use Rattle.btf_rewrite_model.specs.Feature.{Feature, Answer, grants, is_global}
 use Rattle.btf_model.specs.Table.{Table}
-use Rattle.btf_model.proofs.Passing.{AreAnswersTo, NextAnswers}
+use Rattle.btf_rewrite_model.proofs.Passing.{AreAnswersTo, NextAnswers}
 use Rattle.btf_plain.specs.declared.records.linkage.FuncLinkage.TheVariants as linkage
 use Rattle.btf_plain.specs.declared.records.linkage.FuncLinkage.{FuncLinkage}
 use Rattle.btf_types.proofs.PassAsking.{asked_none, asked_more, asked_kept}
-use Rattle.btf_model.specs.Made.{record_at, typedef, with_linkage}
-use Rattle.btf_model.specs.Checks.{first_fault, is_read}
+use Rattle.btf_rewrite_model.specs.Made.{record_at, typedef, with_linkage}
+use Rattle.btf_rewrite_model.specs.Checks.{first_fault, is_read}
 use Rattle.btf_model.specs.Text.{text_at}
-use Rattle.btf_model.specs.Pass.{Pass, Layout, asks_below, has, name_of, is_builtin, func_asks, asks, asks_by, gets_filler, wants_placeholder, free_id}
-use Rattle.btf_model.specs.Rule.{becomes, known_func}
-use Rattle.btf_model.specs.Fault.{fault}
+use Rattle.btf_rewrite_model.specs.Pass.{Pass, Layout, asks_below, has, name_of, is_builtin, func_asks, asks, asks_by, gets_filler, wants_placeholder, free_id}
+use Rattle.btf_rewrite_model.specs.Rule.{becomes, known_func}
+use Rattle.btf_rewrite_model.specs.Fault.{fault}
 use Rattle.btf_plain.specs.Linkage.{func_linkage_of}
 use Rattle.btf_records.specs.BtfType.{record_of, fallback_of}
 use Rattle.btf_records.specs.declared.btf_type.BtfType.{BtfType}

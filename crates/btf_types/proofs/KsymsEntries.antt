@@ -8,9 +8,9 @@ use Rattle.std.proofs.lemmas.List.Concat.{flat_map-append}
 use Rattle.std.proofs.lemmas.List.Folds.{list_any-append}
 use Rattle.btf_model.specs.Refusal.{Refusal}
 use Rattle.btf_model.specs.Table.{Table}
-use Rattle.btf_model.specs.Made.{Entry, entries, record_at, kind_at}
-use Rattle.btf_model.specs.Checks.{Check, first_fault}
-use Rattle.btf_model.specs.Ksyms.{is_func, entry_checks}
+use Rattle.btf_rewrite_model.specs.Made.{Entry, entries, record_at, kind_at}
+use Rattle.btf_rewrite_model.specs.Checks.{Check, first_fault}
+use Rattle.btf_rewrite_model.specs.Ksyms.{is_func, entry_checks}
 use Rattle.btf_records.specs.Items.{entry_words}
 use Rattle.btf_records.specs.declared.records.items.DataSecEntry.{DataSecEntry}
 use Rattle.btf_types.specs.KsymsStep.{entry, has, is_this, prototype_of, HasSymbols, FindsSymbols}

@@ -6,10 +6,10 @@ use Rattle.std.proofs.lemmas.List.{map-append, length-append, length-take, lengt
 use Rattle.std.proofs.lemmas.List.Concat.{flat_map-append}
 use Rattle.std.proofs.Math.Seq.{take-suc, drop-cons}
 use Rattle.btf_model.specs.Table.{Table}
-use Rattle.btf_model.specs.Made as model
+use Rattle.btf_rewrite_model.specs.Made as model
 use Rattle.btf_model.specs.Record.{Record}
-use Rattle.btf_model.specs.Made.{Entry, entries, wants_name}
-use Rattle.btf_model.specs.Ksyms.{named, laid_out, entry_type}
+use Rattle.btf_rewrite_model.specs.Made.{Entry, entries, wants_name}
+use Rattle.btf_rewrite_model.specs.Ksyms.{named, laid_out, entry_type}
 use Rattle.btf_records.specs.Items.{param_words, entry_words}
 use Rattle.btf_records.specs.declared.records.items.BtfParam.{BtfParam}
 use Rattle.btf_records.specs.declared.records.items.DataSecEntry.{DataSecEntry}

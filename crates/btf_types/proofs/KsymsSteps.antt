@@ -12,8 +12,8 @@ use Rattle.std.proofs.lemmas.List.Concat.{flat_map-append}
 use Rattle.std.proofs.lemmas.List.Sums.{sum_by-cons}
 use Rattle.std.proofs.lemmas.Bool.{eq-eqb, leb-true, false≢true}
 use Rattle.btf_model.specs.Refusal.{Refusal}
-use Rattle.btf_model.specs.Checks.{Check, first_fault, has_room, fits, record_len}
-use Rattle.btf_model.proofs.Granted.{passed_head, passed_tail, passed_left}
+use Rattle.btf_rewrite_model.specs.Checks.{Check, first_fault, has_room, fits, record_len}
+use Rattle.btf_rewrite_model.proofs.Granted.{passed_head, passed_tail, passed_left}
 use Rattle.btf_model.specs.Record as kinds
 use Rattle.btf_model.specs.Record.{Kind, Record, unknown, kind_of}
 use Rattle.btf_model.specs.Word.{Order}
@@ -22,9 +22,9 @@ use Rattle.btf_model.specs.Table.{Table, type_bytes, section_limit, with_string,
 use Rattle.btf_model.specs.Fields.{HaveKinds}
 use Rattle.btf_model.proofs.Records.{length-spell}
 use Rattle.btf_types.proofs.KnownKinds.{AllHaveKinds, one_more_kind}
-use Rattle.btf_model.specs.Made as model
-use Rattle.btf_model.specs.Made.{Entry, entries, record_at, c_int}
-use Rattle.btf_model.specs.Ksyms.{KsymsIds, stepped, symbols, laid_out, appends_int, each_stepped, ksyms_table, ksyms_fault, int_text, placeholder_checks, data_sec_checks}
+use Rattle.btf_rewrite_model.specs.Made as model
+use Rattle.btf_rewrite_model.specs.Made.{Entry, entries, record_at, c_int}
+use Rattle.btf_rewrite_model.specs.Ksyms.{KsymsIds, stepped, symbols, laid_out, appends_int, each_stepped, ksyms_table, ksyms_fault, int_text, placeholder_checks, data_sec_checks}
 use Rattle.btf_records.specs.BtfType.{record_of, fallback_of}
 use Rattle.btf_records.specs.declared.btf_type.BtfType.{BtfType}
 use Rattle.btf_types.specs.declared.table.changes.Changes.{Changes}

@@ -6,11 +6,11 @@ use Rattle.std.specs.Option.{option_map}
 use Rattle.std.proofs.lemmas.List.{map-append, append-nil, append_assoc}
 use Rattle.std.proofs.lemmas.List.Folds.{list_any-append}
 use Rattle.std.proofs.lemmas.Bool.{or_right}
-use Rattle.btf_model.specs.Feature.{Feature, Answer, same_feature, grants}
-use Rattle.btf_model.specs.Pass.{Pass, asks_below, each_once, Asked}
-use Rattle.btf_model.specs.Pass.{asks as model_asks}
-use Rattle.btf_model.specs.RewriteLaws.{IsAmong}
-use Rattle.btf_model.proofs.Passing.{AreAnswersTo, NextAnswers, AnswersWith, answer_to, asked_next, grants_append, among_each, features_of, IsAt, further_same, asks_begin, each_once_begins}
+use Rattle.btf_rewrite_model.specs.Feature.{Feature, Answer, same_feature, grants}
+use Rattle.btf_rewrite_model.specs.Pass.{Pass, asks_below, each_once, Asked}
+use Rattle.btf_rewrite_model.specs.Pass.{asks as model_asks}
+use Rattle.btf_rewrite_model.specs.RewriteLaws.{IsAmong}
+use Rattle.btf_rewrite_model.proofs.Passing.{AreAnswersTo, NextAnswers, AnswersWith, answer_to, asked_next, grants_append, among_each, features_of, IsAt, further_same, asks_begin, each_once_begins}
 use Rattle.btf_types.specs.Features.{feature_of, answer_of, answers_of, told, Asks, AsksFor, Called, IsFurther}
 use Rattle.btf_types.specs.PassStep.{HasAsked, AsksUpTo, BeginsAsked}
 use Rattle.btf_types.specs.declared.features.BtfFeature.{BtfFeature}

@@ -5,11 +5,11 @@ use Rattle.std.proofs.lemmas.Bool.{false≢true}
 use Rattle.btf_model.specs.Record as kinds
 use Rattle.btf_model.specs.Record.{Kind, Record, kind_of}
 use Rattle.btf_model.specs.Table.{Table}
-use Rattle.btf_model.specs.Feature as features
-use Rattle.btf_model.specs.Feature.{Feature, Answer, grants, is_signed}
-use Rattle.btf_model.specs.Made.{record_at}
-use Rattle.btf_model.specs.Pass.{Pass, Layout, asks, asks_by, asks_below}
-use Rattle.btf_model.proofs.Passing.{AreAnswersTo, NextAnswers}
+use Rattle.btf_rewrite_model.specs.Feature as features
+use Rattle.btf_rewrite_model.specs.Feature.{Feature, Answer, grants, is_signed}
+use Rattle.btf_rewrite_model.specs.Made.{record_at}
+use Rattle.btf_rewrite_model.specs.Pass.{Pass, Layout, asks, asks_by, asks_below}
+use Rattle.btf_rewrite_model.proofs.Passing.{AreAnswersTo, NextAnswers}
 use Rattle.btf_records.specs.BtfType.{record_of, type_kind}
 use Rattle.btf_records.specs.declared.btf_type.BtfType.TheVariants as types
 use Rattle.btf_records.specs.declared.btf_type.BtfType.{BtfType}

@@ -8,16 +8,16 @@ use Rattle.btf_model.specs.Record as kinds
 use Rattle.btf_model.specs.Record.{Kind, Record, unknown, kind_of, vlen}
 use Rattle.btf_model.specs.Refusal.{Refusal}
 use Rattle.btf_model.specs.Table.{Table, Fallback}
-use Rattle.btf_model.specs.Feature as features
-use Rattle.btf_model.specs.Made as model
-use Rattle.btf_model.specs.Made.{record_at, kind_at, byte_int}
-use Rattle.btf_model.specs.Checks.{first_fault, have_room, record_len}
-use Rattle.btf_model.specs.Pass.{Pass, has, texts, texts_by, added, added_by, free_id, offset_at, type_len_at, gets_filler, wants_placeholder, makes_placeholder, is_enum64, least, is_unsized, is_zero_or, section_size, param_texts, placeholder_text}
-use Rattle.btf_model.specs.Rule.{becomes, becomes_by, ruled_below, falls_back, falls_back_by, named_params, placeholder_id, variant_members}
-use Rattle.btf_model.specs.Fault.{fault, checks_by, all_fit}
-use Rattle.btf_model.proofs.Lengths.{named_len, members_len}
-use Rattle.btf_model.proofs.Passing.{is_quiet, IsQuiet, quiet}
-use Rattle.btf_model.proofs.FirstMade.{MadeBelow, makes_first, made_first, none_next, makes_no_second, made_next, made_is}
+use Rattle.btf_rewrite_model.specs.Feature as features
+use Rattle.btf_rewrite_model.specs.Made as model
+use Rattle.btf_rewrite_model.specs.Made.{record_at, kind_at, byte_int}
+use Rattle.btf_rewrite_model.specs.Checks.{first_fault, have_room, record_len}
+use Rattle.btf_rewrite_model.specs.Pass.{Pass, has, texts, texts_by, added, added_by, free_id, offset_at, type_len_at, gets_filler, wants_placeholder, makes_placeholder, is_enum64, least, is_unsized, is_zero_or, section_size, param_texts, placeholder_text}
+use Rattle.btf_rewrite_model.specs.Rule.{becomes, becomes_by, ruled_below, falls_back, falls_back_by, named_params, placeholder_id, variant_members}
+use Rattle.btf_rewrite_model.specs.Fault.{fault, checks_by, all_fit}
+use Rattle.btf_rewrite_model.proofs.Lengths.{named_len, members_len}
+use Rattle.btf_rewrite_model.proofs.Passing.{is_quiet, IsQuiet, quiet}
+use Rattle.btf_rewrite_model.proofs.FirstMade.{MadeBelow, makes_first, made_first, none_next, makes_no_second, made_next, made_is}
 use Rattle.std.specs.Prelude.{IfOk, IfSome}
 use Rattle.std.specs.Result.{result_ok}
 use Rattle.std.proofs.lemmas.Option.{none-some}

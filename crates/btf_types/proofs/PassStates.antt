@@ -17,22 +17,22 @@ use Rattle.btf_model.specs.Refusal.{Refusal}
 use Rattle.btf_model.specs.Table.{Table, Fallback, type_bytes, no_fallbacks}
 use Rattle.btf_model.specs.Spelling.{spell}
 use Rattle.btf_model.specs.Word.{Order}
-use Rattle.btf_model.specs.Feature as features
-use Rattle.btf_model.specs.Feature.{Feature, Answer, same_feature, grants}
-use Rattle.btf_model.specs.Made as model
-use Rattle.btf_model.specs.Made.{record_at, kind_at}
-use Rattle.btf_model.specs.Checks.{record_len}
-use Rattle.btf_model.specs.Pass.{Pass, has, asks, asks_by, asks_below, each_once, is_enum64, texts, texts_below, added, added_by, added_below, free_id, offset_at, filler_type_text, gets_filler, makes_filler, makes_placeholder, filler_offset, growth_below, wants_placeholder}
-use Rattle.btf_model.specs.Rule.{becomes, becomes_by, ruled_below, falls_back, falls_back_by}
-use Rattle.btf_model.specs.Fault.{fault}
-use Rattle.btf_model.specs.Rewritten.{ended, AreRuled, rewritten}
-use Rattle.btf_model.specs.RewriteLaws.{IsAmong, with_answers, Agree, IsSameBelow}
-use Rattle.btf_model.proofs.Agreeing.{AgreeAt, agree_at, agree_of, same_below, same_refused}
-use Rattle.btf_model.proofs.Appending.{ended_len}
-use Rattle.btf_model.proofs.FirstMade.{MadeBelow, none_next, none_below_zero, made_alike, placeholder_alike, filler_alike_below}
-use Rattle.btf_model.proofs.Passing.{features_of, is_quiet, IsQuiet, quiet, AreAnswersTo, IsAt, Grows, grows, further_agree, further_same, goes_on, made_next}
+use Rattle.btf_rewrite_model.specs.Feature as features
+use Rattle.btf_rewrite_model.specs.Feature.{Feature, Answer, same_feature, grants}
+use Rattle.btf_rewrite_model.specs.Made as model
+use Rattle.btf_rewrite_model.specs.Made.{record_at, kind_at}
+use Rattle.btf_rewrite_model.specs.Checks.{record_len}
+use Rattle.btf_rewrite_model.specs.Pass.{Pass, has, asks, asks_by, asks_below, each_once, is_enum64, texts, texts_below, added, added_by, added_below, free_id, offset_at, filler_type_text, gets_filler, makes_filler, makes_placeholder, filler_offset, growth_below, wants_placeholder}
+use Rattle.btf_rewrite_model.specs.Rule.{becomes, becomes_by, ruled_below, falls_back, falls_back_by}
+use Rattle.btf_rewrite_model.specs.Fault.{fault}
+use Rattle.btf_rewrite_model.specs.Rewritten.{ended, AreRuled, rewritten}
+use Rattle.btf_rewrite_model.specs.RewriteLaws.{IsAmong, with_answers, Agree, IsSameBelow}
+use Rattle.btf_rewrite_model.proofs.Agreeing.{AgreeAt, agree_at, agree_of, same_below, same_refused}
+use Rattle.btf_rewrite_model.proofs.Appending.{ended_len}
+use Rattle.btf_rewrite_model.proofs.FirstMade.{MadeBelow, none_next, none_below_zero, made_alike, placeholder_alike, filler_alike_below}
+use Rattle.btf_rewrite_model.proofs.Passing.{features_of, is_quiet, IsQuiet, quiet, AreAnswersTo, IsAt, Grows, grows, further_agree, further_same, goes_on, made_next}
 use Rattle.btf_model.proofs.Records.{length-spell}
-use Rattle.btf_model.proofs.Ruled.{length-ruled}
+use Rattle.btf_rewrite_model.proofs.Ruled.{length-ruled}
 use Rattle.btf_records.specs.BtfType.{record_of, fallback_of}
 use Rattle.btf_records.specs.declared.btf_type.BtfType.{BtfType}
 use Rattle.btf_types.specs.Adding.{HasRoom}

@@ -8,12 +8,12 @@ use Rattle.std.proofs.Math.Seq.{take-suc, drop-cons}
 use Rattle.btf_model.specs.Refusal.{Refusal}
 use Rattle.btf_model.specs.Record.{Record}
 use Rattle.btf_model.specs.Table.{Table}
-use Rattle.btf_model.specs.Made.{wants_name}
-use Rattle.btf_model.specs.Checks.{first_fault, have_room}
-use Rattle.btf_model.specs.Pass.{texts_len, param_text, param_texts}
-use Rattle.btf_model.specs.Rule.{named_params}
-use Rattle.btf_model.specs.Rewritten.{ended}
-use Rattle.btf_model.proofs.Appending.{room_append, ended_len}
+use Rattle.btf_rewrite_model.specs.Made.{wants_name}
+use Rattle.btf_rewrite_model.specs.Checks.{first_fault, have_room}
+use Rattle.btf_rewrite_model.specs.Pass.{texts_len, param_text, param_texts}
+use Rattle.btf_rewrite_model.specs.Rule.{named_params}
+use Rattle.btf_rewrite_model.specs.Rewritten.{ended}
+use Rattle.btf_rewrite_model.proofs.Appending.{room_append, ended_len}
 use Rattle.btf_records.specs.Items.{param_words}
 use Rattle.btf_records.specs.declared.records.items.BtfParam.{BtfParam}
 use Rattle.btf_types.specs.declared.table.changes.Changes.{Changes}

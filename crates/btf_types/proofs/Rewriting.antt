@@ -3,13 +3,13 @@ use Rattle.std.proofs.Common.{◌≡◌, Bool, true, false, List, length, Option
 use Rattle.std.specs.Prelude.{if◌then◌else◌, OnOk, IfSome}
 use Rattle.btf_model.specs.Refusal.{Refusal}
 use Rattle.btf_model.specs.Table.{Table, with_string, with_type}
-use Rattle.btf_model.specs.Feature.{Answer}
-use Rattle.btf_model.specs.Ksyms.{KsymsIds, appends_int, each_stepped, int_text}
-use Rattle.btf_model.specs.Made.{c_int}
-use Rattle.btf_model.specs.Pass.{Layout}
-use Rattle.btf_model.specs.Rewritten.{begun, pass_of, step_fault, Rewritten}
-use Rattle.btf_model.proofs.GrantedAll.{suffice}
-use Rattle.btf_model.proofs.Kept as kept
+use Rattle.btf_rewrite_model.specs.Feature.{Answer}
+use Rattle.btf_rewrite_model.specs.Ksyms.{KsymsIds, appends_int, each_stepped, int_text}
+use Rattle.btf_rewrite_model.specs.Made.{c_int}
+use Rattle.btf_rewrite_model.specs.Pass.{Layout}
+use Rattle.btf_rewrite_model.specs.Rewritten.{begun, pass_of, step_fault, Rewritten}
+use Rattle.btf_rewrite_model.proofs.GrantedAll.{suffice}
+use Rattle.btf_rewrite_model.proofs.Kept as kept
 use Rattle.btf_plain.specs.declared.error.BtfError.{BtfError}
 use Rattle.btf_plain.specs.Error.{Answers, refusal_of}
 use Rattle.btf_types.specs.PassStep.{pass_on}

@@ -7,9 +7,9 @@ use Rattle.std.proofs.lemmas.List.Concat.{flat_map-append}
 use Rattle.btf_model.specs.Record.{Record}
 use Rattle.btf_model.specs.Refusal.{Refusal}
 use Rattle.btf_model.specs.Table.{Table}
-use Rattle.btf_model.specs.Made.{Entry, entries, byte_int, static_var}
-use Rattle.btf_model.specs.Checks.{Check, first_fault}
-use Rattle.btf_model.specs.Rewritten.{ended}
+use Rattle.btf_rewrite_model.specs.Made.{Entry, entries, byte_int, static_var}
+use Rattle.btf_rewrite_model.specs.Checks.{Check, first_fault}
+use Rattle.btf_rewrite_model.specs.Rewritten.{ended}
 use Rattle.btf_records.specs.BtfType.{record_of}
 use Rattle.btf_records.specs.Items.{entry_words}
 use Rattle.btf_records.specs.declared.records.items.DataSecEntry.{DataSecEntry}

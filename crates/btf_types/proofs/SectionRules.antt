@@ -12,17 +12,17 @@ use Rattle.btf_model.specs.Record.{Kind, Record, kind_of, vlen}
 use Rattle.btf_model.specs.Refusal.{Refusal, InvalidTypeInfo}
 use Rattle.btf_model.specs.Table.{section_limit}
 use Rattle.btf_model.specs.Text.{text_at}
-use Rattle.btf_model.specs.Feature as features
-use Rattle.btf_model.specs.Feature.{Feature, Answer, grants, has_no_entries}
-use Rattle.btf_model.specs.Made as model
-use Rattle.btf_model.specs.Made.{entries, record_at, kind_at, byte_int, static_var}
-use Rattle.btf_model.specs.Checks.{Check, first_fault, is_read, has_room, have_room, fits, record_len}
-use Rattle.btf_model.specs.Pass.{Pass, has, name_of, renaming, section_size, size_by_name, is_unsized, is_zero_or, is_positive, gets_filler, makes_filler, least, filler_type_text, filler_text, filler, filler_offset, texts, texts_len, added, free_id, offset_at, type_len_at, wants_placeholder, asks, asks_by, asks_below, data_sec_asks}
-use Rattle.btf_model.specs.Rule.{becomes_by, ruled_below, new_name, name_or, completed, placed, filler_id, entry_members, member_name}
-use Rattle.btf_model.specs.Fault.{fault, name_checks, member_checks, entry_checks, completing_checks, filler_checks, growth_checks, is_sized}
-use Rattle.btf_model.proofs.Lengths.{entries_len}
-use Rattle.btf_model.proofs.FirstMade.{MadeBelow, makes_first, made_first, makes_no_second, made_next, made_is}
-use Rattle.btf_model.proofs.Passing.{AreAnswersTo, NextAnswers}
+use Rattle.btf_rewrite_model.specs.Feature as features
+use Rattle.btf_rewrite_model.specs.Feature.{Feature, Answer, grants, has_no_entries}
+use Rattle.btf_rewrite_model.specs.Made as model
+use Rattle.btf_rewrite_model.specs.Made.{entries, record_at, kind_at, byte_int, static_var}
+use Rattle.btf_rewrite_model.specs.Checks.{Check, first_fault, is_read, has_room, have_room, fits, record_len}
+use Rattle.btf_rewrite_model.specs.Pass.{Pass, has, name_of, renaming, section_size, size_by_name, is_unsized, is_zero_or, is_positive, gets_filler, makes_filler, least, filler_type_text, filler_text, filler, filler_offset, texts, texts_len, added, free_id, offset_at, type_len_at, wants_placeholder, asks, asks_by, asks_below, data_sec_asks}
+use Rattle.btf_rewrite_model.specs.Rule.{becomes_by, ruled_below, new_name, name_or, completed, placed, filler_id, entry_members, member_name}
+use Rattle.btf_rewrite_model.specs.Fault.{fault, name_checks, member_checks, entry_checks, completing_checks, filler_checks, growth_checks, is_sized}
+use Rattle.btf_rewrite_model.proofs.Lengths.{entries_len}
+use Rattle.btf_rewrite_model.proofs.FirstMade.{MadeBelow, makes_first, made_first, makes_no_second, made_next, made_is}
+use Rattle.btf_rewrite_model.proofs.Passing.{AreAnswersTo, NextAnswers}
 use Rattle.btf_plain.specs.Error.{Answers, Gives, refusal_of}
 use Rattle.btf_plain.specs.declared.error.BtfError.{BtfError}
 use Rattle.btf_records.specs.BtfType.{record_of, fallback_of}

@@ -3,8 +3,8 @@ use Rattle.std.specs.Prelude.{◌≡◌, ℕ, ◌+◌, ◌*◌, ◌≤◌, List,
 use Rattle.std.specs.List.{flat_map, sum_by}
 use Rattle.btf_model.specs.Record.{Record}
 use Rattle.btf_model.specs.Table.{Table, section_limit, no_fallbacks}
-use Rattle.btf_model.specs.Checks.{record_len}
-use Rattle.btf_model.specs.Rewritten.{ended}
+use Rattle.btf_rewrite_model.specs.Checks.{record_len}
+use Rattle.btf_rewrite_model.specs.Rewritten.{ended}
 use Rattle.btf_records.specs.BtfType.{record_of, fallback_of}
 use Rattle.btf_types.specs.declared.table.changes.Changes.{Changes}
 

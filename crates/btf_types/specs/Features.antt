@@ -2,8 +2,8 @@
 use Rattle.std.specs.Prelude.{◌≡◌, ℕ, eqb, Bool, List, [], ◌∷◌, ◌++◌, map, Option, Some, None}
 use Rattle.std.specs.List.{IsDistinct, find}
 use Rattle.std.specs.Option.{option_map}
-use Rattle.btf_model.specs.Feature as model
-use Rattle.btf_model.specs.Feature.{Feature, Answer, same_feature, number}
+use Rattle.btf_rewrite_model.specs.Feature as model
+use Rattle.btf_rewrite_model.specs.Feature.{Feature, Answer, same_feature, number}
 use Rattle.btf_types.specs.declared.features.BtfFeature.{BtfFeature}
 use Rattle.btf_types.specs.declared.features.BtfFeature.TheVariants.{Func, FuncGlobal, DataSec, DataSecZero, Float, DeclTag, TypeTag, Enum64}
 use Rattle.btf_types.specs.declared.features.FeatureAnswer.{FeatureAnswer}

@@ -7,9 +7,9 @@ use Rattle.std.specs.HashSet.{HashSet}
 use Rattle.btf_model.specs.Record.{Kind, Record, kind_of}
 use Rattle.btf_model.specs.Refusal.{Refusal}
 use Rattle.btf_model.specs.Table.{Table}
-use Rattle.btf_model.specs.Checks.{first_fault}
-use Rattle.btf_model.specs.Made.{Entry, entries, entry_words, record_at, kind_at}
-use Rattle.btf_model.specs.Ksyms.{KsymsIds, is_func, symbol_type, appends_int, entry_checks, laid_out, symbols, stepped, ksyms_fault, ksyms_table}
+use Rattle.btf_rewrite_model.specs.Checks.{first_fault}
+use Rattle.btf_rewrite_model.specs.Made.{Entry, entries, entry_words, record_at, kind_at}
+use Rattle.btf_rewrite_model.specs.Ksyms.{KsymsIds, is_func, symbol_type, appends_int, entry_checks, laid_out, symbols, stepped, ksyms_fault, ksyms_table}
 use Rattle.btf_records.specs.declared.records.items.DataSecEntry.{DataSecEntry}
 use Rattle.btf_records.specs.BtfType.{record_of, fallback_of}
 use Rattle.btf_records.specs.declared.btf_type.BtfType.{BtfType}

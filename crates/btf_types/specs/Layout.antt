@@ -1,7 +1,7 @@
 -- What the caller's maps tell a rewrite: the sizes of sections and the offsets of symbols, by name.
 use Rattle.std.specs.Prelude.{ℕ, List, option_map, Option, String}
 use Rattle.std.specs.HashMap.{HashMap, get_by_text}
-use Rattle.btf_model.specs.Pass.{Layout}
+use Rattle.btf_rewrite_model.specs.Pass.{Layout}
 use Rattle.btf_plain.specs.declared.words.SectionIndex.{SectionIndex}
 
 -- the size of each section; its index is not asked for

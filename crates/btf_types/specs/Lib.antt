@@ -26,8 +26,8 @@ pub use Rattle.btf_model.specs.Spelling
 pub use Rattle.btf_model.specs.Table
 pub use Rattle.btf_model.specs.Blob
 pub use Rattle.btf_model.specs.Ext
-pub use Rattle.btf_model.specs.Feature
-pub use Rattle.btf_model.specs.Ksyms
+pub use Rattle.btf_rewrite_model.specs.Feature
+pub use Rattle.btf_rewrite_model.specs.Ksyms
 pub use Rattle.btf_plain.specs.Error
 pub use Rattle.btf_plain.specs.Endianness
 pub use Rattle.btf_records.specs.BtfType

@@ -4,16 +4,16 @@ use Rattle.std.specs.Option.{option_map}
 use Rattle.btf_model.specs.Record as kinds
 use Rattle.btf_model.specs.Record.{Record}
 use Rattle.btf_model.specs.Refusal.{Refusal, MaximumTypeDepthReached}
-use Rattle.btf_model.specs.Made.{record_at, kind_at}
+use Rattle.btf_rewrite_model.specs.Made.{record_at, kind_at}
 use Rattle.btf_model.specs.Walk.{WalkAnswers, Resolves, HasSize}
-use Rattle.btf_model.specs.RewriteLaws.{FindsKept, IsAmong, IsGrantedOnce}
+use Rattle.btf_rewrite_model.specs.RewriteLaws.{FindsKept, IsAmong, IsGrantedOnce}
 use Rattle.btf_model.specs.Word.{Order}
 use Rattle.btf_model.specs.Table.{Table, strip}
 use Rattle.btf_model.specs.Blob.{IsTable, IsRefusal, canon}
-use Rattle.btf_model.specs.Feature.{Feature, Answer, needs}
-use Rattle.btf_model.specs.Ksyms as model
-use Rattle.btf_model.specs.Pass.{Pass, Layout, asks_below, each_once, Asked}
-use Rattle.btf_model.specs.Rewritten.{begun, pass_of, step_fault, FaultsAt, Rewritten, rewritten, AreRuled, old_count}
+use Rattle.btf_rewrite_model.specs.Feature.{Feature, Answer, needs}
+use Rattle.btf_rewrite_model.specs.Ksyms as model
+use Rattle.btf_rewrite_model.specs.Pass.{Pass, Layout, asks_below, each_once, Asked}
+use Rattle.btf_rewrite_model.specs.Rewritten.{begun, pass_of, step_fault, FaultsAt, Rewritten, rewritten, AreRuled, old_count}
 use Rattle.btf_types.specs.declared.sanitize.KsymsIds.{KsymsIds}
 use Rattle.btf_types.specs.declared.features.FeatureAnswer.{FeatureAnswer}
 use Rattle.btf_types.specs.KsymsStep.{ksyms_ids}

@@ -2,12 +2,12 @@
 use Rattle.std.specs.Prelude.{◌≡◌, ℕ, [], ◌∷◌, ◌==◌, ◌*◌, length, ◌&&◌, not, Bool, Some, None, max}
 use Rattle.btf_model.specs.Record as kinds
 use Rattle.btf_model.specs.Record.{Record, kind_of, vlen}
-use Rattle.btf_model.specs.Made.{data_sec}
-use Rattle.btf_model.specs.Checks.{first_fault}
-use Rattle.btf_model.specs.Pass.{Pass, name_of, renaming}
-use Rattle.btf_model.specs.Rule.{new_name}
-use Rattle.btf_model.specs.Fault.{name_checks}
-use Rattle.btf_model.specs.Feature.{has_no_entries}
+use Rattle.btf_rewrite_model.specs.Made.{data_sec}
+use Rattle.btf_rewrite_model.specs.Checks.{first_fault}
+use Rattle.btf_rewrite_model.specs.Pass.{Pass, name_of, renaming}
+use Rattle.btf_rewrite_model.specs.Rule.{new_name}
+use Rattle.btf_rewrite_model.specs.Fault.{name_checks}
+use Rattle.btf_rewrite_model.specs.Feature.{has_no_entries}
 use Rattle.btf_records.specs.declared.btf_type.BtfType.TheVariants.{DataSec}
 use Rattle.btf_types.specs.Adding.{Adds}
 use Rattle.btf_types.specs.PassStep.{IsType, IsHere}

@@ -12,12 +12,12 @@ mod section_names;
 mod sections;
 
 ghost use Rattle.std.specs.Prelude.{◌≡◌, ℕ, List, [], Option, Some, OnOk, OnErr, IfOk, slice_get};
-ghost use Rattle.btf_model.specs.Feature.{Feature, needs};
-ghost use Rattle.btf_model.specs.Ksyms.{ksyms_fault, ksyms_table};
-ghost use Rattle.btf_model.specs.Made.{record_at};
+ghost use Rattle.btf_rewrite_model.specs.Feature.{Feature, needs};
+ghost use Rattle.btf_rewrite_model.specs.Ksyms.{ksyms_fault, ksyms_table};
+ghost use Rattle.btf_rewrite_model.specs.Made.{record_at};
 ghost use Rattle.btf_model.specs.Record.{Record};
-ghost use Rattle.btf_model.specs.Rewritten.{begun, pass_of};
-ghost use Rattle.btf_model.specs.RewriteLaws.{IsAmong, IsGrantedOnce};
+ghost use Rattle.btf_rewrite_model.specs.Rewritten.{begun, pass_of};
+ghost use Rattle.btf_rewrite_model.specs.RewriteLaws.{IsAmong, IsGrantedOnce};
 ghost use Rattle.btf_plain.specs.Endianness.{order_of};
 ghost use Rattle.btf_plain.specs.Error.{Answers, Gives};
 ghost use Rattle.btf_types.specs.Checked.{checked};

@@ -3,12 +3,12 @@
 ghost use Rattle.std.specs.Prelude.{◌≡◌, ◌+◌, ◌*◌, ◌++◌, ◌^◌, [], ◌∷◌, length, map, IfOk, OnOk, Ok, Some};
 ghost use Rattle.std.specs.List.{flat_map};
 ghost use Rattle.btf_model.specs.Record.{vlen};
-ghost use Rattle.btf_model.specs.Made.{byte_int, union, unsigned, fallback_of};
-ghost use Rattle.btf_model.specs.Made as model;
-ghost use Rattle.btf_model.specs.Checks.{first_fault, have_room};
-ghost use Rattle.btf_model.specs.Fault.{all_fit};
-ghost use Rattle.btf_model.specs.Pass.{placeholder_text};
-ghost use Rattle.btf_model.specs.Rule.{variant_members};
+ghost use Rattle.btf_rewrite_model.specs.Made.{byte_int, union, unsigned, fallback_of};
+ghost use Rattle.btf_rewrite_model.specs.Made as model;
+ghost use Rattle.btf_rewrite_model.specs.Checks.{first_fault, have_room};
+ghost use Rattle.btf_rewrite_model.specs.Fault.{all_fit};
+ghost use Rattle.btf_rewrite_model.specs.Pass.{placeholder_text};
+ghost use Rattle.btf_rewrite_model.specs.Rule.{variant_members};
 ghost use Rattle.btf_plain.specs.Error.{Gives};
 ghost use Rattle.btf_records.specs.Fallback.{variant_of, fallback_value};
 ghost use Rattle.btf_records.specs.Items.{enum64_words, member_words};

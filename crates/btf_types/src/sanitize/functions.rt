@@ -2,11 +2,11 @@
 
 ghost use Rattle.std.specs.Prelude.{◌≡◌, ℕ, Bool, List, IfOk, IsTrue, Ok};
 ghost use Rattle.std.specs.Option.{unwrap_or};
-ghost use Rattle.btf_model.specs.Feature.{Feature};
-ghost use Rattle.btf_model.specs.Made.{with_linkage};
-ghost use Rattle.btf_model.specs.Pass as model;
-ghost use Rattle.btf_model.specs.Pass.{Layout, asks_below};
-ghost use Rattle.btf_model.proofs.Passing.{AreAnswersTo};
+ghost use Rattle.btf_rewrite_model.specs.Feature.{Feature};
+ghost use Rattle.btf_rewrite_model.specs.Made.{with_linkage};
+ghost use Rattle.btf_rewrite_model.specs.Pass as model;
+ghost use Rattle.btf_rewrite_model.specs.Pass.{Layout, asks_below};
+ghost use Rattle.btf_rewrite_model.proofs.Passing.{AreAnswersTo};
 ghost use Rattle.btf_plain.specs.Error.{Answers};
 ghost use Rattle.btf_types.specs.Features.{Called, IsFurther, answers_of};
 ghost use Rattle.btf_types.specs.PassStep.{pass_on, IsType, IsHere, AsksUpTo, Steps};

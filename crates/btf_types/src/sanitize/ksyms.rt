@@ -3,10 +3,10 @@
 ghost use Rattle.std.specs.Prelude.{◌≡◌, ◌≤◌, if◌then◌else◌, ℕ, [], ◌∷◌, length, map, Option, None, Ok, IfOk};
 ghost use Rattle.std.specs.List.{position_or_len};
 ghost use Rattle.btf_model.specs.Record.{kind_of};
-ghost use Rattle.btf_model.specs.Made.{Entry, entries, record_at, wants_name, with_linkage};
-ghost use Rattle.btf_model.specs.Checks.{first_fault};
-ghost use Rattle.btf_model.specs.Ksyms as model;
-ghost use Rattle.btf_model.specs.Ksyms.{placeholder_checks, data_sec_checks, entry_checks, named};
+ghost use Rattle.btf_rewrite_model.specs.Made.{Entry, entries, record_at, wants_name, with_linkage};
+ghost use Rattle.btf_rewrite_model.specs.Checks.{first_fault};
+ghost use Rattle.btf_rewrite_model.specs.Ksyms as model;
+ghost use Rattle.btf_rewrite_model.specs.Ksyms.{placeholder_checks, data_sec_checks, entry_checks, named};
 ghost use Rattle.btf_plain.specs.Error.{Gives, Answers};
 ghost use Rattle.btf_records.specs.BtfType.{record_of};
 ghost use Rattle.btf_types.specs.Checked.{checked};
@@ -248,7 +248,7 @@ impl Target {
     ghost use Rattle.std.specs.Prelude.{IfSome};
     ghost use Rattle.std.specs.Option.{unwrap_or};
     ghost use Rattle.btf_model.specs.Table.{Table};
-    ghost use Rattle.btf_model.specs.Ksyms.{entry_type};
+    ghost use Rattle.btf_rewrite_model.specs.Ksyms.{entry_type};
     ghost use Rattle.btf_types.specs.KsymsStep.{IsLike};
 
     /// The type that an entry of this one gets: the placeholder in place of a FUNC, where there is one.
@@ -312,7 +312,7 @@ struct Step {
 impl Step {
     ghost use Rattle.std.specs.Prelude.{IfSome, Some, slice_get};
     ghost use Rattle.std.specs.Option.{unwrap_or};
-    ghost use Rattle.btf_model.specs.Ksyms.{KsymsIds};
+    ghost use Rattle.btf_rewrite_model.specs.Ksyms.{KsymsIds};
     ghost use Rattle.btf_types.specs.KsymsStep.{IsStep, becomes, IsLike, StepsAll};
 
     /// The step over a table, or why it is refused.

@@ -2,10 +2,10 @@
 
 ghost use Rattle.std.specs.Prelude.{◌≡◌, ◌+◌, ◌++◌, ◌<◌, [], ◌∷◌, length, None, Some, IfOk, OnOk, Ok};
 ghost use Rattle.std.specs.Option.{unwrap_or};
-ghost use Rattle.btf_model.specs.Made.{byte_int, static_var};
-ghost use Rattle.btf_model.specs.Checks.{first_fault, have_room, has_room, fits, record_len};
-ghost use Rattle.btf_model.specs.Fault.{all_fit};
-ghost use Rattle.btf_model.specs.Pass.{placeholder_text, filler_type_text, filler_text, filler};
+ghost use Rattle.btf_rewrite_model.specs.Made.{byte_int, static_var};
+ghost use Rattle.btf_rewrite_model.specs.Checks.{first_fault, have_room, has_room, fits, record_len};
+ghost use Rattle.btf_rewrite_model.specs.Fault.{all_fit};
+ghost use Rattle.btf_rewrite_model.specs.Pass.{placeholder_text, filler_type_text, filler_text, filler};
 ghost use Rattle.btf_model.specs.Table.{type_bytes};
 ghost use Rattle.btf_plain.specs.Error.{Gives};
 ghost use Rattle.btf_records.specs.BtfType.{record_of};

@@ -3,10 +3,10 @@
 ghost use Rattle.std.specs.Prelude.{◌≡◌, ℕ, List, [], Some, true};
 ghost use Rattle.std.specs.Option.{unwrap_or};
 ghost use Rattle.btf_model.specs.Record.{kind_of};
-ghost use Rattle.btf_model.specs.Feature.{Feature};
-ghost use Rattle.btf_model.specs.Pass.{Layout, asks_below};
+ghost use Rattle.btf_rewrite_model.specs.Feature.{Feature};
+ghost use Rattle.btf_rewrite_model.specs.Pass.{Layout, asks_below};
 ghost use Rattle.btf_model.specs.Table.{Table};
-ghost use Rattle.btf_model.proofs.Passing.{AreAnswersTo};
+ghost use Rattle.btf_rewrite_model.proofs.Passing.{AreAnswersTo};
 ghost use Rattle.btf_plain.specs.Error.{Answers};
 ghost use Rattle.btf_records.specs.BtfType.{record_of};
 ghost use Rattle.btf_types.specs.Adding.{HasRoom};

@@ -3,10 +3,10 @@
 ghost use Rattle.std.specs.Prelude.{◌≡◌, ℕ, List, None, Some, Ok, Option, length, slice_get, true, IfOk};
 ghost use Rattle.std.specs.Option.{option_map, unwrap_or};
 ghost use Rattle.btf_model.specs.Record.{Record, kind_of};
-ghost use Rattle.btf_model.specs.Made as model;
-ghost use Rattle.btf_model.specs.Pass.{Pass};
-ghost use Rattle.btf_model.specs.Rule.{becomes_by};
-ghost use Rattle.btf_model.proofs.Passing.{is_quiet};
+ghost use Rattle.btf_rewrite_model.specs.Made as model;
+ghost use Rattle.btf_rewrite_model.specs.Pass.{Pass};
+ghost use Rattle.btf_rewrite_model.specs.Rule.{becomes_by};
+ghost use Rattle.btf_rewrite_model.proofs.Passing.{is_quiet};
 ghost use Rattle.btf_plain.specs.Error.{Answers, Gives};
 ghost use Rattle.btf_records.specs.BtfType.{record_of, fallback_of};
 ghost use Rattle.btf_types.specs.Features.{feature_of};
@@ -96,9 +96,9 @@ fn replaced(alloc: Global, btf_type: &BtfType, granted: bool) -> Result<Option<B
 impl Made {
     ghost use Rattle.btf_types.specs.PassStep.{IsType};
     ghost use Rattle.btf_model.specs.Record as kinds;
-    ghost use Rattle.btf_model.specs.Feature as features;
-    ghost use Rattle.btf_model.specs.Feature.{Answer, grants};
-    ghost use Rattle.btf_model.specs.Pass.{Layout};
+    ghost use Rattle.btf_rewrite_model.specs.Feature as features;
+    ghost use Rattle.btf_rewrite_model.specs.Feature.{Answer, grants};
+    ghost use Rattle.btf_rewrite_model.specs.Pass.{Layout};
     ghost use Rattle.std.specs.Prelude.{false};
     ghost use Rattle.btf_types.specs.PassStep.{pass_on, asks_one};
 

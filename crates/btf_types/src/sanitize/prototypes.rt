@@ -3,11 +3,11 @@
 ghost use Rattle.std.specs.Prelude.{◌≡◌, ◌≤◌, if◌then◌else◌, ℕ, [], ◌∷◌, length, string_bytes, IfOk, OnOk, Ok};
 ghost use Rattle.std.specs.List.{flat_map};
 ghost use Rattle.btf_model.specs.Record.{vlen};
-ghost use Rattle.btf_model.specs.Made.{enum, wants_name};
-ghost use Rattle.btf_model.specs.Checks.{first_fault, have_room};
-ghost use Rattle.btf_model.specs.Pass as model;
-ghost use Rattle.btf_model.specs.Pass.{param_texts};
-ghost use Rattle.btf_model.specs.Rule.{named_params};
+ghost use Rattle.btf_rewrite_model.specs.Made.{enum, wants_name};
+ghost use Rattle.btf_rewrite_model.specs.Checks.{first_fault, have_room};
+ghost use Rattle.btf_rewrite_model.specs.Pass as model;
+ghost use Rattle.btf_rewrite_model.specs.Pass.{param_texts};
+ghost use Rattle.btf_rewrite_model.specs.Rule.{named_params};
 ghost use Rattle.btf_plain.specs.Error.{Gives};
 ghost use Rattle.btf_records.specs.Items.{enum_words, param_words};
 ghost use Rattle.btf_types.specs.Adding.{strings_end, HasRoom, Adds};

@@ -1,11 +1,11 @@
 //! The names that DATASECs get in a rewrite.
 
 ghost use Rattle.std.specs.Prelude.{◌≡◌, [], ◌∷◌, if◌then◌else◌, IfOk, OnOk, string_bytes};
-ghost use Rattle.btf_model.specs.Feature as features;
+ghost use Rattle.btf_rewrite_model.specs.Feature as features;
 ghost use Rattle.btf_model.specs.Text.{text_at};
-ghost use Rattle.btf_model.specs.Checks.{first_fault, is_read, have_room};
-ghost use Rattle.btf_model.specs.Pass.{Pass, has, renaming, replaced, slash, dot, underscore};
-ghost use Rattle.btf_model.specs.Rule.{name_or};
+ghost use Rattle.btf_rewrite_model.specs.Checks.{first_fault, is_read, have_room};
+ghost use Rattle.btf_rewrite_model.specs.Pass.{Pass, has, renaming, replaced, slash, dot, underscore};
+ghost use Rattle.btf_rewrite_model.specs.Rule.{name_or};
 ghost use Rattle.btf_plain.specs.Error.{Gives};
 ghost use Rattle.btf_types.specs.Adding.{strings_end, HasRoom, Adds};
 ghost use Rattle.btf_types.specs.Checked.{checked};

@@ -4,11 +4,11 @@ ghost use Rattle.std.specs.Prelude.{◌≡◌, ◌+◌, List, [], ◌∷◌, len
 ghost use Rattle.std.specs.List.{flat_map};
 ghost use Rattle.std.specs.Option.{unwrap_or};
 ghost use Rattle.btf_model.specs.Record.{Record, vlen};
-ghost use Rattle.btf_model.specs.Made.{entries, byte_int, static_var};
-ghost use Rattle.btf_model.specs.Checks.{first_fault, has_room, fits, record_len, in_a_word};
-ghost use Rattle.btf_model.specs.Pass.{Pass, filler_type_text, filler_text, filler};
-ghost use Rattle.btf_model.specs.Rule.{entry_members, placed};
-ghost use Rattle.btf_model.specs.Fault.{member_checks, entry_checks, is_sized};
+ghost use Rattle.btf_rewrite_model.specs.Made.{entries, byte_int, static_var};
+ghost use Rattle.btf_rewrite_model.specs.Checks.{first_fault, has_room, fits, record_len, in_a_word};
+ghost use Rattle.btf_rewrite_model.specs.Pass.{Pass, filler_type_text, filler_text, filler};
+ghost use Rattle.btf_rewrite_model.specs.Rule.{entry_members, placed};
+ghost use Rattle.btf_rewrite_model.specs.Fault.{member_checks, entry_checks, is_sized};
 ghost use Rattle.btf_plain.specs.Error.{Gives};
 ghost use Rattle.btf_records.specs.Items.{member_words};
 ghost use Rattle.btf_types.specs.Adding.{strings_end, next_id, HasRoom, Adds};

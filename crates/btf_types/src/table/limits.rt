@@ -1,7 +1,7 @@
 //! The room that strings and types have.
 
 ghost use Rattle.std.specs.Prelude.{◌≡◌, ◌≤◌};
-ghost use Rattle.btf_model.specs.Checks.{has_room, fits};
+ghost use Rattle.btf_rewrite_model.specs.Checks.{has_room, fits};
 ghost use Rattle.btf_plain.specs.Error.{Tells};
 ghost use Rattle.btf_types.specs.Checked.{checked};
 

@@ -1,11 +1,11 @@
 use Rattle.std.proofs.Common.{length}
 use Rattle.std.specs.List.{flat_map}
 use Rattle.btf_model.specs.Record.{vlen}
-use Rattle.btf_model.specs.Made as model
-use Rattle.btf_model.specs.Made.{entries}
-use Rattle.btf_model.specs.Checks.{first_fault}
-use Rattle.btf_model.specs.Rule.{entry_members}
-use Rattle.btf_model.specs.Fault.{member_checks}
+use Rattle.btf_rewrite_model.specs.Made as model
+use Rattle.btf_rewrite_model.specs.Made.{entries}
+use Rattle.btf_rewrite_model.specs.Checks.{first_fault}
+use Rattle.btf_rewrite_model.specs.Rule.{entry_members}
+use Rattle.btf_rewrite_model.specs.Fault.{member_checks}
 use Rattle.std.specs.Option.{unwrap_or}
 use Rattle.btf_records.specs.BtfType.{record_of}
 use Rattle.btf_records.specs.declared.btf_type.BtfType.TheVariants.{DataSec}

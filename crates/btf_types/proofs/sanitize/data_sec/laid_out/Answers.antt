@@ -3,11 +3,11 @@ use Rattle.std.specs.List.{flat_map}
 use Rattle.std.proofs.lemmas.List.Folds.{flat_map-map}
 use Rattle.btf_model.specs.Record.{Record, vlen}
 use Rattle.btf_model.specs.Refusal.{Refusal}
-use Rattle.btf_model.specs.Made as model
-use Rattle.btf_model.specs.Made.{Entry, entries, entry_words}
-use Rattle.btf_model.specs.Checks.{first_fault}
-use Rattle.btf_model.specs.Rule.{placed}
-use Rattle.btf_model.specs.Fault.{entry_checks}
+use Rattle.btf_rewrite_model.specs.Made as model
+use Rattle.btf_rewrite_model.specs.Made.{Entry, entries, entry_words}
+use Rattle.btf_rewrite_model.specs.Checks.{first_fault}
+use Rattle.btf_rewrite_model.specs.Rule.{placed}
+use Rattle.btf_rewrite_model.specs.Fault.{entry_checks}
 use Rattle.std.specs.Option.{unwrap_or}
 use Rattle.btf_records.specs.BtfType.{record_of}
 use Rattle.btf_records.specs.declared.btf_type.BtfType.TheVariants.{DataSec}

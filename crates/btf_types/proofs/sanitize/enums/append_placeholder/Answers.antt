@@ -1,9 +1,9 @@
 use Rattle.std.proofs.Common.{◌≡◌, ℕ, [], ◌∷◌, ap, subst, ◌∙◌}
 use Rattle.std.proofs.lemmas.Result.{on_ok_weaker}
 use Rattle.btf_model.specs.Record.{Record}
-use Rattle.btf_model.specs.Made.{byte_int}
-use Rattle.btf_model.specs.Checks.{has_room}
-use Rattle.btf_model.specs.Pass.{placeholder_text}
+use Rattle.btf_rewrite_model.specs.Made.{byte_int}
+use Rattle.btf_rewrite_model.specs.Checks.{has_room}
+use Rattle.btf_rewrite_model.specs.Pass.{placeholder_text}
 use Rattle.btf_types.specs.Adding.{strings_end, Adds}
 use Rattle.btf_types.proofs.Adding.{adds_then}
 use Rattle.btf_types.proofs.Checks.{checked_ok}

@@ -1,6 +1,6 @@
 use Rattle.std.proofs.Common.{◌≡◌, take, map, length}
 use Rattle.std.specs.List.{flat_map}
-use Rattle.btf_model.specs.Rule.{variant_members}
+use Rattle.btf_rewrite_model.specs.Rule.{variant_members}
 use Rattle.btf_records.specs.Items.{member_words}
 use Rattle.btf_types.proofs.Enums.{variant}
 use Rattle.btf_types.proofs.sanitize.enums.variant_members.Given as goal

@@ -1,10 +1,10 @@
 use Rattle.std.proofs.Common.{ℕ, Bool, not, ◌||◌, [], refl, sym, ap, subst, ◌∙◌}
 use Rattle.btf_model.specs.Record.{kind_of, vlen}
-use Rattle.btf_model.specs.Feature.{is_global}
-use Rattle.btf_model.specs.Made.{typedef}
-use Rattle.btf_model.specs.Pass.{has, is_builtin}
-use Rattle.btf_model.specs.Feature as features
-use Rattle.btf_model.proofs.Passing.{NextAnswers}
+use Rattle.btf_rewrite_model.specs.Feature.{is_global}
+use Rattle.btf_rewrite_model.specs.Made.{typedef}
+use Rattle.btf_rewrite_model.specs.Pass.{has, is_builtin}
+use Rattle.btf_rewrite_model.specs.Feature as features
+use Rattle.btf_rewrite_model.proofs.Passing.{NextAnswers}
 use Rattle.btf_types.specs.Features.{answers_of}
 use Rattle.btf_types.specs.PassStep.{pass_on}
 use Rattle.btf_types.specs.Text.{text_bytes}

@@ -1,6 +1,6 @@
 use Rattle.std.proofs.Common.{refl}
 use Rattle.std.proofs.lemmas.Option.{IfSome_then}
-use Rattle.btf_model.specs.Made.{entries}
+use Rattle.btf_rewrite_model.specs.Made.{entries}
 use Rattle.btf_types.specs.KsymsStep.{entry, FindsSymbols}
 use Rattle.btf_types.proofs.Checks.{checked_err, checked_ok}
 use Rattle.btf_types.proofs.KsymsEntries.{at, fault_found, passes_up_to, symbols_up_to, found_symbols}

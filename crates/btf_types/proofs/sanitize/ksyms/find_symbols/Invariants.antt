@@ -1,8 +1,8 @@
 use Rattle.std.proofs.Common.{◌≡◌, None, take}
 use Rattle.std.specs.Prelude.{map}
 use Rattle.std.specs.List.{flat_map}
-use Rattle.btf_model.specs.Checks.{first_fault}
-use Rattle.btf_model.specs.Ksyms.{entry_checks}
+use Rattle.btf_rewrite_model.specs.Checks.{first_fault}
+use Rattle.btf_rewrite_model.specs.Ksyms.{entry_checks}
 use Rattle.btf_types.specs.KsymsStep.{entry, HasSymbols}
 use Rattle.btf_types.proofs.sanitize.ksyms.find_symbols.Given as goal
 

@@ -2,7 +2,7 @@ use Rattle.std.proofs.Common.{◌≡◌, ◌+◌, drop}
 use Rattle.std.specs.Prelude.{map}
 use Rattle.std.specs.List.{position_or_len}
 use Rattle.btf_model.specs.Record.{kind_of}
-use Rattle.btf_model.specs.Ksyms.{is_int_of_4}
+use Rattle.btf_rewrite_model.specs.Ksyms.{is_int_of_4}
 use Rattle.btf_records.specs.BtfType.{record_of}
 use Rattle.btf_types.proofs.sanitize.ksyms.int_of_4.Given as goal
 

@@ -3,8 +3,8 @@ use Rattle.std.proofs.lemmas.List.{length-map}
 use Rattle.std.proofs.lemmas.Option.{IfSome_then}
 use Rattle.btf_model.specs.Record.{Record}
 use Rattle.btf_model.specs.Table.{type_bytes, section_limit}
-use Rattle.btf_model.specs.Made.{c_int}
-use Rattle.btf_model.specs.Ksyms.{ksyms_table, appends_int, int_text}
+use Rattle.btf_rewrite_model.specs.Made.{c_int}
+use Rattle.btf_rewrite_model.specs.Ksyms.{ksyms_table, appends_int, int_text}
 use Rattle.btf_records.specs.BtfType.{record_of, fallback_of}
 use Rattle.btf_records.specs.declared.btf_type.BtfType.{BtfType}
 use Rattle.btf_records.specs.declared.btf_type.BtfType.TheVariants.{Int}

@@ -1,7 +1,7 @@
 use Rattle.std.proofs.Common.{ℕ, ◌+◌, ◌*◌, List, ◌∷◌, ◌++◌, take, drop, ap, sym, ◌∙◌, arith, Ok}
 use Rattle.btf_model.specs.Record.{Record, vlen}
 use Rattle.btf_model.specs.Refusal.{Refusal}
-use Rattle.btf_model.specs.Ksyms.{named}
+use Rattle.btf_rewrite_model.specs.Ksyms.{named}
 use Rattle.btf_model.proofs.Comparisons.{same_ok}
 use Rattle.btf_types.proofs.KsymsItems.{named_next, named_all}
 use Rattle.btf_types.proofs.sanitize.ksyms.with_names.Goals as goal

@@ -1,4 +1,4 @@
-use Rattle.btf_model.proofs.Passing.{IsAt}
+use Rattle.btf_rewrite_model.proofs.Passing.{IsAt}
 use Rattle.btf_types.specs.Features.{answers_of, Called}
 use Rattle.btf_types.specs.Layout.{layout_of}
 use Rattle.btf_types.specs.PassStep.{pass_on, IsMade}

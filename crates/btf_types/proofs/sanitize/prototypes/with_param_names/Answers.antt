@@ -3,10 +3,10 @@ use Rattle.std.specs.Prelude.{if◌then◌else◌}
 use Rattle.std.proofs.lemmas.Option.{IfSome_then}
 use Rattle.btf_model.specs.Refusal.{Refusal}
 use Rattle.btf_model.specs.Record.{Record}
-use Rattle.btf_model.specs.Made.{wants_name}
-use Rattle.btf_model.specs.Checks.{first_fault, have_room}
-use Rattle.btf_model.specs.Pass.{texts_len, param_texts}
-use Rattle.btf_model.specs.Rule.{named_params}
+use Rattle.btf_rewrite_model.specs.Made.{wants_name}
+use Rattle.btf_rewrite_model.specs.Checks.{first_fault, have_room}
+use Rattle.btf_rewrite_model.specs.Pass.{texts_len, param_texts}
+use Rattle.btf_rewrite_model.specs.Rule.{named_params}
 use Rattle.btf_records.specs.Items.{param_words}
 use Rattle.btf_records.specs.declared.records.items.BtfParam.{BtfParam}
 use Rattle.btf_types.specs.Adding.{strings_end, Adds}

@@ -1,5 +1,5 @@
 use Rattle.std.proofs.Common.{◌≡◌, [], None}
-use Rattle.btf_model.specs.Checks.{first_fault, have_room}
+use Rattle.btf_rewrite_model.specs.Checks.{first_fault, have_room}
 use Rattle.btf_types.specs.Adding.{strings_end, Adds}
 use Rattle.btf_types.proofs.Prototypes.{texts_to, named_to}
 use Rattle.btf_types.proofs.sanitize.prototypes.with_param_names.Given as goal

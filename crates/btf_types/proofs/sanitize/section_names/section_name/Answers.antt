@@ -1,7 +1,7 @@
 use Rattle.std.proofs.Common.{Bool, sym, ap, ◌∙◌, arith}
 use Rattle.std.specs.Prelude.{if◌then◌else◌}
 use Rattle.std.proofs.lemmas.Result.{IfOk-weaker}
-use Rattle.btf_model.specs.Pass.{replaced, slash, dot, underscore}
+use Rattle.btf_rewrite_model.specs.Pass.{replaced, slash, dot, underscore}
 use Rattle.btf_types.proofs.SectionNames.{replaces_byte}
 use Rattle.btf_types.proofs.sanitize.section_names.section_name.Goals as goal
 

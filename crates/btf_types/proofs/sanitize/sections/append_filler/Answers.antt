@@ -1,5 +1,5 @@
 use Rattle.std.proofs.lemmas.Result.{on_ok_weaker}
-use Rattle.btf_model.specs.Pass.{filler_type_text, filler_text}
+use Rattle.btf_rewrite_model.specs.Pass.{filler_type_text, filler_text}
 use Rattle.btf_types.proofs.SectionItems.{adds_int_and_var}
 use Rattle.btf_types.proofs.Checks.{checked_ok}
 use Rattle.btf_types.proofs.sanitize.sections.append_filler.Goals as goal

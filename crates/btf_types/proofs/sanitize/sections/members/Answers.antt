@@ -4,10 +4,10 @@ use Rattle.std.proofs.lemmas.List.{length-append}
 use Rattle.std.proofs.lemmas.List.Concat.{flat_map-append}
 use Rattle.std.proofs.lemmas.Option.{IfSome_then}
 use Rattle.btf_model.specs.Refusal.{Refusal}
-use Rattle.btf_model.specs.Made.{Entry, entries}
-use Rattle.btf_model.specs.Checks.{first_fault}
-use Rattle.btf_model.specs.Rule.{member_name, entry_members}
-use Rattle.btf_model.specs.Fault.{member_checks}
+use Rattle.btf_rewrite_model.specs.Made.{Entry, entries}
+use Rattle.btf_rewrite_model.specs.Checks.{first_fault}
+use Rattle.btf_rewrite_model.specs.Rule.{member_name, entry_members}
+use Rattle.btf_rewrite_model.specs.Fault.{member_checks}
 use Rattle.btf_records.specs.Items.{member_words}
 use Rattle.btf_types.specs.Checked.{checked}
 use Rattle.btf_types.proofs.Checks.{checked_err, checked_ok}

@@ -1,10 +1,10 @@
 use Rattle.std.proofs.Common.{◌≡◌, List, length, map, None, take}
 use Rattle.std.specs.List.{flat_map}
 use Rattle.btf_model.specs.Record.{Record}
-use Rattle.btf_model.specs.Checks.{first_fault}
-use Rattle.btf_model.specs.Pass.{Pass}
-use Rattle.btf_model.specs.Rule.{entry_members}
-use Rattle.btf_model.specs.Fault.{member_checks}
+use Rattle.btf_rewrite_model.specs.Checks.{first_fault}
+use Rattle.btf_rewrite_model.specs.Pass.{Pass}
+use Rattle.btf_rewrite_model.specs.Rule.{entry_members}
+use Rattle.btf_rewrite_model.specs.Fault.{member_checks}
 use Rattle.btf_records.specs.Items.{member_words}
 use Rattle.btf_types.specs.KsymsStep.{entry}
 use Rattle.btf_types.proofs.sanitize.sections.members.Given as goal

@@ -3,10 +3,10 @@ use Rattle.std.specs.List.{flat_map}
 use Rattle.std.proofs.lemmas.List.{length-append, map-append}
 use Rattle.std.proofs.lemmas.Option.{IfSome_then}
 use Rattle.btf_model.specs.Refusal.{Refusal}
-use Rattle.btf_model.specs.Made.{Entry, entries}
-use Rattle.btf_model.specs.Checks.{first_fault}
-use Rattle.btf_model.specs.Rule.{placed}
-use Rattle.btf_model.specs.Fault.{entry_checks}
+use Rattle.btf_rewrite_model.specs.Made.{Entry, entries}
+use Rattle.btf_rewrite_model.specs.Checks.{first_fault}
+use Rattle.btf_rewrite_model.specs.Rule.{placed}
+use Rattle.btf_rewrite_model.specs.Fault.{entry_checks}
 use Rattle.btf_types.specs.Checked.{checked}
 use Rattle.btf_types.specs.KsymsStep.{entry}
 use Rattle.btf_types.proofs.Checks.{checked_err, checked_ok}

@@ -1,9 +1,9 @@
 use Rattle.std.proofs.Common.{◌≡◌, length, map, None, take}
 use Rattle.std.specs.List.{flat_map}
-use Rattle.btf_model.specs.Checks.{first_fault}
-use Rattle.btf_model.specs.Pass.{Pass}
-use Rattle.btf_model.specs.Rule.{placed}
-use Rattle.btf_model.specs.Fault.{entry_checks}
+use Rattle.btf_rewrite_model.specs.Checks.{first_fault}
+use Rattle.btf_rewrite_model.specs.Pass.{Pass}
+use Rattle.btf_rewrite_model.specs.Rule.{placed}
+use Rattle.btf_rewrite_model.specs.Fault.{entry_checks}
 use Rattle.btf_types.specs.KsymsStep.{entry}
 use Rattle.btf_types.specs.Layout.{offsets_of}
 use Rattle.btf_types.proofs.sanitize.sections.placed_entries.Given as goal

@@ -2,10 +2,10 @@ use Rattle.std.proofs.Common.{IfSome, ◌≡◌, Option, None, Some, Ok, Err, Li
 use Rattle.std.proofs.lemmas.Option.{IfSome_then}
 use Rattle.std.specs.Prelude.{OnOk}
 use Rattle.btf_model.specs.Table.{Table}
-use Rattle.btf_model.specs.Ksyms as model
-use Rattle.btf_model.specs.Ksyms.{ksyms_table, ksyms_fault}
-use Rattle.btf_model.specs.Pass.{Layout}
-use Rattle.btf_model.specs.Rewritten.{begun, pass_of}
+use Rattle.btf_rewrite_model.specs.Ksyms as model
+use Rattle.btf_rewrite_model.specs.Ksyms.{ksyms_table, ksyms_fault}
+use Rattle.btf_rewrite_model.specs.Pass.{Layout}
+use Rattle.btf_rewrite_model.specs.Rewritten.{begun, pass_of}
 use Rattle.btf_plain.specs.Error.{refusal_of}
 use Rattle.btf_types.specs.Features.{answers_of}
 use Rattle.btf_types.specs.KsymsStep.{ksyms_ids}

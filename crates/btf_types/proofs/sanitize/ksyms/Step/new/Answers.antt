@@ -2,9 +2,9 @@ use Rattle.std.proofs.Common.{◌≡◌, Some, Ok, refl, subst, ◌∙◌}
 use Rattle.std.specs.List.{flat_map}
 use Rattle.std.proofs.lemmas.Option.{IfSome_then}
 use Rattle.btf_model.specs.Record.{Record}
-use Rattle.btf_model.specs.Made.{entries}
-use Rattle.btf_model.specs.Checks.{first_fault}
-use Rattle.btf_model.specs.Ksyms.{placeholder_checks, data_sec_checks, entry_checks, symbols}
+use Rattle.btf_rewrite_model.specs.Made.{entries}
+use Rattle.btf_rewrite_model.specs.Checks.{first_fault}
+use Rattle.btf_rewrite_model.specs.Ksyms.{placeholder_checks, data_sec_checks, entry_checks, symbols}
 use Rattle.btf_types.specs.KsymsStep.{ksyms_ids, FindsSymbols, StepsWith}
 use Rattle.btf_types.proofs.Checks.{checked_ok, checked_err, fault_second, fault_third}
 use Rattle.btf_types.proofs.Refused.{handed_on}

@@ -1,4 +1,4 @@
-use Rattle.btf_model.specs.Ksyms.{KsymsIds}
+use Rattle.btf_rewrite_model.specs.Ksyms.{KsymsIds}
 use Rattle.btf_types.specs.KsymsStep.{IsStep, AreStepped}
 use Rattle.btf_types.proofs.sanitize.ksyms.Step.new_types.Given as goal
 

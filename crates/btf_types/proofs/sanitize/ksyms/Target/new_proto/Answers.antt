@@ -1,7 +1,7 @@
 use Rattle.std.proofs.Common.{length, refl, ap, ◌∙◌}
 use Rattle.btf_model.specs.Record.{Record, kind_of}
 use Rattle.btf_model.specs.Refusal.{Refusal}
-use Rattle.btf_model.specs.Ksyms.{named}
+use Rattle.btf_rewrite_model.specs.Ksyms.{named}
 use Rattle.btf_model.proofs.Comparisons.{same_ok}
 use Rattle.btf_types.proofs.KsymsItems.{named_same_len}
 use Rattle.btf_types.proofs.sanitize.ksyms.Target.new_proto.Goals as goal

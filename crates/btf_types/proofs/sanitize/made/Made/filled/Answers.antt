@@ -4,11 +4,11 @@ use Rattle.std.specs.Result.{result_ok}
 use Rattle.std.specs.List.{flat_map}
 use Rattle.std.proofs.lemmas.Option.{none-some, IfSome_then}
 use Rattle.btf_model.specs.Record.{Record}
-use Rattle.btf_model.specs.Pass.{Pass}
+use Rattle.btf_rewrite_model.specs.Pass.{Pass}
 use Rattle.btf_model.proofs.Comparisons.{same_ok}
 use Rattle.btf_plain.specs.Error.{Answers}
 use Rattle.btf_plain.specs.declared.error.BtfError.{BtfError}
-use Rattle.btf_model.specs.Made.{data_sec}
+use Rattle.btf_rewrite_model.specs.Made.{data_sec}
 use Rattle.btf_records.specs.Items.{entry_words}
 use Rattle.btf_records.specs.declared.records.items.DataSecEntry.{DataSecEntry}
 use Rattle.btf_records.specs.declared.btf_type.BtfType.TheVariants.{DataSec}

@@ -3,7 +3,7 @@ use Rattle.std.specs.Result.{result_ok}
 use Rattle.std.proofs.lemmas.Option.{none-some, IfSome_then}
 use Rattle.btf_model.specs.Record.{kind_of}
 use Rattle.btf_model.specs.Refusal.{Refusal}
-use Rattle.btf_model.specs.Pass.{Pass}
+use Rattle.btf_rewrite_model.specs.Pass.{Pass}
 use Rattle.btf_model.proofs.Comparisons.{same_ok}
 use Rattle.btf_plain.specs.Error.{Answers}
 use Rattle.btf_plain.specs.declared.error.BtfError.{BtfError}

@@ -4,11 +4,11 @@ use Rattle.std.proofs.lemmas.Bool.{eq-eqb, ne_eqb}
 use Rattle.std.proofs.lemmas.Option.{IfSome_then}
 use Rattle.btf_model.specs.Record as kinds
 use Rattle.btf_model.specs.Record.{Record, kind_of, vlen}
-use Rattle.btf_model.specs.Feature as features
-use Rattle.btf_model.specs.Feature.{Answer, grants}
-use Rattle.btf_model.specs.Pass.{Pass, has, section_size, gets_filler}
-use Rattle.btf_model.specs.Rule.{ruled_below}
-use Rattle.btf_model.proofs.Passing.{NextAnswers}
+use Rattle.btf_rewrite_model.specs.Feature as features
+use Rattle.btf_rewrite_model.specs.Feature.{Answer, grants}
+use Rattle.btf_rewrite_model.specs.Pass.{Pass, has, section_size, gets_filler}
+use Rattle.btf_rewrite_model.specs.Rule.{ruled_below}
+use Rattle.btf_rewrite_model.proofs.Passing.{NextAnswers}
 use Rattle.btf_records.specs.declared.btf_type.BtfType.TheVariants.{DataSec}
 use Rattle.btf_types.specs.Adding.{strings_end}
 use Rattle.btf_types.specs.Features.{answers_of}

@@ -1,5 +1,0 @@
-use Rattle.btf_model.proofs.Kept as kept
-use Rattle.btf_model.proofs.sizes_stay.Goals as goal
-
-pub returns : goal.returns
-returns c = kept.sizes_stay

@@ -1,0 +1,15 @@
+pub mod Asking
+pub mod Ruled
+pub mod Granted
+pub mod GrantedOnce
+pub mod GrantedAll
+pub mod Lengths
+pub mod Kept
+pub mod Agreeing
+pub mod Seconds
+pub mod SecondPass
+pub mod NewFacts
+pub mod Renaming
+pub mod Appending
+pub mod Passing
+pub mod FirstMade

@@ -1,0 +1,131 @@
+-- The first step of a rewrite: what stands for the kernel's symbols, the entries of `.ksyms`, becomes ordinary variables.
+-- Source: aya-obj's `fixup_ksyms_datasec`, after libbpf's `bpf_object__fixup_btf`; that names and ids are read in the table as the
+-- step began is this project's profile.
+use Rattle.std.specs.Prelude.{ℕ, ◌+◌, ◌*◌, ◌==◌, ◌&&◌, Bool, true, false, if◌then◌else◌, List, [], ◌∷◌, ◌++◌, length, map, codes, Option, Some, None}
+use Rattle.std.specs.List.{flat_map, list_any, position_or_len}
+use Rattle.std.specs.Option.{is_some}
+use Rattle.btf_model.specs.Record.{Kind, Int, Func, FuncProto, Var, DataSec, Record, kind_of}
+use Rattle.btf_model.specs.Refusal.{Refusal, InvalidDatasec}
+use Rattle.btf_model.specs.Table.{Table, type_bytes, with_string, with_type}
+use Rattle.btf_model.specs.Text.{text_at}
+use Rattle.btf_rewrite_model.specs.Made.{Entry, entries, entry_words, record_at, kind_at, ids_of, c_int, with_linkage, wants_name}
+use Rattle.btf_rewrite_model.specs.Checks.{Check, first_fault, is_read, is_known, has_room, fits, record_len}
+
+-- the DATASEC of the symbols, and the VAR that takes the place of functions among them, where there is one
+pub record KsymsIds : Type 0 where
+  pub datasec : ℕ
+  pub placeholder : Option ℕ
+
+-- ---- what the step reads
+
+-- an INT of 4 bytes
+abbrev pub is_int_of_4 : Option Kind → Record → Bool
+is_int_of_4 (Some Int) r = r.third == 4
+is_int_of_4 k r = false
+
+-- the id of the first INT of 4 bytes, or the number of types
+abbrev pub int_of_4 : Table → ℕ
+int_of_4 t = position_or_len (λ r. is_int_of_4 (kind_of r.info) r) t.records
+
+-- The INT of 4 bytes is appended where it is wanted, and is not there.
+abbrev pub appends_int : Table → Option ℕ → Bool
+appends_int t (Some placeholder) = false
+appends_int t None = int_of_4 t == length t.records
+
+abbrev pub int_text : List ℕ
+int_text = codes "int"
+
+-- the type that each variable of the symbols gets: the placeholder's, or an INT of 4 bytes
+abbrev pub symbol_type : Table → Option ℕ → ℕ
+symbol_type t (Some placeholder) = (record_at t placeholder).third
+symbol_type t None = int_of_4 t
+
+abbrev pub symbols : Table → KsymsIds → List Entry
+symbols t ids = entries (record_at t ids.datasec).tail
+
+-- an entry is of this id
+abbrev pub names : Table → KsymsIds → ℕ → Bool
+names t ids id = list_any (λ e. e.type == id) (symbols t ids)
+
+abbrev pub is_func : Option Kind → Bool
+is_func (Some Func) = true
+is_func k = false
+
+-- a FUNC among the entries has this prototype
+abbrev pub is_prototype : Table → KsymsIds → ℕ → Bool
+is_prototype t ids id = list_any (λ e. is_func (kind_at t e.type) && (record_at t e.type).third == id) (symbols t ids)
+
+-- ---- what becomes of a record
+
+-- the parameters that want a name get this one
+abbrev pub named : ℕ → List ℕ → List ℕ
+named new (name ∷ type ∷ words) = (if wants_name name type then new else name) ∷ type ∷ named new words
+named new words = words
+
+-- the parameters of a prototype, where there is a placeholder, whose name they get
+abbrev pub with_names : Table → Option ℕ → List ℕ → List ℕ
+with_names t (Some placeholder) words = named (record_at t placeholder).name words
+with_names t None words = words
+
+-- the type of an entry: the placeholder, where there is one, in place of a FUNC
+abbrev pub entry_type : Table → Option ℕ → ℕ → ℕ
+entry_type t (Some placeholder) type = if is_func (kind_at t type) then placeholder else type
+entry_type t None type = type
+
+-- the entries one behind the other, with 4 bytes for each, from this offset on
+abbrev pub laid_out : Table → Option ℕ → ℕ → List Entry → List Entry
+laid_out t placeholder offset [] = []
+laid_out t placeholder offset (e ∷ es) = record { type = entry_type t placeholder e.type; offset = offset; size = 4 } ∷ laid_out t placeholder (offset + 4) es
+
+-- By the kind: a FUNC or VAR of the entries is Global, and a VAR has the type of the symbols; the parameters of such a FUNC get
+-- names; the DATASEC is laid out anew; all others stay.
+abbrev pub stepped : Table → KsymsIds → ℕ → Option Kind → Record → Record
+stepped t ids id (Some Func) r = if names t ids id then with_linkage 1 r else r
+stepped t ids id (Some Var) r = if names t ids id then record r { third = symbol_type t ids.placeholder; tail = 1 ∷ [] } else r
+stepped t ids id (Some FuncProto) r = if is_prototype t ids id then record r { tail = with_names t ids.placeholder r.tail } else r
+stepped t ids id (Some DataSec) r =
+    if id == ids.datasec then record r { third = 4 * length (symbols t ids); tail = flat_map entry_words (laid_out t ids.placeholder 0 (symbols t ids)) } else r
+stepped t ids id k r = r
+
+-- ---- the tests, in order
+
+-- a record of this id is a VAR, or a DATASEC
+abbrev pub is_var : Option Kind → Check
+is_var (Some Var) = None
+is_var k = Some InvalidDatasec
+
+abbrev pub is_data_sec : Option Kind → Check
+is_data_sec (Some DataSec) = None
+is_data_sec k = Some InvalidDatasec
+
+-- the placeholder, or else room for the INT
+abbrev pub placeholder_checks : Table → Option ℕ → List Check
+placeholder_checks t (Some id) = is_known t id ∷ is_var (kind_at t id) ∷ []
+placeholder_checks t None =
+    if appends_int t None then has_room (length t.strings) int_text ∷ fits (length (type_bytes t)) (record_len (c_int 0)) ∷ [] else []
+
+abbrev pub data_sec_checks : Table → ℕ → List Check
+data_sec_checks t id = is_known t id ∷ is_data_sec (kind_at t id) ∷ is_read (text_at t.strings (record_at t id).name) ∷ []
+
+-- what is wanted of an entry's type, by its kind: a name, and of a FUNC that a placeholder stands for a prototype
+abbrev pub symbol_checks : Table → Option ℕ → Option Kind → Record → List Check
+symbol_checks t placeholder (Some Func) r = is_read (text_at t.strings r.name) ∷ (if is_some placeholder then is_known t r.third ∷ [] else [])
+symbol_checks t placeholder (Some Var) r = is_read (text_at t.strings r.name) ∷ []
+symbol_checks t placeholder k r = Some InvalidDatasec ∷ []
+
+abbrev pub entry_checks : Table → Option ℕ → Entry → List Check
+entry_checks t placeholder e = is_known t e.type ∷ symbol_checks t placeholder (kind_at t e.type) (record_at t e.type)
+
+-- Why the step is refused, if it is.
+abbrev pub ksyms_fault : Table → KsymsIds → Option Refusal
+ksyms_fault t ids = first_fault (placeholder_checks t ids.placeholder ++ data_sec_checks t ids.datasec ++ flat_map (entry_checks t ids.placeholder) (symbols t ids))
+
+-- ---- the table
+
+-- each record by itself
+abbrev pub each_stepped : Table → KsymsIds → Table
+each_stepped t ids = record t { records = map (λ id. stepped t ids id (kind_at t id) (record_at t id)) (ids_of t) }
+
+-- The table behind the step, where it is not refused: each record by itself, and then the INT, if it is appended.
+abbrev pub ksyms_table : Table → KsymsIds → Table
+ksyms_table t ids = if appends_int t ids.placeholder then with_type (c_int (length t.strings)) None (with_string int_text (each_stepped t ids)) else each_stepped t ids

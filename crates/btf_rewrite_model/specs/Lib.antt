@@ -1,0 +1,12 @@
+pub mod Feature
+pub mod Made
+pub mod Checks
+pub mod Ksyms
+pub mod Pass
+pub mod Rule
+pub mod Fault
+pub mod Rewritten
+pub mod RewriteExamples
+pub mod DataSecExamples
+pub mod KsymsExamples
+pub mod RewriteLaws

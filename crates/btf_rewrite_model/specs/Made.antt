@@ -1,0 +1,95 @@
+-- Records that a rewrite makes, and the items of the records that it reads.
+-- Source: the kernel's BTF documentation, "Type Encoding"; which record stands in for which is aya-obj's `fixup_and_sanitize`.
+use Rattle.std.specs.Prelude.{ℕ, ◌+◌, ◌*◌, ◌^◌, ◌==◌, ◌&&◌, not, Bool, false, List, [], ◌∷◌, length, slice_index, slice_get, unwrap_or, Option}
+use Rattle.std.specs.List.{flat_map, range_with_len}
+use Rattle.btf_model.specs.Record.{Kind, Record, unknown, kind_of}
+use Rattle.btf_model.specs.Info.{with_vlen, with_flag}
+use Rattle.btf_model.specs.Table.{Table, Variant, Fallback}
+use Rattle.btf_rewrite_model.specs.Feature.{is_signed}
+
+-- the record of an id: Unknown, where it has none
+abbrev pub record_at : Table → ℕ → Record
+record_at t id = unwrap_or (slice_get t.records id) unknown
+
+abbrev pub kind_at : Table → ℕ → Option Kind
+kind_at t id = kind_of (record_at t id).info
+
+-- the ids of a table
+abbrev pub ids_of : Table → List ℕ
+ids_of t = range_with_len 0 (length t.records)
+
+-- ---- items
+
+-- an entry of a DATASEC: a VAR or FUNC, and where it lies
+pub record Entry : Type 0 where
+  pub type : ℕ
+  pub offset : ℕ
+  pub size : ℕ
+
+-- the entries that the words of a DATASEC are
+abbrev pub entries : List ℕ → List Entry
+entries (type ∷ offset ∷ size ∷ words) = record { type = type; offset = offset; size = size } ∷ entries words
+entries words = []
+
+abbrev pub entry_words : Entry → List ℕ
+entry_words e = e.type ∷ e.offset ∷ e.size ∷ []
+
+-- a variable's linkage, its one word behind the third, is Static
+abbrev pub is_static : Record → Bool
+is_static r = slice_index r.tail 0 == 0
+
+-- a parameter that has a type and no name: all that have none but the `...` of a variadic function
+abbrev pub wants_name : ℕ → ℕ → Bool
+wants_name name type = name == 0 && not (type == 0)
+
+-- the variants that the words of an ENUM64 are: a name, and the two halves of a value
+abbrev pub variants : List ℕ → List Variant
+variants (name ∷ low ∷ high ∷ words) = record { name = name; value = high * 2 ^ 32 + low } ∷ variants words
+variants words = []
+
+-- ---- records
+
+-- an INT of one byte, without sign
+abbrev pub byte_int : ℕ → Record
+byte_int name = record { name = name; info = 2 ^ 24; third = 1; tail = 8 ∷ [] }
+
+-- the INT of C's `int`: 4 bytes, signed
+abbrev pub c_int : ℕ → Record
+c_int name = record { name = name; info = 2 ^ 24; third = 4; tail = (2 ^ 24 + 32) ∷ [] }
+
+abbrev pub static_var : ℕ → ℕ → Record
+static_var name type = record { name = name; info = 14 * 2 ^ 24; third = type; tail = 0 ∷ [] }
+
+abbrev pub const : ℕ → Record
+const type = record { name = 0; info = 10 * 2 ^ 24; third = type; tail = [] }
+
+abbrev pub typedef : ℕ → ℕ → Record
+typedef name type = record { name = name; info = 8 * 2 ^ 24; third = type; tail = [] }
+
+-- a STRUCT of so many members, by their words
+abbrev pub struct : ℕ → ℕ → ℕ → List ℕ → Record
+struct name size count members = record { name = name; info = 4 * 2 ^ 24 + count; third = size; tail = members }
+
+-- a UNION of so many members, by their words
+abbrev pub union : ℕ → ℕ → ℕ → List ℕ → Record
+union name size count members = record { name = name; info = 5 * 2 ^ 24 + count; third = size; tail = members }
+
+-- an ENUM of 4 bytes, without sign, of so many variants, by their words
+abbrev pub enum : ℕ → ℕ → List ℕ → Record
+enum name count variants = record { name = name; info = 6 * 2 ^ 24 + count; third = 4; tail = variants }
+
+-- a DATASEC of so many entries
+abbrev pub data_sec : ℕ → ℕ → ℕ → List Entry → Record
+data_sec name size count es = record { name = name; info = 15 * 2 ^ 24 + count; third = size; tail = flat_map entry_words es }
+
+-- a FUNC with another linkage, which is its vlen
+abbrev pub with_linkage : ℕ → Record → Record
+with_linkage n r = record r { info = with_vlen r.info n }
+
+-- an ENUM without its sign
+abbrev pub unsigned : Record → Record
+unsigned r = record r { info = with_flag r.info false }
+
+-- what an ENUM64 says that a UNION does not
+abbrev pub fallback_of : Record → Fallback
+fallback_of r = record { signed = is_signed r; variants = variants r.tail }

@@ -1,0 +1,261 @@
+-- What each record asks of the kernel in a rewrite, and what it appends to the table.
+-- Source: aya-obj's `fixup_and_sanitize`; that a feature is asked for where its answer is first wanted, and when DataSecZero is, is
+-- this project's profile.
+use Rattle.std.specs.Prelude.{ℕ, zero, suc, ◌+◌, ◌==◌, ◌&&◌, ◌||◌, not, Bool, true, false, if◌then◌else◌, List, [], ◌∷◌, ◌++◌, length, map, codes, Option, Some, None, Result, Ok, Err}
+use Rattle.std.specs.List.{list_any, filter, sum_by}
+use Rattle.std.specs.Option.{is_none}
+use Rattle.std.specs.Str.{bytes_eq}
+use Rattle.std.specs.Fmt.{decimal}
+use Rattle.btf_model.specs.Record.{Kind, FuncProto, Record}
+use Rattle.btf_model.specs.Record as kinds
+use Rattle.btf_model.specs.Refusal.{Refusal}
+use Rattle.btf_model.specs.Table.{Table, type_bytes}
+use Rattle.btf_model.specs.Text.{text_at}
+use Rattle.btf_rewrite_model.specs.Feature as features
+use Rattle.btf_rewrite_model.specs.Feature.{Feature, Answer, grants, same_feature, is_global, is_signed, has_no_entries}
+use Rattle.btf_rewrite_model.specs.Made.{record_at, kind_at, byte_int, static_var, wants_name}
+use Rattle.btf_rewrite_model.specs.Checks.{first_fault, have_room, record_len, in_a_word}
+
+-- what a rewrite is told of the program: the sizes of its sections and the offsets of its symbols, by name
+pub record Layout : Type 0 where
+  pub sections : List ℕ → Option ℕ
+  pub symbols : List ℕ → Option ℕ
+
+-- A pass over a table: the table as the pass begins, from which all names and ids are read, and the kernel's answers.
+pub record Pass : Type 0 where
+  pub table : Table
+  pub layout : Layout
+  pub answers : List Answer
+
+abbrev pub has : Pass → Feature → Bool
+has p feature = grants p.answers feature
+
+abbrev pub name_of : Pass → ℕ → Result (List ℕ) Refusal
+name_of p id = text_at p.table.strings (record_at p.table id).name
+
+-- what was found, where the test passes there, or else this
+abbrev pub or_this : (ℕ → Bool) → ℕ → ℕ → ℕ
+or_this test found this = if test found then found else this
+
+-- The least number up to this one at which the test passes, or this one where it passes at no lower one.
+abbrev pub least : (ℕ → Bool) → ℕ → ℕ
+least test zero = zero
+least test (suc n) = or_this test (least test n) (suc n)
+
+-- The test passes here, and at no lower number.
+abbrev pub is_least : (ℕ → Bool) → ℕ → Bool
+is_least test n = test n && (least test n == n)
+
+-- ---- names of sections
+
+-- the bytes of these characters
+abbrev pub slash : ℕ
+slash = 0x2f
+
+abbrev pub dot : ℕ
+dot = 0x2e
+
+abbrev pub underscore : ℕ
+underscore = 0x5f
+
+-- a name with one byte in place of another, wherever that stands
+abbrev pub replaced : ℕ → ℕ → List ℕ → List ℕ
+replaced byte other name = map (λ b. if b == byte then other else b) name
+
+-- The name that a DATASEC of this name gets: as a DATASEC with `.` for `/`, which kernels refuse; as a STRUCT with `_` for `.`,
+-- which is in no C name.
+abbrev pub section_name : Pass → List ℕ → List ℕ
+section_name p name = if has p features.DataSec then replaced slash dot name else replaced dot underscore name
+
+-- the text that is appended for it: none, where the name stays
+abbrev pub renaming : Pass → Result (List ℕ) Refusal → List (List ℕ)
+renaming p (Ok name) = if bytes_eq (section_name p name) name then [] else section_name p name ∷ []
+renaming p (Err refusal) = []
+
+-- ---- sizes of sections, offsets of symbols, and the filler
+
+-- the size of the section that a DATASEC stands for, by its name, if it is known and has 32 bits
+abbrev pub size_by_name : Pass → Result (List ℕ) Refusal → Option ℕ
+size_by_name p (Ok name) = in_a_word (p.layout.sections name)
+size_by_name p (Err refusal) = None
+
+abbrev pub section_size : Pass → ℕ → Option ℕ
+section_size p id = size_by_name p (name_of p id)
+
+-- the offset of the symbol of a variable, by its name, if it is known and has 32 bits
+abbrev pub symbol_by_name : Pass → Result (List ℕ) Refusal → Option ℕ
+symbol_by_name p (Ok name) = in_a_word (p.layout.symbols name)
+symbol_by_name p (Err refusal) = None
+
+abbrev pub symbol_offset : Pass → ℕ → Option ℕ
+symbol_offset p id = symbol_by_name p (name_of p id)
+
+-- A DATASEC that the pass completes: one of size 0, as compilers leave it.
+abbrev pub is_unsized : Option Kind → Record → Bool
+is_unsized (Some kinds.DataSec) r = r.third == 0
+is_unsized k r = false
+
+-- a size that is known and 0, or known and this holds
+abbrev pub is_zero_or : Bool → Option ℕ → Bool
+is_zero_or other (Some size) = (size == 0) || other
+is_zero_or other None = false
+
+-- A DATASEC that gets an entry of its own: one of size 0 without entries, where its section has size 0, or the kernel takes no
+-- DATASEC without entries.
+abbrev pub gets_filler : Pass → ℕ → Bool
+gets_filler p id =
+    has p features.DataSec && is_unsized (kind_at p.table id) (record_at p.table id) && has_no_entries (record_at p.table id) && is_zero_or (not (has p features.DataSecZero)) (section_size p id)
+
+-- The filler, an INT and a VAR of it, is made by the least id that gets one.
+abbrev pub makes_filler : Pass → ℕ → Bool
+makes_filler p id = is_least (gets_filler p) id
+
+abbrev pub filler_type_text : List ℕ
+filler_type_text = codes "__aya_datasec_filler_type"
+
+abbrev pub filler_text : List ℕ
+filler_text = codes "__aya_datasec_filler"
+
+-- ---- the placeholder of ENUM64s
+
+abbrev pub is_enum64 : Option Kind → Bool
+is_enum64 (Some kinds.Enum64) = true
+is_enum64 k = false
+
+-- An ENUM64 that becomes a UNION, of members of one type.
+abbrev pub wants_placeholder : Pass → ℕ → Bool
+wants_placeholder p id = is_enum64 (kind_at p.table id) && not (has p features.Enum64)
+
+-- That type, an INT of one byte, is made by the least id that wants it.
+abbrev pub makes_placeholder : Pass → ℕ → Bool
+makes_placeholder p id = is_least (wants_placeholder p) id
+
+abbrev pub placeholder_text : List ℕ
+placeholder_text = codes "enum64_placeholder"
+
+-- ---- what an id appends
+
+-- the name of the parameter at a place
+abbrev pub param_text : ℕ → List ℕ
+param_text k = codes "param" ++ decimal k
+
+-- a name for each parameter that wants one, by its place among all, which count from k
+abbrev pub param_texts : ℕ → List ℕ → List (List ℕ)
+param_texts k (name ∷ type ∷ words) = (if wants_name name type then param_text k ∷ [] else []) ++ param_texts (k + 1) words
+param_texts k words = []
+
+-- The texts that an id appends to the strings, in order.
+abbrev pub texts_by : Pass → ℕ → Option Kind → Record → List (List ℕ)
+texts_by p id (Some kinds.FuncProto) r = if has p features.Func then param_texts 0 r.tail else []
+texts_by p id (Some kinds.Enum64) r = if makes_placeholder p id then placeholder_text ∷ [] else []
+texts_by p id (Some kinds.DataSec) r = renaming p (name_of p id) ++ (if makes_filler p id then filler_type_text ∷ filler_text ∷ [] else [])
+texts_by p id k r = []
+
+abbrev pub texts : Pass → ℕ → List (List ℕ)
+texts p id = texts_by p id (kind_at p.table id) (record_at p.table id)
+
+-- the texts that all ids below this one append
+abbrev pub texts_below : Pass → ℕ → List (List ℕ)
+texts_below p zero = []
+texts_below p (suc id) = texts_below p id ++ texts p id
+
+-- how many bytes texts are, each with its zero byte
+abbrev pub texts_len : List (List ℕ) → ℕ
+texts_len ts = sum_by (λ text. length text + 1) ts
+
+-- the offset of the first text that an id appends
+abbrev pub offset_at : Pass → ℕ → ℕ
+offset_at p id = length p.table.strings + texts_len (texts_below p id)
+
+-- the offset of the filler's first text, behind the new name
+abbrev pub filler_offset : Pass → ℕ → ℕ
+filler_offset p id = offset_at p id + texts_len (renaming p (name_of p id))
+
+-- the INT and the VAR of the filler, where the texts and the ids begin here
+abbrev pub filler : ℕ → ℕ → List Record
+filler offset id = byte_int offset ∷ static_var (offset + length filler_type_text + 1) id ∷ []
+
+-- The records that an id appends to the types, in order, where the free ids begin here.
+abbrev pub added_by : Pass → ℕ → ℕ → Option Kind → List Record
+added_by p free id (Some kinds.Enum64) = if makes_placeholder p id then byte_int (offset_at p id) ∷ [] else []
+added_by p free id (Some kinds.DataSec) = if makes_filler p id then filler (filler_offset p id) free else []
+added_by p free id k = []
+
+-- those, behind the records that are added before
+abbrev pub with_added : Pass → ℕ → List Record → List Record
+with_added p id before = before ++ added_by p (length p.table.records + length before) id (kind_at p.table id)
+
+-- the records that all ids below this one append
+abbrev pub added_below : Pass → ℕ → List Record
+added_below p zero = []
+added_below p (suc id) = with_added p id (added_below p id)
+
+-- the first id that is free for a record that this id appends
+abbrev pub free_id : Pass → ℕ → ℕ
+free_id p id = length p.table.records + length (added_below p id)
+
+abbrev pub added : Pass → ℕ → List Record
+added p id = added_by p (free_id p id) id (kind_at p.table id)
+
+-- the bytes by which all DATASECs below this id grow: an entry has 12
+abbrev pub growth_below : Pass → ℕ → ℕ
+growth_below p zero = 0
+growth_below p (suc id) = growth_below p id + (if gets_filler p id then 12 else 0)
+
+-- the length of all records when the pass comes to an id
+abbrev pub type_len_at : Pass → ℕ → ℕ
+type_len_at p id = length (type_bytes p.table) + sum_by record_len (added_below p id) + growth_below p id
+
+-- ---- what an id asks
+
+-- the names of functions that compilers make Global, and kernels want Static
+abbrev pub builtins : List (List ℕ)
+builtins = codes "memset" ∷ codes "memcpy" ∷ codes "memmove" ∷ codes "memcmp" ∷ []
+
+abbrev pub is_builtin : List ℕ → Bool
+is_builtin name = list_any (bytes_eq name) builtins
+
+-- Func first; then, of a Global one that is no builtin, FuncGlobal.
+abbrev pub func_asks : Pass → Record → Result (List ℕ) Refusal → List Feature
+func_asks p r (Ok name) = if has p features.Func && is_global r && not (is_builtin name) then features.Func ∷ features.FuncGlobal ∷ [] else features.Func ∷ []
+func_asks p r (Err refusal) = []
+
+abbrev pub is_positive : Option ℕ → Bool
+is_positive (Some size) = not (size == 0)
+is_positive None = false
+
+-- DataSec first; then DataSecZero, of one of size 0 without entries whose section has a size above 0, once the new name has room.
+abbrev pub data_sec_asks : Pass → ℕ → Record → List Feature
+data_sec_asks p id r =
+    if has p features.DataSec && (r.third == 0) && has_no_entries r && is_none (first_fault (have_room (offset_at p id) (renaming p (name_of p id)))) && is_positive (section_size p id)
+    then features.DataSec ∷ features.DataSecZero ∷ [] else features.DataSec ∷ []
+
+-- The features that an id asks for, in order, by its kind.
+abbrev pub asks_by : Pass → ℕ → Option Kind → Record → List Feature
+asks_by p id (Some kinds.Var) r = features.DataSec ∷ []
+asks_by p id (Some kinds.Float) r = features.Float ∷ []
+asks_by p id (Some kinds.DeclTag) r = features.DeclTag ∷ []
+asks_by p id (Some kinds.TypeTag) r = features.TypeTag ∷ []
+asks_by p id (Some kinds.Enum) r = if is_signed r then features.Enum64 ∷ [] else []
+asks_by p id (Some kinds.Enum64) r = features.Enum64 ∷ []
+asks_by p id (Some kinds.Func) r = func_asks p r (name_of p id)
+asks_by p id (Some kinds.FuncProto) r = features.Func ∷ []
+asks_by p id (Some kinds.DataSec) r = data_sec_asks p id r
+asks_by p id k r = []
+
+abbrev pub asks : Pass → ℕ → List Feature
+asks p id = asks_by p id (kind_at p.table id) (record_at p.table id)
+
+-- what all ids below this one ask for
+abbrev pub asks_below : Pass → ℕ → List Feature
+asks_below p zero = []
+asks_below p (suc id) = asks_below p id ++ asks p id
+
+-- each feature at its first place only
+abbrev pub each_once : List Feature → List Feature
+each_once [] = []
+each_once (feature ∷ fs) = feature ∷ filter (λ f. not (same_feature feature f)) (each_once fs)
+
+-- The features that a whole pass asks for, in order.
+abbrev pub Asked : Pass → List Feature
+Asked p = each_once (asks_below p (length p.table.records))

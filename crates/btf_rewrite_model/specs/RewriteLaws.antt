@@ -1,0 +1,106 @@
+-- The laws of the rewrite. Each is the contract of a public function of this crate.
+use Rattle.std.specs.Prelude.{◌≡◌, ◌≢◌, ℕ, suc, ◌<◌, Bool, true, false, List, [], ◌∷◌, length, map, slice_get, Option, None, Some, Ok}
+use Rattle.std.specs.List.{list_any, filter}
+use Rattle.btf_model.specs.Record as kinds
+use Rattle.btf_model.specs.Record.{Kind, Record, kind_of}
+use Rattle.btf_model.specs.Refusal.{MaximumTypeDepthReached}
+use Rattle.btf_model.specs.Spelling.{HasKind}
+use Rattle.btf_model.specs.Table.{Table}
+use Rattle.btf_model.specs.Walk.{Finding, WalkAnswers, Elements, size_in, Resolves, HasSize}
+use Rattle.btf_rewrite_model.specs.Feature as features
+use Rattle.btf_rewrite_model.specs.Feature.{Feature, Answer, same_feature, grants, needs}
+use Rattle.btf_rewrite_model.specs.Made.{record_at, kind_at, fallback_of}
+use Rattle.btf_rewrite_model.specs.Checks.{record_len}
+use Rattle.btf_rewrite_model.specs.Ksyms.{KsymsIds}
+use Rattle.btf_rewrite_model.specs.Pass.{Pass, Layout, has, asks, asks_below, Asked, texts_below, added_below, gets_filler, growth_below}
+use Rattle.btf_rewrite_model.specs.Rule.{becomes, ruled_below}
+use Rattle.btf_rewrite_model.specs.Fault.{fault}
+use Rattle.btf_rewrite_model.specs.Rewritten.{begun, pass_of, AreRuled, Rewritten}
+
+-- a feature is among these
+abbrev pub IsAmong : Feature → List Feature → Type 0
+IsAmong f fs = list_any (same_feature f) fs ≡ true
+
+-- A feature is asked for of a record only if the kernel needs it for that record.
+abbrev pub AskedOnlyIfNeeded : Type 0
+AskedOnlyIfNeeded = (p : Pass) (id : ℕ) (f : Feature) → IsAmong f (asks p id) → IsAmong f (needs (record_at p.table id) (record_at p.table id))
+
+-- one of the answers is for this feature, and it is yes
+abbrev pub IsGrantedOnce : List Answer → Feature → Type 0
+IsGrantedOnce answers f = map (λ (answer : Answer). answer.granted) (filter (λ (answer : Answer). same_feature answer.feature f) answers) ≡ true ∷ []
+
+-- Where the answers are those to what the pass asks for, the features that the kernel needs for a record of the new table, one that was
+-- appended among them, were asked for once each, and granted.
+abbrev pub GrantedFeaturesSuffice : Type 0
+GrantedFeaturesSuffice =
+    (old new : Table) (ids : Option KsymsIds) (layout : Layout) (answers : List Answer) → Rewritten old ids layout answers new → map (λ (answer : Answer). answer.feature) answers ≡ Asked (pass_of old ids layout answers)
+    → (id : ℕ) (r : Record) → slice_get new.records id ≡ Some r → (f : Feature) → IsAmong f (needs (record_at (begun old ids) id) r) → IsGrantedOnce answers f
+
+-- The record of an id keeps its length in bytes, but for a DATASEC that gets a filler.
+pub record RecordLengthsStay : Type 0 where
+  pub others : (p : Pass) (id : ℕ) (k : Kind) → HasKind k (record_at p.table id) → gets_filler p id ≡ false → record_len (becomes p id) ≡ record_len (record_at p.table id)
+  pub filled : (p : Pass) (id : ℕ) (k : Kind) → HasKind k (record_at p.table id) → gets_filler p id ≡ true → (record_len (record_at p.table id) ≡ 12) × (record_len (becomes p id) ≡ 24)
+
+-- An ENUM64 that becomes a UNION leaves its sign, and of each variant in order its name and its value.
+abbrev pub Enum64KeepsItsValues : Type 0
+Enum64KeepsItsValues =
+    (old new : Table) (ids : Option KsymsIds) (layout : Layout) (answers : List Answer) → Rewritten old ids layout answers new
+    → (id : ℕ) → id < length (begun old ids).records → kind_at (begun old ids) id ≡ Some kinds.Enum64 → grants answers features.Enum64 ≡ false
+    → (kind_at new id ≡ Some kinds.Union) × (slice_get new.fallbacks id ≡ Some (Some (fallback_of (record_at (begun old ids) id))))
+
+-- Records of these kinds may change their size, or what they lead to.
+abbrev pub keeps_size : Option Kind → Bool
+keeps_size (Some kinds.Var) = false
+keeps_size (Some kinds.Func) = false
+keeps_size (Some kinds.FuncProto) = false
+keeps_size (Some kinds.DataSec) = false
+keeps_size (Some kinds.DeclTag) = false
+keeps_size k = true
+
+-- what a walk for a size finds, where it meets none of those
+abbrev pub FindsKept : Table → Elements → Finding Elements ℕ → Type 0
+FindsKept t at found = (keeps_size (kind_at t at.type) ≡ true) × (size_in at (slice_get t.records at.type) ≡ found)
+
+-- The size of a type, by such a walk, is its size in the new table.
+abbrev pub SizesStay : Type 0
+SizesStay =
+    (old new : Table) (ids : Option KsymsIds) (layout : Layout) (answers : List Answer) → Rewritten old ids layout answers new
+    → (id size : ℕ) → WalkAnswers (FindsKept old) (record { count = 1; type = id }) (λ _. MaximumTypeDepthReached id) (Ok size) → HasSize new.records id (Ok size)
+
+-- What an id resolves to, but for a FUNC, it resolves to in the new table.
+abbrev pub ResolutionsStay : Type 0
+ResolutionsStay =
+    (old new : Table) (ids : Option KsymsIds) (layout : Layout) (answers : List Answer) → Rewritten old ids layout answers new
+    → (id end : ℕ) → Resolves old.records id (Ok end) → kind_at old end ≢ Some kinds.Func → Resolves new.records id (Ok end)
+
+-- the same pass under other answers
+abbrev pub with_answers : Pass → List Answer → Pass
+with_answers p answers = record p { answers = answers }
+
+-- Other answers agree with those of a pass on what the ids below this one ask for.
+abbrev pub Agree : Pass → List Answer → ℕ → Type 0
+Agree p answers id = (f : Feature) → IsAmong f (asks_below p id) → grants answers f ≡ has p f
+
+-- What the ids below ask for, append and become under other answers.
+pub record IsSameBelow (p : Pass) (answers : List Answer) (id : ℕ) : Type 0 where
+  pub asks : asks_below (with_answers p answers) id ≡ asks_below p id
+  pub texts : texts_below (with_answers p answers) id ≡ texts_below p id
+  pub added : added_below (with_answers p answers) id ≡ added_below p id
+  pub growth : growth_below (with_answers p answers) id ≡ growth_below p id
+  pub ruled : ruled_below (with_answers p answers) id ≡ ruled_below p id
+
+-- What ids ask for, append and become, and why they are refused, depends on the answers to what they and lower ids ask for, and on no
+-- others.
+pub record OtherAnswersChangeNothing : Type 0 where
+  pub below : (p : Pass) (answers : List Answer) (id : ℕ) → Agree p answers id → AreRuled p id → IsSameBelow p answers id
+  pub asked : (p : Pass) (answers : List Answer) (id : ℕ) → Agree p answers (suc id) → AreRuled p id → asks (with_answers p answers) id ≡ asks p id
+  pub refused : (p : Pass) (answers : List Answer) (id : ℕ) → Agree p answers (suc id) → AreRuled p id → fault (with_answers p answers) id ≡ fault p id
+
+-- Where a rewrite without symbols of the kernel succeeds, of a table that has strings, and leaves no DATASEC of size 0, a second rewrite
+-- changes nothing, under a kernel that grants again what it granted.
+abbrev pub SecondRewriteChangesNothing : Type 0
+SecondRewriteChangesNothing =
+    (old new : Table) (layout : Layout) (answers again : List Answer) → 0 < length old.strings → Rewritten old None layout answers new
+    → ((id : ℕ) → kind_at new id ≡ Some kinds.DataSec → (record_at new id).third ≢ 0)
+    → ((f : Feature) → IsAmong f (asks_below (pass_of new None layout again) (length new.records)) → grants answers f ≡ true → grants again f ≡ true)
+    → Rewritten new None layout again new

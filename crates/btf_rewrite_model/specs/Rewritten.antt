@@ -1,0 +1,60 @@
+-- The whole rewrite: what it makes of a table for a kernel that gave these answers, or why it is refused.
+-- Source: aya-obj's `fixup_and_sanitize`; that a refused rewrite leaves the table as it was, and that names and ids are read as the
+-- pass began, is this project's profile (docs/DIFFERENCES.md).
+use Rattle.std.specs.Prelude.{◌≡◌, ◌⊎◌, ℕ, ◌<◌, List, [], ◌∷◌, ◌++◌, length, map, Option, Some, None}
+use Rattle.std.specs.List.{flat_map}
+use Rattle.btf_model.specs.Refusal.{Refusal}
+use Rattle.btf_model.specs.Table.{Table, no_fallbacks}
+use Rattle.btf_rewrite_model.specs.Feature.{Answer}
+use Rattle.btf_rewrite_model.specs.Ksyms.{KsymsIds, ksyms_table, ksyms_fault}
+use Rattle.btf_rewrite_model.specs.Pass.{Pass, Layout, texts_below, added_below}
+use Rattle.btf_rewrite_model.specs.Made.{ids_of}
+use Rattle.btf_rewrite_model.specs.Rule.{ruled_below, falls_back}
+use Rattle.btf_rewrite_model.specs.Fault.{fault}
+
+-- the table as the pass begins: behind the step of `.ksyms`, where its ids are given
+abbrev pub begun : Table → Option KsymsIds → Table
+begun t (Some ids) = ksyms_table t ids
+begun t None = t
+
+abbrev pub step_fault : Table → Option KsymsIds → Option Refusal
+step_fault t (Some ids) = ksyms_fault t ids
+step_fault t None = None
+
+abbrev pub pass_of : Table → Option KsymsIds → Layout → List Answer → Pass
+pass_of t ids layout answers = record { table = begun t ids; layout = layout; answers = answers }
+
+-- the number of ids that a pass goes over
+abbrev pub old_count : Pass → ℕ
+old_count p = length p.table.records
+
+-- each text with its zero byte
+abbrev pub ended : List ℕ → List ℕ
+ended text = text ++ 0 ∷ []
+
+-- What a pass makes of its table: each id has the record and the fallback of its rule, and strings and records are appended.
+abbrev pub rewritten : Pass → Table
+rewritten p = record p.table {
+  strings = p.table.strings ++ flat_map ended (texts_below p (old_count p));
+  records = ruled_below p (old_count p) ++ added_below p (old_count p);
+  fallbacks = map (falls_back p) (ids_of p.table) ++ no_fallbacks (added_below p (old_count p));
+}
+
+-- no id below this one is refused
+abbrev pub AreRuled : Pass → ℕ → Type 0
+AreRuled p end = (id : ℕ) → id < end → fault p id ≡ None
+
+-- The table is rewritten as the new one.
+pub record Rewritten (old : Table) (ids : Option KsymsIds) (layout : Layout) (answers : List Answer) (new : Table) : Type 0 where
+  pub step : step_fault old ids ≡ None
+  pub ruled : AreRuled (pass_of old ids layout answers) (old_count (pass_of old ids layout answers))
+  pub table : new ≡ rewritten (pass_of old ids layout answers)
+
+-- The pass is refused at the least id that has a fault.
+abbrev pub FaultsAt : Pass → ℕ → Refusal → Type 0
+FaultsAt p id refusal = (id < old_count p) × AreRuled p id × (fault p id ≡ Some refusal)
+
+-- The rewrite is refused: in the step of `.ksyms`, or else in the pass.
+abbrev pub IsRefused : Table → Option KsymsIds → Layout → List Answer → Refusal → Type 0
+IsRefused old ids layout answers refusal =
+    (step_fault old ids ≡ Some refusal) ⊎ ((step_fault old ids ≡ None) × ((id : ℕ) × FaultsAt (pass_of old ids layout answers) id refusal))
