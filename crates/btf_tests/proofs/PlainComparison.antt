@@ -20,8 +20,8 @@ use Rattle.btf_plain.specs.declared.error.BtfError.TheVariants as errors
 use Rattle.btf_records.specs.declared.records.items.BtfParam.{BtfParam}
 use Rattle.btf_tests.specs.declared.plain_comparison.Position.{Position}
 use Rattle.btf_tests.specs.declared.plain_comparison.Position.TheVariants as positions
-use Rattle.btf_types.specs.Pairs.{pair_of, ids_of, IsResolved}
-use Rattle.btf_types.specs.Compared.{types_of}
+use Rattle.btf_compare.specs.Pairs.{pair_of, ids_of, IsResolved}
+use Rattle.btf_compare.specs.Compared.{types_of}
 use Rattle.btf_tests.specs.PlainComparison.{PositionIs, AreStarted, Lists}
 
 -- ---- what is found behind modifiers

@@ -8,8 +8,8 @@ use Rattle.btf_model.specs.Compat.{Told, On, Owes, pairs, AreKnown}
 use Rattle.btf_model.specs.Compat as model
 use Rattle.btf_plain.specs.Error.{Tells}
 use Rattle.btf_plain.specs.declared.error.BtfError.{BtfError}
-use Rattle.btf_types.specs.Pairs.{pair_of, ids_of}
-use Rattle.btf_types.specs.Compared.{types_of}
+use Rattle.btf_compare.specs.Pairs.{pair_of, ids_of}
+use Rattle.btf_compare.specs.Compared.{types_of}
 use Rattle.btf_tests.specs.declared.plain_comparison.Position.{Position}
 use Rattle.btf_tests.specs.declared.plain_comparison.Position.TheVariants as positions
 

@@ -1,17 +1,10 @@
-//! Tables of BTF types: read, written, looked up and changed.
+//! Tables of BTF types: read, written, looked up, compared, and rewritten for a kernel. Each item lies in a crate below,
+//! and is passed on here.
 #![tactic(auto)]
 
-mod compat;
-mod ext;
-mod features;
-mod info;
-mod sanitize;
-mod table;
-mod words;
-
-pub use compat::{fields_are_compatible, types_are_compatible, types_are_compatible_traced};
-pub use ext::{BtfExt, SecInfo, SecInfoIter};
-pub use features::{BtfFeature, BtfFeatureResolver, FeatureAnswer};
-pub use info::{FuncInfo, FuncSecInfo, LineInfo, LineSecInfo, bpf_func_info, bpf_line_info};
-pub use sanitize::{KsymsIds, rewrite_bytes};
-pub use table::{Btf, BtfStr};
+pub use btf_compare::{fields_are_compatible, types_are_compatible, types_are_compatible_traced};
+pub use btf_ext::{
+    BtfExt, FuncInfo, FuncSecInfo, LineInfo, LineSecInfo, SecInfo, SecInfoIter, bpf_func_info, bpf_line_info,
+};
+pub use btf_rules::{BtfFeature, BtfFeatureResolver, FeatureAnswer};
+pub use btf_table::{Btf, BtfStr, KsymsIds, rewrite_bytes};

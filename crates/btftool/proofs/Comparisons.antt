@@ -12,7 +12,7 @@ use Rattle.btf_model.proofs.OnePlain.{one_plain}
 use Rattle.btf_plain.specs.Endianness.{order_of}
 use Rattle.btf_plain.specs.Error.{refusal_of}
 use Rattle.btf_plain.specs.declared.error.BtfError.{BtfError}
-use Rattle.btf_types.specs.Pairs.{pair}
+use Rattle.btf_compare.specs.Pairs.{pair}
 use Rattle.btftool.specs.declared.line.Line.{Line}
 use Rattle.btftool.specs.declared.line.Command.{Command}
 use Rattle.btftool.specs.declared.line.Command.TheVariants.{Compat}

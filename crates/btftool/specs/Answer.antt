@@ -7,7 +7,7 @@ use Rattle.btf_model.specs.Blob.{IsTable, IsRefusal, canon}
 use Rattle.btf_model.specs.Walk.{HasSize}
 use Rattle.btf_model.specs.Fields.{Pair}
 use Rattle.btf_model.specs.Compat.{Plain, firsts}
-use Rattle.btf_types.specs.Pairs.{pair}
+use Rattle.btf_compare.specs.Pairs.{pair}
 use Rattle.btf_plain.specs.Endianness.{order_of}
 use Rattle.btftool.specs.declared.line.Line.{Line}
 use Rattle.btftool.specs.declared.line.Command.{Command}

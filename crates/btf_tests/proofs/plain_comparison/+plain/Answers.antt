@@ -2,8 +2,8 @@ use Rattle.std.proofs.Common.{◌-◌, sym, ap, subst, ◌∙◌, map, arith, Ok
 use Rattle.std.proofs.lemmas.Bool.{false≢true}
 use Rattle.btf_model.specs.Compat.{Plain, Paid, pairs}
 use Rattle.btf_plain.specs.declared.error.BtfError.{BtfError}
-use Rattle.btf_types.specs.Pairs.{pair_of}
-use Rattle.btf_types.specs.Compared.{types_of}
+use Rattle.btf_compare.specs.Pairs.{pair_of}
+use Rattle.btf_compare.specs.Compared.{types_of}
 use Rattle.btf_tests.specs.PlainComparison.{AreStarted, Lists}
 use Rattle.btf_tests.proofs.PlainComparison.{ok_more, again_lists, unknown_lists, differing_lists, walk_lists, deep_lists, told_lists, on_lists, paid_walk_lists, unpaid_walk_lists, all_paid_lists, unresolved_lists, next_lists, other_lists, owed_first, none_owed, none_owed_there}
 use Rattle.btf_tests.proofs.plain_comparison.+plain.Goals as goal

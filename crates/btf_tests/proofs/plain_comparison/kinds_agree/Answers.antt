@@ -4,7 +4,7 @@ use Rattle.btf_model.specs.Record.{kind_of}
 use Rattle.btf_model.specs.Refusal.{UnknownBtfType}
 use Rattle.btf_plain.specs.Error.{refusal_of}
 use Rattle.btf_records.specs.BtfType.{record_of, type_kind}
-use Rattle.btf_types.specs.Pairs.{pair_of}
+use Rattle.btf_compare.specs.Pairs.{pair_of}
 use Rattle.btf_tests.specs.PlainComparison.{AreStarted}
 use Rattle.btf_tests.proofs.PlainComparison.{told_err, kinds_told}
 use Rattle.btf_tests.proofs.plain_comparison.kinds_agree.Goals as goal

@@ -1,7 +1,7 @@
 use Rattle.std.proofs.Common.{◌∙◌, sym, ap}
 use Rattle.btf_model.specs.Compat.{prototypes}
 use Rattle.btf_records.specs.BtfType.{record_of}
-use Rattle.btf_types.proofs.Positions.{as_many_parameters, other_parameters}
+use Rattle.btf_compare.proofs.Positions.{as_many_parameters, other_parameters}
 use Rattle.btf_tests.proofs.plain_comparison.prototypes.Goals as goal
 
 pub returns-then-params-others : goal.returns-then-params-others

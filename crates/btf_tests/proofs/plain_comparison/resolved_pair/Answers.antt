@@ -1,6 +1,6 @@
 use Rattle.std.proofs.Common.{inr}
 use Rattle.btf_model.specs.Compat.{ResolvesPair}
-use Rattle.btf_types.specs.Pairs.{pair_of}
+use Rattle.btf_compare.specs.Pairs.{pair_of}
 use Rattle.btf_tests.proofs.PlainComparison.{told_err}
 use Rattle.btf_tests.proofs.plain_comparison.resolved_pair.Goals as goal
 

@@ -1,0 +1,306 @@
+-- The loop of the comparison of types, as a run of the definitions.
+use Rattle.std.proofs.Common.{◌≡◌, ℕ, ◌+◌, ◌-◌, ◌<◌, ◌≤◌, List, [], ◌∷◌, ◌++◌, length, map, reverse, refl, sym, ap, subst, ◌∙◌, inl, inr, Bool, true, false, Some, None, Ok, Err, Result, Contains, BuildHasherDefault, FoldHasher, arith, append_assoc}
+use Rattle.std.specs.List.{list_any}
+use Rattle.std.specs.Prelude.{◌⊎◌, ◌==◌, ◌&&◌, cond, IsErrAnd}
+use Rattle.std.specs.HashSet as hash
+use Rattle.std.specs.HashSet.{HashSet}
+use Rattle.std.specs.Result.{result_ok}
+use Rattle.std.proofs.lemmas.Bool.{false≢true}
+use Rattle.std.proofs.lemmas.List.{reverse-append, map-append, length-append, length-map}
+use Rattle.std.proofs.lemmas.Option.{none-some, same_Some}
+use Rattle.std.proofs.lemmas.Result.{err_from_is_err_and}
+use Rattle.btf_model.specs.Refusal.{Refusal, UnknownBtfType, MaximumTypeDepthReached}
+use Rattle.btf_model.specs.Table.{Table}
+use Rattle.btf_model.specs.Fields.{Pair, HaveKinds}
+use Rattle.btf_model.specs.Compat.{Plain, pair_eq, firsts}
+use Rattle.btf_model.proofs.Firsts.{eq_itself, eq_same, eq_other}
+use Rattle.btf_model.proofs.Known.{Among, among_from_contains, contains_from_among, known_pairs}
+use Rattle.btf_model.proofs.PlainAnswers.{plain_answers}
+use Rattle.btf_model.proofs.Runs as runs
+use Rattle.btf_model.proofs.Runs.{new_frame, IsNext}
+use Rattle.btf_model.proofs.RunStates as states
+use Rattle.btf_model.proofs.RunStates.{Begins, open_pairs, Outcome, BeginsWith, run_begun, run_on, run_paid, run_starts, run_fails, run_refused, run_differs, run_ends, run_begins, run_settles}
+use Rattle.btf_model.proofs.RunLengths.{widest, left_to_do, less_started}
+use Rattle.btf_plain.specs.Error.{Answers, Tells, refusal_of}
+use Rattle.btf_plain.specs.declared.error.BtfError.{BtfError}
+use Rattle.btf_plain.specs.declared.error.BtfError.TheVariants as errors
+use Rattle.btf_compare.specs.declared.step.Frame.{Frame}
+use Rattle.btf_compare.specs.Compared.{frame_of, has, Changes, IsStarted, IsRefused, Traces}
+use Rattle.btf_compare.specs.Pairs.{pair_of, ids_of}
+use Rattle.btf_plain.proofs.Refused.{known_refusal}
+
+-- ---- what the call answers
+
+-- the call answers the comparison that remembers nothing, and lists what that starts
+abbrev pub Compares : Table → Table → Pair → Result Bool BtfError → List (ℕ × ℕ) → List (ℕ × ℕ) → Type 0
+Compares local target root result old new = (answer : Result Bool Refusal) × (listed : List Pair) × Plain local target [] root answer listed × Traces result answer old new (firsts listed)
+
+-- what is listed behind what the list held
+abbrev pub Adds : List (ℕ × ℕ) → List (ℕ × ℕ) → List Pair → Type 0
+Adds old new listed = new ≡ old ++ map ids_of listed
+
+answered : (local target : Table) (Settled : Pair → Type 0) (root : Pair) (answer : Result Bool Refusal) (listed : List Pair) (result : Result Bool BtfError) (old new : List (ℕ × ℕ)) → Outcome local target Settled root answer listed → Tells (λ b. b) result (λ a. a ≡ answer) → Adds old new listed
+    → Compares local target root result old new
+answered local target Settled root answer listed result old new outcome tells added = (answer, outcome.0, outcome.1, inl (tells, added ∙ ap (λ (x : List Pair). old ++ map ids_of x) (sym outcome.2)))
+
+cut_short : (local target : Table) (Settled : Pair → Type 0) (root : Pair) (listed : List Pair) (result : Result Bool BtfError) (old new : List (ℕ × ℕ)) → BeginsWith local target Settled root listed → result ≡ Err errors.OutOfMemory → Adds old new listed → Compares local target root result old new
+cut_short local target Settled root listed result old new begins is added = (begins.0, begins.1, begins.3, inr (is, listed, begins.2, begins.4, added))
+
+-- an error tells its refusal
+tells_refusal : (result : Result Bool BtfError) (e : BtfError) (refusal : Refusal) → result ≡ Err e → refusal_of e ≡ Some refusal → Tells (λ b. b) result (λ a. a ≡ Err refusal)
+tells_refusal result e refusal is known = subst (λ (r : Result Bool BtfError). Tells (λ b. b) r (λ a. a ≡ Err refusal)) (sym is) (refusal, known, refl)
+
+not_true : (refusal : Refusal) → ◌≡◌ {A = Result Bool Refusal} (Err refusal) (Ok true) → ⊥
+not_true refusal is = none-some true (ap result_ok is)
+
+pub false_is_not_true : ◌≡◌ {A = Result Bool Refusal} (Ok false) (Ok true) → ⊥
+false_is_not_true is = false≢true (same_Some false true (ap result_ok is))
+
+-- an error that `?` hands on
+pub handed : (r : Result Bool BtfError) (e : BtfError) → IsErrAnd r (λ y. y ≡ e) → r ≡ Err e
+handed r e h = let given = err_from_is_err_and r h in given.1 ∙ ap (λ (x : BtfError). Err x) given.2
+
+-- ---- the state of the loop
+
+abbrev pub stack_of : List Frame → List runs.Frame
+stack_of frames = reverse (map frame_of frames)
+
+-- the frame that was pushed last comes first
+pub stack_push : (frames more : List Frame) (f : Frame) → more ≡ frames ++ f ∷ [] → stack_of more ≡ frame_of f ∷ stack_of frames
+stack_push frames more f is = ap stack_of is ∙ ap reverse (map-append frame_of frames (f ∷ [])) ∙ reverse-append (map frame_of frames) (frame_of f ∷ [])
+
+-- a set of pairs of ids
+abbrev pub PairSet : Type 0
+PairSet = HashSet (ℕ × ℕ) (BuildHasherDefault FoldHasher)
+
+abbrev pub IsIn : PairSet → Pair → Type 0
+IsIn set p = has set p ≡ true
+
+-- What holds at each step of the loop: it is a run, and the set of open pairs has those of the stack.
+pub record IsRunning (local target : Table) (root : Pair) (opened settled : PairSet) (top : runs.Frame) (below : List runs.Frame) (old new : List (ℕ × ℕ)) : Type 0 where
+  pub listed : List Pair
+  pub added : Adds old new listed
+  pub run : states.Run local target (IsIn settled) root top below listed
+  pub among : (q : Pair) → IsIn opened q → Among (top.pair ∷ open_pairs below) q
+  pub has_all : (q : Pair) → Among (top.pair ∷ open_pairs below) q → IsIn opened q
+
+-- a set in which nothing is has nothing
+pub nothing_in : (set : PairSet) → hash.IsEmpty set → (q : Pair) → has set q ≡ false
+nothing_in set is q = ap (list_any (λ x. (q.local == x.0) && (q.target == x.1))) is
+
+-- what is in a set behind a change
+behind_cond : (b : Bool) (x : Bool) → cond b true x ≡ true → (b ≡ true) ⊎ (x ≡ true)
+behind_cond true x is = inl refl
+behind_cond false x is = inr is
+
+pub now_in : (old new : PairSet) (p : Pair) → Changes old new p true → (q : Pair) → IsIn new q → IsIn old q ⊎ (p ≡ q)
+now_in old new p changes q h = elim (behind_cond (pair_eq p q) (has old q) (sym (changes q) ∙ h)) [ inl is ↦ inr (eq_same p q is) | inr was ↦ inl was ]
+
+in_cond : (b x : Bool) → x ≡ true → cond b true x ≡ true
+in_cond true x is = refl
+in_cond false x is = is
+
+pub still_in : (old new : PairSet) (p : Pair) → Changes old new p true → (q : Pair) → IsIn old q → IsIn new q
+still_in old new p changes q h = changes q ∙ in_cond (pair_eq p q) (has old q) h
+
+pub itself_in : (old new : PairSet) (p : Pair) → Changes old new p true → IsIn new p
+itself_in old new p changes = changes p ∙ ap (λ (b : Bool). cond b true (has old p)) (eq_itself p)
+
+-- ---- before the loop
+
+module _ (local target : Table) (root : ℕ × ℕ) where
+  -- nothing is open
+  none_open : ¬ (Contains [] (pair_of root))
+  none_open h = elim (among_from_contains [] (pair_of root) h) [ ]
+
+  none : Pair → Type 0
+  none q = ⊥
+
+  pub root_refused : HaveKinds local → HaveKinds target → (e : BtfError) (result : Result Bool BtfError) (old new : List (ℕ × ℕ)) → IsRefused local target (pair_of root) e → result ≡ Err e → Adds old new [] → Compares local target (pair_of root) result old new
+  root_refused ls ts e result old new (inl memory) is added =
+      let whole = plain_answers local target ls ts [] (pair_of root) in
+      cut_short local target none (pair_of root) [] result old new (whole.0, whole.1, firsts whole.1, whole.2, refl) (is ∙ ap (λ (x : BtfError). Err x) memory) added
+  root_refused ls ts e result old new (inr (inl h)) is added =
+      answered local target none (pair_of root) (Err (UnknownBtfType root.0)) [] result old new ([], Plain.no_local [] (pair_of root) none_open h.0, refl) (tells_refusal result e (UnknownBtfType root.0) is (ap refusal_of h.1)) added
+  root_refused ls ts e result old new (inr (inr h)) is added =
+      answered local target none (pair_of root) (Err (UnknownBtfType root.1)) [] result old new ([], Plain.no_target [] (pair_of root) h.0 none_open h.1 h.2, refl) (tells_refusal result e (UnknownBtfType root.1) is (ap refusal_of h.3)) added
+
+  pub root_differs : (old new : List (ℕ × ℕ)) → IsStarted local target (pair_of root) None → new ≡ old ++ root ∷ [] → Compares local target (pair_of root) (Ok false) old new
+  root_differs old new h added = answered local target none (pair_of root) (Ok false) (pair_of root ∷ []) (Ok false) old new (pair_of root ∷ [], Plain.kinds_differ [] (pair_of root) h.0 h.1 none_open h.2 h.3, refl) refl added
+
+  pub root_started : (top : Frame) (begun opened settled : PairSet) (items : List Frame) (old new : List (ℕ × ℕ)) → IsStarted local target (pair_of root) (Some top) → items ≡ [] → hash.IsEmpty begun → hash.IsEmpty settled → Changes begun opened (pair_of root) true → new ≡ old ++ root ∷ []
+      → IsRunning local target (pair_of root) opened settled (frame_of top) (stack_of items) old new
+  root_started top begun opened settled items old new h below empty none_settled changes added =
+      subst (λ (x : runs.Frame). IsRunning local target (pair_of root) opened settled x (stack_of items) old new) (sym h.1)
+      (subst (λ (xs : List Frame). IsRunning local target (pair_of root) opened settled (new_frame (pair_of root)) (stack_of xs) old new) (sym below)
+      (record {
+        listed = pair_of root ∷ [];
+        added = added;
+        run = run_begun local target (IsIn settled) (pair_of root) h.0 (λ q is. false≢true (sym (nothing_in settled none_settled q) ∙ is));
+        among = λ q is. elim (now_in begun opened (pair_of root) changes q is) [ inl was ↦ absurd (false≢true (sym (nothing_in begun empty q) ∙ was)) | inr same ↦ inl same ];
+        has_all = λ q. elim [ inl same ↦ subst (IsIn opened) same (itself_in begun opened (pair_of root) changes) | inr m ↦ absurd m ];
+      }))
+
+-- ---- in the loop
+
+-- what an error told, an equal one tells
+told_again : (answer result : Result Bool BtfError) (e : BtfError) (P : Result Bool Refusal → Type 0) → answer ≡ Err e → result ≡ Err e → Tells (λ b. b) answer P → (refusal : Refusal) × P (Err refusal) × Tells (λ b. b) result (λ a. a ≡ Err refusal)
+told_again answer result e P is same h =
+    let given = subst (λ (r : Result Bool BtfError). Tells (λ b. b) r P) is h in
+    (given.0, given.2, tells_refusal result e given.0 same given.1)
+
+module _ (local target : Table) (root : Pair) (opened settled : PairSet) (top : runs.Frame) (below : List runs.Frame) (old new : List (ℕ × ℕ)) (state : IsRunning local target root opened settled top below old new) where
+  pub no_memory : HaveKinds local → HaveKinds target → (result : Result Bool BtfError) → result ≡ Err errors.OutOfMemory → Compares local target root result old new
+  no_memory ls ts result is = cut_short local target (IsIn settled) root state.listed result old new (run_begins local target (IsIn settled) ls ts root top below state.listed state.run) is state.added
+
+  pub ends_refused : (answer result : Result Bool BtfError) (e : BtfError) → answer ≡ Err e → result ≡ Err e → Tells (λ b. b) answer (λ a. IsNext local target top (runs.Ends a)) → Compares local target root result old new
+  ends_refused answer result e is same h =
+      let told = told_again answer result e (λ a. IsNext local target top (runs.Ends a)) is same h in
+      answered local target (IsIn settled) root (Err told.0) state.listed result old new (run_fails local target (IsIn settled) root top below state.listed state.run (Err told.0) told.1 (not_true told.0)) told.2 state.added
+
+  pub ends_false : IsNext local target top (runs.Ends (Ok false)) → Compares local target root (Ok false) old new
+  ends_false next = answered local target (IsIn settled) root (Ok false) state.listed (Ok false) old new (run_fails local target (IsIn settled) root top below state.listed state.run (Ok false) next false_is_not_true) refl state.added
+
+  pub ends_true : IsNext local target top (runs.Ends (Ok true)) → below ≡ [] → Compares local target root (Ok true) old new
+  ends_true next is =
+      answered local target (IsIn settled) root (Ok true) state.listed (Ok true) old new
+      (run_ends local target (IsIn settled) root top state.listed (subst (λ (x : List runs.Frame). states.Run local target (IsIn settled) root top x state.listed) is state.run) next) refl state.added
+
+  pub goes_on : (g : runs.Frame) → IsNext local target top (runs.GoesOn g) → IsRunning local target root opened settled g below old new
+  goes_on g next =
+      let same : top.pair ≡ g.pair = sym (ap (λ (x : runs.Frame). x.pair) next.3) in
+      record {
+        listed = state.listed;
+        added = state.added;
+        run = run_on local target (IsIn settled) root top g below state.listed state.run next;
+        among = subst (λ (p : Pair). (q : Pair) → IsIn opened q → Among (p ∷ open_pairs below) q) same state.among;
+        has_all = subst (λ (p : Pair). (q : Pair) → Among (p ∷ open_pairs below) q → IsIn opened q) same state.has_all;
+      }
+
+  module _ (p : Pair) (g : runs.Frame) (next : IsNext local target top (runs.Waits p g)) where
+    same_pair : top.pair ≡ g.pair
+    same_pair = sym (ap (λ (x : runs.Frame). x.pair) next.5)
+
+    pub pays : IsIn settled p → IsRunning local target root opened settled g below old new
+    pays is = record {
+      listed = state.listed;
+      added = state.added;
+      run = run_paid local target (IsIn settled) root top g p below state.listed state.run next is;
+      among = subst (λ (o : Pair). (q : Pair) → IsIn opened q → Among (o ∷ open_pairs below) q) same_pair state.among;
+      has_all = subst (λ (o : Pair). (q : Pair) → Among (o ∷ open_pairs below) q → IsIn opened q) same_pair state.has_all;
+    }
+
+    pub is_open : IsIn opened p → Compares local target root (Err (errors.MaximumTypeDepthReached p.local)) old new
+    is_open is =
+        answered local target (IsIn settled) root (Err (MaximumTypeDepthReached p.local)) state.listed (Err (errors.MaximumTypeDepthReached p.local)) old new
+        (run_refused local target (IsIn settled) root top g p below state.listed state.run next (Err (MaximumTypeDepthReached p.local)) (Plain.again (top.pair ∷ open_pairs below) p (contains_from_among (top.pair ∷ open_pairs below) p (state.among p is))) (not_true (MaximumTypeDepthReached p.local)))
+        (MaximumTypeDepthReached p.local, refl, refl) state.added
+
+    module _ (not_open : has opened p ≡ false) (not_settled : has settled p ≡ false) where
+      new_pair : Among (top.pair ∷ open_pairs below) p → ⊥
+      new_pair m = false≢true (sym not_open ∙ state.has_all p m)
+
+      unsettled : IsIn settled p → ⊥
+      unsettled is = false≢true (sym not_settled ∙ is)
+
+      not_above : ¬ (Contains (top.pair ∷ open_pairs below) p)
+      not_above h = new_pair (among_from_contains (top.pair ∷ open_pairs below) p h)
+
+      refused_with : (result : Result Bool BtfError) (e : BtfError) (refusal : Refusal) → result ≡ Err e → refusal_of e ≡ Some refusal → Plain local target (top.pair ∷ open_pairs below) p (Err refusal) [] → Compares local target root result old new
+      refused_with result e refusal is known plain =
+          answered local target (IsIn settled) root (Err refusal) state.listed result old new (run_refused local target (IsIn settled) root top g p below state.listed state.run next (Err refusal) plain (not_true refusal)) (tells_refusal result e refusal is known) state.added
+
+      pub is_refused : HaveKinds local → HaveKinds target → (e : BtfError) (result : Result Bool BtfError) → IsRefused local target p e → result ≡ Err e → Compares local target root result old new
+      is_refused ls ts e result (inl memory) is = no_memory ls ts result (is ∙ ap (λ (x : BtfError). Err x) memory)
+      is_refused ls ts e result (inr (inl h)) is = refused_with result e (UnknownBtfType p.local) is (ap refusal_of h.1) (Plain.no_local (top.pair ∷ open_pairs below) p not_above h.0)
+      is_refused ls ts e result (inr (inr h)) is = refused_with result e (UnknownBtfType p.target) is (ap refusal_of h.3) (Plain.no_target (top.pair ∷ open_pairs below) p h.0 not_above h.1 h.2)
+
+      adds_one : (more : List (ℕ × ℕ)) → more ≡ new ++ ids_of p ∷ [] → Adds old more (state.listed ++ p ∷ [])
+      adds_one more is =
+          is ∙ ap (λ (x : List (ℕ × ℕ)). x ++ ids_of p ∷ []) state.added ∙ append_assoc old (map ids_of state.listed) (ids_of p ∷ [])
+          ∙ ap (λ (x : List (ℕ × ℕ)). old ++ x) (sym (map-append ids_of state.listed (p ∷ [])))
+
+      pub differs : (more : List (ℕ × ℕ)) → IsStarted local target p None → more ≡ new ++ ids_of p ∷ [] → Compares local target root (Ok false) old more
+      differs more h is =
+          answered local target (IsIn settled) root (Ok false) (state.listed ++ p ∷ []) (Ok false) old more
+          (run_differs local target (IsIn settled) root top g p below state.listed state.run next new_pair unsettled (Ok false) (Plain.kinds_differ (top.pair ∷ open_pairs below) p h.0 h.1 not_above h.2 h.3) false_is_not_true) refl (adds_one more is)
+
+      pub starts : (f : Frame) (more_open : PairSet) (more : List (ℕ × ℕ)) → IsStarted local target p (Some f) → Changes opened more_open p true → more ≡ new ++ ids_of p ∷ [] → IsRunning local target root more_open settled (frame_of f) (g ∷ below) old more
+      starts f more_open more h changes is =
+          subst (λ (x : runs.Frame). IsRunning local target root more_open settled x (g ∷ below) old more) (sym h.1)
+          (record {
+            listed = state.listed ++ p ∷ [];
+            added = adds_one more is;
+            run = run_starts local target (IsIn settled) root top g p below state.listed state.run next new_pair unsettled h.0;
+            among = λ q m. elim (now_in opened more_open p changes q m) [
+              | inl was ↦ inr (subst (λ (o : Pair). Among (o ∷ open_pairs below) q) same_pair (state.among q was))
+              | inr same ↦ inl same
+            ];
+            has_all = λ q. elim [
+              | inl same ↦ subst (IsIn more_open) same (itself_in opened more_open p changes)
+              | inr m ↦ still_in opened more_open p changes q (state.has_all q (subst (λ (o : Pair). Among (o ∷ open_pairs below) q) (sym same_pair) m))
+            ];
+          })
+
+-- ---- a pair that is settled
+
+out_cond : (b x : Bool) → cond b false x ≡ true → (b ≡ false) × (x ≡ true)
+out_cond true x is = absurd (false≢true is)
+out_cond false x is = (refl, is)
+
+module _ (local target : Table) (root : Pair) (opened settled : PairSet) (top g : runs.Frame) (below : List runs.Frame) (old new : List (ℕ × ℕ)) (state : IsRunning local target root opened settled top (g ∷ below) old new) where
+  other_pair : (q : Pair) → Among (open_pairs (g ∷ below)) q → pair_eq top.pair q ≡ false
+  other_pair q m = eq_other top.pair q (λ same. state.run.apart.0 (subst (λ (x : Pair). Among (open_pairs (g ∷ below)) x) (sym same) m))
+
+  pub settles : (fewer more : PairSet) → IsNext local target top (runs.Ends (Ok true)) → Changes settled more top.pair true → Changes opened fewer top.pair false → IsRunning local target root fewer more g below old new
+  settles fewer more next changes closes = record {
+    listed = state.listed;
+    added = state.added;
+    run = run_settles local target (IsIn settled) (IsIn more) (still_in settled more top.pair changes) root top g below state.listed state.run next (itself_in settled more top.pair changes) (now_in settled more top.pair changes);
+    among = λ q is.
+        let out = out_cond (pair_eq top.pair q) (has opened q) (sym (closes q) ∙ is) in
+        elim (state.among q out.1) [
+          | inl same ↦ absurd (false≢true (sym out.0 ∙ ap (pair_eq top.pair) (sym same) ∙ eq_itself top.pair))
+          | inr m ↦ m
+        ];
+    has_all = λ q m. closes q ∙ ap (λ (b : Bool). cond b false (has opened q)) (other_pair q m) ∙ state.has_all q (inr m);
+  }
+
+-- ---- the steps come to an end
+
+module _ (local target : Table) (root : Pair) (old : List (ℕ × ℕ)) where
+  -- so many pairs are listed
+  abbrev pub count : List (ℕ × ℕ) → ℕ
+  count new = length new - length old
+
+  abbrev pub left : List (ℕ × ℕ) → runs.Frame → List runs.Frame → ℕ
+  left new top below = left_to_do (length (known_pairs local target)) (count new) (widest local.records) top below
+
+  listed_count : (opened settled : PairSet) (top : runs.Frame) (below : List runs.Frame) (new : List (ℕ × ℕ)) → IsRunning local target root opened settled top below old new → (length old ≤ length new) × (count new ≤ length (known_pairs local target))
+  listed_count opened settled top below new state =
+      let sum : length new ≡ length old + length state.listed = ap length state.added ∙ length-append old (map ids_of state.listed) ∙ ap (λ (n : ℕ). length old + n) (length-map state.listed ids_of) in
+      (omega (arith, sum), omega (arith, sum, state.run.counts))
+
+  pub less_by_start : (opened settled more_open more_settled : PairSet) (top g f : runs.Frame) (p : Pair) (below : List runs.Frame) (new more : List (ℕ × ℕ)) (ids : ℕ × ℕ) → IsNext local target top (runs.Waits p g) → f ≡ new_frame p → more ≡ new ++ ids ∷ []
+      → IsRunning local target root opened settled top below old new → IsRunning local target root more_open more_settled f (g ∷ below) old more → left more f (g ∷ below) < left new top below
+  less_by_start opened settled more_open more_settled top g f p below new more ids next is adds state started =
+      let was = listed_count opened settled top below new state in
+      let now = listed_count more_open more_settled f (g ∷ below) more started in
+      let one : count more ≡ count new + 1 = omega (arith, ap length adds, length-append new (ids ∷ []), was.0) in
+      rw (is, one) (less_started local target (length (known_pairs local target)) (count new) top g p below next (omega (arith, one, now.1)))
+
+-- ---- the answer alone
+
+tells_answer : (result : Result Bool BtfError) (answer : Result Bool Refusal) (P : Result Bool Refusal → Type 0) → Tells (λ b. b) result (λ a. a ≡ answer) → P answer → Answers (λ b. b) result P
+tells_answer (Ok b) answer P is h = subst P (sym is) h
+tells_answer (Err e) answer P is h = known_refusal e is.0 (λ f. P (Err f)) is.1 (subst P (sym is.2) h)
+
+no_answer : (result : Result Bool BtfError) (P : Result Bool Refusal → Type 0) → result ≡ Err errors.OutOfMemory → Answers (λ b. b) result P
+no_answer result P is = subst (λ (r : Result Bool BtfError). Answers (λ b. b) r P) (sym is) tt
+
+pub answers : (local target : Table) (root : Pair) (result : Result Bool BtfError) (old new : List (ℕ × ℕ)) → Compares local target root result old new → Answers (λ b. b) result (λ answer. (listed : List Pair) × Plain local target [] root answer listed)
+answers local target root result old new h =
+    elim h.3 [
+      | inl told ↦ tells_answer result h.0 (λ answer. (listed : List Pair) × Plain local target [] root answer listed) told.0 (h.1, h.2)
+      | inr short ↦ no_answer result (λ answer. (listed : List Pair) × Plain local target [] root answer listed) short.0
+    ]

@@ -1,0 +1,4 @@
+pub mod FieldSteps
+pub mod Positions
+pub mod Steps
+pub mod Comparing

@@ -1,0 +1,76 @@
+-- What the parts of the comparison of types stand for.
+use Rattle.std.specs.Prelude.{◌≡◌, ◌≢◌, ◌⊎◌, ℕ, ◌+◌, ◌-◌, nat_eq, ◌&&◌, cond, Bool, List, ◌++◌, map, slice_get, Option, Some, None, Result, Ok, Err}
+use Rattle.std.specs.HashSet as hash
+use Rattle.std.specs.HashSet.{HashSet}
+use Rattle.btf_model.specs.Record.{Record, Kind, compared_kind}
+use Rattle.btf_model.specs.Refusal.{Refusal}
+use Rattle.btf_model.specs.Table.{Table}
+use Rattle.btf_model.specs.Walk.{walk_limit}
+use Rattle.btf_model.specs.Fields.{Pair}
+use Rattle.btf_model.specs.Compat.{Told, On, Owes, pairs, ResolvesPair, AreKnown, pair_eq}
+use Rattle.btf_model.specs.Compat as model
+use Rattle.btf_model.proofs.Runs as runs
+use Rattle.btf_model.proofs.Runs.{new_frame, IsNext}
+use Rattle.btf_model.proofs.RunStates.{Begins}
+use Rattle.btf_plain.specs.Error.{Tells}
+use Rattle.btf_plain.specs.declared.error.BtfError.{BtfError}
+use Rattle.btf_plain.specs.declared.error.BtfError.TheVariants as errors
+use Rattle.btf_records.specs.declared.records.items.BtfParam.{BtfParam}
+use Rattle.btf_compare.specs.declared.position.Position.{Position}
+use Rattle.btf_compare.specs.declared.position.Position.TheVariants as positions
+use Rattle.btf_compare.specs.declared.step.Frame.{Frame}
+use Rattle.btf_compare.specs.declared.step.Step.{Step}
+use Rattle.btf_compare.specs.declared.step.Step.TheVariants as steps
+use Rattle.btf_compare.specs.Pairs.{pair_of, ids_of}
+
+-- the types of parameters
+abbrev pub types_of : List BtfParam → List ℕ
+types_of params = map (λ p. p.btf_type) params
+
+-- the position is one of which P holds
+abbrev pub PositionIs : Position → (model.Position → Type 0) → Type 0
+PositionIs (positions.Told answer) P = Tells (λ b. b) answer (λ a. P (Told a))
+PositionIs (positions.On next) P = P (On (pair_of next))
+PositionIs (positions.Owes params others next) P = P (Owes (pairs (types_of params.now) (types_of others.now)) (pair_of next))
+
+-- an open pair, as the definitions of a run have it
+abbrev pub frame_of : Frame → runs.Frame
+frame_of f = record { pair = pair_of f.pair; at = pair_of f.at; left = walk_limit - f.gone; parameter = f.parameter }
+
+-- the step is what comes next for an open pair
+abbrev pub StepIs : Table → Table → Frame → Step → Type 0
+StepIs local target f (steps.Ends answer) = Tells (λ b. b) answer (λ a. IsNext local target (frame_of f) (runs.Ends a))
+StepIs local target f (steps.GoesOn g) = IsNext local target (frame_of f) (runs.GoesOn (frame_of g))
+StepIs local target f (steps.Waits ids g) = IsNext local target (frame_of f) (runs.Waits (pair_of ids) (frame_of g))
+
+-- the step is what comes next where the parameters at their turn are this pair: it is resolved, and waited for
+abbrev pub ParameterStepIs : Table → Table → Frame → Pair → Step → Type 0
+ParameterStepIs local target f at (steps.Ends answer) = Tells (λ b. b) answer (λ a. (refusal : Refusal) × ResolvesPair local target at (Err refusal) × (a ≡ Err refusal))
+ParameterStepIs local target f at (steps.GoesOn g) = ⊥
+ParameterStepIs local target f at (steps.Waits ids g) = ResolvesPair local target at (Ok (pair_of ids)) × (g ≡ record f { parameter = f.parameter + 1 })
+
+-- whether the set has the pair
+abbrev pub has : {S : Type 0} → HashSet (ℕ × ℕ) S → Pair → Bool
+has set p = hash.contains (λ x y. nat_eq x.0 y.0 && nat_eq x.1 y.1) set (ids_of p)
+
+-- the set has p if b is true, and otherwise what it had
+abbrev pub Changes : {S : Type 0} → HashSet (ℕ × ℕ) S → HashSet (ℕ × ℕ) S → Pair → Bool → Type 0
+Changes old new p b = (q : Pair) → has new q ≡ cond (pair_eq p q) b (has old q)
+
+-- A pair that is started is known: its walk begins, or the kinds differ.
+abbrev pub IsStarted : Table → Table → Pair → Option Frame → Type 0
+IsStarted local target p (Some f) = Begins local target p × (frame_of f ≡ new_frame p)
+IsStarted local target p None = (k q : Kind) × AreKnown local target p k q × (compared_kind k ≢ compared_kind q)
+
+-- Why a pair is not started: an id is not known, the local one first, or memory is wanted.
+abbrev pub IsRefused : Table → Table → Pair → BtfError → Type 0
+IsRefused local target p e =
+    (e ≡ errors.OutOfMemory)
+    ⊎ (((slice_get local.records p.local ≡ None) × (e ≡ errors.UnknownBtfType p.local))
+    ⊎ ((r : Record) × (slice_get local.records p.local ≡ Some r) × (slice_get target.records p.target ≡ None) × (e ≡ errors.UnknownBtfType p.target)))
+
+-- The call answers this, and lists these pairs behind what the list held; or memory is wanted, and it lists a beginning of them.
+abbrev pub Traces : Result Bool BtfError → Result Bool Refusal → List (ℕ × ℕ) → List (ℕ × ℕ) → List Pair → Type 0
+Traces result answer old new listed =
+    (Tells (λ b. b) result (λ a. a ≡ answer) × (new ≡ old ++ map ids_of listed))
+    ⊎ ((result ≡ Err errors.OutOfMemory) × (front rest : List Pair) × (listed ≡ front ++ rest) × (new ≡ old ++ map ids_of front))

@@ -1,0 +1,13 @@
+-- What a step of the comparison of fields stands for.
+use Rattle.std.specs.Prelude.{Bool}
+use Rattle.btf_model.specs.Walk.{Finding, Ends, GoesOn}
+use Rattle.btf_model.specs.Fields.{Pair}
+use Rattle.btf_plain.specs.Error.{Answers}
+use Rattle.btf_compare.specs.declared.fields.Step.{Step}
+use Rattle.btf_compare.specs.declared.fields.Step.TheVariants as steps
+use Rattle.btf_compare.specs.Pairs.{pair}
+
+-- the step is a finding of which P holds, or memory was wanted
+abbrev pub StepIs : Step → (Finding Pair Bool → Type 0) → Type 0
+StepIs (steps.Ends answer) P = Answers (λ b. b) answer (λ a. P (Ends a))
+StepIs (steps.GoesOn local target) P = P (GoesOn (pair local target))

@@ -1,0 +1,10 @@
+pub mod Pairs
+pub mod FieldStep
+pub mod Compared
+pub use Rattle.btf_model.specs.Text
+pub use Rattle.btf_plain.specs.Error
+pub use Rattle.btf_records.specs.BtfType
+pub use Rattle.btf_model.specs.Record
+pub use Rattle.btf_model.specs.Compat
+pub use Rattle.btf_model.specs.Refusal
+pub use Rattle.btf_model.specs.Fields

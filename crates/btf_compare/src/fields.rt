@@ -1,0 +1,137 @@
+//! The comparison of the types of two fields.
+
+ghost use Rattle.std.specs.Prelude.{◌≡◌};
+ghost use Rattle.btf_model.specs.Fields.{Fields, FieldsFind, FieldsFound, field_by, before_flavor, same_names};
+ghost use Rattle.btf_model.specs.Text.{text_at};
+ghost use Rattle.btf_plain.specs.Error.{Answers};
+ghost use Rattle.btf_records.specs.BtfType.{record_of, type_kind};
+ghost use Rattle.btf_compare.specs.FieldStep.{StepIs};
+ghost use Rattle.btf_compare.specs.Pairs.{pair};
+
+use crate::resolved::resolved;
+use btf_table::{Btf, WALK_LIMIT};
+use bstr::ByteSlice;
+use btf_plain::BtfError;
+use btf_records::BtfType;
+
+/// What separates a name from its flavor.
+const FLAVOR_MARK: &[u8] = b"___";
+
+/// What the comparison finds at a pair of types.
+#[derive(Drop)]
+enum Step {
+    /// The answer.
+    Ends(Result<bool, BtfError>),
+    /// The types to compare next, the local one first.
+    GoesOn(u32, u32),
+}
+
+/// Whether the types of two fields are compatible, where each stands in its own table: as libbpf has it, any two
+/// structures or unions are, enumerations and forward declarations of one name are (but for the flavor behind `___`),
+/// integers that begin at bit 0, any two pointers or floating-point numbers, and arrays whose elements are.
+///
+/// Modifiers are resolved at each step, the local side first, with the errors of `resolve_type`; a name that can't be
+/// read is `InvalidStringOffset`; types of other kinds are `UnexpectedBtfType` with the local id. Behind 32 arrays it is
+/// `MaximumTypeDepthReached` with the local id that would come next.
+pub fn fields_are_compatible(
+    local: &Btf,
+    local_id: u32,
+    target: &Btf,
+    target_id: u32,
+) -> Result<bool, BtfError>
+    ensures { Answers (λ b. b) result (Fields local.now local_id target.now target_id) }
+{
+    let mut local_id = local_id;
+    let mut target_id = target_id;
+    for _ in 0..WALK_LIMIT {
+        match found_at(local, local_id, target, target_id) {
+            Step::Ends(answer) => return answer,
+            Step::GoesOn(local_next, target_next) => {
+                local_id = local_next;
+                target_id = target_next;
+            }
+        }
+    }
+    Err(BtfError::MaximumTypeDepthReached { type_id: local_id })
+}
+
+/// What the comparison finds at two ids.
+fn found_at(local: &Btf, local_id: u32, target: &Btf, target_id: u32) -> Step
+    ensures { StepIs result (FieldsFind local.now target.now (pair local_id target_id)) }
+{
+    let (local_at, local_type) = match resolved(local, local_id) {
+        Ok(found) => found,
+        Err(e) => return Step::Ends(Err(e)),
+    };
+    match resolved(target, target_id) {
+        Ok((_, target_type)) => compared(local, local_at, local_type, target, target_type),
+        Err(e) => Step::Ends(Err(e)),
+    }
+}
+
+/// What the comparison finds at two types that are no modifiers.
+fn compared(
+    local: &Btf,
+    local_id: u32,
+    local_type: &BtfType,
+    target: &Btf,
+    target_type: &BtfType,
+) -> Step
+    ensures { StepIs result (FieldsFound local.now target.now local_id (type_kind local_type.now) (type_kind target_type.now) (record_of local_type.now) (record_of target_type.now)) }
+{
+    if local_type.is_composite() && target_type.is_composite() {
+        return Step::Ends(Ok(true));
+    }
+    if !local_type.is_compatible(target_type) {
+        return Step::Ends(Ok(false));
+    }
+    by_kind(local, local_id, local_type, target, target_type)
+}
+
+/// What the comparison finds at two types of compatible kinds, of which one at least is no composite.
+fn by_kind(
+    local: &Btf,
+    local_id: u32,
+    local_type: &BtfType,
+    target: &Btf,
+    target_type: &BtfType,
+) -> Step
+    ensures { StepIs result (λ found. found ≡ field_by local.now target.now local_id (type_kind local_type.now) (type_kind target_type.now) (record_of local_type.now) (record_of target_type.now)) }
+{
+    match (local_type, target_type) {
+        (BtfType::Int(l), BtfType::Int(t)) => Step::Ends(Ok(l.offset() == 0 && t.offset() == 0)),
+        (BtfType::Array(l), BtfType::Array(t)) => {
+            Step::GoesOn(l.array().element_type, t.array().element_type)
+        }
+        (BtfType::Ptr(_) | BtfType::Float(_), _) => Step::Ends(Ok(true)),
+        (BtfType::Fwd(_) | BtfType::Enum(_) | BtfType::Enum64(_), _) => {
+            Step::Ends(named_alike(local, local_type, target, target_type))
+        }
+        _ => Step::Ends(Err(BtfError::UnexpectedBtfType { type_id: local_id })),
+    }
+}
+
+/// Whether two types have one name, but for its flavor.
+fn named_alike(
+    local: &Btf,
+    local_type: &BtfType,
+    target: &Btf,
+    target_type: &BtfType,
+) -> Result<bool, BtfError>
+    ensures { Answers (λ b. b) result (λ answer. answer ≡ same_names (text_at local.now.strings (record_of local_type.now).name) (text_at target.now.strings (record_of target_type.now).name)) }
+{
+    let name = local.type_name(local_type)?;
+    let other = target.type_name(target_type)?;
+    Ok(without_flavor(name.as_str()) == without_flavor(other.as_str()))
+}
+
+/// The bytes of a name in front of its flavor.
+fn without_flavor(name: &str) -> &[u8]
+    ensures { result.now ≡ before_flavor name.now }
+{
+    let bytes = name.as_bytes();
+    match bytes.find(FLAVOR_MARK) {
+        Some(end) => &bytes[..end],
+        None => bytes,
+    }
+}

@@ -1,0 +1,12 @@
+//! Comparisons of the types of two tables, as relocation engines make them.
+#![tactic(auto)]
+
+mod fields;
+mod position;
+mod resolved;
+mod run;
+mod step;
+mod types;
+
+pub use crate::fields::fields_are_compatible;
+pub use crate::types::{types_are_compatible, types_are_compatible_traced};

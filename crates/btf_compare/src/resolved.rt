@@ -1,0 +1,20 @@
+//! Types that the comparisons look at, behind modifiers.
+
+ghost use Rattle.btf_plain.specs.Error.{Tells};
+ghost use Rattle.btf_records.specs.BtfType.{record_of, type_kind};
+ghost use Rattle.btf_compare.specs.Pairs.{IsResolved};
+
+use btf_table::Btf;
+use btf_plain::BtfError;
+use btf_records::BtfType;
+
+/// The id and the type that an id resolves to.
+pub fn resolved(table: &Btf, type_id: u32) -> Result<(u32, &BtfType), BtfError>
+    ensures { Tells (λ found. (found.0, type_kind found.1.now, record_of found.1.now)) result (IsResolved table.now type_id) }
+{
+    let id = table.resolve_type(type_id)?;
+    let btf_type = table.type_by_id(id)?;
+    // The contract speaks of the kind in the info word, which a use of it shows.
+    let _ = btf_type.info();
+    Ok((id, btf_type))
+}

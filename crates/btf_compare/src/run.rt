@@ -1,0 +1,131 @@
+//! The run of the comparison of types: open pairs on a stack of its own, and pairs that came out true.
+
+ghost use Rattle.std.specs.Prelude.{◌≡◌, [], ◌∷◌, ◌++◌, map, true, false, List, Bool, Result, IfOk, OnOk, IfErr, OnErr, MatchOption};
+ghost use Rattle.std.specs.HashSet.{IsEmpty};
+ghost use Rattle.btf_model.specs.Fields.{Pair};
+ghost use Rattle.btf_model.specs.Refusal.{Refusal};
+ghost use Rattle.btf_model.specs.Compat.{Plain, firsts};
+ghost use Rattle.btf_compare.specs.Compared.{has, Changes, IsStarted, IsRefused, Traces};
+ghost use Rattle.btf_compare.specs.Pairs.{pair_of};
+
+use crate::step::{Frame, Step};
+use btf_table::{Btf, allocator_of};
+use btf_plain::BtfError;
+use std::alloc::Global;
+use std::collections::HashSet;
+
+/// What a run remembers.
+#[derive(Drop)]
+struct Run {
+    /// The open pairs that wait for the one above them, the root first.
+    below: Vec<Frame>,
+    /// All open pairs.
+    opened: HashSet<(u32, u32)>,
+    /// The pairs that came out true.
+    settled: HashSet<(u32, u32)>,
+}
+
+impl Run {
+    /// A run in which no pair is open or settled.
+    fn new(alloc: Global) -> Run
+        ensures below { result.below.items ≡ [] }
+        ensures opened { IsEmpty result.opened }
+        ensures settled { IsEmpty result.settled }
+    {
+        Run {
+            below: Vec::new(alloc),
+            opened: HashSet::new(alloc),
+            settled: HashSet::new(alloc),
+        }
+    }
+
+    /// Starts a pair that this run has not listed: looks up both ids, opens the pair and lists it; None where the kinds of
+    /// the two types differ. An error leaves the list as it was.
+    fn start(
+        &mut self,
+        local: &Btf,
+        target: &Btf,
+        pair: (u32, u32),
+        starts: &mut Vec<(u32, u32)>,
+    ) -> Result<Option<Frame>, BtfError>
+        requires not_open { has self.old.opened (pair_of pair) ≡ false }
+        requires not_settled { has self.old.settled (pair_of pair) ≡ false }
+        ensures started { IfOk result (IsStarted local.now target.now (pair_of pair)) }
+        ensures opened { OnOk result (Changes self.old.opened self.new.opened (pair_of pair) true) }
+        ensures listed { OnOk result (starts.new.items ≡ starts.old.items ++ pair ∷ []) }
+        ensures refused { IfErr result (IsRefused local.now target.now (pair_of pair)) }
+        ensures not_listed { OnErr result (starts.new.items ≡ starts.old.items) }
+        ensures below { self.new.below ≡ self.old.below }
+        ensures settled { self.new.settled ≡ self.old.settled }
+    {
+        let local_type = local.type_by_id(pair.0)?;
+        let target_type = target.type_by_id(pair.1)?;
+        // The contract speaks of the kinds in the info words, which a use of them shows.
+        let _ = local_type.info();
+        let _ = target_type.info();
+        self.opened.insert(pair)?;
+        starts.push(pair)?;
+        if local_type.is_compatible(target_type) {
+            Ok(Some(Frame::new(pair)))
+        } else {
+            Ok(None)
+        }
+    }
+
+    /// Settles an open pair that came out true; answers the one below it, which goes on.
+    fn settle(&mut self, pair: (u32, u32)) -> Result<Option<Frame>, BtfError>
+        ensures next { IfOk result (λ next. MatchOption next (self.old.below.items ≡ []) (λ frame. self.old.below.items ≡ self.new.below.items ++ frame ∷ [])) }
+        ensures settled { OnOk result (Changes self.old.settled self.new.settled (pair_of pair) true) }
+        ensures closed { OnOk result (Changes self.old.opened self.new.opened (pair_of pair) false) }
+        ensures err { IfErr result (λ e. e ≡ BtfError.OutOfMemory) }
+    {
+        self.settled.insert(pair)?;
+        self.opened.remove(&pair);
+        Ok(self.below.pop())
+    }
+}
+
+/// Whether the types of a pair of ids are compatible.
+pub fn compare(
+    local: &Btf,
+    target: &Btf,
+    root: (u32, u32),
+    starts: &mut Vec<(u32, u32)>,
+) -> Result<bool, BtfError>
+    ensures { (answer : Result Bool Refusal) × (listed : List Pair) × Plain local.now target.now [] (pair_of root) answer listed × Traces result answer starts.old.items starts.new.items (firsts listed) }
+{
+    let mut run = Run::new(allocator_of(local));
+    // The contract speaks of an answer, which there is where each record has a kind, as a use of the tables shows.
+    let _ = allocator_of(target);
+    let Some(mut top) = run.start(local, target, root, starts)? else {
+        return Ok(false);
+    };
+    loop {
+        match top.step(local, target) {
+            Step::GoesOn(next) => top = next,
+            Step::Ends(answer) => {
+                if !answer? {
+                    return Ok(false);
+                }
+                let Some(next) = run.settle(top.pair)? else {
+                    return Ok(true);
+                };
+                top = next;
+            }
+            Step::Waits(pair, next) => {
+                if run.opened.contains(&pair) {
+                    return Err(BtfError::MaximumTypeDepthReached { type_id: pair.0 });
+                }
+                if run.settled.contains(&pair) {
+                    top = next;
+                    continue;
+                }
+                run.below.push(next)?;
+                let Some(new) = run.start(local, target, pair, starts)? else {
+                    return Ok(false);
+                };
+                top = new;
+            }
+        }
+    }
+}

@@ -1,0 +1,7 @@
+use Rattle.std.proofs.Common.{◌≡◌, take, map}
+use Rattle.btf_model.specs.Ext.{little_bytes}
+use Rattle.btf_ext.specs.Info.{func_words}
+use Rattle.btf_ext.proofs.info.func.FuncSecInfo.func_info_bytes.Given as goal
+
+abbrev pub invariant-loop-record : goal.invariant-loop-record
+invariant-loop-record l = l.out.items ≡ little_bytes (map func_words (take l.record-index l.record-items))

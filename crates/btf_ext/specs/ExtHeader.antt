@@ -1,0 +1,15 @@
+-- The header of `.BTF.ext` and what its ranges say, as the definitions have them.
+use Rattle.std.specs.Prelude.{◌+◌}
+use Rattle.btf_model.specs.Ext as model
+use Rattle.btf_ext.specs.declared.ext.header.Range.{Range}
+use Rattle.btf_ext.specs.declared.ext.header.Header.{Header}
+use Rattle.btf_ext.specs.declared.ext.header.Part.{Part}
+
+abbrev pub range : Range → model.Range
+range r = record { start = r.hdr_len + r.offset; len = r.len; least = r.least }
+
+abbrev pub header : Header → model.Header
+header h = record { func = range h.func; line = range h.line; core = range h.core }
+
+abbrev pub part : Part → model.Part
+part p = record { size = p.rec_size; bytes = p.sections.now }

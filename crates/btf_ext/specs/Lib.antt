@@ -1,0 +1,11 @@
+pub mod SecInfo
+pub mod Info
+pub mod ExtHeader
+pub mod NamedSection
+pub mod BtfExt
+pub use Rattle.btf_model.specs.Ext
+pub use Rattle.btf_plain.specs.Error
+pub use Rattle.btf_plain.specs.Endianness
+pub use Rattle.btf_model.specs.Text
+pub use Rattle.btf_model.specs.Blob
+pub use Rattle.btf_model.specs.Word

@@ -1,0 +1,112 @@
+//! The `.BTF.ext` section: function, line and relocation records of the sections of a program.
+
+mod header;
+pub mod read;
+mod sections;
+
+ghost use Rattle.std.specs.Prelude.{◌≡◌, map, Ok};
+ghost use Rattle.btf_model.specs.Ext.{IsExt};
+ghost use Rattle.btf_plain.specs.Error.{Answers, Gives};
+ghost use Rattle.btf_plain.specs.Endianness.{order_of};
+ghost use Rattle.btf_ext.specs.Info.{funcs_by_name, lines_by_name};
+ghost use Rattle.btf_ext.specs.NamedSection.{relocation};
+
+use crate::ext::header::Header;
+use crate::ext::read::{clone_relocations, read_named, read_relocations, read_sections};
+pub use crate::ext::sections::{SecInfo, SecInfoIter};
+use crate::info::{FuncInfo, LineInfo};
+use btf_table::{Btf, allocator_of};
+use btf_plain::{BtfError, Endianness};
+
+/// What `.BTF.ext` says of a program: function and line records under the names of the program's sections, and
+/// relocation records.
+#[derive(Debug, Drop)]
+pub struct BtfExt {
+    func_info_rec_size: usize,
+    func_info: FuncInfo,
+    line_info_rec_size: usize,
+    line_info: LineInfo,
+    relocations: Vec<(u32, Vec<[u32; 4]>)>,
+}
+
+impl BtfExt {
+    ghost use Rattle.btf_ext.specs.BtfExt.{ext};
+
+    /// What the bytes of a `.BTF.ext` section say, whose words are in this order. The names of sections are read in
+    /// a table; of a name the last section counts. Memory is taken with the table's allocator.
+    ///
+    /// The first cause of refusal is told. `InvalidHeader` for fewer than 8 bytes, or fewer than the header's length.
+    /// `InvalidInfo` for the first of the ranges of functions, lines and relocations that passes the end, or is not
+    /// empty and begins with no word, or with a record size below 8, 16 and 16: it says where the range begins, its
+    /// length, and the length of the data. Then, section after section, in this order: `InvalidInfo` as
+    /// `SecInfoIter` tells it, and for functions and lines `InvalidStringOffset` of a name that can't be read.
+    /// Magic, version and flags are not looked at.
+    pub fn parse(data: &[u8], endianness: Endianness, btf: &Btf) -> Result<BtfExt, BtfError>
+        ensures { Answers ext result (IsExt (order_of endianness) «data».now btf.now.strings) }
+    {
+        let alloc = allocator_of(btf);
+        let header = Header::read(data, endianness)?;
+        let func = header.func.read(data, endianness)?;
+        let line = header.line.read(data, endianness)?;
+        let core = header.core.read(data, endianness)?;
+        let funcs = read_named(alloc, &func, endianness, btf)?;
+        let lines = read_named(alloc, &line, endianness, btf)?;
+        let relocations = read_sections(alloc, &core, endianness)?;
+        Ok(BtfExt {
+            func_info_rec_size: func.rec_size,
+            func_info: FuncInfo::read(alloc, &funcs, func.rec_size, endianness)?,
+            line_info_rec_size: line.rec_size,
+            line_info: LineInfo::read(alloc, &lines, line.rec_size, endianness)?,
+            relocations: read_relocations(alloc, &relocations, core.rec_size, endianness)?,
+        })
+    }
+
+    /// The function records.
+    pub fn func_info(&self) -> &FuncInfo
+        ensures { funcs_by_name result.now ≡ (ext self.now).func }
+    {
+        &self.func_info
+    }
+
+    /// The line records.
+    pub fn line_info(&self) -> &LineInfo
+        ensures { lines_by_name result.now ≡ (ext self.now).line }
+    {
+        &self.line_info
+    }
+
+    /// The size of a function record in bytes; 0 where there are none.
+    pub fn func_info_rec_size(&self) -> usize
+        ensures { result ≡ (ext self.now).func_size }
+    {
+        self.func_info_rec_size
+    }
+
+    /// The size of a line record in bytes; 0 where there are none.
+    pub fn line_info_rec_size(&self) -> usize
+        ensures { result ≡ (ext self.now).line_size }
+    {
+        self.line_info_rec_size
+    }
+
+    /// The relocation sections in order: of each the string offset of its name, and the first four words of each
+    /// record as they stand.
+    pub fn relocations(&self) -> &[(u32, Vec<[u32; 4]>)]
+        ensures { map relocation result.now ≡ (ext self.now).relocations }
+    {
+        &self.relocations
+    }
+
+    /// An equal value. `OutOfMemory` is the only error.
+    pub fn try_clone(&self) -> Result<Self, BtfError>
+        ensures { Gives ext result (Ok (ext self.now)) }
+    {
+        Ok(Self {
+            func_info_rec_size: self.func_info_rec_size,
+            func_info: self.func_info.try_clone()?,
+            line_info_rec_size: self.line_info_rec_size,
+            line_info: self.line_info.try_clone()?,
+            relocations: clone_relocations(&self.relocations)?,
+        })
+    }
+}

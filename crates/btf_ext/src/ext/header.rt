@@ -1,0 +1,148 @@
+//! The header of `.BTF.ext`, and the three ranges that it names.
+
+ghost use Rattle.std.specs.Prelude.{◌≡◌, ◌++◌, ◌-◌, ◌≤◌, length, replicate, MatchOption};
+ghost use Rattle.btf_model.specs.Ext.{HasHeader, HasPart, IsRange, part_of, header_words};
+ghost use Rattle.btf_plain.specs.Error.{Tells};
+ghost use Rattle.btf_plain.specs.Endianness.{order_of};
+ghost use Rattle.btf_ext.specs.ExtHeader.{header, range, part};
+
+use crate::words::word_at;
+use btf_plain::{BtfError, Endianness};
+
+/// The length of the header with all its words.
+const HEADER_LEN: usize = 32;
+
+/// The length of a header up to the word that says its length.
+const MINIMAL_LEN: usize = 8;
+
+/// A range of the data, of which the offset counts from `hdr_len`.
+#[derive(Clone, Copy)]
+pub struct Range {
+    hdr_len: u32,
+    offset: u32,
+    len: u32,
+    /// The size that a record has at least.
+    least: u32,
+}
+
+/// The header (the kernel's documentation, ".BTF.ext section", `struct btf_ext_header`).
+#[derive(Clone, Copy)]
+pub struct Header {
+    pub func: Range,
+    pub line: Range,
+    pub core: Range,
+}
+
+/// What a range says.
+#[derive(Clone, Copy)]
+pub struct Part<'a> {
+    /// The size of its records; 0 in an empty range.
+    pub rec_size: usize,
+    /// The bytes of its sections.
+    pub sections: &'a [u8],
+}
+
+impl Header {
+    /// The header of data, or `InvalidHeader` where fewer than 8 bytes stand there, or fewer than its length says.
+    /// What a header that is shorter than 32 bytes leaves out is 0.
+    pub fn read(data: &[u8], endianness: Endianness) -> Result<Header, BtfError>
+        ensures { Tells header result (HasHeader (order_of endianness) «data».now) }
+    {
+        if data.len() < MINIMAL_LEN {
+            return Err(BtfError::InvalidHeader);
+        }
+        let hdr_len = word_at(data, 4, endianness) as usize;
+        if data.len() < hdr_len {
+            return Err(BtfError::InvalidHeader);
+        }
+        let bytes = filled_up(&data[..hdr_len.min(HEADER_LEN)]);
+        Ok(Header::of_bytes(&bytes, endianness))
+    }
+
+    /// The header of just its bytes.
+    fn of_bytes(bytes: &[u8; 32], endianness: Endianness) -> Header
+        ensures { header result ≡ header_words (order_of endianness) bytes.now }
+    {
+        let word = |at: usize| word_at(bytes, at, endianness);
+        let hdr_len = word(4);
+        Header {
+            func: Range {
+                hdr_len,
+                offset: word(8),
+                len: word(12),
+                least: 8,
+            },
+            line: Range {
+                hdr_len,
+                offset: word(16),
+                len: word(20),
+                least: 16,
+            },
+            core: Range {
+                hdr_len,
+                offset: word(24),
+                len: word(28),
+                least: 16,
+            },
+        }
+    }
+}
+
+/// Bytes with zeros behind them.
+fn filled_up(given: &[u8]) -> [u8; 32]
+    requires { length given.now ≤ 32 }
+    ensures { result ≡ given.now ++ replicate (32 - length given.now) 0 }
+{
+    let mut bytes = [0; HEADER_LEN];
+    bytes[..given.len()].copy_from_slice(given);
+    bytes
+}
+
+impl Range {
+    /// What the range says, or `InvalidInfo` where it does not lie in the data, or is not empty and begins with no
+    /// word, or with one below the least size.
+    pub fn read<'a>(&self, data: &'a [u8], endianness: Endianness) -> Result<Part<'a>, BtfError>
+        ensures { Tells part result (HasPart (order_of endianness) «data».now (range self.now)) }
+    {
+        match self.find(data, endianness) {
+            Some(part) => Ok(part),
+            None => Err(BtfError::InvalidInfo {
+                offset: self.start(),
+                len: self.len as usize,
+                section_len: data.len(),
+            }),
+        }
+    }
+
+    /// Where the range begins.
+    fn start(&self) -> usize
+        ensures { result ≡ (range self.now).start }
+    {
+        self.hdr_len as usize + self.offset as usize
+    }
+
+    /// What the range says; None where it is none.
+    fn find<'a>(&self, data: &'a [u8], endianness: Endianness) -> Option<Part<'a>>
+        ensures { MatchOption result
+            (¬ (IsRange (order_of endianness) «data».now (range self.now)))
+            (λ p. IsRange (order_of endianness) «data».now (range self.now) × (part p ≡ part_of (order_of endianness) «data».now (range self.now))) }
+    {
+        let start = self.start();
+        let bytes = data.get(start..start + self.len as usize)?;
+        if bytes.is_empty() {
+            return Some(Part {
+                rec_size: 0,
+                sections: bytes,
+            });
+        }
+        let (size, sections) = bytes.split_first_chunk::<4>()?;
+        let size = endianness.read_u32(*size);
+        if size < self.least {
+            return None;
+        }
+        Some(Part {
+            rec_size: size as usize,
+            sections,
+        })
+    }
+}

@@ -1,0 +1,100 @@
+//! All sections of a part, with the texts of their names or without.
+
+ghost use Rattle.std.specs.Prelude.{◌≡◌, ◌<◌, ◌≤◌, length, map, string_bytes, IfOk};
+ghost use Rattle.std.specs.List.{AllByRecursion};
+ghost use Rattle.btf_model.specs.Ext.{AreNamed, AreSections, IsSection, relocation_section};
+ghost use Rattle.btf_model.specs.Text.{text_at};
+ghost use Rattle.btf_plain.specs.Error.{Answers, Gives};
+ghost use Rattle.btf_plain.specs.Endianness.{order_of};
+ghost use Rattle.btf_ext.specs.SecInfo.{section_of};
+ghost use Rattle.btf_ext.specs.NamedSection.{named, relocation};
+
+use crate::ext::header::Part;
+use crate::ext::sections::{SecInfo, SecInfoIter};
+use crate::info::records::read_records;
+use btf_table::{Btf, BtfStr};
+use btf_plain::{BtfError, Endianness};
+use std::alloc::{AllocError, Global};
+
+/// A section and the text of its name.
+#[derive(Drop)]
+pub struct NamedSection<'a> {
+    pub name: String,
+    pub section: SecInfo<'a>,
+}
+
+/// The text at a string offset, in memory of its own.
+fn name_at(alloc: Global, btf: &Btf, offset: u32) -> Result<String, BtfError>
+    ensures { Gives string_bytes result (text_at btf.now.strings offset) }
+{
+    match btf.string_at(offset)? {
+        BtfStr::Borrowed(text) => Ok(text.to_string(alloc)?),
+        BtfStr::Owned(text) => Ok(text),
+    }
+}
+
+/// The sections of a part, in order, each with its name, which is read as its section is met.
+pub fn read_named<'a>(
+    alloc: Global,
+    part: &Part<'a>,
+    endianness: Endianness,
+    btf: &Btf,
+) -> Result<Vec<NamedSection<'a>>, BtfError>
+    ensures { Answers (λ v. map named v.items) result (AreNamed (order_of endianness) part.now.rec_size btf.now.strings part.now.sections.now) }
+{
+    let mut named = Vec::new(alloc);
+    for section in SecInfoIter::new(part.sections, part.rec_size, endianness) {
+        let section = section?;
+        let name = name_at(alloc, btf, section.name_offset)?;
+        named.push(NamedSection { name, section })?;
+    }
+    Ok(named)
+}
+
+/// The sections of a part, in order.
+pub fn read_sections<'a>(
+    alloc: Global,
+    part: &Part<'a>,
+    endianness: Endianness,
+) -> Result<Vec<SecInfo<'a>>, BtfError>
+    ensures { Answers (λ v. map section_of v.items) result (AreSections (order_of endianness) part.now.rec_size part.now.sections.now) }
+{
+    let mut sections = Vec::new(alloc);
+    for section in SecInfoIter::new(part.sections, part.rec_size, endianness) {
+        sections.push(section?)?;
+    }
+    Ok(sections)
+}
+
+/// The relocation records of sections, each with the string offset of its section's name.
+pub fn read_relocations(
+    alloc: Global,
+    sections: &[SecInfo<'_>],
+    rec_size: usize,
+    endianness: Endianness,
+) -> Result<Vec<(u32, Vec<[u32; 4]>)>, AllocError>
+    requires whole { AllByRecursion (IsSection rec_size) (map section_of sections.now) }
+    requires wide { 0 < length sections.now → 16 ≤ rec_size }
+    ensures { IfOk result (λ v. map relocation v.items ≡ map (relocation_section (order_of endianness) rec_size) (map section_of sections.now)) }
+{
+    let mut relocations = Vec::with_capacity(alloc, sections.len())?;
+    for section in sections {
+        let records = read_records(alloc, section, rec_size, endianness)?;
+        relocations.push((section.name_offset, records))?;
+    }
+    Ok(relocations)
+}
+
+/// Equal relocation records.
+pub fn clone_relocations(
+    relocations: &Vec<(u32, Vec<[u32; 4]>)>,
+) -> Result<Vec<(u32, Vec<[u32; 4]>)>, AllocError>
+    ensures { IfOk result (λ v. map relocation v.items ≡ map relocation relocations.now.items) }
+{
+    let alloc = *relocations.allocator();
+    let mut copies = Vec::with_capacity(alloc, relocations.len())?;
+    for (name_offset, records) in relocations {
+        copies.push((*name_offset, Vec::from_slice(alloc, records)?))?;
+    }
+    Ok(copies)
+}

@@ -1,0 +1,137 @@
+//! Sections of records, one after another.
+
+ghost use Rattle.std.specs.Prelude.{◌≡◌, ◌<◌, ◌≤◌, ◌++◌, length, drop, Some, MatchOption, MatchResult};
+ghost use Rattle.btf_model.specs.Blob.{word_at};
+ghost use Rattle.btf_model.specs.Ext.{IsSection, BeginsNoSection, section_bytes, cut_refusal};
+ghost use Rattle.btf_plain.specs.Error.{refusal_of};
+ghost use Rattle.btf_plain.specs.Endianness.{order_of};
+ghost use Rattle.btf_ext.specs.SecInfo.{section_of};
+
+use btf_plain::{BtfError, Endianness};
+use std::marker::Model;
+
+/// A section of records: those of one section of the program (the kernel's documentation, ".BTF.ext section",
+/// `struct btf_ext_info_sec`).
+#[derive(Debug, Drop)]
+pub struct SecInfo<'a> {
+    /// The string offset of the name of the program's section.
+    pub name_offset: u32,
+    /// The number of records, above 0.
+    pub num_info: u32,
+    /// The records.
+    pub bytes: &'a [u8],
+}
+
+/// The sections that bytes hold, in order. Behind them, where the rest of the bytes is no section, comes the error
+/// that says why, and then nothing more.
+///
+/// The error is `InvalidInfo`, with the length of the rest as `section_len`: at offset 0 with length 8 where less
+/// than two words are left; at offset 8 with the length of the records, which is at most `usize::MAX`, where there
+/// is no record, where records have no bytes, or where they pass the end.
+#[derive(Drop)]
+pub struct SecInfoIter<'a> {
+    bytes: &'a [u8],
+    rec_size: usize,
+    endianness: Endianness,
+}
+
+impl<'a> Model for SecInfoIter<'a> {
+    ghost use Rattle.btf_model.specs.Ext.{SectionBytes};
+
+    ghost Value = { SectionBytes };
+
+    ghost use Rattle.btf_plain.specs.Endianness.{order_of};
+
+    ghost view = { λ i. record { order = order_of i.endianness; size = i.rec_size; bytes = i.bytes.now } };
+}
+
+impl<'a> SecInfoIter<'a> {
+    /// The sections of bytes, whose words are in this order, with records of so many bytes.
+    pub fn new(data: &'a [u8], rec_size: usize, endianness: Endianness) -> Self
+        ensures { result ≡ record { order = order_of endianness; size = rec_size; bytes = «data».now } }
+    {
+        SecInfoIter {
+            bytes: data,
+            rec_size,
+            endianness,
+        }
+    }
+}
+
+impl<'a> Iterator for SecInfoIter<'a> {
+    ghost use Rattle.std.specs.Prelude.{length};
+    ghost use Rattle.std.specs.Iterator.{at_most};
+    ghost use Rattle.btf_ext.specs.SecInfo.{GivesSection};
+
+    type Item = Result<SecInfo<'a>, BtfError>;
+
+    ghost next_gives = { GivesSection };
+
+    ghost remaining = { λ i. at_most (length i.bytes) };
+
+    fn next(&mut self) -> Option<Result<SecInfo<'a>, BtfError>> {
+        if self.bytes.is_empty() {
+            return None;
+        }
+        match split_section(self.bytes, self.rec_size, self.endianness) {
+            Ok((section, behind)) => {
+                self.bytes = behind;
+                Some(Ok(section))
+            }
+            Err(e) => {
+                self.bytes = &self.bytes[..0];
+                Some(Err(e))
+            }
+        }
+    }
+}
+
+/// The two words in front of a section's records, and what follows them; None where the bytes end before.
+fn split_head(bytes: &[u8], endianness: Endianness) -> Option<(u32, u32, &[u8])>
+    ensures { MatchOption result
+        (length bytes.now < 8)
+        (λ x. (8 ≤ length bytes.now) × (x.0 ≡ word_at (order_of endianness) 0 bytes.now) × (x.1 ≡ word_at (order_of endianness) 4 bytes.now) × (x.2.now ≡ drop 4 (drop 4 bytes.now))) }
+{
+    let (name_offset, rest) = bytes.split_first_chunk::<4>()?;
+    let (num_info, rest) = rest.split_first_chunk::<4>()?;
+    Some((
+        endianness.read_u32(*name_offset),
+        endianness.read_u32(*num_info),
+        rest,
+    ))
+}
+
+/// The section that bytes begin with, and what follows it, or why they begin with none.
+fn split_section(
+    bytes: &[u8],
+    rec_size: usize,
+    endianness: Endianness,
+) -> Result<(SecInfo<'_>, &[u8]), BtfError>
+    ensures { MatchResult result
+        (λ x. IsSection rec_size (section_of x.0) × (bytes.now ≡ section_bytes (order_of endianness) (section_of x.0) ++ x.1.now))
+        (λ e. BeginsNoSection (order_of endianness) rec_size bytes.now × (refusal_of e ≡ Some (cut_refusal (order_of endianness) rec_size bytes.now))) }
+{
+    let section_len = bytes.len();
+    let Some((name_offset, num_info, rest)) = split_head(bytes, endianness) else {
+        return Err(BtfError::InvalidInfo {
+            offset: 0,
+            len: 8,
+            section_len,
+        });
+    };
+    let len = rec_size.saturating_mul(num_info as usize);
+    if len == 0 || len > rest.len() {
+        return Err(BtfError::InvalidInfo {
+            offset: 8,
+            len,
+            section_len,
+        });
+    }
+    let (bytes, behind) = rest.split_at(len);
+    let section = SecInfo {
+        name_offset,
+        num_info,
+        bytes,
+    };
+    Ok((section, behind))
+}

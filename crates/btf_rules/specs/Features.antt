@@ -1,0 +1,55 @@
+-- Features and answers as the definitions name them, and what it is to ask for a feature.
+use Rattle.std.specs.Prelude.{◌≡◌, ℕ, eqb, Bool, List, [], ◌∷◌, ◌++◌, map, Option, Some, None}
+use Rattle.std.specs.List.{IsDistinct, find}
+use Rattle.std.specs.Option.{option_map}
+use Rattle.btf_rewrite_model.specs.Feature as model
+use Rattle.btf_rewrite_model.specs.Feature.{Feature, Answer, same_feature, number}
+use Rattle.btf_rules.specs.declared.features.BtfFeature.{BtfFeature}
+use Rattle.btf_rules.specs.declared.features.BtfFeature.TheVariants.{Func, FuncGlobal, DataSec, DataSecZero, Float, DeclTag, TypeTag, Enum64}
+use Rattle.btf_rules.specs.declared.features.FeatureAnswer.{FeatureAnswer}
+
+abbrev pub feature_of : BtfFeature → Feature
+feature_of Func = model.Func
+feature_of FuncGlobal = model.FuncGlobal
+feature_of DataSec = model.DataSec
+feature_of DataSecZero = model.DataSecZero
+feature_of Float = model.Float
+feature_of DeclTag = model.DeclTag
+feature_of TypeTag = model.TypeTag
+feature_of Enum64 = model.Enum64
+
+abbrev pub answer_of : FeatureAnswer → Answer
+answer_of a = record { feature = feature_of a.feature; granted = a.granted }
+
+abbrev pub answers_of : List FeatureAnswer → List Answer
+answers_of answers = map answer_of answers
+
+-- what was told of a feature: what the first answer that is for it says
+abbrev pub told : List FeatureAnswer → Feature → Option Bool
+told answers feature = option_map (λ (a : FeatureAnswer). a.granted) (find (λ (a : FeatureAnswer). same_feature (feature_of a.feature) feature) answers)
+
+-- the places of the features that are answered
+abbrev pub numbers : List FeatureAnswer → List ℕ
+numbers answers = map (λ (a : FeatureAnswer). number (feature_of a.feature)) answers
+
+-- no two answers are for one feature
+abbrev pub AreDistinct : List FeatureAnswer → Type 0
+AreDistinct answers = IsDistinct eqb (numbers answers)
+
+-- Asking for a feature: one that was answered has that answer, and nothing changes; another is one call of the predicate as it
+-- is now, whose answer is put behind the others.
+abbrev pub AsksFor : {F : Type 0} → (F → BtfFeature → Bool → F → Type 0) → BtfFeature → Option Bool → F × List FeatureAnswer → Bool → F × List FeatureAnswer → Type 0
+AsksFor step feature (Some told) old answer new = (answer ≡ told) × (new ≡ old)
+AsksFor step feature None old answer new = step old.0 feature answer new.0 × (new.1 ≡ old.1 ++ record { feature = feature; granted = answer } ∷ [])
+
+abbrev pub Asks : {F : Type 0} → (F → BtfFeature → Bool → F → Type 0) → BtfFeature → F × List FeatureAnswer → Bool → F × List FeatureAnswer → Type 0
+Asks step feature old answer new = AsksFor step feature (told old.1 (feature_of feature)) old answer new
+
+-- The predicate was called for these features, in order, and gave these answers; that and nothing else led from one state to the other.
+abbrev pub Called : {F : Type 0} → (F → BtfFeature → Bool → F → Type 0) → F → List FeatureAnswer → F → Type 0
+Called step before [] after = after ≡ before
+Called {F} step before (a ∷ answers) after = (mid : F) × step before a.feature a.granted mid × Called step mid answers after
+
+-- these answers, and others behind them
+abbrev pub IsFurther : List FeatureAnswer → List FeatureAnswer → Type 0
+IsFurther old new = (more : List FeatureAnswer) × (new ≡ old ++ more)

@@ -1,0 +1,115 @@
+//! What a kernel's BTF may hold, as a caller's predicate tells.
+
+ghost use Rattle.std.specs.Prelude.{◌≡◌, IfOk};
+ghost use Rattle.btf_rules.specs.Features.{feature_of, told as told_of, Asks};
+
+use arrayvec::ArrayVec;
+use std::alloc::AllocError;
+use std::marker::Model;
+
+/// What older kernels refuse in BTF: a kind, or a use of one.
+#[derive(Clone, Copy, Debug, Default, Eq, Hash, PartialEq)]
+pub enum BtfFeature {
+    /// FUNC and FUNC_PROTO.
+    #[default]
+    Func,
+    /// A FUNC whose linkage is Global.
+    FuncGlobal,
+    /// VAR and DATASEC.
+    DataSec,
+    /// A DATASEC without entries.
+    DataSecZero,
+    /// FLOAT.
+    Float,
+    /// DECL_TAG.
+    DeclTag,
+    /// TYPE_TAG.
+    TypeTag,
+    /// ENUM64, and an ENUM with a sign.
+    Enum64,
+}
+
+/// A feature that was asked for, and whether the kernel has it.
+#[derive(Clone, Copy, Debug, Default, Eq, PartialEq)]
+pub struct FeatureAnswer {
+    pub feature: BtfFeature,
+    pub granted: bool,
+}
+
+/// A predicate that tells which features a kernel has, and what it has told so far. It is called once for a
+/// feature.
+#[derive(Drop)]
+pub struct BtfFeatureResolver<F> {
+    predicate: F,
+    answers: ArrayVec<FeatureAnswer, 8>,
+}
+
+impl<F> Model for BtfFeatureResolver<F> {
+    ghost use Rattle.std.specs.Prelude.{List};
+    ghost use Rattle.btf_rules.specs.declared.features.FeatureAnswer.{FeatureAnswer};
+
+    ghost Value = { F × List FeatureAnswer };
+
+    ghost use Rattle.btf_rules.specs.Features.{AreDistinct};
+
+    ghost view = { λ r. (r.predicate, r.answers.items) };
+
+    ghost invariant = { λ r. AreDistinct r.answers.items };
+}
+
+impl<F: FnMut(BtfFeature) -> bool> BtfFeatureResolver<F> {
+    ghost use Rattle.std.specs.Prelude.{[]};
+
+    /// A resolver that has called its predicate for no feature yet.
+    pub fn new(predicate: F) -> Self
+        ensures { result ≡ (predicate, []) }
+    {
+        BtfFeatureResolver {
+            predicate,
+            answers: ArrayVec::new(),
+        }
+    }
+
+    /// Whether the kernel has a feature: what the predicate told when it was asked for this feature first.
+    pub fn is_supported(&mut self, feature: BtfFeature) -> bool
+        requires { F.IsAlwaysCallable self.old.0 }
+        ensures asks { Asks F.step feature self.old result self.new }
+        ensures callable { F.IsAlwaysCallable self.new.0 }
+    {
+        if let Some(granted) = told(&self.answers, feature) {
+            return granted;
+        }
+        let granted = (self.predicate)(feature);
+        self.answers.push(FeatureAnswer { feature, granted });
+        granted
+    }
+
+    /// What the predicate has told so far, in the order in which it was asked.
+    pub fn answers(&self) -> &[FeatureAnswer]
+        ensures { result.now ≡ self.now.1 }
+    {
+        self.answers.as_slice()
+    }
+}
+
+/// A copy of what the predicate has told a resolver so far. It stands on its own, and takes no memory but its eight
+/// places.
+pub fn copied_answers<F>(
+    resolver: &BtfFeatureResolver<F>,
+) -> Result<ArrayVec<FeatureAnswer, 8>, AllocError>
+    ensures { IfOk result (λ a. a.items ≡ resolver.now.1) }
+{
+    resolver.answers.clone()
+}
+
+/// What was told of a feature; None where it was not asked for.
+fn told(answers: &[FeatureAnswer], feature: BtfFeature) -> Option<bool>
+    ensures { result ≡ told_of answers.now (feature_of feature) }
+{
+    for answer in answers {
+        if answer.feature == feature {
+            return Some(answer.granted);
+        }
+    }
+    None
+}

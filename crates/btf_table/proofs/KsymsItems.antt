@@ -1,0 +1,143 @@
+-- Parameters that get names, and entries that are laid out, one after another.
+use Rattle.std.proofs.Common.{◌≡◌, ℕ, suc, ◌+◌, ◌*◌, ◌<◌, ◌≤◌, List, [], ◌∷◌, ◌++◌, length, get_or, take, drop, map, Option, refl, sym, ap, ◌∙◌, arith}
+use Rattle.std.specs.Prelude.{if◌then◌else◌}
+use Rattle.std.specs.List.{flat_map}
+use Rattle.std.proofs.lemmas.List.{map-append, length-append, length-take, length-map, append_assoc, append-nil, take_all, drop_all, take_at, drop_at}
+use Rattle.std.proofs.lemmas.List.Concat.{flat_map-append}
+use Rattle.std.proofs.Math.Seq.{take-suc, drop-cons}
+use Rattle.btf_model.specs.Table.{Table}
+use Rattle.btf_rewrite_model.specs.Made as model
+use Rattle.btf_model.specs.Record.{Record}
+use Rattle.btf_rewrite_model.specs.Made.{Entry, entries, wants_name}
+use Rattle.btf_rewrite_model.specs.Ksyms.{named, laid_out, entry_type}
+use Rattle.btf_records.specs.Items.{param_words, entry_words}
+use Rattle.btf_records.specs.declared.records.items.BtfParam.{BtfParam}
+use Rattle.btf_records.specs.declared.records.items.DataSecEntry.{DataSecEntry}
+use Rattle.btf_table.specs.KsymsStep.{entry, laid_out_anew}
+use Rattle.btf_table.proofs.KsymsEntries.{entries_of_words}
+
+-- words in the place of others
+pub put_at : (before old rest new : List ℕ) (n m : ℕ) → length before ≡ n → n + length old ≡ m → take n (before ++ (old ++ rest)) ++ (new ++ drop m (before ++ (old ++ rest))) ≡ before ++ (new ++ rest)
+put_at before old rest new n m at past =
+    let long : length (before ++ old) ≡ m = omega (arith, length-append before old, at, past) in
+    ap (λ (xs : List ℕ). xs ++ (new ++ drop m (before ++ (old ++ rest)))) (take_at before (old ++ rest) n at)
+    ∙ ap (λ (xs : List ℕ). before ++ (new ++ drop m xs)) (sym (append_assoc before old rest)) ∙ ap (λ (xs : List ℕ). before ++ (new ++ xs)) (drop_at (before ++ old) rest m long)
+
+-- ---- parameters
+
+-- the words of parameters, those in front of a place with their names
+abbrev pub named_to : ℕ → ℕ → List BtfParam → List ℕ
+named_to name i params = named name (flat_map param_words (take i params)) ++ flat_map param_words (drop i params)
+
+named_append : (name : ℕ) (xs ys : List BtfParam) → named name (flat_map param_words (xs ++ ys)) ≡ named name (flat_map param_words xs) ++ named name (flat_map param_words ys)
+named_append name [] ys = refl
+named_append name (x ∷ xs) ys = ap (λ (rest : List ℕ). (if wants_name x.name_offset x.btf_type then name else x.name_offset) ∷ x.btf_type ∷ rest) (named_append name xs ys)
+
+named_len : (name : ℕ) (xs : List BtfParam) → length (named name (flat_map param_words xs)) ≡ 2 * length xs
+named_len name [] = refl
+named_len name (x ∷ xs) = omega (arith, named_len name xs)
+
+abbrev zero_param : BtfParam
+zero_param = record { name_offset = 0; btf_type = 0 }
+
+-- one more parameter has its name
+pub named_next : (name : ℕ) (params : List BtfParam) (i new : ℕ) → i < length params → new ≡ (if wants_name (get_or params i zero_param).name_offset (get_or params i zero_param).btf_type then name else (get_or params i zero_param).name_offset)
+    → take (2 * i) (named_to name i params) ++ new ∷ drop (2 * i + 1) (named_to name i params) ≡ named_to name (i + 1) params
+named_next name params i new lt is =
+    let p : BtfParam = get_or params i zero_param in
+    let front : List ℕ = named name (flat_map param_words (take i params)) in
+    let rest : List ℕ = flat_map param_words (drop (suc i) params) in
+    let more : i + 1 ≡ suc i = omega arith in
+    let here : named_to name i params ≡ front ++ ((p.name_offset ∷ []) ++ (p.btf_type ∷ rest)) = ap (λ (xs : List BtfParam). front ++ flat_map param_words xs) (drop-cons params i zero_param lt) in
+    let long : length front ≡ 2 * i = omega (arith, named_len name (take i params), length-take i params, lt) in
+    let put : take (2 * i) (named_to name i params) ++ new ∷ drop (2 * i + 1) (named_to name i params) ≡ front ++ new ∷ p.btf_type ∷ rest =
+    ap (λ (xs : List ℕ). take (2 * i) xs ++ new ∷ drop (2 * i + 1) xs) here ∙ put_at front (p.name_offset ∷ []) (p.btf_type ∷ rest) (new ∷ []) (2 * i) (2 * i + 1) long refl in
+    let then_named : named_to name (i + 1) params ≡ front ++ new ∷ p.btf_type ∷ rest =
+    ap (λ (n : ℕ). named_to name n params) more ∙ ap (λ (xs : List BtfParam). named name (flat_map param_words xs) ++ rest) (take-suc params i zero_param lt)
+    ∙ ap (λ (xs : List ℕ). xs ++ rest) (named_append name (take i params) (p ∷ [])) ∙ append_assoc front ((if wants_name p.name_offset p.btf_type then name else p.name_offset) ∷ p.btf_type ∷ []) rest
+    ∙ ap (λ (n : ℕ). front ++ n ∷ p.btf_type ∷ rest) (sym is) in
+    put ∙ sym then_named
+
+-- all have
+pub named_all : (name i : ℕ) (params : List BtfParam) → length params ≤ i → named_to name i params ≡ named name (flat_map param_words params)
+named_all name i params end =
+    ap (λ (xs : List BtfParam). named name (flat_map param_words xs) ++ flat_map param_words (drop i params)) (take_all i params end)
+    ∙ ap (λ (xs : List BtfParam). named name (flat_map param_words params) ++ flat_map param_words xs) (drop_all i params end) ∙ append-nil (named name (flat_map param_words params))
+
+-- ---- entries
+
+-- the words of entries, those in front of a place laid out
+abbrev pub laid_to : Table → Option ℕ → ℕ → List DataSecEntry → List ℕ
+laid_to t placeholder i es = flat_map model.entry_words (laid_out t placeholder 0 (map entry (take i es))) ++ flat_map entry_words (drop i es)
+
+laid_append : (t : Table) (placeholder : Option ℕ) (offset : ℕ) (xs ys : List Entry) → laid_out t placeholder offset (xs ++ ys) ≡ laid_out t placeholder offset xs ++ laid_out t placeholder (offset + 4 * length xs) ys
+laid_append t placeholder offset [] ys =
+    let none : offset ≡ offset + 4 * 0 = omega arith in
+    ap (λ (n : ℕ). laid_out t placeholder n ys) none
+laid_append t placeholder offset (x ∷ xs) ys =
+    let next : offset + 4 + 4 * length xs ≡ offset + 4 * suc (length xs) = omega arith in
+    ap (λ (rest : List Entry). record { type = entry_type t placeholder x.type; offset = offset; size = 4 } ∷ rest)
+    (laid_append t placeholder (offset + 4) xs ys ∙ ap (λ (n : ℕ). laid_out t placeholder (offset + 4) xs ++ laid_out t placeholder n ys) next)
+
+laid_len : (t : Table) (placeholder : Option ℕ) (offset : ℕ) (xs : List Entry) → length (flat_map model.entry_words (laid_out t placeholder offset xs)) ≡ 3 * length xs
+laid_len t placeholder offset [] = refl
+laid_len t placeholder offset (x ∷ xs) = omega (arith, laid_len t placeholder (offset + 4) xs)
+
+abbrev zero_entry : DataSecEntry
+zero_entry = record { btf_type = 0; offset = 0; size = 0 }
+
+-- one more entry is laid out
+pub laid_next : (t : Table) (placeholder : Option ℕ) (es : List DataSecEntry) (i new : ℕ) → i < length es → new ≡ entry_type t placeholder (get_or es i zero_entry).btf_type
+    → take (3 * i) (laid_to t placeholder i es) ++ (new ∷ 4 * i ∷ 4 ∷ []) ++ drop (3 * i + 3) (laid_to t placeholder i es) ≡ laid_to t placeholder (i + 1) es
+laid_next t placeholder es i new lt is =
+    let e : DataSecEntry = get_or es i zero_entry in
+    let front : List ℕ = flat_map model.entry_words (laid_out t placeholder 0 (map entry (take i es))) in
+    let rest : List ℕ = flat_map entry_words (drop (suc i) es) in
+    let more : i + 1 ≡ suc i = omega arith in
+    let many : length (map entry (take i es)) ≡ i = omega (arith, length-map (take i es) entry, length-take i es, lt) in
+    let here : laid_to t placeholder i es ≡ front ++ (entry_words e ++ rest) = ap (λ (xs : List DataSecEntry). front ++ flat_map entry_words xs) (drop-cons es i zero_entry lt) in
+    let long : length front ≡ 3 * i = omega (arith, laid_len t placeholder 0 (map entry (take i es)), many) in
+    let put : take (3 * i) (laid_to t placeholder i es) ++ (new ∷ 4 * i ∷ 4 ∷ []) ++ drop (3 * i + 3) (laid_to t placeholder i es) ≡ front ++ ((new ∷ 4 * i ∷ 4 ∷ []) ++ rest) =
+    ap (λ (xs : List ℕ). take (3 * i) xs ++ (new ∷ 4 * i ∷ 4 ∷ []) ++ drop (3 * i + 3) xs) here
+    ∙ append_assoc (take (3 * i) (front ++ (entry_words e ++ rest))) (new ∷ 4 * i ∷ 4 ∷ []) (drop (3 * i + 3) (front ++ (entry_words e ++ rest))) ∙ put_at front (entry_words e) rest (new ∷ 4 * i ∷ 4 ∷ []) (3 * i) (3 * i + 3) long refl in
+    let offset : 0 + 4 * length (map entry (take i es)) ≡ 4 * i = omega (arith, many) in
+    let laid : laid_out t placeholder 0 (map entry (take i es) ++ entry e ∷ []) ≡ laid_out t placeholder 0 (map entry (take i es)) ++ record { type = new; offset = 4 * i; size = 4 } ∷ [] =
+    laid_append t placeholder 0 (map entry (take i es)) (entry e ∷ [])
+    ∙ ap (λ (n : ℕ). laid_out t placeholder 0 (map entry (take i es)) ++ record { type = entry_type t placeholder e.btf_type; offset = n; size = 4 } ∷ []) offset
+    ∙ ap (λ (n : ℕ). laid_out t placeholder 0 (map entry (take i es)) ++ record { type = n; offset = 4 * i; size = 4 } ∷ []) (sym is) in
+    let then_laid : laid_to t placeholder (i + 1) es ≡ front ++ ((new ∷ 4 * i ∷ 4 ∷ []) ++ rest) =
+    ap (λ (n : ℕ). laid_to t placeholder n es) more ∙ ap (λ (xs : List DataSecEntry). flat_map model.entry_words (laid_out t placeholder 0 (map entry xs)) ++ rest) (take-suc es i zero_entry lt)
+    ∙ ap (λ (xs : List Entry). flat_map model.entry_words (laid_out t placeholder 0 xs) ++ rest) (map-append entry (take i es) (e ∷ []))
+    ∙ ap (λ (xs : List Entry). flat_map model.entry_words xs ++ rest) laid
+    ∙ ap (λ (xs : List ℕ). xs ++ rest) (flat_map-append model.entry_words (laid_out t placeholder 0 (map entry (take i es))) (record { type = new; offset = 4 * i; size = 4 } ∷ []))
+    ∙ append_assoc front (new ∷ 4 * i ∷ 4 ∷ []) rest in
+    put ∙ sym then_laid
+
+-- all are
+pub laid_all : (t : Table) (placeholder : Option ℕ) (r : Record) (i : ℕ) (es fs : List DataSecEntry) → r.tail ≡ flat_map entry_words es → r.tail ≡ flat_map entry_words fs → length es ≤ i
+    → record r { third = 4 * length fs; tail = laid_to t placeholder i es } ≡ laid_out_anew t placeholder r
+laid_all t placeholder r i es fs words others end =
+    let items : map entry es ≡ entries r.tail = sym (entries_of_words es) ∙ ap entries (sym words) in
+    let count : length fs ≡ length (entries r.tail) = sym (length-map fs entry) ∙ ap length (sym (entries_of_words fs) ∙ ap entries (sym others)) in
+    let tail : laid_to t placeholder i es ≡ flat_map model.entry_words (laid_out t placeholder 0 (entries r.tail)) =
+    ap (λ (xs : List DataSecEntry). flat_map model.entry_words (laid_out t placeholder 0 (map entry xs)) ++ flat_map entry_words (drop i es)) (take_all i es end)
+    ∙ ap (λ (xs : List DataSecEntry). flat_map model.entry_words (laid_out t placeholder 0 (map entry es)) ++ flat_map entry_words xs) (drop_all i es end)
+    ∙ append-nil (flat_map model.entry_words (laid_out t placeholder 0 (map entry es))) ∙ ap (λ (xs : List Entry). flat_map model.entry_words (laid_out t placeholder 0 xs)) items in
+    ap (λ (n : ℕ). record r { third = 4 * n; tail = laid_to t placeholder i es }) count ∙ ap (λ (xs : List ℕ). record r { third = 4 * length (entries r.tail); tail = xs }) tail
+
+-- ---- what stays
+
+-- names for parameters leave their number
+pub named_same_len : (name : ℕ) (words : List ℕ) → length (named name words) ≡ length words
+named_same_len name [] = refl
+named_same_len name (n ∷ []) = refl
+named_same_len name (n ∷ type ∷ words) = omega (arith, named_same_len name words)
+
+words_len : (es : List DataSecEntry) → length (flat_map entry_words es) ≡ 3 * length es
+words_len [] = refl
+words_len (e ∷ es) = omega (arith, words_len es)
+
+pub laid_same_len : (t : Table) (placeholder : Option ℕ) (r : Record) (es : List DataSecEntry) → r.tail ≡ flat_map entry_words es → length (laid_out_anew t placeholder r).tail ≡ length r.tail
+laid_same_len t placeholder r es words =
+    let items : map entry es ≡ entries r.tail = sym (entries_of_words es) ∙ ap entries (sym words) in
+    omega (arith, laid_len t placeholder 0 (entries r.tail), ap length (sym items), length-map es entry, words_len es, ap length words)

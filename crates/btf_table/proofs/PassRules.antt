@@ -1,0 +1,315 @@
+-- That a type was rewritten by the rule of its kind.
+use Rattle.std.proofs.Common.{◌≡◌, ◌==◌, ℕ, suc, ◌+◌, ◌*◌, Bool, true, false, not, ◌&&◌, List, [], ◌∷◌, ◌++◌, length, Option, None, Some, Result, Ok, Err, refl, sym, ap, subst, ◌∙◌, arith}
+use Rattle.std.specs.Prelude.{if◌then◌else◌, slice_get}
+use Rattle.std.specs.Option.{unwrap_or}
+use Rattle.std.specs.List.{flat_map, sum_by}
+use Rattle.std.proofs.lemmas.Bool.{false≢true, eqb-true}
+use Rattle.btf_model.specs.Record as kinds
+use Rattle.btf_model.specs.Record.{Kind, Record, unknown, kind_of, vlen}
+use Rattle.btf_model.specs.Refusal.{Refusal}
+use Rattle.btf_model.specs.Table.{Table, Fallback}
+use Rattle.btf_rewrite_model.specs.Feature as features
+use Rattle.btf_rewrite_model.specs.Made as model
+use Rattle.btf_rewrite_model.specs.Made.{record_at, kind_at, byte_int}
+use Rattle.btf_rewrite_model.specs.Checks.{first_fault, have_room, record_len}
+use Rattle.btf_rewrite_model.specs.Pass.{Pass, has, texts, texts_by, added, added_by, free_id, offset_at, type_len_at, gets_filler, wants_placeholder, makes_placeholder, is_enum64, least, is_unsized, is_zero_or, section_size, param_texts, placeholder_text}
+use Rattle.btf_rewrite_model.specs.Rule.{becomes, becomes_by, ruled_below, falls_back, falls_back_by, named_params, placeholder_id, variant_members}
+use Rattle.btf_rewrite_model.specs.Fault.{fault, checks_by, all_fit}
+use Rattle.btf_rewrite_model.proofs.Lengths.{named_len, members_len}
+use Rattle.btf_rewrite_model.proofs.Passing.{is_quiet, IsQuiet, quiet}
+use Rattle.btf_rewrite_model.proofs.FirstMade.{MadeBelow, makes_first, made_first, none_next, makes_no_second, made_next, made_is}
+use Rattle.std.specs.Prelude.{IfOk, IfSome}
+use Rattle.std.specs.Result.{result_ok}
+use Rattle.std.proofs.lemmas.Option.{none-some}
+use Rattle.btf_model.proofs.Comparisons.{same_ok}
+use Rattle.btf_plain.specs.Error.{Answers, Gives, refusal_of}
+use Rattle.btf_plain.specs.declared.error.BtfError.{BtfError}
+use Rattle.btf_records.specs.BtfType.{record_of, fallback_of, type_kind}
+use Rattle.btf_records.specs.declared.btf_type.BtfType.TheVariants as types
+use Rattle.btf_records.specs.declared.btf_type.BtfType.{BtfType}
+use Rattle.btf_records.specs.Items.{enum64_words}
+use Rattle.btf_records.specs.declared.records.items.BtfEnum64.{BtfEnum64}
+use Rattle.btf_table.specs.Adding.{strings_end, next_id, Adds}
+use Rattle.btf_table.proofs.Adding.{adds_none}
+use Rattle.btf_table.specs.PassStep.{asks_one, IsType, IsHere, IsGrown, IsRuled, Rules, growth}
+use Rattle.btf_table.specs.declared.sanitize.made.Made.{Made}
+
+-- ---- the record of an id
+
+pub record_there : (t : Table) (id : ℕ) (b : BtfType) → IsType t id b → record_at t id ≡ record_of b
+record_there t id b is = ap (λ (o : Option Record). unwrap_or o unknown) is.record_is
+
+pub kind_there : (t : Table) (id : ℕ) (b : BtfType) → IsType t id b → kind_at t id ≡ kind_of (record_of b).info
+kind_there t id b is = ap (λ (r : Record). kind_of r.info) (record_there t id b is)
+
+-- what an id becomes, by its kind and its record
+pub becomes_there : (p : Pass) (id : ℕ) (b : BtfType) (k : Option Kind) → IsType p.table id b → kind_of (record_of b).info ≡ k → becomes p id ≡ becomes_by p (ruled_below p id) id k (record_of b)
+becomes_there p id b k is kind =
+    ap (λ (j : Option Kind). becomes_by p (ruled_below p id) id j (record_at p.table id)) (kind_there p.table id b is ∙ kind) ∙ ap (becomes_by p (ruled_below p id) id k) (record_there p.table id b is)
+
+pub fault_there : (p : Pass) (id : ℕ) (b : BtfType) (k : Option Kind) → IsType p.table id b → kind_of (record_of b).info ≡ k → fault p id ≡ first_fault (checks_by p id k (record_of b))
+fault_there p id b k is kind = ap (λ (j : Option Kind). first_fault (checks_by p id j (record_at p.table id))) (kind_there p.table id b is ∙ kind) ∙ ap (λ r. first_fault (checks_by p id k r)) (record_there p.table id b is)
+
+pub texts_there : (p : Pass) (id : ℕ) (b : BtfType) (k : Option Kind) → IsType p.table id b → kind_of (record_of b).info ≡ k → texts p id ≡ texts_by p id k (record_of b)
+texts_there p id b k is kind = ap (λ (j : Option Kind). texts_by p id j (record_at p.table id)) (kind_there p.table id b is ∙ kind) ∙ ap (texts_by p id k) (record_there p.table id b is)
+
+pub added_there : (p : Pass) (id : ℕ) (b : BtfType) (k : Option Kind) → IsType p.table id b → kind_of (record_of b).info ≡ k → added p id ≡ added_by p (free_id p id) id k
+added_there p id b k is kind = ap (added_by p (free_id p id) id) (kind_there p.table id b is ∙ kind)
+
+pub falls_back_there : (p : Pass) (id : ℕ) (b : BtfType) (k : Option Kind) → IsType p.table id b → kind_of (record_of b).info ≡ k → falls_back p id ≡ falls_back_by p k (record_of b) (fallback_of b)
+falls_back_there p id b k is kind =
+    ap (λ (j : Option Kind). falls_back_by p j (record_at p.table id) (unwrap_or (slice_get p.table.fallbacks id) None)) (kind_there p.table id b is ∙ kind)
+    ∙ ap (λ r. falls_back_by p k r (unwrap_or (slice_get p.table.fallbacks id) None)) (record_there p.table id b is)
+    ∙ ap (λ (o : Option (Option Fallback)). falls_back_by p k (record_of b) (unwrap_or o None)) is.fallback_is
+
+-- ---- what is made once
+
+pub made_on : (test : ℕ → Bool) (number : ℕ → ℕ) (n : ℕ) (made : Option ℕ) → MadeBelow test number n made → test n ≡ false → MadeBelow test number (suc n) made
+made_on test number n None made fails = none_next test number n made fails
+made_on test number n (Some k) made fails = made_next test number n k made
+
+pub wants_none : (p : Pass) (id : ℕ) (k : Option Kind) → kind_at p.table id ≡ k → is_enum64 k ≡ false → wants_placeholder p id ≡ false
+wants_none p id k kind other = ap (λ (b : Bool). b && not (has p features.Enum64)) (ap is_enum64 kind ∙ other)
+
+never : (a b c : Bool) → (a && false && b && c) ≡ false
+never true b c = refl
+never false b c = refl
+
+-- a kind that is no DATASEC gets no filler
+pub no_filler : (p : Pass) (id : ℕ) (k : Option Kind) → kind_at p.table id ≡ k → is_unsized k (record_at p.table id) ≡ false → gets_filler p id ≡ false
+no_filler p id k kind other =
+    ap (λ (b : Bool). has p features.DataSec && b && features.has_no_entries (record_at p.table id) && is_zero_or (not (has p features.DataSecZero)) (section_size p id)) (ap (λ (j : Option Kind). is_unsized j (record_at p.table id)) kind ∙ other)
+    ∙ never (has p features.DataSec) (features.has_no_entries (record_at p.table id)) (is_zero_or (not (has p features.DataSecZero)) (section_size p id))
+
+-- ---- what is appended
+
+-- what was appended is what the id appends, where it gets no filler
+pub grown_by : (p : Pass) (id : ℕ) (old new : Made) (ts : List (List ℕ)) (rs : List Record) → Adds p.table old.changes new.changes ts rs → texts p id ≡ ts → added p id ≡ rs → gets_filler p id ≡ false → new.names ≡ old.names
+    → MadeBelow (wants_placeholder p) (free_id p) (suc id) new.placeholder → MadeBelow (gets_filler p) (λ k. free_id p k + 1) id old.filler → new.filler ≡ old.filler → IsGrown p id old new
+grown_by p id old new ts rs adds texts_are added_are unfilled names placeholder filler stays =
+    let all : Adds p.table old.changes new.changes (texts p id) (added p id) = subst (λ us. Adds p.table old.changes new.changes us (added p id)) (sym texts_are) (subst (Adds p.table old.changes new.changes ts) (sym added_are) adds) in
+    record {
+      strings = all.strings;
+      records = all.records;
+      fallbacks = all.fallbacks;
+      types = all.types;
+      type_len = all.type_len ∙ sym (ap (λ (b : Bool). old.changes.type_len + sum_by record_len (added p id) + (if b then 12 else 0)) unfilled ∙ plus_none (old.changes.type_len + sum_by record_len (added p id)));
+      names = names;
+      placeholder = placeholder;
+      filler = subst (MadeBelow (gets_filler p) (λ k. free_id p k + 1) (suc id)) (sym stays) (made_on (gets_filler p) (λ k. free_id p k + 1) id old.filler filler unfilled);
+      room = all.room;
+    }
+  where
+    plus_none : (n : ℕ) → n + 0 ≡ n
+    plus_none n = omega arith
+
+-- a record is as long, where its tail is
+pub same_len : (p : Pass) (id : ℕ) (old new : Record) → length new.tail ≡ length old.tail → gets_filler p id ≡ false → record_len new ≡ record_len old + growth p id
+same_len p id old new is unfilled = ap (λ (n : ℕ). 4 * (3 + n)) is ∙ plus_none (record_len old) ∙ ap (λ (b : Bool). record_len old + (if b then 12 else 0)) (sym unfilled)
+  where
+    plus_none : (n : ℕ) → n ≡ n + 0
+    plus_none n = omega arith
+
+-- ---- kinds that append nothing
+
+quiet_kind : (k : Option Kind) (r : Record) → is_quiet k ≡ true → (is_enum64 k ≡ false) × (is_unsized k r ≡ false)
+quiet_kind (Some kinds.Enum64) r is = absurd (false≢true is)
+quiet_kind (Some kinds.DataSec) r is = absurd (false≢true is)
+quiet_kind k r is = (refl, refl)
+
+pub quiet_ruled : (p : Pass) (id : ℕ) (b new : BtfType) (before : Made) → IsType p.table id b → is_quiet (kind_of (record_of b).info) ≡ true → IsHere p id before
+    → record_of new ≡ becomes_by p (ruled_below p id) id (kind_of (record_of b).info) (record_of b) → length (record_of new).tail ≡ length (record_of b).tail → fallback_of new ≡ fallback_of b → IsRuled p id b before before new
+quiet_ruled p id b new before there is_q here is tail fallback =
+    let k : Option Kind = kind_of (record_of b).info in
+    let kind : kind_at p.table id ≡ k = kind_there p.table id b there in
+    let q : IsQuiet p id = quiet p id (ap is_quiet kind ∙ is_q) in
+    let other = quiet_kind k (record_at p.table id) is_q in
+    record {
+      passed = q.no_fault;
+      record_is = is ∙ sym (becomes_there p id b k there refl);
+      fallback_is = fallback ∙ sym (q.fallback ∙ ap (λ (o : Option (Option Fallback)). unwrap_or o None) there.fallback_is);
+      len = same_len p id (record_of b) (record_of new) tail q.no_filler;
+      grown = grown_by p id before before [] [] (adds_none p.table before.changes here.room) q.no_texts q.none_added q.no_filler refl
+          (made_on (wants_placeholder p) (free_id p) id before.placeholder here.placeholder (wants_none p id k kind other.0)) here.filler refl;
+    }
+
+-- ---- FUNC_PROTO
+
+-- its fallback stays, and the filler is none of its
+loud_no_filler : (p : Pass) (id : ℕ) (b : BtfType) (k : Option Kind) → IsType p.table id b → kind_of (record_of b).info ≡ k → is_unsized k (record_at p.table id) ≡ false → gets_filler p id ≡ false
+loud_no_filler p id b k there kind other = no_filler p id k (kind_there p.table id b there ∙ kind) other
+
+pub proto_names : (p : Pass) (id : ℕ) (b : BtfType) → IsType p.table id b → kind_of (record_of b).info ≡ Some kinds.FuncProto → has p features.Func ≡ true → texts p id ≡ param_texts 0 (record_of b).tail
+proto_names p id b there kind granted = texts_there p id b (Some kinds.FuncProto) there kind ∙ ap (λ (g : Bool). if g then param_texts 0 (record_of b).tail else []) granted
+
+pub proto_fault : (p : Pass) (id : ℕ) (b : BtfType) (offset : ℕ) → IsType p.table id b → kind_of (record_of b).info ≡ Some kinds.FuncProto → has p features.Func ≡ true → offset_at p id ≡ offset
+    → fault p id ≡ first_fault (have_room offset (param_texts 0 (record_of b).tail))
+proto_fault p id b offset there kind granted at =
+    fault_there p id b (Some kinds.FuncProto) there kind ∙ ap (λ ts. first_fault (have_room (offset_at p id) ts)) (proto_names p id b there kind granted)
+    ∙ ap (λ (o : ℕ). first_fault (have_room o (param_texts 0 (record_of b).tail))) at
+
+pub proto_named : (p : Pass) (id : ℕ) (b new : BtfType) (before after : Made) → IsType p.table id b → kind_of (record_of b).info ≡ Some kinds.FuncProto → IsHere p id before → has p features.Func ≡ true
+    → first_fault (have_room (strings_end p.table before.changes) (param_texts 0 (record_of b).tail)) ≡ None → record_of new ≡ record (record_of b) { tail = named_params 0 (strings_end p.table before.changes) (record_of b).tail }
+    → fallback_of b ≡ None → fallback_of new ≡ None → Adds p.table before.changes after.changes (param_texts 0 (record_of b).tail) [] → after.names ≡ before.names → after.placeholder ≡ before.placeholder → after.filler ≡ before.filler
+    → IsRuled p id b before after new
+proto_named p id b new before after there kind here granted passed is none fallback adds names placeholder filler =
+    let unfilled : gets_filler p id ≡ false = loud_no_filler p id b (Some kinds.FuncProto) there kind refl in
+    let wants : wants_placeholder p id ≡ false = wants_none p id (Some kinds.FuncProto) (kind_there p.table id b there ∙ kind) refl in
+    record {
+      passed = proto_fault p id b (strings_end p.table before.changes) there kind granted here.offset ∙ passed;
+      record_is = is ∙ sym (
+          becomes_there p id b (Some kinds.FuncProto) there kind
+          ∙ ap (λ (g : Bool). if g then record (record_of b) { tail = named_params 0 (offset_at p id) (record_of b).tail } else model.enum (record_of b).name (vlen (record_of b).info) (record_of b).tail) granted
+          ∙ ap (λ (o : ℕ). record (record_of b) { tail = named_params 0 o (record_of b).tail }) here.offset
+          );
+      fallback_is = fallback ∙ sym (falls_back_there p id b (Some kinds.FuncProto) there kind ∙ none);
+      len = same_len p id (record_of b) (record_of new) (ap (λ (r : Record). length r.tail) is ∙ named_len 0 (strings_end p.table before.changes) (record_of b).tail) unfilled;
+      grown = grown_by p id before after (param_texts 0 (record_of b).tail) [] adds (proto_names p id b there kind granted) (added_there p id b (Some kinds.FuncProto) there kind) unfilled names
+          (subst (MadeBelow (wants_placeholder p) (free_id p) (suc id)) (sym placeholder) (made_on (wants_placeholder p) (free_id p) id before.placeholder here.placeholder wants)) here.filler filler;
+    }
+
+pub proto_as_enum : (p : Pass) (id : ℕ) (b new : BtfType) (before : Made) → IsType p.table id b → kind_of (record_of b).info ≡ Some kinds.FuncProto → IsHere p id before → has p features.Func ≡ false
+    → record_of new ≡ model.enum (record_of b).name (vlen (record_of b).info) (record_of b).tail → fallback_of b ≡ None → fallback_of new ≡ None → IsRuled p id b before before new
+proto_as_enum p id b new before there kind here denied is none fallback =
+    let unfilled : gets_filler p id ≡ false = loud_no_filler p id b (Some kinds.FuncProto) there kind refl in
+    let wants : wants_placeholder p id ≡ false = wants_none p id (Some kinds.FuncProto) (kind_there p.table id b there ∙ kind) refl in
+    let no_texts : texts p id ≡ [] = texts_there p id b (Some kinds.FuncProto) there kind ∙ ap (λ (g : Bool). if g then param_texts 0 (record_of b).tail else []) denied in
+    record {
+      passed = fault_there p id b (Some kinds.FuncProto) there kind ∙ ap (λ ts. first_fault (have_room (offset_at p id) ts)) no_texts;
+      record_is = is ∙ sym (
+          becomes_there p id b (Some kinds.FuncProto) there kind
+          ∙ ap (λ (g : Bool). if g then record (record_of b) { tail = named_params 0 (offset_at p id) (record_of b).tail } else model.enum (record_of b).name (vlen (record_of b).info) (record_of b).tail) denied
+          );
+      fallback_is = fallback ∙ sym (falls_back_there p id b (Some kinds.FuncProto) there kind ∙ none);
+      len = same_len p id (record_of b) (record_of new) (ap (λ (r : Record). length r.tail) is) unfilled;
+      grown = grown_by p id before before [] [] (adds_none p.table before.changes here.room) no_texts (added_there p id b (Some kinds.FuncProto) there kind) unfilled refl
+          (made_on (wants_placeholder p) (free_id p) id before.placeholder here.placeholder wants) here.filler refl;
+    }
+
+-- ---- ENUM64
+
+granted_wants : (p : Pass) (id : ℕ) → has p features.Enum64 ≡ true → wants_placeholder p id ≡ false
+granted_wants p id granted = ap (λ (g : Bool). is_enum64 (kind_at p.table id) && not g) granted ∙ and_false (is_enum64 (kind_at p.table id))
+  where
+    and_false : (b : Bool) → (b && false) ≡ false
+    and_false true = refl
+    and_false false = refl
+
+-- where the kernel has it, it stays
+pub enum64_stays : (p : Pass) (id : ℕ) (b : BtfType) (before : Made) → IsType p.table id b → kind_of (record_of b).info ≡ Some kinds.Enum64 → IsHere p id before → has p features.Enum64 ≡ true → IsRuled p id b before before b
+enum64_stays p id b before there kind here granted =
+    let unfilled : gets_filler p id ≡ false = loud_no_filler p id b (Some kinds.Enum64) there kind refl in
+    let wants : wants_placeholder p id ≡ false = granted_wants p id granted in
+    let makes : makes_placeholder p id ≡ false = ap (λ (w : Bool). w && (least (wants_placeholder p) id == id)) wants in
+    let no_texts : texts p id ≡ [] = texts_there p id b (Some kinds.Enum64) there kind ∙ ap (λ (m : Bool). if m then placeholder_text ∷ [] else []) makes in
+    let none_added : added p id ≡ [] = added_there p id b (Some kinds.Enum64) there kind ∙ ap (λ (m : Bool). if m then byte_int (offset_at p id) ∷ [] else []) makes in
+    record {
+      passed = fault_there p id b (Some kinds.Enum64) there kind ∙ ap (λ ts. first_fault (have_room (offset_at p id) ts ++ all_fit (type_len_at p id) (added p id))) no_texts ∙ ap (λ rs. first_fault (all_fit (type_len_at p id) rs)) none_added;
+      record_is = sym (becomes_there p id b (Some kinds.Enum64) there kind
+          ∙ ap (λ (g : Bool). if g then record_of b else model.union (record_of b).name (record_of b).third (vlen (record_of b).info) (variant_members (placeholder_id p id) (model.variants (record_of b).tail))) granted);
+      fallback_is = sym (falls_back_there p id b (Some kinds.Enum64) there kind ∙ ap (λ (g : Bool). if g then fallback_of b else Some (model.fallback_of (record_of b))) granted);
+      len = same_len p id (record_of b) (record_of b) refl unfilled;
+      grown = grown_by p id before before [] [] (adds_none p.table before.changes here.room) no_texts none_added unfilled refl
+          (made_on (wants_placeholder p) (free_id p) id before.placeholder here.placeholder wants) here.filler refl;
+    }
+
+pub wants_one : (p : Pass) (id : ℕ) (b : BtfType) → IsType p.table id b → kind_of (record_of b).info ≡ Some kinds.Enum64 → has p features.Enum64 ≡ false → wants_placeholder p id ≡ true
+wants_one p id b there kind denied = ap (λ (g : Bool). is_enum64 (kind_at p.table id) && not g) denied ∙ ap (λ (k : Option Kind). is_enum64 k && true) (kind_there p.table id b there ∙ kind)
+
+-- What the placeholder is for an id that wants it: the one that is there, or a new one.
+pub record HasPlaceholder (p : Pass) (id : ℕ) (before after : Made) (number : ℕ) : Type 0 where
+  pub checks : first_fault (have_room (offset_at p id) (if makes_placeholder p id then placeholder_text ∷ [] else []) ++ all_fit (type_len_at p id) (if makes_placeholder p id then byte_int (offset_at p id) ∷ [] else [])) ≡ None
+  pub adds : Adds p.table before.changes after.changes (if makes_placeholder p id then placeholder_text ∷ [] else []) (if makes_placeholder p id then byte_int (offset_at p id) ∷ [] else [])
+  pub made : MadeBelow (wants_placeholder p) (free_id p) (suc id) after.placeholder
+  pub number_is : placeholder_id p id ≡ number
+
+pub placeholder_there : (p : Pass) (id : ℕ) (before after : Made) (number : ℕ) → IsHere p id before → wants_placeholder p id ≡ true → before.placeholder ≡ Some number → after ≡ before → HasPlaceholder p id before after number
+placeholder_there p id before after number here wants some same =
+    let m : MadeBelow (wants_placeholder p) (free_id p) id (Some number) = subst (MadeBelow (wants_placeholder p) (free_id p) id) some here.placeholder in
+    let makes : makes_placeholder p id ≡ false = makes_no_second (wants_placeholder p) (free_id p) id number m in
+    let none : Adds p.table before.changes after.changes [] [] = subst (λ (a : Made). Adds p.table before.changes a.changes [] []) (sym same) (adds_none p.table before.changes here.room) in
+    record {
+      checks = ap (λ (b : Bool). first_fault (have_room (offset_at p id) (if b then placeholder_text ∷ [] else []) ++ all_fit (type_len_at p id) (if b then byte_int (offset_at p id) ∷ [] else []))) makes;
+      adds = subst (λ (b : Bool). Adds p.table before.changes after.changes (if b then placeholder_text ∷ [] else []) (if b then byte_int (offset_at p id) ∷ [] else [])) (sym makes) none;
+      made = subst (MadeBelow (wants_placeholder p) (free_id p) (suc id)) (sym (ap (λ (a : Made). a.placeholder) same ∙ some)) (made_next (wants_placeholder p) (free_id p) id number m);
+      number_is = made_is (wants_placeholder p) (free_id p) id number m;
+    }
+
+pub placeholder_new : (p : Pass) (id : ℕ) (before after : Made) (number : ℕ) → IsHere p id before → wants_placeholder p id ≡ true → before.placeholder ≡ None
+    → first_fault (have_room (strings_end p.table before.changes) (placeholder_text ∷ []) ++ all_fit before.changes.type_len (byte_int (strings_end p.table before.changes) ∷ [])) ≡ None → number ≡ next_id p.table before.changes
+    → Adds p.table before.changes after.changes (placeholder_text ∷ []) (byte_int (strings_end p.table before.changes) ∷ []) → after.placeholder ≡ Some (next_id p.table before.changes) → HasPlaceholder p id before after number
+placeholder_new p id before after number here wants none passed is adds made =
+    let m : MadeBelow (wants_placeholder p) (free_id p) id None = subst (MadeBelow (wants_placeholder p) (free_id p) id) none here.placeholder in
+    let makes : makes_placeholder p id ≡ true = makes_first (wants_placeholder p) (free_id p) id m ∙ wants in
+    let checks : ℕ → ℕ → Option Refusal = λ o n. first_fault (have_room o (placeholder_text ∷ []) ++ all_fit n (byte_int o ∷ [])) in
+    record {
+      checks = ap (λ (b : Bool). first_fault (have_room (offset_at p id) (if b then placeholder_text ∷ [] else []) ++ all_fit (type_len_at p id) (if b then byte_int (offset_at p id) ∷ [] else []))) makes
+          ∙ ap (λ (o : ℕ). checks o (type_len_at p id)) here.offset ∙ ap (checks (strings_end p.table before.changes)) here.type_len ∙ passed;
+      adds = subst (λ (b : Bool). Adds p.table before.changes after.changes (if b then placeholder_text ∷ [] else []) (if b then byte_int (offset_at p id) ∷ [] else [])) (sym makes)
+          (subst (λ (o : ℕ). Adds p.table before.changes after.changes (placeholder_text ∷ []) (byte_int o ∷ [])) (sym here.offset) adds);
+      made = subst (MadeBelow (wants_placeholder p) (free_id p) (suc id)) (sym (made ∙ ap (λ (n : ℕ). Some n) (sym here.free))) (made_first (wants_placeholder p) (free_id p) id m wants);
+      number_is = ap (free_id p) (eqb-true (least (wants_placeholder p) id) id (least_here (wants_placeholder p id) (least (wants_placeholder p) id == id) makes)) ∙ here.free ∙ sym is;
+    }
+  where
+    least_here : (a b : Bool) → (a && b) ≡ true → b ≡ true
+    least_here true b both = both
+    least_here false b both = absurd (false≢true both)
+
+pub enum64_as_union : (p : Pass) (id : ℕ) (b new : BtfType) (before after : Made) (number : ℕ) → IsType p.table id b → kind_of (record_of b).info ≡ Some kinds.Enum64 → IsHere p id before → has p features.Enum64 ≡ false
+    → HasPlaceholder p id before after number → length (record_of b).tail ≡ 3 * vlen (record_of b).info
+    → record_of new ≡ model.union (record_of b).name (record_of b).third (vlen (record_of b).info) (variant_members number (model.variants (record_of b).tail)) → fallback_of new ≡ Some (model.fallback_of (record_of b))
+    → after.names ≡ before.names → after.filler ≡ before.filler → IsRuled p id b before after new
+enum64_as_union p id b new before after number there kind here denied placeholder tail is fallback names filler =
+    let unfilled : gets_filler p id ≡ false = loud_no_filler p id b (Some kinds.Enum64) there kind refl in
+    let texts_are : texts p id ≡ (if makes_placeholder p id then placeholder_text ∷ [] else []) = texts_there p id b (Some kinds.Enum64) there kind in
+    let added_are : added p id ≡ (if makes_placeholder p id then byte_int (offset_at p id) ∷ [] else []) = added_there p id b (Some kinds.Enum64) there kind in
+    let made : ℕ → Record = λ n. model.union (record_of b).name (record_of b).third (vlen (record_of b).info) (variant_members n (model.variants (record_of b).tail)) in
+    record {
+      passed = fault_there p id b (Some kinds.Enum64) there kind ∙ ap (λ ts. first_fault (have_room (offset_at p id) ts ++ all_fit (type_len_at p id) (added p id))) texts_are
+          ∙ ap (λ rs. first_fault (have_room (offset_at p id) (if makes_placeholder p id then placeholder_text ∷ [] else []) ++ all_fit (type_len_at p id) rs)) added_are ∙ placeholder.checks;
+      record_is = is ∙ ap made (sym placeholder.number_is) ∙ sym (becomes_there p id b (Some kinds.Enum64) there kind ∙ ap (λ (g : Bool). if g then record_of b else made (placeholder_id p id)) denied);
+      fallback_is = fallback ∙ sym (falls_back_there p id b (Some kinds.Enum64) there kind ∙ ap (λ (g : Bool). if g then fallback_of b else Some (model.fallback_of (record_of b))) denied);
+      len = same_len p id (record_of b) (record_of new) (ap (λ (r : Record). length r.tail) is ∙ members_len number (vlen (record_of b).info) (record_of b).tail tail) unfilled;
+      grown = grown_by p id before after _ _ placeholder.adds texts_are added_are unfilled names placeholder.made here.filler filler;
+    }
+
+-- the tests of an ENUM64, where it makes the placeholder
+pub enum64_fault : (p : Pass) (id : ℕ) (b : BtfType) (before : Made) → IsType p.table id b → kind_of (record_of b).info ≡ Some kinds.Enum64 → IsHere p id before → has p features.Enum64 ≡ false → before.placeholder ≡ None
+    → fault p id ≡ first_fault (have_room (strings_end p.table before.changes) (placeholder_text ∷ []) ++ all_fit before.changes.type_len (byte_int (strings_end p.table before.changes) ∷ []))
+enum64_fault p id b before there kind here denied none =
+    let m : MadeBelow (wants_placeholder p) (free_id p) id None = subst (MadeBelow (wants_placeholder p) (free_id p) id) none here.placeholder in
+    let makes : makes_placeholder p id ≡ true = makes_first (wants_placeholder p) (free_id p) id m ∙ wants_one p id b there kind denied in
+    let checks : ℕ → ℕ → Option Refusal = λ o n. first_fault (have_room o (placeholder_text ∷ []) ++ all_fit n (byte_int o ∷ [])) in
+    fault_there p id b (Some kinds.Enum64) there kind
+    ∙ ap (λ ts. first_fault (have_room (offset_at p id) ts ++ all_fit (type_len_at p id) (added p id))) (texts_there p id b (Some kinds.Enum64) there kind ∙ ap (λ (g : Bool). if g then placeholder_text ∷ [] else []) makes)
+    ∙ ap (λ rs. first_fault (have_room (offset_at p id) (placeholder_text ∷ []) ++ all_fit (type_len_at p id) rs)) (added_there p id b (Some kinds.Enum64) there kind ∙ ap (λ (g : Bool). if g then byte_int (offset_at p id) ∷ [] else []) makes)
+    ∙ ap (λ (o : ℕ). checks o (type_len_at p id)) here.offset ∙ ap (checks (strings_end p.table before.changes)) here.type_len
+
+-- the words of variants
+pub three_words : (r : Record) (vs : List BtfEnum64) → r.tail ≡ flat_map enum64_words vs → vlen r.info ≡ length vs → length r.tail ≡ 3 * vlen r.info
+three_words r vs words count = ap length words ∙ each_three vs ∙ ap (λ (n : ℕ). 3 * n) (sym count)
+  where
+    each_three : (vs : List BtfEnum64) → length (flat_map enum64_words vs) ≡ 3 * length vs
+    each_three [] = refl
+    each_three (v ∷ vs) = omega (arith, each_three vs)
+
+-- ---- kinds that ask for one feature at most
+
+pub quiet_type : (b : BtfType) → asks_one (Some (type_kind b)) ≡ true → ((x : _) → b ≡ types.FuncProto x → ⊥) → ((x : _) → b ≡ types.Enum64 x → ⊥) → is_quiet (Some (type_kind b)) ≡ true
+quiet_type (types.FuncProto x) one no_proto no_enum64 = absurd (no_proto x refl)
+quiet_type (types.Enum64 x) one no_proto no_enum64 = absurd (no_enum64 x refl)
+quiet_type (types.Func x) one no_proto no_enum64 = absurd (false≢true one)
+quiet_type (types.DataSec x) one no_proto no_enum64 = absurd (false≢true one)
+quiet_type b one no_proto no_enum64 = refl
+
+refused_never : (o : Option Refusal) (x : Record) (Q : Refusal → Type 0) → IfSome o (λ f. ◌≡◌ {A = Result Record Refusal} (Err f) (Ok x)) → IfSome o Q
+refused_never None x Q is = tt
+refused_never (Some f) x Q is = absurd (none-some x (ap (result_ok {T = Record} {E = Refusal}) is))
+
+-- what a rule that appends nothing answers
+pub quiet_answer : (p : Pass) (id : ℕ) (b : BtfType) (before : Made) (x : Record) (r : Result (Option BtfType) BtfError) → Gives (λ new. record_of (unwrap_or new b)) r (Ok x)
+    → IfOk r (λ new. length (record_of (unwrap_or new b)).tail ≡ length (record_of b).tail) → IfOk r (λ new. fallback_of (unwrap_or new b) ≡ fallback_of b)
+    → ((new : BtfType) → record_of new ≡ x → length (record_of new).tail ≡ length (record_of b).tail → fallback_of new ≡ fallback_of b → IsRuled p id b before before new) → Answers (λ new. unwrap_or new b) r (Rules p id b before before)
+quiet_answer p id b before x (Ok new) words len fallback rule = rule (unwrap_or new b) (same_ok {E = Refusal} (record_of (unwrap_or new b)) x words) len fallback
+quiet_answer p id b before x (Err e) words len fallback rule =
+    refused_never (refusal_of e) x (λ (f : Refusal). Rules p id b before before (Err f)) words

@@ -1,0 +1,91 @@
+-- The entries of a DATASEC, one after another, and the filler that an empty one gets.
+use Rattle.std.proofs.Common.{◌≡◌, ℕ, suc, ◌+◌, ◌<◌, ◌≤◌, List, [], ◌∷◌, ◌++◌, length, take, drop, map, None, Some, sym, ap, subst, ◌∙◌, arith}
+use Rattle.std.specs.List.{flat_map}
+use Rattle.std.proofs.lemmas.List.{map-append, length-append, length-map, append-nil, take-append-drop, take_all}
+use Rattle.std.proofs.Math.Seq.{take-suc, drop-cons}
+use Rattle.std.proofs.lemmas.List.Concat.{flat_map-append}
+use Rattle.btf_model.specs.Record.{Record}
+use Rattle.btf_model.specs.Refusal.{Refusal}
+use Rattle.btf_model.specs.Table.{Table}
+use Rattle.btf_rewrite_model.specs.Made.{Entry, entries, byte_int, static_var}
+use Rattle.btf_rewrite_model.specs.Checks.{Check, first_fault}
+use Rattle.btf_rewrite_model.specs.Rewritten.{ended}
+use Rattle.btf_records.specs.BtfType.{record_of}
+use Rattle.btf_records.specs.Items.{entry_words}
+use Rattle.btf_records.specs.declared.records.items.DataSecEntry.{DataSecEntry}
+use Rattle.btf_table.specs.Adding.{strings_end, next_id, Adds}
+use Rattle.btf_table.specs.KsymsStep.{entry}
+use Rattle.btf_table.specs.declared.table.changes.Changes.{Changes}
+use Rattle.btf_table.proofs.Adding.{adds_then}
+use Rattle.btf_rules.proofs.Checks.{fault_behind, fault_before}
+use Rattle.btf_table.proofs.KsymsEntries.{at, zero_entry, entries_of_words}
+
+-- ---- the filler
+
+-- behind a text, strings end so many bytes later
+end_behind : (t : Table) (old new : Changes) (text : List ℕ) (rs : List Record) → Adds t old new (text ∷ []) rs → strings_end t new ≡ strings_end t old + length text + 1
+end_behind t old new text rs adds =
+    omega (arith, ap length adds.strings, length-append old.new_strings.items (flat_map ended (text ∷ [])), length-append (ended text) [], length-append text (0 ∷ []))
+
+end_stays : (t : Table) (old new : Changes) (rs : List Record) → Adds t old new [] rs → strings_end t new ≡ strings_end t old
+end_stays t old new rs adds = omega (arith, ap length adds.strings, length-append old.new_strings.items [])
+
+pub id_stays : (t : Table) (old new : Changes) (ts : List (List ℕ)) → Adds t old new ts [] → next_id t new ≡ next_id t old
+id_stays t old new ts adds =
+    omega (arith, ap length adds.records, length-append (map record_of old.new_types.items) [], length-map new.new_types.items record_of, length-map old.new_types.items record_of)
+
+-- an INT and a VAR of it, each with the text of its name before it
+pub adds_int_and_var : (t : Table) (c0 c1 c2 c3 c4 : Changes) (text other : List ℕ) (int_name name id : ℕ) (int var : Record) → Adds t c0 c1 (text ∷ []) [] → Adds t c1 c2 [] (int ∷ []) → Adds t c2 c3 (other ∷ []) [] → Adds t c3 c4 [] (var ∷ [])
+    → int_name ≡ strings_end t c0 → int ≡ byte_int int_name → id ≡ next_id t c1 → name ≡ strings_end t c2 → var ≡ static_var name id
+    → Adds t c0 c4 (text ∷ other ∷ []) (byte_int (strings_end t c0) ∷ static_var (strings_end t c0 + length text + 1) (next_id t c0) ∷ [])
+adds_int_and_var t c0 c1 c2 c3 c4 text other int_name name id int var first second third fourth int_at int_is id_is name_is var_is =
+    let all : Adds t c0 c4 (text ∷ other ∷ []) (int ∷ var ∷ []) = adds_then t c0 c3 c4 (text ∷ other ∷ []) [] (int ∷ []) (var ∷ []) (adds_then t c0 c2 c3 (text ∷ []) (other ∷ []) (int ∷ []) [] (adds_then t c0 c1 c2 (text ∷ []) [] [] (int ∷ []) first second) third) fourth in
+    let var_at : name ≡ strings_end t c0 + length text + 1 = name_is ∙ end_stays t c1 c2 (int ∷ []) second ∙ end_behind t c0 c1 text [] first in
+    let int_same : int ≡ byte_int (strings_end t c0) = int_is ∙ ap byte_int int_at in
+    let var_same : var ≡ static_var (strings_end t c0 + length text + 1) (next_id t c0) = var_is ∙ ap (λ (n : ℕ). static_var n id) var_at ∙ ap (static_var (strings_end t c0 + length text + 1)) (id_is ∙ id_stays t c0 c1 (text ∷ []) first) in
+    subst (λ (rs : List Record). Adds t c0 c4 (text ∷ other ∷ []) rs) (ap (λ (r : Record). r ∷ var ∷ []) int_same ∙ ap (λ (r : Record). byte_int (strings_end t c0) ∷ r ∷ []) var_same) all
+
+-- ---- entries one after another
+
+-- the entries up to a place, and the one there
+up_to : (es : List DataSecEntry) (i : ℕ) → i < length es → take (i + 1) es ≡ take i es ++ at es i ∷ []
+up_to es i lt =
+    let more : i + 1 ≡ suc i = omega arith in
+    ap (λ (n : ℕ). take n es) more ∙ take-suc es i zero_entry lt
+
+map_up_to : (es : List DataSecEntry) (i : ℕ) → i < length es → map entry (take (i + 1) es) ≡ map entry (take i es) ++ entry (at es i) ∷ []
+map_up_to es i lt = ap (map entry) (up_to es i lt) ∙ map-append entry (take i es) (at es i ∷ [])
+
+-- one more entry passes its tests
+pub one_more_passes : (checks : Entry → List Check) (es : List DataSecEntry) (i : ℕ) → i < length es → first_fault (flat_map checks (map entry (take i es))) ≡ None → first_fault (checks (entry (at es i))) ≡ None
+    → first_fault (flat_map checks (map entry (take (i + 1) es))) ≡ None
+one_more_passes checks es i lt before passed =
+    ap (λ (xs : List Entry). first_fault (flat_map checks xs)) (map_up_to es i lt) ∙ ap first_fault (flat_map-append checks (map entry (take i es)) (entry (at es i) ∷ []))
+    ∙ fault_behind (flat_map checks (map entry (take i es))) (checks (entry (at es i)) ++ []) before ∙ ap first_fault (append-nil (checks (entry (at es i)))) ∙ passed
+
+-- the first entry that does not pass counts
+pub this_one_faults : (checks : Entry → List Check) (tail : List ℕ) (es : List DataSecEntry) (i : ℕ) (refusal : Refusal) → tail ≡ flat_map entry_words es → i < length es
+    → first_fault (flat_map checks (map entry (take i es))) ≡ None → first_fault (checks (entry (at es i))) ≡ Some refusal → first_fault (flat_map checks (entries tail)) ≡ Some refusal
+this_one_faults checks tail es i refusal words lt before faults =
+    let e : DataSecEntry = at es i in
+    let rest : List DataSecEntry = drop (suc i) es in
+    let split : es ≡ take i es ++ e ∷ rest = sym (take-append-drop i es) ∙ ap (λ (xs : List DataSecEntry). take i es ++ xs) (drop-cons es i zero_entry lt) in
+    ap (λ (xs : List Entry). first_fault (flat_map checks xs)) (ap entries words ∙ entries_of_words es ∙ ap (map entry) split ∙ map-append entry (take i es) (e ∷ rest))
+    ∙ ap first_fault (flat_map-append checks (map entry (take i es)) (map entry (e ∷ rest)))
+    ∙ fault_behind (flat_map checks (map entry (take i es))) (checks (entry e) ++ flat_map checks (map entry rest)) before ∙ fault_before (checks (entry e)) (flat_map checks (map entry rest)) refusal faults
+
+-- the words that entries become, up to a place and at it
+pub one_more_becomes : {X : Type 0} (f : Entry → List X) (es : List DataSecEntry) (i : ℕ) (old new : List X) → i < length es → old ≡ flat_map f (map entry (take i es)) → new ≡ f (entry (at es i)) → old ++ new ≡ flat_map f (map entry (take (i + 1) es))
+one_more_becomes f es i old new lt before is =
+    ap (λ xs. xs ++ new) before ∙ ap (λ xs. flat_map f (map entry (take i es)) ++ xs) (is ∙ sym (append-nil (f (entry (at es i)))))
+    ∙ sym (ap (flat_map f) (map_up_to es i lt) ∙ flat_map-append f (map entry (take i es)) (entry (at es i) ∷ []))
+
+-- the entries that others become, up to a place and at it
+pub one_more_maps : (f : Entry → Entry) (es : List DataSecEntry) (i : ℕ) (old : List Entry) (new : Entry) → i < length es → old ≡ map f (map entry (take i es)) → new ≡ f (entry (at es i)) → old ++ new ∷ [] ≡ map f (map entry (take (i + 1) es))
+one_more_maps f es i old new lt before is =
+    ap (λ (xs : List Entry). xs ++ new ∷ []) before ∙ ap (λ (x : Entry). map f (map entry (take i es)) ++ x ∷ []) is
+    ∙ sym (ap (map f) (map_up_to es i lt) ∙ map-append f (map entry (take i es)) (entry (at es i) ∷ []))
+
+-- behind the last entry, all are there
+pub all_entries : (tail : List ℕ) (es : List DataSecEntry) (i : ℕ) → tail ≡ flat_map entry_words es → length es ≤ i → map entry (take i es) ≡ entries tail
+all_entries tail es i words end = ap (map entry) (take_all i es end) ∙ sym (entries_of_words es) ∙ ap entries (sym words)

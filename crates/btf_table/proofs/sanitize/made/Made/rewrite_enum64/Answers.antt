@@ -1,0 +1,46 @@
+use Rattle.std.proofs.Common.{◌≡◌, ℕ, None, Some, Option, refl, sym, ap, subst, ◌∙◌}
+use Rattle.std.specs.Result.{result_ok}
+use Rattle.std.proofs.lemmas.Option.{none-some, IfSome_then}
+use Rattle.btf_model.specs.Record.{kind_of}
+use Rattle.btf_model.specs.Refusal.{Refusal}
+use Rattle.btf_rewrite_model.specs.Pass.{Pass}
+use Rattle.btf_model.proofs.Comparisons.{same_ok}
+use Rattle.btf_plain.specs.Error.{Answers}
+use Rattle.btf_plain.specs.declared.error.BtfError.{BtfError}
+use Rattle.btf_records.specs.declared.btf_type.BtfType.{BtfType}
+use Rattle.btf_records.specs.declared.btf_type.BtfType.TheVariants.{Enum64, Union}
+use Rattle.btf_table.specs.PassStep.{pass_on, Rules}
+use Rattle.btf_rules.proofs.Checks.{checked_ok, checked_err}
+use Rattle.btf_plain.proofs.Refused.{handed_on}
+use Rattle.btf_table.proofs.PassRules.{HasPlaceholder, placeholder_there, placeholder_new, wants_one, enum64_as_union, enum64_fault, three_words}
+use Rattle.btf_table.proofs.sanitize.made.Made.rewrite_enum64.Goals as goal
+
+pub returns-in_err-member_type : goal.returns-in_err-member_type
+returns-in_err-member_type c = λ layout answers id there here denied.
+    let p : Pass = pass_on c.args.btf.now layout answers in
+    let kind = ap kind_of (sym c.info.ensures.value) ∙ c.info.ensures.kind in
+    elim c.args.self.now.placeholder as (λ (o : Option ℕ). c.args.self.now.placeholder ≡ o → Answers (λ new. new) c.from_residual.result (Rules p id (Enum64 c.args.enum64.now) c.args.self.now c.placeholder.new.self)) [
+      | None ↦ λ none.
+          handed_on (λ new. new) c.in_err-member_type.field-0.0 c.from_residual.result (Rules p id (Enum64 c.args.enum64.now) c.args.self.now c.placeholder.new.self) c.from_residual.ensures.1
+          (IfSome_then _ (c.in_err-member_type.ensures.answer none) (λ refusal is. enum64_fault p id (Enum64 c.args.enum64.now) c.args.self.now there kind here denied none ∙ checked_err _ _ refusal is))
+      | Some k ↦ λ some. absurd (none-some k (sym (ap result_ok (sym (c.placeholder.ensures.there k some).0 ∙ c.in_err-member_type.was))))
+    ] refl
+
+pub returns : goal.returns
+returns c = λ layout answers id there here denied.
+    let p : Pass = pass_on c.args.btf.now layout answers in
+    let kind = ap kind_of (sym c.info.ensures.value) ∙ c.info.ensures.kind in
+    let b : BtfType = Enum64 c.args.enum64.now in
+    let wants = wants_one p id b there kind denied in
+    let has : HasPlaceholder p id c.args.self.now c.placeholder.new.self c.in_ok-member_type.member_type =
+    elim c.args.self.now.placeholder as (λ (o : Option ℕ). c.args.self.now.placeholder ≡ o → HasPlaceholder p id c.args.self.now c.placeholder.new.self c.in_ok-member_type.member_type) [
+      | None ↦ λ none.
+          let ok = checked_ok _ _ _ (c.in_ok-member_type.ensures.answer none) in
+          placeholder_new p id c.args.self.now c.placeholder.new.self c.in_ok-member_type.member_type here wants none ok.0 ok.1 (c.in_ok-member_type.ensures.adds none) (c.in_ok-member_type.ensures.made none)
+      | Some k ↦ λ some.
+          let same : k ≡ c.in_ok-member_type.member_type = same_ok {E = BtfError} k c.in_ok-member_type.member_type (sym (c.placeholder.ensures.there k some).0 ∙ c.in_ok-member_type.was) in
+          subst (HasPlaceholder p id c.args.self.now c.placeholder.new.self) same (placeholder_there p id c.args.self.now c.placeholder.new.self k here wants some (c.placeholder.ensures.there k some).1)
+    ] refl in
+    let union = same_ok {E = Refusal} c.in_ok-as_union.field-0 _ c.in_ok-as_union.ensures in
+    enum64_as_union p id b (Union c.in_ok-as_union.field-0) c.args.self.now c.placeholder.new.self c.in_ok-member_type.member_type there kind here denied has (three_words c.args.enum64.now c.variants.result.now c.variants.ensures.words c.variants.ensures.count)
+    (ap (λ u. u.words) union) (ap (λ u. u.fallback) union) c.placeholder.ensures.names c.placeholder.ensures.filler

@@ -1,0 +1,11 @@
+use Rattle.std.proofs.Common.{◌≡◌, ◌∙◌, List, Ok, ap, subst, map}
+use Rattle.btf_model.specs.Record.{Record}
+use Rattle.btf_model.specs.Table.{Table}
+use Rattle.btf_model.specs.Walk.{HasSize}
+use Rattle.btf_records.specs.BtfType.{record_of}
+use Rattle.btf_table.proofs.table.Btf.type_size.Goals as goal
+
+pub returns : goal.returns
+returns c =
+    let records : map record_of c.deref.result.now ≡ c.args.self.now.records = ap (map record_of) c.deref.ensures.value ∙ ap (λ (t : Table). t.records) c.self.view_is in
+    subst (λ (rs : List Record). HasSize rs c.args.type_id (Ok c.in_ok-size.field-0)) records c.in_ok-size.ensures

@@ -1,0 +1,31 @@
+-- The table that a `Btf` is seen as, and what it keeps beside that.
+use Rattle.std.specs.Prelude.{◌≡◌, ◌<◌, ◌≤◌, ◌^◌, List, ◌∷◌, length, map}
+use Rattle.btf_model.specs.Record.{Record, unknown}
+use Rattle.btf_model.specs.Table.{Table, type_bytes, section_limit}
+use Rattle.btf_model.specs.Fields.{HaveKinds}
+use Rattle.btf_plain.specs.Endianness.{order_of}
+use Rattle.btf_records.specs.BtfType.{record_of, fallback_of}
+use Rattle.btf_table.specs.declared.table.Btf.TheInside.{Inside}
+
+abbrev pub table_of : Inside → Table
+table_of b = record {
+  order = order_of b.endianness;
+  magic = b.magic;
+  version = b.version;
+  flags = b.flags;
+  strings = b.strings.items;
+  records = map record_of b.types.items;
+  fallbacks = map fallback_of b.types.items;
+}
+
+-- The numbers fit their types, both sections keep to their limit, the length of the type section is kept, record 0 is
+-- Unknown, and each record has a kind.
+pub record IsKept (b : Inside) : Type 0 where
+  pub magic : b.magic < 2 ^ 16
+  pub version : b.version < 2 ^ 8
+  pub flags : b.flags < 2 ^ 8
+  pub limit : b.type_len ≤ section_limit
+  pub strings : length b.strings.items ≤ section_limit
+  pub types : b.type_len ≡ length (type_bytes (table_of b))
+  pub first : (rs : List Record) × (map record_of b.types.items ≡ unknown ∷ rs)
+  pub kinds : HaveKinds (table_of b)

@@ -1,0 +1,7 @@
+-- What the reader of the header answers.
+use Rattle.btf_model.specs.Blob as blob
+use Rattle.btf_table.specs.declared.table.header.Header.{Header}
+
+-- the header as the definitions have it
+abbrev pub header : Header → blob.Header
+header h = record { magic = h.magic; version = h.version; flags = h.flags; hdr_len = h.hdr_len; type_off = h.type_off; type_len = h.type_len; str_off = h.str_off; str_len = h.str_len }

@@ -1,0 +1,102 @@
+-- What the parts of the step of `.ksyms` stand for.
+use Rattle.std.specs.Prelude.{◌≡◌, ℕ, ◌*◌, ◌==◌, ◌&&◌, nat_eq, Bool, false, if◌then◌else◌, List, length, map, take, Option, Some, None, Result, Ok, Err}
+use Rattle.std.specs.List.{list_any, flat_map, range_with_len}
+use Rattle.std.specs.Option.{option_map}
+use Rattle.std.specs.HashSet as hash
+use Rattle.std.specs.HashSet.{HashSet}
+use Rattle.btf_model.specs.Record.{Kind, Record, kind_of}
+use Rattle.btf_model.specs.Refusal.{Refusal}
+use Rattle.btf_model.specs.Table.{Table}
+use Rattle.btf_rewrite_model.specs.Checks.{first_fault}
+use Rattle.btf_rewrite_model.specs.Made.{Entry, entries, entry_words, record_at, kind_at}
+use Rattle.btf_rewrite_model.specs.Ksyms.{KsymsIds, is_func, symbol_type, appends_int, entry_checks, laid_out, symbols, stepped, ksyms_fault, ksyms_table}
+use Rattle.btf_records.specs.declared.records.items.DataSecEntry.{DataSecEntry}
+use Rattle.btf_records.specs.BtfType.{record_of, fallback_of}
+use Rattle.btf_records.specs.declared.btf_type.BtfType.{BtfType}
+use Rattle.btf_table.specs.Changes.{put_all, each, AreInside, AreOf, changed}
+use Rattle.btf_table.specs.declared.table.changes.Changes.{Changes}
+use Rattle.btf_table.specs.declared.sanitize.ksyms.Step.{Step}
+use Rattle.btf_table.specs.declared.sanitize.ksyms.Target.{Target}
+use Rattle.btf_table.specs.declared.sanitize.ksyms.Symbols.{Symbols}
+
+abbrev pub ksyms_ids : ℕ → Option ℕ → KsymsIds
+ksyms_ids datasec placeholder = record { datasec = datasec; placeholder = placeholder }
+
+-- what symbols become
+abbrev pub target_of : Table → Option ℕ → Target
+target_of t placeholder = record {
+  symbol_type = symbol_type t placeholder;
+  appends_int = appends_int t placeholder;
+  placeholder = option_map (λ (id : ℕ). record { id = id; name_offset = (record_at t id).name }) placeholder;
+}
+
+-- a DATASEC with its entries laid out anew
+abbrev pub laid_out_anew : Table → Option ℕ → Record → Record
+laid_out_anew t placeholder r = record r { third = 4 * length (entries r.tail); tail = flat_map entry_words (laid_out t placeholder 0 (entries r.tail)) }
+
+abbrev pub entry : DataSecEntry → Entry
+entry e = record { type = e.btf_type; offset = e.offset; size = e.size }
+
+-- the prototype of a FUNC
+abbrev pub prototype_of : Table → ℕ → Option ℕ
+prototype_of t id = if is_func (kind_at t id) then Some (record_at t id).third else None
+
+-- the prototype, if there is one, is this
+abbrev pub is_this : Option ℕ → ℕ → Bool
+is_this (Some prototype) id = prototype == id
+is_this None id = false
+
+abbrev pub has : {S : Type 0} → HashSet ℕ S → ℕ → Bool
+has set id = hash.contains nat_eq set id
+
+-- the sets have what these entries name, and the prototypes of the functions among them
+pub record HasSymbols (t : Table) (es : List Entry) (symbols : Symbols) : Type 0 where
+  pub ids : (id : ℕ) → has symbols.ids id ≡ list_any (λ (e : Entry). e.type == id) es
+  pub prototypes : (id : ℕ) → has symbols.prototypes id ≡ list_any (λ (e : Entry). is_func (kind_at t e.type) && ((record_at t e.type).third == id)) es
+
+-- The entries pass their tests, and the sets have what they name; or they do not pass.
+abbrev pub FindsSymbols : Table → Option ℕ → List Entry → Result Symbols Refusal → Type 0
+FindsSymbols t placeholder es (Ok symbols) = (first_fault (flat_map (entry_checks t placeholder) es) ≡ None) × HasSymbols t es symbols
+FindsSymbols t placeholder es (Err refusal) = first_fault (flat_map (entry_checks t placeholder) es) ≡ Some refusal
+
+-- the step is the one over this table: it knows what the symbols become, and which they are
+pub record IsStep (t : Table) (ids : KsymsIds) (step : Step) : Type 0 where
+  pub target : step.target ≡ target_of t ids.placeholder
+  pub symbols : HasSymbols t (symbols t ids) step.symbols
+  pub datasec : step.datasec_id ≡ ids.datasec
+
+-- The tests of the step are passed, and this is the step; or they are not.
+abbrev pub StepsWith : Table → KsymsIds → Result Step Refusal → Type 0
+StepsWith t ids (Ok step) = (ksyms_fault t ids ≡ None) × IsStep t ids step
+StepsWith t ids (Err refusal) = ksyms_fault t ids ≡ Some refusal
+
+-- what the record of an id becomes in the step
+abbrev pub becomes : Table → KsymsIds → ℕ → Record → Record
+becomes t ids id r = stepped t ids id (kind_of r.info) r
+
+-- one type like another: it has the kind and the length of the other, and the fallback
+pub record IsLike (old new : BtfType) : Type 0 where
+  pub kind : kind_of (record_of new).info ≡ kind_of (record_of old).info
+  pub length : length (record_of new).tail ≡ length (record_of old).tail
+  pub fallback : fallback_of new ≡ fallback_of old
+
+-- what of a record the step leaves: its kind, and its length
+abbrev pub shape : Record → Option Kind × ℕ
+shape r = (kind_of r.info, length r.tail)
+
+-- With these new types, the ids below a count have what they become in the step, fallbacks as they were, and their shapes.
+pub record AreStepped (t : Table) (ids : KsymsIds) (count : ℕ) (cs : List (ℕ × BtfType)) : Type 0 where
+  pub inside : AreInside count cs
+  pub records : put_all (each record_of cs) (take count t.records) ≡ map (λ id. becomes t ids id (record_at t id)) (range_with_len 0 count)
+  pub fallbacks : put_all (each fallback_of cs) (take count t.fallbacks) ≡ take count t.fallbacks
+  pub shapes : map shape (put_all (each record_of cs) (take count t.records)) ≡ map shape (take count t.records)
+
+-- These are the new types of the whole table; nothing is refused here.
+abbrev pub StepsAll : Table → KsymsIds → Result (List (ℕ × BtfType)) Refusal → Type 0
+StepsAll t ids (Ok cs) = AreStepped t ids (length t.records) cs
+StepsAll t ids (Err refusal) = ⊥
+
+-- The tests of the step are passed, and with the changes the table is the one behind it; or they are not.
+abbrev pub MakesKsyms : Table → KsymsIds → Result Changes Refusal → Type 0
+MakesKsyms t ids (Ok changes) = (ksyms_fault t ids ≡ None) × AreOf t changes × (changed t changes ≡ ksyms_table t ids)
+MakesKsyms t ids (Err refusal) = ksyms_fault t ids ≡ Some refusal

@@ -1,0 +1,136 @@
+-- What the parts of a pass stand for.
+use Rattle.std.specs.Prelude.{◌≡◌, ℕ, suc, ◌+◌, ◌<◌, if◌then◌else◌, Bool, true, false, List, [], ◌∷◌, ◌++◌, length, map, take, slice_get, Option, Some, None, Result, Ok, Err}
+use Rattle.std.specs.List.{flat_map, sum_by, range_with_len}
+use Rattle.btf_model.specs.Record as kinds
+use Rattle.btf_model.specs.Record.{Kind, Record, kind_of}
+use Rattle.btf_model.specs.Refusal.{Refusal}
+use Rattle.btf_model.specs.Table.{Table, no_fallbacks}
+use Rattle.btf_rewrite_model.specs.Feature as features
+use Rattle.btf_rewrite_model.specs.Feature.{Feature, Answer, is_signed}
+use Rattle.btf_rewrite_model.specs.Checks.{record_len}
+use Rattle.btf_rewrite_model.specs.Pass.{Pass, Layout, has, asks, asks_below, Asked, texts, added, free_id, offset_at, type_len_at, gets_filler, growth_below, wants_placeholder}
+use Rattle.btf_rewrite_model.specs.Rule.{becomes, ruled_below, falls_back}
+use Rattle.btf_rewrite_model.specs.Fault.{fault}
+use Rattle.btf_rewrite_model.specs.Rewritten.{ended, AreRuled, rewritten}
+use Rattle.btf_rewrite_model.proofs.Passing.{AreAnswersTo, IsAt, HasMade}
+use Rattle.btf_rewrite_model.proofs.FirstMade.{MadeBelow}
+use Rattle.btf_records.specs.BtfType.{record_of, fallback_of}
+use Rattle.btf_records.specs.declared.btf_type.BtfType.{BtfType}
+use Rattle.btf_table.specs.Adding.{strings_end, next_id, HasRoom}
+use Rattle.btf_table.specs.Changes.{put_all, each, AreInside, AreOf, changed}
+use Rattle.btf_rules.specs.Features.{answers_of}
+use Rattle.btf_rules.specs.declared.features.FeatureAnswer.{FeatureAnswer}
+use Rattle.btf_table.specs.declared.sanitize.made.Made.{Made}
+use Rattle.btf_table.specs.declared.table.changes.Changes.{Changes}
+
+-- the pass over a table, with these answers
+abbrev pub pass_on : Table → Layout → List Answer → Pass
+pass_on t layout answers = record { table = t; layout = layout; answers = answers }
+
+-- the changes of types, and the new type of one more id, if it has one
+abbrev pub kept_changes : List (ℕ × BtfType) → ℕ → Option BtfType → List (ℕ × BtfType)
+kept_changes cs id (Some new) = cs ++ (id, new) ∷ []
+kept_changes cs id None = cs
+
+-- the table has this type at an id
+pub record IsType (t : Table) (id : ℕ) (b : BtfType) : Type 0 where
+  pub record_is : slice_get t.records id ≡ Some (record_of b)
+  pub fallback_is : slice_get t.fallbacks id ≡ Some (fallback_of b)
+
+-- the feature that a record of this kind asks for, where it asks for one alone
+abbrev pub sole_feature : Option Kind → Record → Option Feature
+sole_feature (Some kinds.Var) r = Some features.DataSec
+sole_feature (Some kinds.Float) r = Some features.Float
+sole_feature (Some kinds.DeclTag) r = Some features.DeclTag
+sole_feature (Some kinds.TypeTag) r = Some features.TypeTag
+sole_feature (Some kinds.FuncProto) r = Some features.Func
+sole_feature (Some kinds.Enum64) r = Some features.Enum64
+sole_feature (Some kinds.Enum) r = if is_signed r then Some features.Enum64 else None
+sole_feature k r = None
+
+-- a kind that asks for one feature at most
+abbrev pub asks_one : Option Kind → Bool
+asks_one (Some kinds.Func) = false
+asks_one (Some kinds.DataSec) = false
+asks_one k = true
+
+-- whether the kernel has this feature, where there is one
+abbrev pub IsGranted : Pass → Option Feature → Bool → Type 0
+IsGranted p (Some f) granted = has p f ≡ granted
+IsGranted p None granted = granted ≡ true
+
+-- What is there when a pass comes to an id: where its texts and types are appended, and what lower ids have made.
+pub record IsHere (p : Pass) (id : ℕ) (m : Made) : Type 0 where
+  pub offset : offset_at p id ≡ strings_end p.table m.changes
+  pub free : free_id p id ≡ next_id p.table m.changes
+  pub type_len : type_len_at p id ≡ m.changes.type_len
+  pub names : m.names.items ≡ map (λ (r : Record). r.name) (ruled_below p id)
+  pub count : length (ruled_below p id) ≡ id
+  pub placeholder : MadeBelow (wants_placeholder p) (free_id p) id m.placeholder
+  pub filler : MadeBelow (gets_filler p) (λ k. free_id p k + 1) id m.filler
+  pub room : HasRoom p.table m.changes
+
+-- the bytes by which a DATASEC grows
+abbrev pub growth : Pass → ℕ → ℕ
+growth p id = if gets_filler p id then 12 else 0
+
+-- What an id appends is appended, and nothing else is changed but for the numbers of what is made once.
+pub record IsGrown (p : Pass) (id : ℕ) (old new : Made) : Type 0 where
+  pub strings : new.changes.new_strings.items ≡ old.changes.new_strings.items ++ flat_map ended (texts p id)
+  pub records : map record_of new.changes.new_types.items ≡ map record_of old.changes.new_types.items ++ added p id
+  pub fallbacks : map fallback_of new.changes.new_types.items ≡ map fallback_of old.changes.new_types.items ++ no_fallbacks (added p id)
+  pub types : new.changes.types ≡ old.changes.types
+  pub type_len : new.changes.type_len ≡ old.changes.type_len + sum_by record_len (added p id) + growth p id
+  pub names : new.names ≡ old.names
+  pub placeholder : MadeBelow (wants_placeholder p) (free_id p) (suc id) new.placeholder
+  pub filler : MadeBelow (gets_filler p) (λ k. free_id p k + 1) (suc id) new.filler
+  pub room : HasRoom p.table new.changes
+
+-- The rule of an id: the type that it has then, or why it is refused.
+pub record IsRuled (p : Pass) (id : ℕ) (old : BtfType) (before after : Made) (new : BtfType) : Type 0 where
+  pub passed : fault p id ≡ None
+  pub record_is : record_of new ≡ becomes p id
+  pub fallback_is : fallback_of new ≡ falls_back p id
+  pub len : record_len (record_of new) ≡ record_len (record_of old) + growth p id
+  pub grown : IsGrown p id before after
+
+abbrev pub Rules : Pass → ℕ → BtfType → Made → Made → Result BtfType Refusal → Type 0
+Rules p id old before after (Ok new) = IsRuled p id old before after new
+Rules p id old before after (Err refusal) = fault p id ≡ Some refusal
+
+-- The answers are those that a pass had, and those to these features of an id.
+pub record HasAsked (p : Pass) (id : ℕ) (some : List Feature) (answers : List Answer) : Type 0 where
+  pub more : List Answer
+  pub further : answers ≡ p.answers ++ more
+  pub asked : AreAnswersTo (asks_below p id ++ some) answers
+
+-- Some of what an id asks for is answered, the first of it, and then these are left.
+abbrev pub AsksUpTo : Pass → ℕ → List Answer → List Feature → Type 0
+AsksUpTo p id answers left = (some : List Feature) × HasAsked p id some answers × (asks (record p { answers = answers }) id ≡ some ++ left)
+
+-- All that an id asks for is answered, and its rule is kept under all answers.
+abbrev pub Steps : Pass → ℕ → List FeatureAnswer → BtfType → Made → Made → Result BtfType Refusal → Type 0
+Steps p id answers old before after result = AsksUpTo p id (answers_of answers) [] × Rules (record p { answers = answers_of answers }) id old before after result
+
+-- What a pass has made when it comes to an id.
+pub record IsMade (p : Pass) (id : ℕ) (m : Made) : Type 0 where
+  pub has_made : HasMade p id m.changes.new_strings.items (map record_of m.changes.new_types.items) (put_all (each record_of m.changes.types.items) (take id p.table.records)) m.changes.type_len
+  pub fallbacks : put_all (each fallback_of m.changes.types.items) (take id p.table.fallbacks) ≡ map (falls_back p) (range_with_len 0 id)
+  pub new_fallbacks : map fallback_of m.changes.new_types.items ≡ no_fallbacks (map record_of m.changes.new_types.items)
+  pub names : m.names.items ≡ map (λ (r : Record). r.name) (ruled_below p id)
+  pub inside : AreInside id m.changes.types.items
+  pub kinds : (j : ℕ) (r : Record) → slice_get (ruled_below p id) j ≡ Some r → (k : Kind) × (kind_of r.info ≡ Some k)
+  pub len : sum_by record_len (ruled_below p id) ≡ sum_by record_len (take id p.table.records) + growth_below p id
+  pub placeholder : MadeBelow (wants_placeholder p) (free_id p) id m.placeholder
+  pub filler : MadeBelow (gets_filler p) (λ k. free_id p k + 1) id m.filler
+  pub room : HasRoom p.table m.changes
+
+-- A whole pass: with the changes the table is the rewritten one; or it is refused at an id, and all that this and lower ids ask for is
+-- answered.
+abbrev pub Passes : Pass → Result Changes Refusal → Type 0
+Passes p (Ok changes) = IsAt p (length p.table.records) × AreOf p.table changes × (changed p.table changes ≡ rewritten p)
+Passes p (Err refusal) = (id : ℕ) × (id < length p.table.records) × AreRuled p id × (fault p id ≡ Some refusal) × AreAnswersTo (asks_below p (suc id)) p.answers
+
+-- The answers are those to the first features that a pass asks for.
+abbrev pub BeginsAsked : Pass → Type 0
+BeginsAsked p = (left : List Feature) × (Asked p ≡ map (λ (answer : Answer). answer.feature) p.answers ++ left)

@@ -1,0 +1,63 @@
+-- What a rewrite answers.
+use Rattle.std.specs.Prelude.{◌≡◌, ◌≢◌, ◌⊎◌, ℕ, suc, List, [], map, slice_get, Option, Some, None, Result, Ok, Err}
+use Rattle.std.specs.Option.{option_map}
+use Rattle.btf_model.specs.Record as kinds
+use Rattle.btf_model.specs.Record.{Record}
+use Rattle.btf_model.specs.Refusal.{Refusal, MaximumTypeDepthReached}
+use Rattle.btf_rewrite_model.specs.Made.{record_at, kind_at}
+use Rattle.btf_model.specs.Walk.{WalkAnswers, Resolves, HasSize}
+use Rattle.btf_rewrite_model.specs.RewriteLaws.{FindsKept, IsAmong, IsGrantedOnce}
+use Rattle.btf_model.specs.Word.{Order}
+use Rattle.btf_model.specs.Table.{Table, strip}
+use Rattle.btf_model.specs.Blob.{IsTable, IsRefusal, canon}
+use Rattle.btf_rewrite_model.specs.Feature.{Feature, Answer, needs}
+use Rattle.btf_rewrite_model.specs.Ksyms as model
+use Rattle.btf_rewrite_model.specs.Pass.{Pass, Layout, asks_below, each_once, Asked}
+use Rattle.btf_rewrite_model.specs.Rewritten.{begun, pass_of, step_fault, FaultsAt, Rewritten, rewritten, AreRuled, old_count}
+use Rattle.btf_table.specs.declared.sanitize.KsymsIds.{KsymsIds}
+use Rattle.btf_rules.specs.declared.features.FeatureAnswer.{FeatureAnswer}
+use Rattle.btf_table.specs.KsymsStep.{ksyms_ids}
+
+abbrev pub ids_of : Option KsymsIds → Option model.KsymsIds
+ids_of ids = option_map (λ (k : KsymsIds). ksyms_ids k.datasec_id k.placeholder_id) ids
+
+-- the features that were asked for
+abbrev pub features_asked : List Answer → List Feature
+features_asked answers = map (λ (answer : Answer). answer.feature) answers
+
+-- A rewrite is refused: in the step of `.ksyms`, before anything is asked; or at the least id that has a fault, where this and all
+-- lower ids have been asked for.
+abbrev pub Refuses : Table → Option model.KsymsIds → Layout → List Answer → Refusal → Type 0
+Refuses old ids layout answers refusal =
+    ((step_fault old ids ≡ Some refusal) × (answers ≡ []))
+    ⊎ ((step_fault old ids ≡ None) × ((id : ℕ) × FaultsAt (pass_of old ids layout answers) id refusal × (features_asked answers ≡ each_once (asks_below (pass_of old ids layout answers) (suc id)))))
+
+-- The table is rewritten, and what the rewrite asks for is answered; or it is refused.
+abbrev pub Rewrites : {X : Type 0} → Table → Option model.KsymsIds → Layout → List Answer → Table → Result X Refusal → Type 0
+Rewrites old ids layout answers new (Ok x) = Rewritten old ids layout answers new × (features_asked answers ≡ Asked (pass_of old ids layout answers))
+Rewrites old ids layout answers new (Err refusal) = Refuses old ids layout answers refusal
+
+-- The bytes stand for a table; it is rewritten, and these bytes are the new table's, or its rewrite is refused. Or the bytes stand for
+-- no table, and nothing is asked.
+abbrev pub RewritesBytes : Order → List ℕ → Option model.KsymsIds → Layout → List Answer → Result (List ℕ × List FeatureAnswer) Refusal → Type 0
+RewritesBytes order bytes ids layout answers (Ok (written, listed)) =
+    (old : Table) × (new : Table) × IsTable order bytes old × Rewritten old ids layout answers new × (features_asked answers ≡ Asked (pass_of old ids layout answers)) × (written ≡ canon new) × IsTable order written (strip new)
+RewritesBytes order bytes ids layout answers (Err refusal) =
+    (IsRefusal order bytes refusal × (answers ≡ [])) ⊎ ((old : Table) × IsTable order bytes old × Refuses old ids layout answers refusal)
+
+-- A pass without the step: the rewritten table, or why it is refused.
+abbrev pub Sanitizes : {X : Type 0} → Pass → Table → Result X Refusal → Type 0
+Sanitizes p new (Ok x) = AreRuled p (old_count p) × (new ≡ rewritten p) × (features_asked p.answers ≡ Asked p)
+Sanitizes p new (Err refusal) = (id : ℕ) × FaultsAt p id refusal × (features_asked p.answers ≡ each_once (asks_below p (suc id)))
+
+-- What the kernel needs for the new table was asked for once each, and granted.
+abbrev pub NeedsAreGranted : Table → Option model.KsymsIds → List Answer → Table → Type 0
+NeedsAreGranted old ids answers new = (id : ℕ) (r : Record) → slice_get new.records id ≡ Some r → (f : Feature) → IsAmong f (needs (record_at (begun old ids) id) r) → IsGrantedOnce answers f
+
+-- Sizes of types, on walks that meet no VAR, FUNC, FUNC_PROTO, DATASEC or DECL_TAG, are those that they were.
+abbrev pub KeepsSizes : Table → Table → Type 0
+KeepsSizes old new = (id size : ℕ) → WalkAnswers (FindsKept old) (record { count = 1; type = id }) (λ _. MaximumTypeDepthReached id) (Ok size) → HasSize new.records id (Ok size)
+
+-- What ids stand for, but for a FUNC, is what they stood for.
+abbrev pub KeepsResolutions : Table → Table → Type 0
+KeepsResolutions old new = (id end : ℕ) → Resolves old.records id (Ok end) → kind_at old end ≢ Some kinds.Func → Resolves new.records id (Ok end)

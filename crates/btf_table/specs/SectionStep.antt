@@ -1,0 +1,35 @@
+-- A DATASEC that a pass comes to, once it has its new name.
+use Rattle.std.specs.Prelude.{◌≡◌, ℕ, [], ◌∷◌, ◌==◌, ◌*◌, length, ◌&&◌, not, Bool, Some, None, max}
+use Rattle.btf_model.specs.Record as kinds
+use Rattle.btf_model.specs.Record.{Record, kind_of, vlen}
+use Rattle.btf_rewrite_model.specs.Made.{data_sec}
+use Rattle.btf_rewrite_model.specs.Checks.{first_fault}
+use Rattle.btf_rewrite_model.specs.Pass.{Pass, name_of, renaming}
+use Rattle.btf_rewrite_model.specs.Rule.{new_name}
+use Rattle.btf_rewrite_model.specs.Fault.{name_checks}
+use Rattle.btf_rewrite_model.specs.Feature.{has_no_entries}
+use Rattle.btf_records.specs.declared.btf_type.BtfType.TheVariants.{DataSec}
+use Rattle.btf_table.specs.Adding.{Adds}
+use Rattle.btf_table.specs.PassStep.{IsType, IsHere}
+use Rattle.btf_table.specs.declared.sanitize.made.Made.{Made}
+
+-- The id is this DATASEC, and its new name is read and appended: nothing else is made for it yet.
+pub record HasNewName (p : Pass) (id : ℕ) (r : Record) (name : ℕ) (before now : Made) : Type 0 where
+  pub there : IsType p.table id (DataSec r)
+  pub kind : kind_of r.info ≡ Some kinds.DataSec
+  pub tail : length r.tail ≡ 3 * vlen r.info
+  pub here : IsHere p id before
+  pub passed : first_fault (name_checks p id) ≡ None
+  pub name_is : new_name p id r ≡ name
+  pub adds : Adds p.table before.changes now.changes (renaming p (name_of p id)) []
+  pub names : now.names ≡ before.names
+  pub placeholder : now.placeholder ≡ before.placeholder
+  pub filler : now.filler ≡ before.filler
+
+-- a DATASEC of this name, whose one entry is the filler of this id
+abbrev pub filled : ℕ → ℕ → ℕ → Record
+filled name size id = data_sec name (max size 1) 1 (record { type = id; offset = 0; size = max size 1 } ∷ [])
+
+-- a DATASEC without entries in a section of this size, above 0: the kernel is asked whether it takes one
+abbrev pub asks_zero : Record → ℕ → Bool
+asks_zero r size = has_no_entries r && not (size == 0)

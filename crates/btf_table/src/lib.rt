@@ -1,0 +1,8 @@
+//! Tables of BTF types: read, written, looked up, changed, and rewritten for a kernel.
+#![tactic(auto)]
+
+mod sanitize;
+mod table;
+
+pub use sanitize::{KsymsIds, rewrite_bytes};
+pub use table::{Btf, BtfStr, WALK_LIMIT, allocator_of};

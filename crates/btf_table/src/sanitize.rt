@@ -1,0 +1,170 @@
+//! Rewriting a table for a kernel that lacks some features.
+
+mod data_sec;
+mod enums;
+mod functions;
+mod ksyms;
+mod made;
+mod pass;
+mod plain;
+mod prototypes;
+mod section_names;
+mod sections;
+
+ghost use Rattle.std.specs.Prelude.{◌≡◌, ℕ, List, [], Option, Some, OnOk, OnErr, IfOk, slice_get};
+ghost use Rattle.btf_rewrite_model.specs.Feature.{Feature, needs};
+ghost use Rattle.btf_rewrite_model.specs.Ksyms.{ksyms_fault, ksyms_table};
+ghost use Rattle.btf_rewrite_model.specs.Made.{record_at};
+ghost use Rattle.btf_model.specs.Record.{Record};
+ghost use Rattle.btf_rewrite_model.specs.Rewritten.{begun, pass_of};
+ghost use Rattle.btf_rewrite_model.specs.RewriteLaws.{IsAmong, IsGrantedOnce};
+ghost use Rattle.btf_plain.specs.Endianness.{order_of};
+ghost use Rattle.btf_plain.specs.Error.{Answers, Gives};
+ghost use Rattle.btf_rules.specs.Checked.{checked};
+ghost use Rattle.btf_rules.specs.Features.{Called, answers_of};
+ghost use Rattle.btf_table.specs.KsymsStep.{ksyms_ids};
+ghost use Rattle.btf_rules.specs.Layout.{layout_of};
+ghost use Rattle.btf_table.specs.PassStep.{pass_on, BeginsAsked};
+ghost use Rattle.btf_table.specs.Rewrites.{ids_of, Rewrites, RewritesBytes, Sanitizes, NeedsAreGranted, KeepsSizes, KeepsResolutions};
+
+use btf_rules::{BtfFeature, BtfFeatureResolver, FeatureAnswer, copied_answers};
+use crate::sanitize::ksyms::ksyms_changes;
+use crate::sanitize::pass::pass_changes;
+use crate::table::Btf;
+use arrayvec::ArrayVec;
+use btf_plain::{BtfError, Endianness, SectionIndex};
+use std::alloc::Global;
+use std::collections::HashMap;
+
+/// The ids of a program's `.ksyms`: of the DATASEC, and of the VAR that takes the place of functions in it, if there is
+/// one.
+#[derive(Clone, Copy, Debug, Eq, PartialEq)]
+pub struct KsymsIds {
+    pub datasec_id: u32,
+    pub placeholder_id: Option<u32>,
+}
+
+impl Btf {
+    /// Makes ordinary variables of the kernel's symbols: what the entries of the DATASEC of this id, `.ksyms`, stand for.
+    ///
+    /// Each FUNC and VAR that an entry names becomes Global. A VAR gets the type of the placeholder, a VAR too; without one
+    /// it gets the first INT of 4 bytes, and a string `int` and such an INT are appended where there is none. With a
+    /// placeholder, each entry of a FUNC names it instead, and each unnamed parameter of the FUNC's prototype gets its name.
+    /// The entries take 4 bytes each, one behind the other.
+    ///
+    /// The first cause of refusal is told. Of the placeholder: `UnknownBtfType`, and `InvalidDatasec` where it is no VAR; or,
+    /// without one, `InvalidStringOffset` and `InvalidTypeInfo` where strings or types have no room for the INT. Of the
+    /// DATASEC: `UnknownBtfType`, `InvalidDatasec` where it is another kind, and `InvalidStringOffset` where its name can't
+    /// be read. Of each entry in turn: `UnknownBtfType`, `InvalidDatasec` where it names neither a FUNC nor a VAR,
+    /// `InvalidStringOffset` where the name of that can't be read, and `UnknownBtfType` of a FUNC's prototype where there is
+    /// a placeholder. An error leaves the table as it was.
+    pub fn fixup_ksyms_datasec(
+        &mut self,
+        datasec_id: u32,
+        placeholder_id: Option<u32>,
+    ) -> Result<(), BtfError>
+        ensures answer { Gives (λ u. u) result (checked (ksyms_fault self.old (ksyms_ids datasec_id placeholder_id)) tt) }
+        ensures ok { OnOk result (self.new ≡ ksyms_table self.old (ksyms_ids datasec_id placeholder_id)) }
+        ensures err { OnErr result (self.new ≡ self.old) }
+    {
+        let changes = ksyms_changes(self, datasec_id, placeholder_id)?;
+        self.apply(changes)?;
+        Ok(())
+    }
+
+    /// The pass of a rewrite, without the step of `.ksyms`. An error leaves the table as it was.
+    fn sanitize<F: FnMut(BtfFeature) -> bool>(
+        &mut self,
+        sections: &HashMap<String, (SectionIndex, u64)>,
+        symbols: &HashMap<String, u64>,
+        resolver: &mut BtfFeatureResolver<F>,
+    ) -> Result<ArrayVec<FeatureAnswer, 8>, BtfError>
+        requires callable { F.IsAlwaysCallable resolver.old.0 }
+        requires unasked { resolver.old.1 ≡ [] }
+        ensures callable { F.IsAlwaysCallable resolver.new.0 }
+        ensures called { Called F.step resolver.old.0 resolver.new.1 resolver.new.0 }
+        ensures asked { BeginsAsked (pass_on self.old (layout_of sections.now symbols.now) (answers_of resolver.new.1)) }
+        ensures sanitizes { Answers (λ a. a.items) result (Sanitizes (pass_on self.old (layout_of sections.now symbols.now) (answers_of resolver.new.1)) self.new) }
+        ensures answers { IfOk result (λ a. a.items ≡ resolver.new.1) }
+        ensures err { OnErr result (self.new ≡ self.old) }
+    {
+        let changes = pass_changes(self, sections, symbols, resolver)?;
+        let answers = copied_answers(resolver)?;
+        self.apply(changes)?;
+        Ok(answers)
+    }
+
+    /// Rewrites the table for a kernel that has what the resolver's predicate tells, and answers what it was asked.
+    ///
+    /// `ksyms` makes ordinary variables of the kernel's symbols first, as `fixup_ksyms_datasec` does. Then each type becomes
+    /// what its kind's rule says: `sections` has the sizes of sections by name, beside an index that is not read, and
+    /// `symbols` the offsets of symbols by name. Ids stay, strings are only appended, and at most four types are.
+    ///
+    /// The first cause of refusal is told: those of `fixup_ksyms_datasec`, and then of the least id that has one:
+    /// `InvalidStringOffset` where the name of a FUNC or a DATASEC, or of a variable that a DATASEC names, can't be read, or
+    /// strings have no room for a name; `UnknownBtfType` of an entry's id; `InvalidDatasec` where an entry names no VAR;
+    /// `UnknownSectionSize` and `SymbolOffsetNotFound` of a name that the maps don't have, or with more than 32 bits; and
+    /// `InvalidTypeInfo` where types have no room, or a bit offset has more than 32 bits. An error leaves the table as it
+    /// was.
+    pub fn fixup_and_sanitize<F: FnMut(BtfFeature) -> bool>(
+        &mut self,
+        sections: &HashMap<String, (SectionIndex, u64)>,
+        symbols: &HashMap<String, u64>,
+        ksyms: Option<KsymsIds>,
+        resolver: &mut BtfFeatureResolver<F>,
+    ) -> Result<ArrayVec<FeatureAnswer, 8>, BtfError>
+        requires callable { F.IsAlwaysCallable resolver.old.0 }
+        requires unasked { resolver.old.1 ≡ [] }
+        ensures callable { F.IsAlwaysCallable resolver.new.0 }
+        // One call of the predicate for each answer, in order, and no other.
+        ensures called { Called F.step resolver.old.0 resolver.new.1 resolver.new.0 }
+        // In every outcome the answers are to the first features that the rewrite asks for.
+        ensures asked { BeginsAsked (pass_of self.old (ids_of ksyms) (layout_of sections.now symbols.now) (answers_of resolver.new.1)) }
+        // The table is the rewritten one, and all is asked for; or the first cause of refusal.
+        ensures rewrites { Answers (λ a. a.items) result (Rewrites self.old (ids_of ksyms) (layout_of sections.now symbols.now) (answers_of resolver.new.1) self.new) }
+        ensures answers { IfOk result (λ a. a.items ≡ resolver.new.1) }
+        ensures err { OnErr result (self.new ≡ self.old) }
+        // What the kernel needs for the new table was asked for once, and granted.
+        ensures granted { OnOk result (NeedsAreGranted self.old (ids_of ksyms) (answers_of resolver.new.1) self.new) }
+        // A walk that meets no VAR, FUNC, FUNC_PROTO, DATASEC or DECL_TAG finds the size that it found.
+        ensures sizes { OnOk result (KeepsSizes self.old self.new) }
+        // What an id stands for, but for a FUNC, it stands for still.
+        ensures resolutions { OnOk result (KeepsResolutions self.old self.new) }
+    {
+        let Some(ids) = ksyms else {
+            return self.sanitize(sections, symbols, resolver);
+        };
+        let changes = ksyms_changes(self, ids.datasec_id, ids.placeholder_id)?;
+        let undo = self.apply(changes)?;
+        match self.sanitize(sections, symbols, resolver) {
+            Ok(answers) => Ok(answers),
+            Err(error) => {
+                self.undo(undo);
+                Err(error)
+            }
+        }
+    }
+}
+
+/// The bytes of a table that is parsed, rewritten by `fixup_and_sanitize`, and written in its own order, with what the
+/// predicate was asked. The errors are those of `Btf::parse` and of `fixup_and_sanitize`.
+pub fn rewrite_bytes<F: FnMut(BtfFeature) -> bool>(
+    alloc: Global,
+    data: &[u8],
+    endianness: Endianness,
+    sections: &HashMap<String, (SectionIndex, u64)>,
+    symbols: &HashMap<String, u64>,
+    ksyms: Option<KsymsIds>,
+    resolver: &mut BtfFeatureResolver<F>,
+) -> Result<(Vec<u8>, ArrayVec<FeatureAnswer, 8>), BtfError>
+    requires callable { F.IsAlwaysCallable resolver.old.0 }
+    requires unasked { resolver.old.1 ≡ [] }
+    ensures callable { F.IsAlwaysCallable resolver.new.0 }
+    ensures called { Called F.step resolver.old.0 resolver.new.1 resolver.new.0 }
+    ensures rewrites { Answers (λ r. (r.0.items, r.1.items)) result (RewritesBytes (order_of endianness) «data».now (ids_of ksyms) (layout_of sections.now symbols.now) (answers_of resolver.new.1)) }
+    ensures answers { IfOk result (λ r. r.1.items ≡ resolver.new.1) }
+{
+    let mut btf = Btf::parse(alloc, data, endianness)?;
+    let answers = btf.fixup_and_sanitize(sections, symbols, ksyms, resolver)?;
+    Ok((btf.to_bytes()?, answers))
+}

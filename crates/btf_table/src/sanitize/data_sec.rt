@@ -1,0 +1,204 @@
+//! The rule of a DATASEC.
+
+ghost use Rattle.std.specs.Prelude.{◌≡◌, ℕ, List, [], ◌∷◌, length, map, not, true, false, None, Some, Ok, IfOk};
+ghost use Rattle.std.specs.List.{flat_map};
+ghost use Rattle.std.specs.Option.{unwrap_or};
+ghost use Rattle.btf_model.specs.Record.{Record, vlen};
+ghost use Rattle.btf_rewrite_model.specs.Feature as features;
+ghost use Rattle.btf_rewrite_model.specs.Feature.{Feature, Answer, has_no_entries};
+ghost use Rattle.btf_rewrite_model.specs.Made as model;
+ghost use Rattle.btf_rewrite_model.specs.Made.{entries};
+ghost use Rattle.btf_rewrite_model.specs.Checks.{first_fault, is_read, in_a_word};
+ghost use Rattle.btf_rewrite_model.specs.Pass.{Pass, Layout, asks_below, gets_filler, section_size as size_of_section, size_by_name};
+ghost use Rattle.btf_rewrite_model.specs.Rule.{entry_members, placed};
+ghost use Rattle.btf_rewrite_model.specs.Fault.{member_checks, entry_checks, is_sized};
+ghost use Rattle.btf_model.specs.Text.{text_at};
+ghost use Rattle.btf_rewrite_model.proofs.Passing.{AreAnswersTo};
+ghost use Rattle.btf_plain.specs.Error.{Answers, Gives};
+ghost use Rattle.btf_records.specs.BtfType.{record_of, fallback_of};
+ghost use Rattle.btf_table.specs.Adding.{HasRoom};
+ghost use Rattle.btf_rules.specs.Checked.{checked};
+ghost use Rattle.btf_rules.specs.Features.{Called, Asks, IsFurther, answers_of};
+ghost use Rattle.btf_rules.specs.Layout.{sizes_of, offsets_of};
+ghost use Rattle.btf_table.specs.PassStep.{pass_on, IsType, IsHere, AsksUpTo, Steps, Rules};
+ghost use Rattle.btf_table.specs.SectionStep.{HasNewName, asks_zero};
+
+use btf_rules::{BtfFeature, BtfFeatureResolver};
+use crate::sanitize::made::Made;
+use crate::sanitize::section_names::new_name;
+use crate::sanitize::sections::{members, placed_entries, section_size};
+use crate::table::{Btf, record_fits};
+use btf_plain::{BtfError, SectionIndex};
+use btf_records::{BtfType, DataSec, DataSecEntry, Struct};
+use std::collections::HashMap;
+
+/// The length of an entry in bytes.
+const ENTRY_LEN: usize = 12;
+
+/// The STRUCT of this name that a DATASEC becomes, with a member for each entry. `names` are the string offsets of the
+/// names that all lower ids have by now.
+///
+/// `UnknownBtfType` of an entry's id that has no type; `InvalidTypeInfo` where an offset in bits has more than 32 bits.
+fn as_struct(
+    btf: &Btf,
+    names: &[u32],
+    data_sec: &DataSec,
+    name_offset: u32,
+) -> Result<Option<BtfType>, BtfError>
+    ensures answer { (p : Pass) (lower : List Record) → p.table ≡ btf.now → names.now ≡ map (λ (r : Record). r.name) lower
+        → Gives (λ new. record_of (unwrap_or new (BtfType.DataSec data_sec.now))) result (checked (first_fault (flat_map (member_checks p) (entries data_sec.now.tail))) (model.struct name_offset (vlen data_sec.now.info) (vlen data_sec.now.info) (entry_members p lower (length lower) (entries data_sec.now.tail)))) }
+    ensures fallback { IfOk result (λ new. fallback_of (unwrap_or new (BtfType.DataSec data_sec.now)) ≡ None) }
+{
+    let members = members(btf, names, data_sec)?;
+    let size = members.len() as u32;
+    Ok(Some(BtfType::Struct(Struct::new(name_offset, members, size))))
+}
+
+/// The DATASEC with this name; None where it has it.
+fn renamed(data_sec: &DataSec, name_offset: u32) -> Result<Option<BtfType>, BtfError>
+    ensures answer { Gives (λ new. record_of (unwrap_or new (BtfType.DataSec data_sec.now))) result (Ok (record data_sec.now { name = name_offset })) }
+    ensures fallback { IfOk result (λ new. fallback_of (unwrap_or new (BtfType.DataSec data_sec.now)) ≡ None) }
+{
+    if name_offset == data_sec.name_offset() {
+        return Ok(None);
+    }
+    let mut renamed = data_sec.try_clone()?;
+    renamed.set_name_offset(name_offset);
+    Ok(Some(BtfType::DataSec(renamed)))
+}
+
+/// The DATASEC of this name and size, with each entry at the offset of its symbol, but for those of Static variables.
+///
+/// Of each entry in turn: `UnknownBtfType` of an id that has no type, and `InvalidDatasec` where it is no VAR;
+/// `InvalidStringOffset` where its name can't be read; `SymbolOffsetNotFound` where no symbol has that name, or its offset has
+/// more than 32 bits.
+fn laid_out(
+    btf: &Btf,
+    symbols: &HashMap<String, u64>,
+    data_sec: &DataSec,
+    name_offset: u32,
+    size: u32,
+) -> Result<Option<BtfType>, BtfError>
+    ensures answer { (p : Pass) → p.table ≡ btf.now → p.layout.symbols ≡ offsets_of symbols.now
+        → Gives (λ new. record_of (unwrap_or new (BtfType.DataSec data_sec.now))) result (checked (first_fault (flat_map (entry_checks p) (entries data_sec.now.tail))) (model.data_sec name_offset size (vlen data_sec.now.info) (map (placed p) (entries data_sec.now.tail)))) }
+    ensures fallback { IfOk result (λ new. fallback_of (unwrap_or new (BtfType.DataSec data_sec.now)) ≡ None) }
+{
+    let entries = placed_entries(btf, symbols, data_sec)?;
+    Ok(Some(BtfType::DataSec(DataSec::new(name_offset, entries, size))))
+}
+
+/// The size of the section that a DATASEC stands for, by its name.
+///
+/// `InvalidStringOffset` where the name can't be read; `UnknownSectionSize` of the name where the size isn't known or has
+/// more than 32 bits.
+fn known_size(
+    btf: &Btf,
+    sections: &HashMap<String, (SectionIndex, u64)>,
+    data_sec: &DataSec,
+) -> Result<u32, BtfError>
+    ensures { (p : Pass) → p.table ≡ btf.now → p.layout.sections ≡ sizes_of sections.now
+        → Gives (λ n. n) result (checked (first_fault (is_read (text_at btf.now.strings data_sec.now.name) ∷ is_sized (size_by_name p (text_at btf.now.strings data_sec.now.name)) (text_at btf.now.strings data_sec.now.name) ∷ []))
+        (unwrap_or (size_by_name p (text_at btf.now.strings data_sec.now.name)) 0)) }
+{
+    let name = btf.string_at(data_sec.name_offset())?;
+    section_size(btf.allocator(), sections, name.as_str())
+}
+
+/// Whether a DATASEC gets the filler for its entry: it has none, and its section has size 0, or the kernel takes no DATASEC
+/// without entries.
+fn wants_filler<F: FnMut(BtfFeature) -> bool>(
+    data_sec: &DataSec,
+    size: u32,
+    resolver: &mut BtfFeatureResolver<F>,
+) -> bool
+    requires { F.IsAlwaysCallable resolver.old.0 }
+    ensures callable { F.IsAlwaysCallable resolver.new.0 }
+    ensures quiet { asks_zero data_sec.now size ≡ false → (resolver.new ≡ resolver.old) × (result ≡ has_no_entries data_sec.now) }
+    ensures asks { asks_zero data_sec.now size ≡ true → Asks F.step BtfFeature.DataSecZero resolver.old (not result) resolver.new }
+{
+    if !data_sec.entries().is_empty() {
+        return false;
+    }
+    size == 0 || !resolver.is_supported(BtfFeature::DataSecZero)
+}
+
+impl Made {
+    ghost use Rattle.btf_records.specs.declared.btf_type.BtfType.{BtfType};
+
+    /// The DATASEC of this name and size whose one entry is the filler. It has 12 bytes more than one without entries.
+    ///
+    /// `InvalidStringOffset` and `InvalidTypeInfo` where strings or types have no room for the filler; `InvalidTypeInfo`
+    /// where types have none for the entry.
+    fn filled(
+        &mut self,
+        btf: &Btf,
+        name_offset: u32,
+        size: u32,
+    ) -> Result<Option<BtfType>, BtfError>
+        requires { HasRoom btf.now self.old.changes }
+        ensures { (layout : Layout) (answers : List Answer) (id : ℕ) (r : Record) (before : Made) → HasNewName (pass_on btf.now layout answers) id r name_offset before self.old
+            → gets_filler (pass_on btf.now layout answers) id ≡ true → size_of_section (pass_on btf.now layout answers) id ≡ Some size
+            → Answers (λ new. unwrap_or new (BtfType.DataSec r)) result (Rules (pass_on btf.now layout answers) id (BtfType.DataSec r) before self.new) }
+    {
+        let filler = self.filler(btf)?;
+        record_fits(self.changes.type_len, ENTRY_LEN)?;
+        self.changes.type_len += ENTRY_LEN;
+        let size = size.max(1);
+        let mut entries = Vec::with_capacity(btf.allocator(), 1)?;
+        entries.push(DataSecEntry {
+            btf_type: filler,
+            offset: 0,
+            size,
+        })?;
+        Ok(Some(BtfType::DataSec(DataSec::new(name_offset, entries, size))))
+    }
+
+    /// The rule of a DATASEC; None where it stays. A kernel that takes none gets a STRUCT of its entries. For another, a DATASEC of size 0 gets
+    /// the size of its section, and each entry the offset of its symbol; one that has no entries gets the filler for its
+    /// entry, where its section has size 0, or where the kernel takes no DATASEC without entries. One that has a size keeps
+    /// it. Its name becomes one that the kernel takes.
+    ///
+    /// The first cause of refusal is told. `InvalidStringOffset` where the name can't be read or strings have no room for the
+    /// new one. As a STRUCT: `UnknownBtfType` of an entry's id that has no type, and `InvalidTypeInfo` where its offset in
+    /// bits has more than 32 bits. Of a DATASEC of size 0: `UnknownSectionSize` where the size of its section isn't known or
+    /// has more than 32 bits; `InvalidStringOffset` and `InvalidTypeInfo` where strings or types have no room for the
+    /// filler. Of each of its entries in turn: `UnknownBtfType`, `InvalidDatasec` where it names no VAR,
+    /// `InvalidStringOffset` where the name of that can't be read, and `SymbolOffsetNotFound` where the offset of its symbol
+    /// isn't known or has more than 32 bits.
+    pub fn rewrite_section<F: FnMut(BtfFeature) -> bool>(
+        &mut self,
+        btf: &Btf,
+        sections: &HashMap<String, (SectionIndex, u64)>,
+        symbols: &HashMap<String, u64>,
+        data_sec: &DataSec,
+        resolver: &mut BtfFeatureResolver<F>,
+    ) -> Result<Option<BtfType>, BtfError>
+        requires room { HasRoom btf.now self.old.changes }
+        requires callable { F.IsAlwaysCallable resolver.old.0 }
+        ensures callable { F.IsAlwaysCallable resolver.new.0 }
+        ensures called { (first : F) → Called F.step first resolver.old.1 resolver.old.0 → Called F.step first resolver.new.1 resolver.new.0 }
+        ensures further { IsFurther resolver.old.1 resolver.new.1 }
+        ensures asks { (layout : Layout) (id : ℕ) → layout.sections ≡ sizes_of sections.now → IsType btf.now id (BtfType.DataSec data_sec.now) → IsHere (pass_on btf.now layout (answers_of resolver.new.1)) id self.old → AreAnswersTo (asks_below (pass_on btf.now layout (answers_of resolver.old.1)) id) (answers_of resolver.old.1)
+            → (left : List Feature) × AsksUpTo (pass_on btf.now layout (answers_of resolver.old.1)) id (answers_of resolver.new.1) left }
+        ensures steps { (layout : Layout) (id : ℕ) → layout.sections ≡ sizes_of sections.now → layout.symbols ≡ offsets_of symbols.now → IsType btf.now id (BtfType.DataSec data_sec.now) → AreAnswersTo (asks_below (pass_on btf.now layout (answers_of resolver.old.1)) id) (answers_of resolver.old.1)
+            → IsHere (pass_on btf.now layout (answers_of resolver.new.1)) id self.old
+            → Answers (λ new. unwrap_or new (BtfType.DataSec data_sec.now)) result (Steps (pass_on btf.now layout (answers_of resolver.old.1)) id resolver.new.1 (BtfType.DataSec data_sec.now) self.old self.new) }
+    {
+        // The contract speaks of the kind in the info word, and of the words, which a use of them shows.
+        let _ = data_sec.info();
+        let _ = data_sec.entries();
+        let granted = resolver.is_supported(BtfFeature::DataSec);
+        let name_offset = new_name(btf, &mut self.changes, data_sec, granted)?;
+        if !granted {
+            return as_struct(btf, &self.names, data_sec, name_offset);
+        }
+        if data_sec.size() != 0 {
+            return renamed(data_sec, name_offset);
+        }
+        let size = known_size(btf, sections, data_sec)?;
+        if wants_filler(data_sec, size, resolver) {
+            return self.filled(btf, name_offset, size);
+        }
+        laid_out(btf, symbols, data_sec, name_offset, size)
+    }
+}

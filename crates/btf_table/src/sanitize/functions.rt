@@ -1,0 +1,71 @@
+//! The rule of a FUNC.
+
+ghost use Rattle.std.specs.Prelude.{◌≡◌, ℕ, Bool, List, IfOk, IsTrue, Ok};
+ghost use Rattle.std.specs.Option.{unwrap_or};
+ghost use Rattle.btf_rewrite_model.specs.Feature.{Feature};
+ghost use Rattle.btf_rewrite_model.specs.Made.{with_linkage};
+ghost use Rattle.btf_rewrite_model.specs.Pass as model;
+ghost use Rattle.btf_rewrite_model.specs.Pass.{Layout, asks_below};
+ghost use Rattle.btf_rewrite_model.proofs.Passing.{AreAnswersTo};
+ghost use Rattle.btf_plain.specs.Error.{Answers};
+ghost use Rattle.btf_rules.specs.Features.{Called, IsFurther, answers_of};
+ghost use Rattle.btf_table.specs.PassStep.{pass_on, IsType, IsHere, AsksUpTo, Steps};
+ghost use Rattle.btf_table.specs.declared.sanitize.made.Made as made;
+
+use btf_rules::{BtfFeature, BtfFeatureResolver};
+use crate::table::Btf;
+use btf_plain::{BtfError, Func, FuncLinkage, Typedef};
+use btf_records::BtfType;
+use std::alloc::AllocError;
+
+/// Whether a function of this name is one that compilers make Global, and kernels want Static.
+fn is_builtin(name: &str) -> bool
+    ensures { result ≡ model.is_builtin name.now }
+{
+    name == "memset" || name == "memcpy" || name == "memmove" || name == "memcmp"
+}
+
+/// The function, with Static for its linkage.
+fn made_static(func: &Func) -> Result<Func, AllocError>
+    ensures { IfOk result (λ r. r ≡ with_linkage 0 func.now) }
+{
+    let mut func = func.clone()?;
+    func.set_linkage(FuncLinkage::Static);
+    Ok(func)
+}
+
+/// What a FUNC becomes; None where it stays. A kernel that has no functions gets a TYPEDEF of the prototype; one that has
+/// no Global ones, or knows a Global one as its own, a Static one. `InvalidStringOffset` where its name can't be read.
+pub fn rewrite_func<F: FnMut(BtfFeature) -> bool>(
+    btf: &Btf,
+    func: &Func,
+    resolver: &mut BtfFeatureResolver<F>,
+) -> Result<Option<BtfType>, BtfError>
+    requires { F.IsAlwaysCallable resolver.old.0 }
+    ensures callable { F.IsAlwaysCallable resolver.new.0 }
+    ensures called { (first : F) → Called F.step first resolver.old.1 resolver.old.0 → Called F.step first resolver.new.1 resolver.new.0 }
+    ensures further { IsFurther resolver.old.1 resolver.new.1 }
+    ensures asks { (layout : Layout) (id : ℕ) → IsType btf.now id (BtfType.Func func.now) → AreAnswersTo (asks_below (pass_on btf.now layout (answers_of resolver.old.1)) id) (answers_of resolver.old.1)
+        → (left : List Feature) × AsksUpTo (pass_on btf.now layout (answers_of resolver.old.1)) id (answers_of resolver.new.1) left }
+    ensures steps { (layout : Layout) (id : ℕ) (made : made.Made) → IsType btf.now id (BtfType.Func func.now) → AreAnswersTo (asks_below (pass_on btf.now layout (answers_of resolver.old.1)) id) (answers_of resolver.old.1)
+        → IsHere (pass_on btf.now layout (answers_of resolver.new.1)) id made
+        → Answers (λ new. unwrap_or new (BtfType.Func func.now)) result (Steps (pass_on btf.now layout (answers_of resolver.old.1)) id resolver.new.1 (BtfType.Func func.now) made made) }
+{
+    // The contract speaks of the kind in the info word, which a use of it shows.
+    let _ = func.info();
+    let name = btf.string_at(func.name_offset())?;
+    if !resolver.is_supported(BtfFeature::Func) {
+        let typedef = Typedef::new(func.name_offset(), func.btf_type());
+        return Ok(Some(BtfType::Typedef(typedef)));
+    }
+    let FuncLinkage::Global = func.linkage() else {
+        return Ok(None);
+    };
+    if is_builtin(name.as_str()) {
+        return Ok(Some(BtfType::Func(made_static(func)?)));
+    }
+    if resolver.is_supported(BtfFeature::FuncGlobal) {
+        return Ok(None);
+    }
+    Ok(Some(BtfType::Func(made_static(func)?)))
+}

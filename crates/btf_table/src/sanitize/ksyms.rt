@@ -1,0 +1,397 @@
+//! The first step of a rewrite: the kernel's symbols become ordinary variables.
+
+ghost use Rattle.std.specs.Prelude.{◌≡◌, ◌≤◌, if◌then◌else◌, ℕ, [], ◌∷◌, length, map, Option, None, Ok, IfOk};
+ghost use Rattle.std.specs.List.{position_or_len};
+ghost use Rattle.btf_model.specs.Record.{kind_of};
+ghost use Rattle.btf_rewrite_model.specs.Made.{Entry, entries, record_at, wants_name, with_linkage};
+ghost use Rattle.btf_rewrite_model.specs.Checks.{first_fault};
+ghost use Rattle.btf_rewrite_model.specs.Ksyms as model;
+ghost use Rattle.btf_rewrite_model.specs.Ksyms.{placeholder_checks, data_sec_checks, entry_checks, named};
+ghost use Rattle.btf_plain.specs.Error.{Gives, Answers};
+ghost use Rattle.btf_records.specs.BtfType.{record_of};
+ghost use Rattle.btf_rules.specs.Checked.{checked};
+ghost use Rattle.btf_table.specs.KsymsStep.{target_of, prototype_of, laid_out_anew, FindsSymbols, StepsWith, ksyms_ids, MakesKsyms};
+
+use crate::table::{Btf, Changes, record_fits, text_fits};
+use btf_plain::{BtfError, Func, FuncLinkage, Int, IntEncoding, Var, VarLinkage};
+use btf_records::{BtfParam, BtfType, DataSec, DataSecEntry, FuncProto};
+use std::alloc::{AllocError, Global};
+use std::collections::HashSet;
+
+/// The text that names the INT, and the length of its record in bytes.
+const INT: &str = "int";
+
+const INT_LEN: usize = 16;
+
+/// What takes the place of functions: a VAR.
+#[derive(Clone, Copy)]
+struct Placeholder {
+    id: u32,
+    /// The string offset of its name, which parameters without a name get.
+    name_offset: u32,
+}
+
+/// What the symbols become.
+#[derive(Drop)]
+struct Target {
+    /// The type of each variable.
+    symbol_type: u32,
+    /// Whether this type is an INT that is appended.
+    appends_int: bool,
+    placeholder: Option<Placeholder>,
+}
+
+/// The ids that the entries name.
+#[derive(Drop)]
+struct Symbols {
+    /// The functions and variables themselves.
+    ids: HashSet<u32>,
+    /// The prototypes of the functions.
+    prototypes: HashSet<u32>,
+}
+
+impl Symbols {
+    ghost use Rattle.std.specs.Prelude.{◌≡◌, ◌==◌, true, false, cond, OnOk};
+    ghost use Rattle.btf_table.specs.KsymsStep.{has, is_this};
+
+    /// The ids of no entries.
+    fn new(alloc: Global) -> Symbols
+        ensures ids { (q : _) → has result.ids q ≡ false }
+        ensures prototypes { (q : _) → has result.prototypes q ≡ false }
+    {
+        Symbols {
+            ids: HashSet::new(alloc),
+            prototypes: HashSet::new(alloc),
+        }
+    }
+
+    /// Adds an id, and the prototype that it has if it is a function.
+    fn add(&mut self, id: u32, prototype: Option<u32>) -> Result<(), AllocError>
+        ensures ids { OnOk result ((q : _) → has self.new.ids q ≡ cond (id == q) true (has self.old.ids q)) }
+        ensures prototypes { OnOk result ((q : _) → has self.new.prototypes q ≡ cond (is_this prototype q) true (has self.old.prototypes q)) }
+    {
+        self.ids.insert(id)?;
+        if let Some(prototype) = prototype {
+            self.prototypes.insert(prototype)?;
+        }
+        Ok(())
+    }
+}
+
+/// Whether a type is an INT of 4 bytes.
+fn is_int_of_4(btf_type: &BtfType) -> bool
+    ensures { result ≡ model.is_int_of_4 (kind_of (record_of btf_type.now).info) (record_of btf_type.now) }
+{
+    // The contract speaks of the kind in the info word, which a use of it shows.
+    let _ = btf_type.info();
+    match btf_type {
+        BtfType::Int(int) => int.size() == 4,
+        _ => false,
+    }
+}
+
+/// The id of the first INT of 4 bytes, or the number of types where there is none.
+fn int_of_4(types: &[BtfType]) -> usize
+    ensures bound { result ≤ length types.now }
+    ensures first { result ≡ position_or_len (λ r. model.is_int_of_4 (kind_of r.info) r) (map record_of types.now) }
+{
+    for (id, btf_type) in types.iter().enumerate() {
+        if is_int_of_4(btf_type) {
+            return id;
+        }
+    }
+    types.len()
+}
+
+/// What symbols become without a placeholder.
+fn find_int(btf: &Btf) -> Result<Target, BtfError>
+    ensures { Gives (λ t. t) result (checked (first_fault (placeholder_checks btf.now None)) (target_of btf.now None)) }
+{
+    let types = btf.as_slice();
+    let id = int_of_4(types);
+    let appends_int = id == types.len();
+    if appends_int {
+        text_fits(btf.string_len(), INT)?;
+        record_fits(btf.type_len(), INT_LEN)?;
+    }
+    Ok(Target {
+        symbol_type: id as u32,
+        appends_int,
+        placeholder: None,
+    })
+}
+
+/// What symbols become.
+fn find_target(btf: &Btf, placeholder_id: Option<u32>) -> Result<Target, BtfError>
+    ensures { Gives (λ t. t) result (checked (first_fault (placeholder_checks btf.now placeholder_id)) (target_of btf.now placeholder_id)) }
+{
+    let Some(id) = placeholder_id else {
+        return find_int(btf);
+    };
+    let btf_type = btf.type_by_id(id)?;
+    // The contract speaks of the kind in the info word, which a use of it shows.
+    let _ = btf_type.info();
+    let BtfType::Var(var) = btf_type else {
+        return Err(BtfError::InvalidDatasec);
+    };
+    Ok(Target {
+        symbol_type: var.btf_type(),
+        appends_int: false,
+        placeholder: Some(Placeholder {
+            id,
+            name_offset: var.name_offset(),
+        }),
+    })
+}
+
+/// The DATASEC of an id, whose name can be read.
+fn named_data_sec(btf: &Btf, id: u32) -> Result<&DataSec, BtfError>
+    ensures { Gives (λ s. s.now) result (checked (first_fault (data_sec_checks btf.now id)) (record_at btf.now id)) }
+{
+    let btf_type = btf.type_by_id(id)?;
+    // The contract speaks of the kind in the info word, which a use of it shows.
+    let _ = btf_type.info();
+    let BtfType::DataSec(data_sec) = btf_type else {
+        return Err(BtfError::InvalidDatasec);
+    };
+    btf.string_at(data_sec.name_offset())?;
+    Ok(data_sec)
+}
+
+/// The prototype of the FUNC of an id, where it is one. It is a FUNC or a VAR, whose name can be read.
+fn symbol_prototype(
+    btf: &Btf,
+    id: u32,
+    placeholder_id: Option<u32>,
+) -> Result<Option<u32>, BtfError>
+    ensures { (e : Entry) → e.type ≡ id → Gives (λ p. p) result (checked (first_fault (entry_checks btf.now placeholder_id e)) (prototype_of btf.now id)) }
+{
+    let symbol = btf.type_by_id(id)?;
+    // The contract speaks of the kind in the info word, which a use of it shows.
+    let _ = symbol.info();
+    match symbol {
+        BtfType::Func(func) => {
+            btf.string_at(func.name_offset())?;
+            if placeholder_id.is_some() {
+                btf.type_by_id(func.btf_type())?;
+            }
+            Ok(Some(func.btf_type()))
+        }
+        BtfType::Var(var) => {
+            btf.string_at(var.name_offset())?;
+            Ok(None)
+        }
+        _ => Err(BtfError::InvalidDatasec),
+    }
+}
+
+/// The ids that the entries of a DATASEC name.
+fn find_symbols(
+    btf: &Btf,
+    data_sec: &DataSec,
+    placeholder_id: Option<u32>,
+) -> Result<Symbols, BtfError>
+    ensures { Answers (λ s. s) result (FindsSymbols btf.now placeholder_id (entries data_sec.now.tail)) }
+{
+    let mut symbols = Symbols::new(btf.allocator());
+    for entry in data_sec.entries() {
+        let prototype = symbol_prototype(btf, entry.btf_type, placeholder_id)?;
+        symbols.add(entry.btf_type, prototype)?;
+    }
+    Ok(symbols)
+}
+
+/// The function, with Global for its linkage.
+fn global(func: &Func) -> Result<Func, AllocError>
+    ensures { IfOk result (λ r. r ≡ with_linkage 1 func.now) }
+{
+    let mut global = func.clone()?;
+    global.set_linkage(FuncLinkage::Global);
+    Ok(global)
+}
+
+/// The variable, with Global for its linkage and this type.
+fn global_of(var: &Var, btf_type: u32) -> Result<Var, AllocError>
+    ensures words { IfOk result (λ r. r ≡ record var.now { third = btf_type; tail = 1 ∷ [] }) }
+    ensures same_length { IfOk result (λ r. length r.tail ≡ length var.now.tail) }
+{
+    // The second clause speaks of the linkage, which a use of it shows.
+    let _ = var.linkage();
+    let mut global = var.clone()?;
+    global.set_target(btf_type, VarLinkage::Global);
+    Ok(global)
+}
+
+/// The string offset of the name that a parameter gets: this one, where it has a type and no name.
+fn param_name(param: &BtfParam, name_offset: u32) -> u32
+    ensures { result ≡ if wants_name param.now.name_offset param.now.btf_type then name_offset else param.now.name_offset }
+{
+    if param.name_offset == 0 && param.btf_type != 0 {
+        name_offset
+    } else {
+        param.name_offset
+    }
+}
+
+/// The prototype, with a name for each parameter that has a type and no name.
+fn with_names(proto: &FuncProto, name_offset: u32) -> Result<FuncProto, BtfError>
+    ensures { Gives (λ r. r) result (Ok (record proto.now { tail = named name_offset proto.now.tail })) }
+{
+    let mut with_names = proto.try_clone()?;
+    for (index, param) in proto.params().iter().enumerate() {
+        with_names.set_param_name(index, param_name(param, name_offset));
+    }
+    Ok(with_names)
+}
+
+impl Target {
+    ghost use Rattle.std.specs.Prelude.{IfSome};
+    ghost use Rattle.std.specs.Option.{unwrap_or};
+    ghost use Rattle.btf_model.specs.Table.{Table};
+    ghost use Rattle.btf_rewrite_model.specs.Ksyms.{entry_type};
+    ghost use Rattle.btf_table.specs.KsymsStep.{IsLike};
+
+    /// The type that an entry of this one gets: the placeholder in place of a FUNC, where there is one.
+    fn entry_type(&self, btf: &Btf, type_id: u32) -> u32
+        ensures { (placeholder : Option ℕ) → self.now ≡ target_of btf.now placeholder → result ≡ entry_type btf.now placeholder type_id }
+    {
+        let Some(placeholder) = self.placeholder else {
+            return type_id;
+        };
+        let Ok(btf_type) = btf.type_by_id(type_id) else {
+            return type_id;
+        };
+        // The contract speaks of the kind in the info word, which a use of it shows.
+        let _ = btf_type.info();
+        match btf_type {
+            BtfType::Func(_) => placeholder.id,
+            _ => type_id,
+        }
+    }
+
+    /// What the prototype of a function among the symbols becomes; None where it stays.
+    fn new_proto(&self, proto: &FuncProto) -> Result<Option<BtfType>, BtfError>
+        ensures words { (t : Table) (placeholder : Option ℕ) → self.now ≡ target_of t placeholder
+            → Gives (λ new. record_of (unwrap_or new (BtfType.FuncProto proto.now))) result (Ok (record proto.now { tail = model.with_names t placeholder proto.now.tail })) }
+        ensures like { IfOk result (λ new. IfSome new (IsLike (BtfType.FuncProto proto.now))) }
+    {
+        let Some(placeholder) = self.placeholder else {
+            return Ok(None);
+        };
+        let proto = with_names(proto, placeholder.name_offset)?;
+        Ok(Some(BtfType::FuncProto(proto)))
+    }
+
+    /// The DATASEC, with 4 bytes for each entry, one behind the other.
+    fn laid_out(&self, btf: &Btf, data_sec: &DataSec) -> Result<DataSec, BtfError>
+        ensures like { (placeholder : Option ℕ) → self.now ≡ target_of btf.now placeholder → IfOk result (λ s. IsLike (BtfType.DataSec data_sec.now) (BtfType.DataSec s)) }
+        ensures words { (placeholder : Option ℕ) → self.now ≡ target_of btf.now placeholder → Gives (λ s. s) result (Ok (laid_out_anew btf.now placeholder data_sec.now)) }
+    {
+        let mut laid_out = data_sec.try_clone()?;
+        for (index, entry) in data_sec.entries().iter().enumerate() {
+            let entry = DataSecEntry {
+                btf_type: self.entry_type(btf, entry.btf_type),
+                offset: 4 * index as u32,
+                size: 4,
+            };
+            laid_out.set_entry(index, entry);
+        }
+        laid_out.set_size(4 * data_sec.entries().len() as u32);
+        Ok(laid_out)
+    }
+}
+
+/// What the step does to each type.
+#[derive(Drop)]
+struct Step {
+    target: Target,
+    symbols: Symbols,
+    datasec_id: u32,
+}
+
+impl Step {
+    ghost use Rattle.std.specs.Prelude.{IfSome, Some, slice_get};
+    ghost use Rattle.std.specs.Option.{unwrap_or};
+    ghost use Rattle.btf_rewrite_model.specs.Ksyms.{KsymsIds};
+    ghost use Rattle.btf_table.specs.KsymsStep.{IsStep, becomes, IsLike, StepsAll};
+
+    /// The step over a table, or why it is refused.
+    fn new(btf: &Btf, datasec_id: u32, placeholder_id: Option<u32>) -> Result<Step, BtfError>
+        ensures { Answers (λ s. s) result (StepsWith btf.now (ksyms_ids datasec_id placeholder_id)) }
+    {
+        let target = find_target(btf, placeholder_id)?;
+        let data_sec = named_data_sec(btf, datasec_id)?;
+        let symbols = find_symbols(btf, data_sec, placeholder_id)?;
+        Ok(Step {
+            target,
+            symbols,
+            datasec_id,
+        })
+    }
+
+    /// The type that the one of an id becomes; None where it stays.
+    fn new_type(&self, btf: &Btf, id: u32, btf_type: &BtfType) -> Result<Option<BtfType>, BtfError>
+        requires { slice_get btf.now.records id ≡ Some (record_of btf_type.now) }
+        ensures words { (ids : KsymsIds) → IsStep btf.now ids self.now → Gives (λ new. record_of (unwrap_or new btf_type.now)) result (Ok (becomes btf.now ids id (record_of btf_type.now))) }
+        ensures like { (ids : KsymsIds) → IsStep btf.now ids self.now → IfOk result (λ new. IfSome new (IsLike btf_type.now)) }
+    {
+        // The contract speaks of the kind in the info word, which a use of it shows.
+        let _ = btf_type.info();
+        match btf_type {
+            BtfType::Func(func) if self.symbols.ids.contains(&id) => {
+                Ok(Some(BtfType::Func(global(func)?)))
+            }
+            BtfType::Var(var) if self.symbols.ids.contains(&id) => {
+                Ok(Some(BtfType::Var(global_of(var, self.target.symbol_type)?)))
+            }
+            BtfType::FuncProto(proto) if self.symbols.prototypes.contains(&id) => {
+                self.target.new_proto(proto)
+            }
+            BtfType::DataSec(data_sec) if id == self.datasec_id => {
+                Ok(Some(BtfType::DataSec(self.target.laid_out(btf, data_sec)?)))
+            }
+            _ => Ok(None),
+        }
+    }
+
+    /// The types that change, by their ids.
+    fn new_types(&self, btf: &Btf) -> Result<Vec<(u32, BtfType)>, BtfError>
+        ensures { (ids : KsymsIds) → IsStep btf.now ids self.now → Answers (λ v. v.items) result (StepsAll btf.now ids) }
+    {
+        let types = btf.as_slice();
+        let mut new_types = Vec::new(btf.allocator());
+        for id in 1..types.len() {
+            if let Some(new_type) = self.new_type(btf, id as u32, &types[id])? {
+                new_types.push((id as u32, new_type))?;
+            }
+        }
+        Ok(new_types)
+    }
+}
+
+/// What the step changes in a table, or why it is refused.
+pub fn ksyms_changes(
+    btf: &Btf,
+    datasec_id: u32,
+    placeholder_id: Option<u32>,
+) -> Result<Changes, BtfError>
+    ensures { Answers (λ c. c) result (MakesKsyms btf.now (ksyms_ids datasec_id placeholder_id)) }
+{
+    let step = Step::new(btf, datasec_id, placeholder_id)?;
+    let alloc = btf.allocator();
+    // The contract speaks of id 0 and of fallbacks, which a use of the types shows.
+    let _ = btf.as_slice();
+    let name_offset = btf.string_len();
+    let mut changes = Changes {
+        types: step.new_types(btf)?,
+        new_strings: Vec::new(alloc),
+        new_types: Vec::new(alloc),
+        type_len: btf.type_len(),
+    };
+    if step.target.appends_int {
+        changes.add_string(INT)?;
+        let int = Int::new(name_offset as u32, 4, IntEncoding::Signed, 0);
+        changes.add_type(BtfType::Int(int))?;
+    }
+    Ok(changes)
+}

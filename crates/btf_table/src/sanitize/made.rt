@@ -1,0 +1,125 @@
+//! What a pass has made so far.
+
+ghost use Rattle.std.specs.Prelude.{◌≡◌, ◌+◌, ◌++◌, ◌<◌, [], ◌∷◌, length, None, Some, IfOk, OnOk, Ok};
+ghost use Rattle.std.specs.Option.{unwrap_or};
+ghost use Rattle.btf_rewrite_model.specs.Made.{byte_int, static_var};
+ghost use Rattle.btf_rewrite_model.specs.Checks.{first_fault, have_room, has_room, fits, record_len};
+ghost use Rattle.btf_rewrite_model.specs.Fault.{all_fit};
+ghost use Rattle.btf_rewrite_model.specs.Pass.{placeholder_text, filler_type_text, filler_text, filler};
+ghost use Rattle.btf_model.specs.Table.{type_bytes};
+ghost use Rattle.btf_plain.specs.Error.{Gives};
+ghost use Rattle.btf_records.specs.BtfType.{record_of};
+ghost use Rattle.btf_table.specs.Adding.{strings_end, next_id, HasRoom, Adds};
+ghost use Rattle.btf_rules.specs.Checked.{checked};
+
+use crate::sanitize::enums::append_placeholder;
+use crate::sanitize::sections::append_filler;
+use crate::table::{Btf, Changes};
+use btf_plain::BtfError;
+use btf_records::BtfType;
+use std::alloc::AllocError;
+
+/// What a pass has made of the ids below the one that it comes to.
+#[derive(Drop)]
+pub struct Made {
+    pub changes: Changes,
+    /// The string offset of the name that each of these ids has now.
+    pub names: Vec<u32>,
+    /// The type of the members of UNIONs that were ENUM64s, once there is one.
+    pub placeholder: Option<u32>,
+    /// The variable of DATASECs that have no other, once there is one.
+    pub filler: Option<u32>,
+}
+
+impl Made {
+    ghost use Rattle.std.specs.Prelude.{map};
+    ghost use Rattle.btf_model.specs.Record.{Kind, kind_of};
+    ghost use Rattle.btf_table.specs.PassStep.{kept_changes};
+
+    /// What a pass has made when it begins: nothing, and the type of id 0 stays.
+    pub fn new(btf: &Btf) -> Result<Made, AllocError>
+        ensures types { IfOk result (λ m. m.changes.types.items ≡ []) }
+        ensures strings { IfOk result (λ m. m.changes.new_strings.items ≡ []) }
+        ensures new_types { IfOk result (λ m. m.changes.new_types.items ≡ []) }
+        ensures type_len { IfOk result (λ m. m.changes.type_len ≡ length (type_bytes btf.now)) }
+        ensures room { IfOk result (λ m. HasRoom btf.now m.changes) }
+        ensures names { IfOk result (λ m. m.names.items ≡ 0 ∷ []) }
+        ensures placeholder { IfOk result (λ m. m.placeholder ≡ None) }
+        ensures filler { IfOk result (λ m. m.filler ≡ None) }
+    {
+        let mut names = Vec::new(btf.allocator());
+        names.push(0)?;
+        Ok(Made {
+            changes: Changes::new(btf),
+            names,
+            placeholder: None,
+            filler: None,
+        })
+    }
+
+    /// The type of the members of UNIONs that were ENUM64s, which is appended where there is none yet.
+    /// `InvalidStringOffset` and `InvalidTypeInfo` where strings or types have no room for it.
+    pub fn placeholder(&mut self, btf: &Btf) -> Result<u32, BtfError>
+        requires { HasRoom btf.now self.old.changes }
+        ensures there { (id : _) → self.old.placeholder ≡ Some id → (result ≡ Ok id) × (self.new ≡ self.old) }
+        ensures answer { self.old.placeholder ≡ None → Gives (λ id. id) result (checked (first_fault (have_room (strings_end btf.now self.old.changes) (placeholder_text ∷ []) ++ all_fit self.old.changes.type_len (byte_int (strings_end btf.now self.old.changes) ∷ []))) (next_id btf.now self.old.changes)) }
+        ensures adds { self.old.placeholder ≡ None → OnOk result (Adds btf.now self.old.changes self.new.changes (placeholder_text ∷ []) (byte_int (strings_end btf.now self.old.changes) ∷ [])) }
+        ensures made { self.old.placeholder ≡ None → OnOk result (self.new.placeholder ≡ Some (next_id btf.now self.old.changes)) }
+        ensures names { self.new.names ≡ self.old.names }
+        ensures filler { self.new.filler ≡ self.old.filler }
+    {
+        if let Some(id) = self.placeholder {
+            return Ok(id);
+        }
+        let id = append_placeholder(btf, &mut self.changes)?;
+        self.placeholder = Some(id);
+        Ok(id)
+    }
+
+    /// The variable of DATASECs that have no other, which is appended where there is none yet. `InvalidStringOffset` and
+    /// `InvalidTypeInfo` where strings or types have no room for it.
+    pub fn filler(&mut self, btf: &Btf) -> Result<u32, BtfError>
+        requires { HasRoom btf.now self.old.changes }
+        ensures there { (id : _) → self.old.filler ≡ Some id → (result ≡ Ok id) × (self.new ≡ self.old) }
+        ensures answer { self.old.filler ≡ None → Gives (λ id. id) result (checked (first_fault (has_room (strings_end btf.now self.old.changes) filler_type_text ∷ fits self.old.changes.type_len (record_len (byte_int 0)) ∷ has_room (strings_end btf.now self.old.changes + length filler_type_text + 1) filler_text ∷ fits (self.old.changes.type_len + record_len (byte_int 0)) (record_len (static_var 0 0)) ∷ [])) (next_id btf.now self.old.changes + 1)) }
+        ensures adds { self.old.filler ≡ None → OnOk result (Adds btf.now self.old.changes self.new.changes (filler_type_text ∷ filler_text ∷ []) (filler (strings_end btf.now self.old.changes) (next_id btf.now self.old.changes))) }
+        ensures made { self.old.filler ≡ None → OnOk result (self.new.filler ≡ Some (next_id btf.now self.old.changes + 1)) }
+        ensures names { self.new.names ≡ self.old.names }
+        ensures placeholder { self.new.placeholder ≡ self.old.placeholder }
+    {
+        if let Some(id) = self.filler {
+            return Ok(id);
+        }
+        let id = append_filler(btf, &mut self.changes)?;
+        self.filler = Some(id);
+        Ok(id)
+    }
+
+    /// Keeps what a type becomes; None where it stays.
+    pub fn keep(
+        &mut self,
+        id: u32,
+        btf_type: &BtfType,
+        new_type: Option<BtfType>,
+    ) -> Result<(), AllocError>
+        ensures types { OnOk result (self.new.changes.types.items ≡ kept_changes self.old.changes.types.items id new_type) }
+        ensures names { OnOk result (self.new.names.items ≡ self.old.names.items ++ (record_of (unwrap_or new_type btf_type.now)).name ∷ []) }
+        ensures strings { self.new.changes.new_strings ≡ self.old.changes.new_strings }
+        ensures new_types { self.new.changes.new_types ≡ self.old.changes.new_types }
+        ensures type_len { self.new.changes.type_len ≡ self.old.changes.type_len }
+        ensures placeholder { self.new.placeholder ≡ self.old.placeholder }
+        ensures filler { self.new.filler ≡ self.old.filler }
+        ensures kind { OnOk result ((k : Kind) × (kind_of (record_of (unwrap_or new_type btf_type.now)).info ≡ Some k)) }
+    {
+        // The contract speaks of the kind in the info word, which a use of it shows.
+        let _ = btf_type.info();
+        let Some(new_type) = new_type else {
+            self.names.push(btf_type.name_offset())?;
+            return Ok(());
+        };
+        let _ = new_type.info();
+        self.names.push(new_type.name_offset())?;
+        self.changes.types.push((id, new_type))?;
+        Ok(())
+    }
+}

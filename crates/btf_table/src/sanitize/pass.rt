@@ -1,0 +1,110 @@
+//! The pass of a rewrite over all types of a table.
+
+ghost use Rattle.std.specs.Prelude.{◌≡◌, ℕ, List, [], Some, true};
+ghost use Rattle.std.specs.Option.{unwrap_or};
+ghost use Rattle.btf_model.specs.Record.{kind_of};
+ghost use Rattle.btf_rewrite_model.specs.Feature.{Feature};
+ghost use Rattle.btf_rewrite_model.specs.Pass.{Layout, asks_below};
+ghost use Rattle.btf_model.specs.Table.{Table};
+ghost use Rattle.btf_rewrite_model.proofs.Passing.{AreAnswersTo};
+ghost use Rattle.btf_plain.specs.Error.{Answers};
+ghost use Rattle.btf_records.specs.BtfType.{record_of};
+ghost use Rattle.btf_table.specs.Adding.{HasRoom};
+ghost use Rattle.btf_rules.specs.Features.{Called, IsFurther, answers_of};
+ghost use Rattle.btf_rules.specs.Layout.{sizes_of, offsets_of, layout_of};
+ghost use Rattle.btf_table.specs.PassStep as step;
+ghost use Rattle.btf_table.specs.PassStep.{pass_on, asks_one, IsType, IsHere, IsGranted, AsksUpTo, Steps, Passes, BeginsAsked};
+
+use btf_rules::{BtfFeature, BtfFeatureResolver};
+use crate::sanitize::functions::rewrite_func;
+use crate::sanitize::made::Made;
+use crate::sanitize::plain::sole_feature;
+use crate::table::{Btf, Changes};
+use btf_plain::{BtfError, SectionIndex};
+use btf_records::BtfType;
+use std::collections::HashMap;
+
+/// Whether the kernel has the one feature that a type asks for; true where it asks for none. The type is neither a FUNC nor
+/// a DATASEC.
+fn has_sole_feature<F: FnMut(BtfFeature) -> bool>(
+    btf_type: &BtfType,
+    resolver: &mut BtfFeatureResolver<F>,
+) -> bool
+    requires { F.IsAlwaysCallable resolver.old.0 }
+    ensures callable { F.IsAlwaysCallable resolver.new.0 }
+    ensures called { (first : F) → Called F.step first resolver.old.1 resolver.old.0 → Called F.step first resolver.new.1 resolver.new.0 }
+    ensures further { IsFurther resolver.old.1 resolver.new.1 }
+    ensures asks { (t : Table) (layout : Layout) (id : ℕ) → IsType t id btf_type.now → asks_one (kind_of (record_of btf_type.now).info) ≡ true → AreAnswersTo (asks_below (pass_on t layout (answers_of resolver.old.1)) id) (answers_of resolver.old.1)
+        → AsksUpTo (pass_on t layout (answers_of resolver.old.1)) id (answers_of resolver.new.1) [] }
+    ensures granted { (t : Table) (layout : Layout) (id : ℕ) → AreAnswersTo (asks_below (pass_on t layout (answers_of resolver.old.1)) id) (answers_of resolver.old.1)
+        → IsGranted (pass_on t layout (answers_of resolver.new.1)) (step.sole_feature (kind_of (record_of btf_type.now).info) (record_of btf_type.now)) result }
+{
+    match sole_feature(btf_type) {
+        Some(feature) => resolver.is_supported(feature),
+        None => true,
+    }
+}
+
+impl Made {
+    /// The rule of a type, by its kind; None where it stays.
+    ///
+    /// `InvalidStringOffset` where the name of a FUNC or a DATASEC can't be read, or strings have no room for what is
+    /// appended; `InvalidTypeInfo` where types have no room for it; and of a DATASEC, `UnknownBtfType`,
+    /// `InvalidDatasec`, `UnknownSectionSize` and `SymbolOffsetNotFound`.
+    fn rewrite<F: FnMut(BtfFeature) -> bool>(
+        &mut self,
+        btf: &Btf,
+        sections: &HashMap<String, (SectionIndex, u64)>,
+        symbols: &HashMap<String, u64>,
+        btf_type: &BtfType,
+        resolver: &mut BtfFeatureResolver<F>,
+    ) -> Result<Option<BtfType>, BtfError>
+        requires room { HasRoom btf.now self.old.changes }
+        requires callable { F.IsAlwaysCallable resolver.old.0 }
+        ensures callable { F.IsAlwaysCallable resolver.new.0 }
+        ensures called { (first : F) → Called F.step first resolver.old.1 resolver.old.0 → Called F.step first resolver.new.1 resolver.new.0 }
+        ensures further { IsFurther resolver.old.1 resolver.new.1 }
+        ensures asks { (layout : Layout) (id : ℕ) → layout.sections ≡ sizes_of sections.now → IsType btf.now id btf_type.now → IsHere (pass_on btf.now layout (answers_of resolver.new.1)) id self.old → AreAnswersTo (asks_below (pass_on btf.now layout (answers_of resolver.old.1)) id) (answers_of resolver.old.1)
+            → (left : List Feature) × AsksUpTo (pass_on btf.now layout (answers_of resolver.old.1)) id (answers_of resolver.new.1) left }
+        ensures steps { (layout : Layout) (id : ℕ) → layout.sections ≡ sizes_of sections.now → layout.symbols ≡ offsets_of symbols.now → IsType btf.now id btf_type.now → AreAnswersTo (asks_below (pass_on btf.now layout (answers_of resolver.old.1)) id) (answers_of resolver.old.1)
+            → IsHere (pass_on btf.now layout (answers_of resolver.new.1)) id self.old
+            → Answers (λ new. unwrap_or new btf_type.now) result (Steps (pass_on btf.now layout (answers_of resolver.old.1)) id resolver.new.1 btf_type.now self.old self.new) }
+    {
+        // The contract speaks of the kind in the info word, which a use of it shows.
+        let _ = btf_type.info();
+        match btf_type {
+            BtfType::Func(func) => rewrite_func(btf, func, resolver),
+            BtfType::DataSec(data_sec) => {
+                self.rewrite_section(btf, sections, symbols, data_sec, resolver)
+            }
+            _ => {
+                let granted = has_sole_feature(btf_type, resolver);
+                self.rewrite_by(btf, btf_type, granted)
+            }
+        }
+    }
+}
+
+/// What a pass changes in a table, for a kernel that has what the resolver tells, or why it is refused.
+pub fn pass_changes<F: FnMut(BtfFeature) -> bool>(
+    btf: &Btf,
+    sections: &HashMap<String, (SectionIndex, u64)>,
+    symbols: &HashMap<String, u64>,
+    resolver: &mut BtfFeatureResolver<F>,
+) -> Result<Changes, BtfError>
+    requires callable { F.IsAlwaysCallable resolver.old.0 }
+    requires unasked { resolver.old.1 ≡ [] }
+    ensures callable { F.IsAlwaysCallable resolver.new.0 }
+    ensures called { Called F.step resolver.old.0 resolver.new.1 resolver.new.0 }
+    ensures asks { BeginsAsked (pass_on btf.now (layout_of sections.now symbols.now) (answers_of resolver.new.1)) }
+    ensures passes { Answers (λ c. c) result (Passes (pass_on btf.now (layout_of sections.now symbols.now) (answers_of resolver.new.1))) }
+{
+    let types = btf.as_slice();
+    let mut made = Made::new(btf)?;
+    for id in 1..types.len() {
+        let btf_type = &types[id];
+        let new_type = made.rewrite(btf, sections, symbols, btf_type, resolver)?;
+        made.keep(id as u32, btf_type, new_type)?;
+    }
+    Ok(made.changes)
+}

@@ -1,0 +1,85 @@
+//! Prototypes: with names for all their parameters, or as enumerations.
+
+ghost use Rattle.std.specs.Prelude.{◌≡◌, ◌≤◌, if◌then◌else◌, ℕ, [], ◌∷◌, length, string_bytes, IfOk, OnOk, Ok};
+ghost use Rattle.std.specs.List.{flat_map};
+ghost use Rattle.btf_model.specs.Record.{vlen};
+ghost use Rattle.btf_rewrite_model.specs.Made.{enum, wants_name};
+ghost use Rattle.btf_rewrite_model.specs.Checks.{first_fault, have_room};
+ghost use Rattle.btf_rewrite_model.specs.Pass as model;
+ghost use Rattle.btf_rewrite_model.specs.Pass.{param_texts};
+ghost use Rattle.btf_rewrite_model.specs.Rule.{named_params};
+ghost use Rattle.btf_plain.specs.Error.{Gives};
+ghost use Rattle.btf_records.specs.Items.{enum_words, param_words};
+ghost use Rattle.btf_table.specs.Adding.{strings_end, HasRoom, Adds};
+ghost use Rattle.btf_rules.specs.Checked.{checked};
+
+use crate::table::{Btf, Changes};
+use btf_plain::BtfError;
+use btf_records::{BtfEnum, BtfParam, Enum, FuncProto};
+use std::alloc::{AllocError, Global};
+
+/// The text that names the parameter at a place.
+fn param_text(alloc: Global, index: usize) -> Result<String, AllocError>
+    ensures { IfOk result (λ text. string_bytes text ≡ model.param_text index) }
+{
+    format!(in alloc; "param{index}")
+}
+
+/// The string offset of the name that the parameter at a place gets: that of a new text, where it has a type and no
+/// name. `InvalidStringOffset` where such a text has no room.
+fn param_name(
+    btf: &Btf,
+    changes: &mut Changes,
+    index: usize,
+    param: &BtfParam,
+) -> Result<u32, BtfError>
+    requires { HasRoom btf.now changes.old }
+    ensures answer { Gives (λ offset. offset) result (checked (first_fault (have_room (strings_end btf.now changes.old) (param_texts index (param_words param.now)))) (if wants_name param.now.name_offset param.now.btf_type then strings_end btf.now changes.old else param.now.name_offset)) }
+    ensures adds { OnOk result (Adds btf.now changes.old changes.new (param_texts index (param_words param.now)) []) }
+{
+    if param.name_offset == 0 && param.btf_type != 0 {
+        let text = param_text(btf.allocator(), index)?;
+        changes.append_text(btf, &text)
+    } else {
+        Ok(param.name_offset)
+    }
+}
+
+/// The prototype, with a new text for the name of each parameter that has a type and no name: `param` and its place
+/// among all in decimal. `InvalidStringOffset` where such a text has no room.
+pub fn with_param_names(
+    btf: &Btf,
+    changes: &mut Changes,
+    proto: &FuncProto,
+) -> Result<FuncProto, BtfError>
+    requires { HasRoom btf.now changes.old }
+    ensures answer { Gives (λ r. r) result (checked (first_fault (have_room (strings_end btf.now changes.old) (param_texts 0 proto.now.tail))) (record proto.now { tail = named_params 0 (strings_end btf.now changes.old) proto.now.tail })) }
+    ensures adds { OnOk result (Adds btf.now changes.old changes.new (param_texts 0 proto.now.tail) []) }
+{
+    let mut with_names = proto.try_clone()?;
+    for (index, param) in proto.params().iter().enumerate() {
+        let name_offset = param_name(btf, changes, index, param)?;
+        with_names.set_param_name(index, name_offset);
+    }
+    Ok(with_names)
+}
+
+/// A variant for each parameter, of its name, whose value is its type.
+fn param_variants(alloc: Global, params: &[BtfParam]) -> Result<Vec<BtfEnum>, AllocError>
+    ensures words { IfOk result (λ v. flat_map enum_words v.items ≡ flat_map param_words params.now) }
+    ensures count { IfOk result (λ v. length v.items ≡ length params.now) }
+{
+    let mut variants = Vec::with_capacity(alloc, params.len())?;
+    for param in params {
+        variants.push(BtfEnum::new(param.name_offset, param.btf_type))?;
+    }
+    Ok(variants)
+}
+
+/// The prototype as an ENUM without sign: each parameter a variant, of its name, whose value is its type.
+pub fn as_enum(btf: &Btf, proto: &FuncProto) -> Result<Enum, BtfError>
+    ensures { Gives (λ r. r) result (Ok (enum proto.now.name (vlen proto.now.info) proto.now.tail)) }
+{
+    let variants = param_variants(btf.allocator(), proto.params())?;
+    Ok(Enum::new(proto.name_offset(), false, variants))
+}

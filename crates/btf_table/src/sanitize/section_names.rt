@@ -1,0 +1,54 @@
+//! The names that DATASECs get in a rewrite.
+
+ghost use Rattle.std.specs.Prelude.{◌≡◌, [], ◌∷◌, if◌then◌else◌, IfOk, OnOk, string_bytes};
+ghost use Rattle.btf_rewrite_model.specs.Feature as features;
+ghost use Rattle.btf_model.specs.Text.{text_at};
+ghost use Rattle.btf_rewrite_model.specs.Checks.{first_fault, is_read, have_room};
+ghost use Rattle.btf_rewrite_model.specs.Pass.{Pass, has, renaming, replaced, slash, dot, underscore};
+ghost use Rattle.btf_rewrite_model.specs.Rule.{name_or};
+ghost use Rattle.btf_plain.specs.Error.{Gives};
+ghost use Rattle.btf_table.specs.Adding.{strings_end, HasRoom, Adds};
+ghost use Rattle.btf_rules.specs.Checked.{checked};
+
+use crate::table::{Btf, Changes};
+use btf_plain::BtfError;
+use btf_records::DataSec;
+use std::alloc::{AllocError, Global};
+
+/// The name that a DATASEC of this name gets: as a DATASEC, where the kernel takes one, with `.` for each `/`, which kernels
+/// refuse there; or else as a STRUCT, with `_` for each `.`, which is in no C name.
+fn section_name(alloc: Global, name: &str, granted: bool) -> Result<String, AllocError>
+    ensures { IfOk result (λ text. string_bytes text ≡ if granted then replaced slash dot name.now else replaced dot underscore name.now) }
+{
+    if granted {
+        name.replace(alloc, '/', ".")
+    } else {
+        name.replace(alloc, '.', "_")
+    }
+}
+
+/// The string offset of the name that a DATASEC gets: as a DATASEC, where the kernel takes one, with `.` for each `/`, or
+/// else as a STRUCT, with `_` for each `.`. A text is appended only where the name changes.
+///
+/// `InvalidStringOffset` where the name can't be read, or the new one has no room.
+pub fn new_name(
+    btf: &Btf,
+    changes: &mut Changes,
+    data_sec: &DataSec,
+    granted: bool,
+) -> Result<u32, BtfError>
+    requires { HasRoom btf.now changes.old }
+    ensures answer { (p : Pass) → p.table ≡ btf.now → has p features.DataSec ≡ granted
+        → Gives (λ o. o) result (checked
+        (first_fault (is_read (text_at btf.now.strings data_sec.now.name) ∷ have_room (strings_end btf.now changes.old) (renaming p (text_at btf.now.strings data_sec.now.name))))
+        (name_or data_sec.now.name (strings_end btf.now changes.old) (renaming p (text_at btf.now.strings data_sec.now.name)))) }
+    ensures adds { (p : Pass) → p.table ≡ btf.now → has p features.DataSec ≡ granted
+        → OnOk result (Adds btf.now changes.old changes.new (renaming p (text_at btf.now.strings data_sec.now.name)) []) }
+{
+    let name = btf.string_at(data_sec.name_offset())?;
+    let renamed = section_name(btf.allocator(), name.as_str(), granted)?;
+    if renamed.as_str() == name.as_str() {
+        return Ok(data_sec.name_offset());
+    }
+    changes.append_text(btf, renamed.as_str())
+}

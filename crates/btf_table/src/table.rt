@@ -1,0 +1,362 @@
+//! A table of types and strings.
+
+mod changes;
+mod header;
+mod limits;
+mod text;
+mod types;
+mod walk;
+
+ghost use Rattle.std.specs.Prelude.{◌≡◌, List, ◌+◌, ◌*◌, ◌≤◌, ◌↔◌, [], ◌∷◌, map, IsTrue, IfOk, OnOk, OnErr, MatchResult, Ok, Err, Some, slice_get, length, ◌<◌, ◌^◌};
+ghost use Rattle.std.specs.Slice.Iter.{iter_rest};
+ghost use Rattle.btf_model.specs.Record.{Record, unknown};
+ghost use Rattle.btf_model.specs.Refusal.{Refusal};
+ghost use Rattle.btf_model.specs.Table.{Table, empty_table, strip, type_bytes, with_string, with_type, string_place, type_place};
+ghost use Rattle.btf_model.specs.Fields.{HaveKinds};
+ghost use Rattle.btf_model.specs.Blob.{IsTable, IsRefusal, Parses, canon};
+ghost use Rattle.btf_model.specs.Text as model;
+ghost use Rattle.btf_model.specs.Text.{FindsName};
+ghost use Rattle.btf_model.specs.Walk.{Resolves, HasSize};
+ghost use Rattle.btf_plain.specs.Error.{Answers, Gives, Tells};
+ghost use Rattle.btf_plain.specs.Endianness.{order_of};
+ghost use Rattle.btf_plain.specs.Kind as kinds;
+ghost use Rattle.btf_records.specs.BtfType.{record_of, fallback_of};
+ghost use Rattle.btf_table.specs.BtfStr.{text_bytes};
+ghost use Rattle.std.specs.Prelude.{IfSome, string_bytes};
+ghost use Rattle.std.specs.Option.{option_map};
+ghost use Rattle.std.specs.Result.{result_ok};
+ghost use Rattle.std.specs.Str.{IsUtf8};
+
+pub(crate) use crate::table::changes::Changes;
+use crate::table::header::{HEADER_LEN, Header, section};
+pub(crate) use crate::table::limits::{record_fits, text_fits};
+pub use crate::table::text::BtfStr;
+use crate::table::text::{find_named, text_at};
+use crate::table::types::{append_types, clone_types, read_types};
+pub use crate::table::walk::WALK_LIMIT;
+use crate::table::walk::{resolve, size};
+use btf_plain::{BtfError, BtfKind, Endianness};
+use btf_records::BtfType;
+use std::alloc::Global;
+use std::marker::Model;
+use std::slice::Iter;
+
+/// The length that the strings, or the records behind id 0, have at most in bytes.
+pub(crate) const SECTION_LIMIT: usize = 4294967295;
+
+/// A table of types: the byte order, the header's magic, version and flags, the strings, and the types by id.
+///
+/// Id 0 is the type that has no bytes; the others have ids by their place in the type section, from 1 on.
+#[derive(Debug, Drop)]
+pub struct Btf {
+    endianness: Endianness,
+    magic: u16,
+    version: u8,
+    flags: u8,
+    strings: Vec<u8>,
+    types: Vec<BtfType>,
+    /// The length of the records from id 1 on, in bytes.
+    type_len: u32,
+}
+
+impl Model for Btf {
+    ghost use Rattle.btf_model.specs.Table.{Table};
+
+    ghost Value = { Table };
+
+    ghost use Rattle.btf_table.specs.Btf.{table_of, IsKept};
+
+    ghost view = { table_of };
+
+    ghost invariant = { IsKept };
+}
+
+impl Btf {
+    /// An empty table in little-endian order: one string byte, which is zero, and the type of id 0.
+    pub fn new(alloc: Global) -> Result<Btf, BtfError>
+        ensures { Gives (λ b. b) result (Ok empty_table) }
+    {
+        let mut strings = Vec::with_capacity(alloc, 1)?;
+        strings.push(0)?;
+        let mut types = Vec::with_capacity(alloc, 1)?;
+        types.push(BtfType::Unknown)?;
+        Ok(Btf {
+            endianness: Endianness::Little,
+            magic: 0xeb9f,
+            version: 1,
+            flags: 0,
+            strings,
+            types,
+            type_len: 0,
+        })
+    }
+
+    /// Adds a text and a zero byte to the strings, and answers the offset of the text. An equal text that is
+    /// there already is not used.
+    ///
+    /// `InvalidStringOffset` with the length of the strings where they would pass 4,294,967,295 bytes. An error
+    /// leaves the table as it was.
+    pub fn add_string(&mut self, text: &str) -> Result<u32, BtfError>
+        ensures answer { Gives (λ offset. offset) result (string_place text.now self.old) }
+        ensures ok { OnOk result (self.new ≡ with_string text.now self.old) }
+        ensures err { OnErr result (self.new ≡ self.old) }
+    {
+        let offset = self.strings.len();
+        if text.len() >= SECTION_LIMIT - offset {
+            return Err(BtfError::InvalidStringOffset { offset });
+        }
+        self.strings.reserve(text.len() + 1)?;
+        self.strings.extend_from_slice(text.as_bytes())?;
+        self.strings.push(0)?;
+        Ok(offset as u32)
+    }
+
+    /// Adds a type, and answers its id.
+    ///
+    /// `InvalidTypeInfo` where the records would pass 4,294,967,295 bytes. An error leaves the table as it was.
+    pub fn add_type(&mut self, btf_type: BtfType) -> Result<u32, BtfError>
+        ensures answer { Gives (λ id. id) result (type_place (record_of btf_type) self.old) }
+        ensures ok { OnOk result (self.new ≡ with_type (record_of btf_type) (fallback_of btf_type) self.old) }
+        ensures err { OnErr result (self.new ≡ self.old) }
+    {
+        let size = btf_type.type_info_size();
+        let type_len = self.type_len as usize;
+        if size > SECTION_LIMIT - type_len {
+            return Err(BtfError::InvalidTypeInfo);
+        }
+        let id = self.types.len() as u32;
+        // Each record of a table has a kind, which a use of the info word shows of this one.
+        let _ = btf_type.info();
+        self.types.push(btf_type)?;
+        self.type_len = (type_len + size) as u32;
+        Ok(id)
+    }
+
+    /// The table that a blob stands for, whose words are in this order.
+    ///
+    /// The first cause of refusal is told: `InvalidHeader` for fewer than 24 bytes, or strings that pass the
+    /// end; `InvalidTypeInfo` for types that pass the end; and, record after record, `InvalidTypeInfo` for one
+    /// that is cut and `InvalidTypeKind` for one of a kind that is not read. Magic, version and flags are kept
+    /// as they are, and not looked at.
+    pub fn parse(alloc: Global, data: &[u8], endianness: Endianness) -> Result<Btf, BtfError>
+        // What the bytes stand for, or the first cause of refusal.
+        ensures parsed { Answers (λ b. b) result (Parses (order_of endianness) «data».now) }
+        // Bytes that stand for a table are not refused, and no others stand for one.
+        ensures only_table { (t : Table) → IsTable (order_of endianness) «data».now t → Gives (λ b. b) result (Ok t) }
+        ensures only_refusal { (f : Refusal) → IsRefusal (order_of endianness) «data».now f → Gives (λ b. b) result (Err f) }
+    {
+        read_table(alloc, data, endianness)
+    }
+
+    /// The blob of the table, in the table's own order: the header, the records from id 1 on, the strings.
+    pub fn to_bytes(&self) -> Result<Vec<u8>, BtfError>
+        ensures written { Gives (λ v. v.items) result (Ok (canon self.now)) }
+        // Parsed in the table's order, the bytes give the table again, kept 64-bit enum values aside.
+        ensures parses_back { IfOk result (λ v. IsTable self.now.order v.items (strip self.now)) }
+    {
+        let header = Header {
+            magic: self.magic,
+            version: self.version,
+            flags: self.flags,
+            hdr_len: HEADER_LEN as u32,
+            type_off: 0,
+            type_len: self.type_len,
+            str_off: self.type_len,
+            str_len: self.strings.len() as u32,
+        };
+        let len = HEADER_LEN + self.type_len as usize + self.strings.len();
+        let mut out = Vec::with_capacity(*self.strings.allocator(), len)?;
+        header.append_to(&mut out, self.endianness)?;
+        append_types(&mut out, &self.types[1..], self.endianness)?;
+        out.extend_from_slice(&self.strings)?;
+        Ok(out)
+    }
+
+    /// The text at a string offset, up to the first zero byte. Bytes that are not UTF-8 are read with U+FFFD in place
+    /// of each longest piece that is none.
+    ///
+    /// `InvalidStringOffset` of the offset where no zero byte stands at it or behind it. Memory is taken only where
+    /// the bytes are not UTF-8.
+    pub fn string_at(&self, offset: u32) -> Result<BtfStr<'_>, BtfError>
+        ensures text { Gives text_bytes result (model.text_at self.now.strings offset) }
+        ensures no_memory { IfSome (model.bytes_at self.now.strings offset) IsUtf8 → Tells text_bytes result (λ answer. answer ≡ model.text_at self.now.strings offset) }
+    {
+        text_at(*self.strings.allocator(), &self.strings, offset)
+    }
+
+    /// The name of a type, as `string_at` reads it; the name of an `Unknown` is at offset 0.
+    pub fn type_name(&self, btf_type: &BtfType) -> Result<BtfStr<'_>, BtfError>
+        ensures text { Gives text_bytes result (model.text_at self.now.strings (record_of btf_type.now).name) }
+        ensures no_memory { IfSome (model.bytes_at self.now.strings (record_of btf_type.now).name) IsUtf8
+            → Tells text_bytes result (λ answer. answer ≡ model.text_at self.now.strings (record_of btf_type.now).name) }
+    {
+        self.string_at(btf_type.name_offset())
+    }
+
+    /// The name of a type for a message; None where it can't be read. `OutOfMemory` is the only error.
+    pub fn err_type_name(&self, btf_type: &BtfType) -> Result<Option<String>, BtfError>
+        ensures { Gives (option_map string_bytes) result (Ok (result_ok (model.text_at self.now.strings (record_of btf_type.now).name))) }
+    {
+        match self.type_name(btf_type) {
+            Ok(BtfStr::Borrowed(text)) => Ok(Some(text.to_string(*self.strings.allocator())?)),
+            Ok(BtfStr::Owned(text)) => Ok(Some(text)),
+            Err(BtfError::OutOfMemory) => Err(BtfError::OutOfMemory),
+            Err(_) => Ok(None),
+        }
+    }
+
+    /// The least id of a type of this kind and name, id 0 among them.
+    ///
+    /// `InvalidStringOffset` where a type of this kind with a lower id has a name that can't be read, and
+    /// `UnknownBtfTypeName` where no type has the kind and the name.
+    pub fn id_by_type_name_kind(&self, name: &str, kind: BtfKind) -> Result<u32, BtfError>
+        ensures { Answers (λ id. id) result (FindsName self.now.strings self.now.records (kinds.kind kind) name.now) }
+    {
+        find_named(
+            *self.strings.allocator(),
+            &self.strings,
+            &self.types,
+            name,
+            kind,
+        )
+    }
+
+    /// The type of an id, or `UnknownBtfType` of the id where there is none.
+    pub fn type_by_id(&self, type_id: u32) -> Result<&BtfType, BtfError>
+        ensures { MatchResult result
+            (λ t. (slice_get self.now.records type_id ≡ Some (record_of t.now)) × (slice_get self.now.fallbacks type_id ≡ Some (fallback_of t.now)))
+            (λ e. (length self.now.records ≤ type_id) × (e ≡ BtfError.UnknownBtfType type_id)) }
+    {
+        self.types
+            .get(type_id as usize)
+            .ok_or(BtfError::UnknownBtfType { type_id })
+    }
+
+    /// The types in the order of their ids, id 0 first.
+    pub fn types(&self) -> Iter<'_, BtfType>
+        ensures records { map record_of (iter_rest result) ≡ self.now.records }
+        ensures fallbacks { map fallback_of (iter_rest result) ≡ self.now.fallbacks }
+    {
+        self.types.iter()
+    }
+
+    /// Whether the type of id 0 is the only one.
+    pub fn is_empty(&self) -> bool
+        ensures { IsTrue result ↔ (self.now.records ≡ unknown ∷ []) }
+    {
+        self.types.len() < 2
+    }
+
+    /// The id of the type that an id stands for: the first that is no modifier, where TYPEDEF, VOLATILE, CONST,
+    /// RESTRICT and TYPE_TAG lead from each to the next.
+    ///
+    /// `UnknownBtfType` of the id that has no type, and `MaximumTypeDepthReached` of `type_id` where the first 32
+    /// types are modifiers. No memory is taken.
+    pub fn resolve_type(&self, type_id: u32) -> Result<u32, BtfError>
+        ensures { Tells (λ id. id) result (Resolves self.now.records type_id) }
+    {
+        resolve(&self.types, type_id)
+    }
+
+    /// The size of a type in bytes: the size that the type itself says, 8 for a pointer, times the length of each
+    /// array, behind types that lead to one other, which is the return type for a prototype.
+    ///
+    /// The first cause of refusal on the walk is told: `UnknownBtfType` of an id that has no type,
+    /// `UnexpectedBtfType` of the id of an Unknown, a FWD or a FUNC, `InvalidTypeInfo` for a product of lengths or a
+    /// size that passes 32 bits, and `MaximumTypeDepthReached` of `type_id` where the first 32 types lead on. No
+    /// memory is taken.
+    pub fn type_size(&self, type_id: u32) -> Result<usize, BtfError>
+        ensures { Tells (λ n. n) result (HasSize self.now.records type_id) }
+    {
+        Ok(size(&self.types, type_id)? as usize)
+    }
+
+    /// An equal table, fallbacks included. `OutOfMemory` is the only error.
+    pub fn try_clone(&self) -> Result<Self, BtfError>
+        ensures { Gives (λ b. b) result (Ok self.now) }
+    {
+        Ok(Btf {
+            endianness: self.endianness,
+            magic: self.magic,
+            version: self.version,
+            flags: self.flags,
+            strings: Vec::from_slice(*self.strings.allocator(), &self.strings)?,
+            types: clone_types(&self.types)?,
+            type_len: self.type_len,
+        })
+    }
+
+    /// The allocator of the table's memory.
+    pub(crate) fn allocator(&self) -> Global
+        // Each record has a kind.
+        ensures { HaveKinds self.now }
+    {
+        *self.strings.allocator()
+    }
+
+    /// The types by id.
+    pub(crate) fn as_slice(&self) -> &[BtfType]
+        ensures records { map record_of result.now ≡ self.now.records }
+        ensures fallbacks { map fallback_of result.now ≡ self.now.fallbacks }
+        ensures ids { length result.now < 2 ^ 32 }
+        // Each record but the first has at least 12 bytes.
+        ensures long { 12 * length result.now ≤ length (type_bytes self.now) + 12 }
+        ensures first { (rs : List Record) × (self.now.records ≡ unknown ∷ rs) }
+    {
+        &self.types
+    }
+
+    /// The length of the strings in bytes.
+    pub(crate) fn string_len(&self) -> usize
+        ensures len { result ≡ length self.now.strings }
+        ensures limit { result ≤ SECTION_LIMIT }
+    {
+        self.strings.len()
+    }
+
+    /// The length of the records from id 1 on, in bytes.
+    pub(crate) fn type_len(&self) -> usize
+        ensures len { result ≡ length (type_bytes self.now) }
+        ensures limit { result ≤ SECTION_LIMIT }
+    {
+        self.type_len as usize
+    }
+
+    /// The byte order in which the table is written.
+    pub fn endianness(&self) -> Endianness
+        ensures { order_of result ≡ self.now.order }
+    {
+        self.endianness
+    }
+}
+
+/// The allocator of a table's memory, for the crates that stand on this one.
+pub fn allocator_of(table: &Btf) -> Global
+    // Each record has a kind.
+    ensures { HaveKinds table.now }
+{
+    table.allocator()
+}
+
+/// The table that a blob stands for, or the first cause of refusal.
+fn read_table(alloc: Global, data: &[u8], endianness: Endianness) -> Result<Btf, BtfError>
+    ensures { Answers (λ b. b) result (Parses (order_of endianness) «data».now) }
+{
+    let header = Header::read(data, endianness)?;
+    let Some(strings) = section(data, header.hdr_len, header.str_off, header.str_len) else {
+        return Err(BtfError::InvalidHeader);
+    };
+    let Some(types) = section(data, header.hdr_len, header.type_off, header.type_len) else {
+        return Err(BtfError::InvalidTypeInfo);
+    };
+    let types = read_types(alloc, types, endianness)?;
+    Ok(Btf {
+        endianness,
+        magic: header.magic,
+        version: header.version,
+        flags: header.flags,
+        strings: Vec::from_slice(alloc, strings)?,
+        types,
+        type_len: header.type_len,
+    })
+}

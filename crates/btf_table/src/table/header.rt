@@ -1,0 +1,81 @@
+//! The header of a blob.
+
+ghost use Rattle.std.specs.Prelude.{◌≡◌, ◌+◌, ◌<◌, ◌≤◌, ◌++◌, length, take, drop, MatchResult, MatchOption, OnOk};
+ghost use Rattle.btf_model.specs.Blob.{header_len, header_of, header_bytes, slice};
+ghost use Rattle.btf_plain.specs.Endianness.{order_of};
+ghost use Rattle.btf_table.specs.Header.{header};
+
+use btf_plain::{BtfError, Endianness};
+use std::alloc::AllocError;
+
+/// The length of the header in bytes.
+pub const HEADER_LEN: usize = 24;
+
+/// The header of a blob (the kernel's documentation, "BTF Type and String Encoding"). Both offsets count from
+/// `hdr_len`.
+#[derive(Clone, Copy)]
+pub struct Header {
+    pub magic: u16,
+    pub version: u8,
+    pub flags: u8,
+    pub hdr_len: u32,
+    pub type_off: u32,
+    pub type_len: u32,
+    pub str_off: u32,
+    pub str_len: u32,
+}
+
+/// So many bytes of the data, which begin at an offset behind the header. None where they pass the end.
+pub fn section(data: &[u8], hdr_len: u32, offset: u32, len: u32) -> Option<&[u8]>
+    ensures { MatchOption result
+        (length «data».now < hdr_len + offset + len)
+        (λ s. (hdr_len + offset + len ≤ length «data».now) × (s.now ≡ slice (hdr_len + offset) len «data».now)) }
+{
+    let start = hdr_len as usize + offset as usize;
+    data.get(start..start + len as usize)
+}
+
+impl Header {
+    /// The header at the front of the data, or `InvalidHeader` where fewer than 24 bytes stand there.
+    pub fn read(data: &[u8], endianness: Endianness) -> Result<Header, BtfError>
+        ensures { MatchResult result
+            (λ h. (header_len ≤ length «data».now) × (header h ≡ header_of (order_of endianness) «data».now))
+            (λ e. (length «data».now < header_len) × (e ≡ BtfError.InvalidHeader)) }
+    {
+        let Some(bytes) = data.first_chunk::<24>() else {
+            return Err(BtfError::InvalidHeader);
+        };
+        let word = |at: usize| {
+            endianness.read_u32([bytes[at], bytes[at + 1], bytes[at + 2], bytes[at + 3]])
+        };
+        Ok(Header {
+            magic: endianness.read_u16([bytes[0], bytes[1]]),
+            version: bytes[2],
+            flags: bytes[3],
+            hdr_len: word(4),
+            type_off: word(8),
+            type_len: word(12),
+            str_off: word(16),
+            str_len: word(20),
+        })
+    }
+
+    /// Writes the header at the end of bytes.
+    pub fn append_to(&self, out: &mut Vec<u8>, endianness: Endianness) -> Result<(), AllocError>
+        ensures { OnOk result (out.new.items ≡ out.old.items ++ header_bytes (order_of endianness) (header self.now)) }
+    {
+        out.extend_from_slice(&endianness.write_u16(self.magic))?;
+        out.extend_from_slice(&[self.version, self.flags])?;
+        let words = [
+            self.hdr_len,
+            self.type_off,
+            self.type_len,
+            self.str_off,
+            self.str_len,
+        ];
+        for word in words {
+            out.extend_from_slice(&endianness.write_u32(word))?;
+        }
+        Ok(())
+    }
+}

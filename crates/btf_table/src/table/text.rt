@@ -1,0 +1,118 @@
+//! Texts of the string section, and the type of a name.
+
+ghost use Rattle.std.specs.Prelude.{◌≡◌, ◌↔◌, ◌<◌, ◌^◌, length, map, Some, IfSome, IsTrue};
+ghost use Rattle.std.specs.Option.{option_map};
+ghost use Rattle.std.specs.Str.{IsUtf8};
+ghost use Rattle.btf_model.specs.Record.{kind_of};
+ghost use Rattle.btf_model.specs.Text as model;
+ghost use Rattle.btf_model.specs.Text.{FindsName};
+ghost use Rattle.btf_plain.specs.Error.{Answers, Gives, Tells};
+ghost use Rattle.btf_plain.specs.Kind as kinds;
+ghost use Rattle.btf_records.specs.BtfType.{record_of};
+ghost use Rattle.btf_table.specs.BtfStr.{text_bytes, IsNamed};
+
+use bstr::ByteSlice;
+use btf_plain::{BtfError, BtfKind};
+use btf_records::BtfType;
+use std::alloc::Global;
+use std::borrow::CowStr;
+
+/// A text of a table: its own bytes where they are UTF-8, else the text that they are read as.
+#[derive(Debug, Drop)]
+pub enum BtfStr<'a> {
+    /// Bytes of the string section, which are UTF-8.
+    Borrowed(&'a str),
+    /// Bytes that are not UTF-8, with U+FFFD in place of each longest piece that is none.
+    Owned(String),
+}
+
+impl<'a> BtfStr<'a> {
+    ghost use Rattle.std.specs.Prelude.{◌≡◌};
+    ghost use Rattle.btf_table.specs.BtfStr.{text_bytes};
+
+    /// The text.
+    pub fn as_str(&self) -> &str
+        ensures { result.now ≡ text_bytes self.now }
+    {
+        match self {
+            BtfStr::Borrowed(text) => *text,
+            BtfStr::Owned(text) => text.as_str(),
+        }
+    }
+}
+
+/// The bytes from an offset up to the first zero byte; None where there is none.
+fn bytes_at(strings: &[u8], offset: u32) -> Option<&[u8]>
+    ensures { option_map (λ b. b.now) result ≡ model.bytes_at strings.now offset }
+{
+    let rest = strings.get(offset as usize..)?;
+    let end = rest.find_byte(0)?;
+    Some(&rest[..end])
+}
+
+/// The text at an offset, or `InvalidStringOffset` of it where no zero byte stands at it or behind it.
+pub fn text_at(alloc: Global, strings: &[u8], offset: u32) -> Result<BtfStr<'_>, BtfError>
+    ensures text { Gives text_bytes result (model.text_at strings.now offset) }
+    // Memory is taken only for bytes that are not UTF-8.
+    ensures no_memory { IfSome (model.bytes_at strings.now offset) IsUtf8 → Tells text_bytes result (λ answer. answer ≡ model.text_at strings.now offset) }
+{
+    let Some(bytes) = bytes_at(strings, offset) else {
+        return Err(BtfError::InvalidStringOffset {
+            offset: offset as usize,
+        });
+    };
+    match bytes.to_str_lossy(alloc)? {
+        CowStr::Borrowed(text) => Ok(BtfStr::Borrowed(text)),
+        CowStr::Owned(text) => Ok(BtfStr::Owned(text)),
+    }
+}
+
+/// Whether a type has this kind.
+fn has_kind(btf_type: &BtfType, kind: BtfKind) -> bool
+    ensures { IsTrue result ↔ (kind_of (record_of btf_type.now).info ≡ Some (kinds.kind kind)) }
+{
+    // The contract speaks of the kind in the info word, which a use of it shows.
+    let _ = btf_type.info();
+    btf_type.kind() == kind
+}
+
+/// Whether a type has this kind and this name, or why the name of one of this kind can't be read.
+fn is_named(
+    alloc: Global,
+    strings: &[u8],
+    btf_type: &BtfType,
+    name: &str,
+    kind: BtfKind,
+) -> Result<bool, BtfError>
+    ensures { Answers (λ b. b) result (IsNamed strings.now (kinds.kind kind) name.now (record_of btf_type.now)) }
+{
+    if !has_kind(btf_type, kind) {
+        return Ok(false);
+    }
+    let text = text_at(alloc, strings, btf_type.name_offset())?;
+    Ok(text.as_str() == name)
+}
+
+/// The id of the first type of this kind and name, of fewer types than 32 bits can number.
+///
+/// `InvalidStringOffset` where a type of this kind in front of it has a name that can't be read, and
+/// `UnknownBtfTypeName` where there is none.
+pub fn find_named(
+    alloc: Global,
+    strings: &[u8],
+    types: &[BtfType],
+    name: &str,
+    kind: BtfKind,
+) -> Result<u32, BtfError>
+    requires { length types.now < 2 ^ 32 }
+    ensures { Answers (λ id. id) result (FindsName strings.now (map record_of types.now) (kinds.kind kind) name.now) }
+{
+    for (id, btf_type) in types.iter().enumerate() {
+        if is_named(alloc, strings, btf_type, name, kind)? {
+            return Ok(id as u32);
+        }
+    }
+    Err(BtfError::UnknownBtfTypeName {
+        type_name: name.to_string(alloc)?,
+    })
+}

@@ -1,0 +1,64 @@
+//! The type section: records, one after another.
+
+ghost use Rattle.std.specs.Prelude.{◌≡◌, ◌++◌, map, Ok, OnOk};
+ghost use Rattle.std.specs.List.{flat_map, AllByRecursion};
+ghost use Rattle.btf_model.specs.Spelling.{spell, IsWhole};
+ghost use Rattle.btf_plain.specs.Error.{Answers, Gives};
+ghost use Rattle.btf_plain.specs.Endianness.{order_of};
+ghost use Rattle.btf_records.specs.BtfType.{record_of, fallback_of};
+ghost use Rattle.btf_table.specs.Records.{ReadsTypes};
+
+use btf_plain::{BtfError, Endianness};
+use btf_records::BtfType;
+use std::alloc::{AllocError, Global};
+
+/// The types of a type section, by id: the one of id 0 first.
+///
+/// An error says why the section can't be cut into records: `InvalidTypeInfo` where a record is cut, and
+/// `InvalidTypeKind` where its kind is none that is read.
+pub fn read_types(
+    alloc: Global,
+    data: &[u8],
+    endianness: Endianness,
+) -> Result<Vec<BtfType>, BtfError>
+    ensures { Answers (λ v. v.items) result (ReadsTypes (order_of endianness) «data».now) }
+{
+    let mut types = Vec::new(alloc);
+    types.push(BtfType::Unknown)?;
+    let mut rest = data;
+    while !rest.is_empty() {
+        let record = BtfType::read(alloc, rest, endianness)?;
+        let (_, behind) = rest.split_at(record.type_info_size());
+        rest = behind;
+        types.push(record)?;
+    }
+    Ok(types)
+}
+
+/// Writes records at the end of bytes, in this order.
+pub fn append_types(
+    out: &mut Vec<u8>,
+    types: &[BtfType],
+    endianness: Endianness,
+) -> Result<(), AllocError>
+    ensures written { OnOk result (out.new.items ≡ out.old.items ++ flat_map (spell (order_of endianness)) (map record_of types.now)) }
+    // What is written is read as these records.
+    ensures whole { OnOk result (AllByRecursion IsWhole (map record_of types.now)) }
+{
+    for record in types {
+        record.append_to(out, endianness)?;
+    }
+    Ok(())
+}
+
+/// Equal types, in a vector of just their number.
+pub fn clone_types(types: &Vec<BtfType>) -> Result<Vec<BtfType>, BtfError>
+    ensures records { Gives (λ v. map record_of v.items) result (Ok (map record_of types.now.items)) }
+    ensures fallbacks { Gives (λ v. map fallback_of v.items) result (Ok (map fallback_of types.now.items)) }
+{
+    let mut copies = Vec::with_capacity(*types.allocator(), types.len())?;
+    for record in types.as_slice() {
+        copies.push(record.try_clone()?)?;
+    }
+    Ok(copies)
+}

@@ -1,0 +1,109 @@
+//! Walks from type to type.
+
+ghost use Rattle.std.specs.Prelude.{◌≡◌, ◌*◌, ◌<◌, ◌≤◌, ◌^◌, map, MatchResult};
+ghost use Rattle.btf_model.specs.Record.{kind_of};
+ghost use Rattle.btf_model.specs.Walk as model;
+ghost use Rattle.btf_model.specs.Walk.{modified_type, Resolves, HasSize};
+ghost use Rattle.btf_plain.specs.Error.{Tells};
+ghost use Rattle.btf_records.specs.BtfType.{record_of};
+ghost use Rattle.btf_table.specs.Extent.{extent_of};
+
+use btf_plain::BtfError;
+use btf_records::BtfType;
+
+/// The number of types, or of pairs of types, that a walk looks at.
+pub const WALK_LIMIT: usize = 32;
+
+/// The id of the first type that is no modifier, on the walk over modifiers from an id on.
+pub fn resolve(types: &[BtfType], type_id: u32) -> Result<u32, BtfError>
+    ensures { Tells (λ id. id) result (Resolves (map record_of types.now) type_id) }
+{
+    let mut id = type_id;
+    for _ in 0..WALK_LIMIT {
+        let Some(btf_type) = types.get(id as usize) else {
+            return Err(BtfError::UnknownBtfType { type_id: id });
+        };
+        let Some(next) = modified(btf_type) else {
+            return Ok(id);
+        };
+        id = next;
+    }
+    Err(BtfError::MaximumTypeDepthReached { type_id })
+}
+
+/// The id of the type that a modifier describes; None for a type of another kind.
+fn modified(btf_type: &BtfType) -> Option<u32>
+    ensures { result ≡ modified_type (record_of btf_type.now) }
+{
+    // The contract speaks of the kind in the info word, which a use of it shows.
+    let _ = btf_type.info();
+    match btf_type {
+        BtfType::Typedef(t) => Some(t.btf_type()),
+        BtfType::Volatile(t) => Some(t.btf_type()),
+        BtfType::Const(t) => Some(t.btf_type()),
+        BtfType::Restrict(t) => Some(t.btf_type()),
+        BtfType::TypeTag(t) => Some(t.btf_type()),
+        _ => None,
+    }
+}
+
+/// What a type says of its size.
+#[derive(Drop)]
+enum Extent {
+    /// It is so many bytes.
+    Bytes(u32),
+    /// It is that of so many of another type.
+    Times(u32, u32),
+    /// It says nothing.
+    Nothing,
+}
+
+/// The size in bytes of one of a type, on the walk over arrays and types that lead to one other.
+pub fn size(types: &[BtfType], type_id: u32) -> Result<u32, BtfError>
+    ensures { Tells (λ n. n) result (HasSize (map record_of types.now) type_id) }
+{
+    let mut id = type_id;
+    let mut count = 1;
+    for _ in 0..WALK_LIMIT {
+        let Some(btf_type) = types.get(id as usize) else {
+            return Err(BtfError::UnknownBtfType { type_id: id });
+        };
+        match extent_at(btf_type) {
+            Extent::Bytes(bytes) => return product(bytes, count),
+            Extent::Times(times, next) => {
+                count = product(count, times)?;
+                id = next;
+            }
+            Extent::Nothing => return Err(BtfError::UnexpectedBtfType { type_id: id }),
+        }
+    }
+    Err(BtfError::MaximumTypeDepthReached { type_id })
+}
+
+/// What a type says of its size.
+fn extent_at(btf_type: &BtfType) -> Extent
+    ensures { extent_of result ≡ model.extent (kind_of (record_of btf_type.now).info) (record_of btf_type.now) }
+{
+    // The contract speaks of the kind in the info word, which a use of it shows.
+    let _ = btf_type.info();
+    if let BtfType::Array(t) = btf_type {
+        let array = t.array();
+        return Extent::Times(array.len, array.element_type);
+    }
+    if let Some(bytes) = btf_type.size() {
+        return Extent::Bytes(bytes);
+    }
+    match btf_type.btf_type() {
+        Some(next) => Extent::Times(1, next),
+        None => Extent::Nothing,
+    }
+}
+
+/// The product, or `InvalidTypeInfo` where it passes 32 bits.
+fn product(a: u32, b: u32) -> Result<u32, BtfError>
+    ensures { MatchResult result
+        (λ n. (n ≡ a * b) × (a * b < 2 ^ 32))
+        (λ e. (2 ^ 32 ≤ a * b) × (e ≡ BtfError.InvalidTypeInfo)) }
+{
+    a.checked_mul(b).ok_or(BtfError::InvalidTypeInfo)
+}

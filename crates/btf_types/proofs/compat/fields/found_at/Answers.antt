@@ -1,8 +1,0 @@
-use Rattle.btf_records.specs.BtfType.{record_of, type_kind}
-use Rattle.btf_types.proofs.FieldSteps.{found_behind}
-use Rattle.btf_types.proofs.compat.fields.found_at.Goals as goal
-
-pub returns-in-Ok-resolved : goal.returns-in-Ok-resolved
-returns-in-Ok-resolved c =
-    found_behind c.args.local.now c.args.target.now c.args.local_id c.args.target_id c.in-Ok.found.0 c.in-Ok-resolved.field-0-0 (type_kind c.in-Ok.found.1.now) (type_kind c.in-Ok-resolved.target_type.now)
-    (record_of c.in-Ok.found.1.now) (record_of c.in-Ok-resolved.target_type.now) c.compared.result c.in-Ok.ensures.0 c.in-Ok.ensures.1 c.in-Ok-resolved.ensures.0 c.in-Ok-resolved.ensures.1 c.compared.ensures

@@ -1,6 +1,0 @@
-use Rattle.std.proofs.Common.{◌≡◌, drop}
-use Rattle.btf_types.specs.Features.{feature_of, told}
-use Rattle.btf_types.proofs.features.told.Given as goal
-
-abbrev pub invariant-loop-answer : goal.invariant-loop-answer
-invariant-loop-answer l = told l.answers (feature_of l.feature) ≡ told (drop l.answer-index l.answers) (feature_of l.feature)

@@ -1,5 +1,0 @@
-use Rattle.btf_types.proofs.Enums.{kept_all}
-use Rattle.btf_types.proofs.sanitize.enums.kept_variants.Goals as goal
-
-pub returns : goal.returns
-returns c = kept_all c.loop-variant.kept.items c.args.variants.now c.loop-variant.variant-index c.loop-variant-test.false c.loop-variant.invariant

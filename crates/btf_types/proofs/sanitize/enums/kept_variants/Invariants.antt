@@ -1,7 +1,0 @@
-use Rattle.std.proofs.Common.{◌≡◌, take, map}
-use Rattle.btf_records.specs.Fallback.{variant_of}
-use Rattle.btf_types.proofs.Enums.{variant}
-use Rattle.btf_types.proofs.sanitize.enums.kept_variants.Given as goal
-
-abbrev pub invariant-loop-variant : goal.invariant-loop-variant
-invariant-loop-variant l = map variant_of l.kept.items ≡ map variant (take l.variant-index l.variants)
