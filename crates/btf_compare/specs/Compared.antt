@@ -1,5 +1,6 @@
 -- What the parts of the comparison of types stand for.
-use Rattle.std.specs.Prelude.{◌≡◌, ◌≢◌, ◌⊎◌, ℕ, ◌+◌, ◌-◌, nat_eq, ◌&&◌, cond, Bool, List, ◌++◌, map, slice_get, Option, Some, None, Result, Ok, Err}
+use Rattle.std.specs.Prelude.{◌≡◌, ◌≢◌, ◌⊎◌, ◌≤◌, ℕ, ◌+◌, ◌-◌, ◌*◌, length, All, nat_eq, ◌&&◌, cond, Bool, List, ◌++◌, map, slice_get, Option, Some, None, Result, Ok, Err}
+use Rattle.std.specs.List.{IsDistinct}
 use Rattle.std.specs.HashSet as hash
 use Rattle.std.specs.HashSet.{HashSet}
 use Rattle.btf_model.specs.Record.{Record, Kind, compared_kind}
@@ -9,6 +10,7 @@ use Rattle.btf_model.specs.Walk.{walk_limit}
 use Rattle.btf_model.specs.Fields.{Pair}
 use Rattle.btf_model.specs.Compat.{Told, On, Owes, pairs, ResolvesPair, AreKnown, pair_eq}
 use Rattle.btf_model.specs.Compat as model
+use Rattle.btf_model.specs.Laws.{AreIds}
 use Rattle.btf_model.proofs.Runs as runs
 use Rattle.btf_model.proofs.Runs.{new_frame, IsNext}
 use Rattle.btf_model.proofs.RunStates.{Begins}
@@ -74,3 +76,13 @@ abbrev pub Traces : Result Bool BtfError → Result Bool Refusal → List (ℕ �
 Traces result answer old new listed =
     (Tells (λ b. b) result (λ a. a ≡ answer) × (new ≡ old ++ map ids_of listed))
     ⊎ ((result ≡ Err errors.OutOfMemory) × (front rest : List Pair) × (listed ≡ front ++ rest) × (new ≡ old ++ map ids_of front))
+
+-- Pairs of known ids, none of which stands there twice: so they are at most as many as a local and a target type make.
+pub record AreStarts (local target : Table) (ps : List Pair) : Type 0 where
+  pub known : All (AreIds local target) ps
+  pub once : IsDistinct pair_eq ps
+  pub few : length ps ≤ length local.records * length target.records
+
+-- The list has gained such pairs.
+abbrev pub GainsStarts : Table → Table → List (ℕ × ℕ) → List (ℕ × ℕ) → Type 0
+GainsStarts local target old new = (ps : List Pair) × AreStarts local target ps × (new ≡ old ++ map ids_of ps)

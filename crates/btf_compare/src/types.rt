@@ -5,7 +5,7 @@ ghost use Rattle.btf_model.specs.Fields.{Pair};
 ghost use Rattle.btf_model.specs.Refusal.{Refusal};
 ghost use Rattle.btf_model.specs.Compat.{Plain, firsts};
 ghost use Rattle.btf_plain.specs.Error.{Answers};
-ghost use Rattle.btf_compare.specs.Compared.{Traces};
+ghost use Rattle.btf_compare.specs.Compared.{Traces, GainsStarts};
 ghost use Rattle.btf_compare.specs.Pairs.{pair};
 
 use crate::run::compare;
@@ -55,7 +55,9 @@ pub fn types_are_compatible_traced(
     starts: &mut Vec<(u32, u32)>,
 ) -> Result<bool, BtfError>
     // The answer of the recursion that remembers nothing, and what it starts, each pair at its first place.
-    ensures { (answer : Result Bool Refusal) × (listed : List Pair) × Plain local.now target.now [] (pair local_id target_id) answer listed × Traces result answer starts.old.items starts.new.items (firsts listed) }
+    ensures traces { (answer : Result Bool Refusal) × (listed : List Pair) × Plain local.now target.now [] (pair local_id target_id) answer listed × Traces result answer starts.old.items starts.new.items (firsts listed) }
+    // In every outcome: each added pair has known ids, and none is added twice.
+    ensures starts { GainsStarts local.now target.now starts.old.items starts.new.items }
 {
     compare(local, target, (local_id, target_id), starts)
 }

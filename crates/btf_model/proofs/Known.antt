@@ -1,7 +1,8 @@
 -- Pairs of known ids, which are finitely many, and the pairs that are open among them.
-use Rattle.std.proofs.Common.{◌≡◌, ◌≢◌, ℕ, zero, suc, ◌<◌, List, [], ◌∷◌, ◌++◌, length, refl, sym, ap, subst, ◌∙◌, arith, inl, inr, Contains}
+use Rattle.std.proofs.Common.{◌≡◌, ◌≢◌, ℕ, zero, suc, ◌*◌, ◌<◌, List, [], ◌∷◌, ◌++◌, length, refl, sym, ap, subst, ◌∙◌, arith, inl, inr, Contains}
 use Rattle.std.specs.Prelude.{◌⊎◌, slice_index_or, Some, slice_get}
 use Rattle.std.proofs.lemmas.Bool.{cases_eq}
+use Rattle.std.proofs.lemmas.List.{length-append}
 use Rattle.std.proofs.lemmas.Option.{slice_get_within}
 use Rattle.btf_model.specs.Record.{Record}
 use Rattle.btf_model.specs.Table.{Table}
@@ -111,6 +112,23 @@ pub known_pairs_cover : (local target : Table) (above : List Pair) → Covers lo
 unfolding known_pairs
 known_pairs_cover local target above p h =
     inr (in_all_pairs (length local.records) (length target.records) p (slice_get_within local.records p.local h.0 h.2) (slice_get_within target.records p.target h.1 h.3))
+
+length-row : (id n : ℕ) → length (row id n) ≡ n
+unfolding row
+length-row id zero = refl
+length-row id (suc n) = omega (arith, length-row id n)
+
+length-all_pairs : (m n : ℕ) → length (all_pairs m n) ≡ m * n
+unfolding all_pairs
+length-all_pairs zero n = omega arith
+length-all_pairs (suc m) n = omega (arith, length-append (row m n) (all_pairs m n), length-row m n, length-all_pairs m n)
+
+pub length-known_pairs : (local target : Table) → length (known_pairs local target) ≡ length local.records * length target.records
+unfolding known_pairs
+length-known_pairs local target = length-all_pairs (length local.records) (length target.records)
+
+pub known_pairs_among : (local target : Table) (p : Pair) → HasIds local target p → Among (known_pairs local target) p
+known_pairs_among local target p ids = elim (known_pairs_cover local target [] p ids) [ inl h ↦ elim (among_from_contains [] p h) [ ] | inr m ↦ m ]
 
 -- ---- one more open pair
 

@@ -23,3 +23,4 @@ pub mod Firsts
 pub mod Runs
 pub mod RunStates
 pub mod RunLengths
+pub mod KnownStarts

@@ -10,7 +10,7 @@ use Rattle.btf_model.specs.Walk.{walk_limit}
 use Rattle.btf_model.specs.Fields.{Pair, HaveKinds}
 use Rattle.std.specs.List.{filter}
 use Rattle.btf_model.specs.Compat.{AreKnown, Plain, pair_eq, firsts}
-use Rattle.btf_model.proofs.Known.{Among, among_from_contains, HasIds, Covers, known_pairs, known_pairs_cover, Without, without}
+use Rattle.btf_model.proofs.Known.{Among, among_from_contains, HasIds, Covers, known_pairs, known_pairs_cover, known_pairs_among, Without, without}
 use Rattle.btf_model.proofs.PlainAnswers.{true_or_not}
 use Rattle.btf_model.proofs.Firsts.{firsts_new, firsts_of_known, firsts_begin}
 use Rattle.btf_model.proofs.Runs.{Frame, new_frame, Ends, GoesOn, Waits, IsNext, RestOf, WalkOf, walked_from_rest, ends_rest, goes_on_rest, fails_rest, pays_rest, rest_answers}
@@ -29,7 +29,7 @@ AreApart (p ∷ ps) = (Among ps p → ⊥) × AreApart ps
 abbrev pub AvoidsAll : (Pair → Type 0) → List Pair → Type 0
 AvoidsAll P ps = (q : Pair) → Among ps q → P q → ⊥
 
-among_append : (ps qs : List Pair) (q : Pair) → Among (ps ++ qs) q → Among ps q ⊎ Among qs q
+pub among_append : (ps qs : List Pair) (q : Pair) → Among (ps ++ qs) q → Among ps q ⊎ Among qs q
 among_append [] qs q m = inr m
 among_append (p ∷ ps) qs q (inl is) = inl (inl is)
 among_append (p ∷ ps) qs q (inr m) = elim (among_append ps qs q m) [ inl h ↦ inl (inr h) | inr h ↦ inr h ]
@@ -55,7 +55,7 @@ among_filtered : (test : Pair → Bool) (ps : List Pair) (q : Pair) → Among (f
 among_filtered test [] q m = m
 among_filtered test (p ∷ ps) q m = among_kept (test p) p ps (filter test ps) q (among_filtered test ps q) m
 
-among_of_firsts : (ps : List Pair) (q : Pair) → Among (firsts ps) q → Among ps q
+pub among_of_firsts : (ps : List Pair) (q : Pair) → Among (firsts ps) q → Among ps q
 among_of_firsts [] q m = m
 among_of_firsts (p ∷ ps) q (inl is) = inl is
 among_of_firsts (p ∷ ps) q (inr m) = inr (among_of_firsts ps q (among_filtered (λ r. not (pair_eq p r)) (firsts ps) q m))
@@ -214,8 +214,6 @@ module _ (local target : Table) where
           counts = run.counts;
         })
 
-    first_among : (p : Pair) → HasIds local target p → Among (known_pairs local target) p
-    first_among p ids = elim (known_pairs_cover local target [] p ids) [ inl h ↦ elim (among_from_contains [] p h) [ ] | inr m ↦ m ]
 
     ids_of : (p : Pair) → Begins p → HasIds local target p
     ids_of p begins = (begins.2.0, begins.2.1, begins.2.2.0, begins.2.3.0)
@@ -355,7 +353,7 @@ module _ (local target : Table) where
     -- a run begins with its root
     pub run_begun : (root : Pair) → Begins root → ((q : Pair) → Settled q → ⊥) → Run root (new_frame root) [] (root ∷ [])
     run_begun root begins none =
-        let fewer = without (known_pairs local target) root (first_among root (ids_of root begins)) in
+        let fewer = without (known_pairs local target) root (known_pairs_among local target root (ids_of root begins)) in
         record {
           before = [];
           went = [];

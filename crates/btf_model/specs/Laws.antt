@@ -1,7 +1,7 @@
 -- The laws of the definitions. Each is the contract of a public function of this crate.
-use Rattle.std.specs.Prelude.{All, Contains, ◌≤◌, ◌^◌, ◌↔◌, ◌≡◌, ℕ, ◌<◌, Bool, List, [], ◌++◌, map, length, Option, Some, Result, Ok, Err, slice_get}
+use Rattle.std.specs.Prelude.{All, Contains, ◌≤◌, ◌*◌, ◌^◌, ◌↔◌, ◌≡◌, ℕ, ◌<◌, Bool, List, [], ◌++◌, map, length, Option, Some, Result, Ok, Err, slice_get}
 use Rattle.btf_model.specs.Word.{Order}
-use Rattle.std.specs.List.{flat_map, AllByRecursion}
+use Rattle.std.specs.List.{flat_map, AllByRecursion, IsDistinct}
 use Rattle.std.specs.Str.{IsUtf8}
 use Rattle.btf_model.specs.Record.{Kind, Unknown, Fwd, Array, Var, Record, unknown}
 use Rattle.btf_model.specs.Spelling.{HasKind, IsRecord, spell}
@@ -10,7 +10,7 @@ use Rattle.btf_model.specs.Table.{Table, Fallback, strip, with_string, with_type
 use Rattle.btf_model.specs.Text.{text_at, FindsName}
 use Rattle.btf_model.specs.Walk.{Resolves, HasSize}
 use Rattle.btf_model.specs.Fields.{Pair, HaveKinds, Fields}
-use Rattle.btf_model.specs.Compat.{Plain}
+use Rattle.btf_model.specs.Compat.{Plain, pair_eq, firsts}
 use Rattle.btf_model.specs.Ext.{Section, Sections}
 use Rattle.btf_model.specs.Blob.{IsTable, IsRefusal, IsValid, canon, header_len, header_of, strings_end, type_section}
 
@@ -96,6 +96,18 @@ pub record ComparisonsHaveAnswers : Type 0 where
   pub fields : (local target : Table) → HaveKinds local → HaveKinds target → (id other : ℕ) → (answer : Result Bool Refusal) × Fields local id target other answer
   pub types : (local target : Table) → HaveKinds local → HaveKinds target → (above : List Pair) (p : Pair) → (answer : Result Bool Refusal) × (starts : List Pair) × Plain local target above p answer starts
   pub kinds : (t : Table) → IsValid t → HaveKinds t
+
+-- both ids of a pair have a record
+abbrev pub AreIds : Table → Table → Pair → Type 0
+AreIds local target p = (p.local < length local.records) × (p.target < length target.records)
+
+-- What a comparison starts are pairs of known ids. Without repeats no pair stands there twice, so there are at most as many as a local
+-- and a target type make.
+pub record StartsAreFew : Type 0 where
+  pub known : (local target : Table) (above : List Pair) (p : Pair) (answer : Result Bool Refusal) (starts : List Pair) → Plain local target above p answer starts → All (AreIds local target) starts
+  pub once : (starts : List Pair) → IsDistinct pair_eq (firsts starts)
+  pub few : (local target : Table) (above : List Pair) (p : Pair) (answer : Result Bool Refusal) (starts : List Pair) → Plain local target above p answer starts
+      → length (firsts starts) ≤ length local.records * length target.records
 
 -- the pair with its two sides exchanged
 abbrev pub exchanged : Pair → Pair

@@ -3,7 +3,7 @@
 //! The definitions lie in `specs/`. Each law is the contract of a function here that does nothing.
 #![tactic(auto)]
 
-ghost use Rattle.btf_model.specs.Laws.{NoSpellingBeginsAnother, BlobIsDetermined, WrittenParsesBack, ParsedWritesBack, AddedStringReadsBack, NameFindsOne, AddedTypeIsFound, WalksAreDetermined, ResolvingTwiceIsOnce, SectionsAreDetermined, ComparisonsAreDetermined, ComparisonsHaveAnswers, ComparisonsAreSymmetric};
+ghost use Rattle.btf_model.specs.Laws.{NoSpellingBeginsAnother, BlobIsDetermined, WrittenParsesBack, ParsedWritesBack, AddedStringReadsBack, NameFindsOne, AddedTypeIsFound, WalksAreDetermined, ResolvingTwiceIsOnce, SectionsAreDetermined, ComparisonsAreDetermined, ComparisonsHaveAnswers, ComparisonsAreSymmetric, StartsAreFew};
 
 
 /// No record's spelling is a proper beginning of another's, and bytes spell one record: so a row of
@@ -74,4 +74,10 @@ pub fn comparisons_have_answers()
 /// refusal is a refusal from there too, perhaps another one.
 pub fn comparisons_are_symmetric()
     ensures { ComparisonsAreSymmetric }
+{}
+
+/// The pairs that a comparison starts have known ids. Without repeats no pair is listed twice, so there are at most as
+/// many as a local and a target type make.
+pub fn starts_are_few()
+    ensures { StartsAreFew }
 {}

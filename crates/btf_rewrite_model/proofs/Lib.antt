@@ -13,3 +13,4 @@ pub mod Renaming
 pub mod Appending
 pub mod Passing
 pub mod FirstMade
+pub mod FewAdded

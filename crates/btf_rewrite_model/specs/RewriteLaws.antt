@@ -1,5 +1,5 @@
 -- The laws of the rewrite. Each is the contract of a public function of this crate.
-use Rattle.std.specs.Prelude.{◌≡◌, ◌≢◌, ℕ, suc, ◌<◌, Bool, true, false, List, [], ◌∷◌, length, map, slice_get, Option, None, Some, Ok}
+use Rattle.std.specs.Prelude.{◌≡◌, ◌≢◌, ℕ, suc, ◌<◌, ◌≤◌, ◌+◌, Bool, true, false, List, [], ◌∷◌, length, map, slice_get, Option, None, Some, Ok}
 use Rattle.std.specs.List.{list_any, filter}
 use Rattle.btf_model.specs.Record as kinds
 use Rattle.btf_model.specs.Record.{Kind, Record, kind_of}
@@ -72,6 +72,14 @@ abbrev pub ResolutionsStay : Type 0
 ResolutionsStay =
     (old new : Table) (ids : Option KsymsIds) (layout : Layout) (answers : List Answer) → Rewritten old ids layout answers new
     → (id end : ℕ) → Resolves old.records id (Ok end) → kind_at old end ≢ Some kinds.Func → Resolves new.records id (Ok end)
+
+-- A pass appends three types at most: that of the members of UNIONs which were ENUM64s, and the two of the filler. The step of `.ksyms`
+-- appends one at most, so a rewrite four. None is taken away.
+pub record FewTypesAreAppended : Type 0 where
+  pub in_a_pass : (p : Pass) (id : ℕ) → length (added_below p id) ≤ 3
+  pub in_the_step : (t : Table) (ids : Option KsymsIds) → (length t.records ≤ length (begun t ids).records) × (length (begun t ids).records ≤ length t.records + 1)
+  pub in_a_rewrite : (old new : Table) (ids : Option KsymsIds) (layout : Layout) (answers : List Answer) → Rewritten old ids layout answers new
+      → (length old.records ≤ length new.records) × (length new.records ≤ length old.records + 4)
 
 -- the same pass under other answers
 abbrev pub with_answers : Pass → List Answer → Pass

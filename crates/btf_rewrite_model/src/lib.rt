@@ -3,7 +3,7 @@
 //! The definitions lie in `specs/`. Each law is the contract of a function here that does nothing.
 #![tactic(auto)]
 
-ghost use Rattle.btf_rewrite_model.specs.RewriteLaws.{AskedOnlyIfNeeded, GrantedFeaturesSuffice, Enum64KeepsItsValues, RecordLengthsStay, SizesStay, ResolutionsStay, OtherAnswersChangeNothing, SecondRewriteChangesNothing};
+ghost use Rattle.btf_rewrite_model.specs.RewriteLaws.{AskedOnlyIfNeeded, GrantedFeaturesSuffice, Enum64KeepsItsValues, RecordLengthsStay, FewTypesAreAppended, SizesStay, ResolutionsStay, OtherAnswersChangeNothing, SecondRewriteChangesNothing};
 
 /// A rewrite asks for a feature only where the kernel needs it for a record of the table.
 pub fn asked_only_if_needed()
@@ -25,6 +25,11 @@ pub fn enum64_keeps_its_values()
 /// 24 bytes.
 pub fn record_lengths_stay()
     ensures { RecordLengthsStay }
+{}
+
+/// A rewrite appends four types at most, and takes none away.
+pub fn at_most_four_types_are_appended()
+    ensures { FewTypesAreAppended }
 {}
 
 /// A type has the same size in the rewritten table, if the walk for it meets no VAR, FUNC, FUNC_PROTO, DATASEC or
