@@ -1,19 +1,23 @@
 -- What follows of a table that was rewritten.
-use Rattle.std.proofs.Common.{◌≡◌, Bool, true, false, List, length, Option, None, Some, Result, Ok, Err, refl, ap, subst, ◌∙◌, inr}
+use Rattle.std.proofs.Common.{◌≡◌, ℕ, Bool, true, false, List, length, Option, None, Some, Result, Ok, Err, refl, ap, subst, ◌∙◌, inr}
 use Rattle.std.specs.Prelude.{if◌then◌else◌, OnOk, IfSome}
 use Rattle.btf_model.specs.Refusal.{Refusal}
-use Rattle.btf_model.specs.Table.{Table, with_string, with_type}
+use Rattle.btf_model.specs.Word.{Order}
+use Rattle.btf_model.specs.Table.{Table, strip, with_string, with_type}
+use Rattle.btf_model.specs.Blob.{IsTable}
 use Rattle.btf_rewrite_model.specs.Feature.{Answer}
 use Rattle.btf_rewrite_model.specs.Ksyms.{KsymsIds, appends_int, each_stepped, int_text}
 use Rattle.btf_rewrite_model.specs.Made.{c_int}
 use Rattle.btf_rewrite_model.specs.Pass.{Layout}
 use Rattle.btf_rewrite_model.specs.Rewritten.{begun, pass_of, step_fault, Rewritten}
 use Rattle.btf_rewrite_model.proofs.GrantedAll.{suffice}
+use Rattle.btf_rewrite_model.proofs.FewAdded.{few_in_a_rewrite}
 use Rattle.btf_rewrite_model.proofs.Kept as kept
+use Rattle.btf_model.proofs.Blobs.{same_table}
 use Rattle.btf_plain.specs.declared.error.BtfError.{BtfError}
 use Rattle.btf_plain.specs.Error.{Answers, refusal_of}
 use Rattle.btf_table.specs.PassStep.{pass_on}
-use Rattle.btf_table.specs.Rewrites.{Rewrites, Sanitizes, NeedsAreGranted, KeepsSizes, KeepsResolutions}
+use Rattle.btf_table.specs.Rewrites.{Rewrites, Sanitizes, NeedsAreGranted, KeepsSizes, KeepsResolutions, AppendsAtMost, OfTables}
 
 -- a pass over the table as it begins, behind the step
 sanitized : {X : Type 0} (old new : Table) (k : Option KsymsIds) (layout : Layout) (answers : List Answer) (r : Result X Refusal) → step_fault old k ≡ None → Sanitizes (pass_of old k layout answers) new r → Rewrites old k layout answers new r
@@ -44,6 +48,14 @@ sizes_of old new k layout answers x h = kept.sizes_stay old new k layout answers
 pub resolutions_of : {X : Type 0} (old new : Table) (k : Option KsymsIds) (layout : Layout) (answers : List Answer) (x : X) → Rewrites old k layout answers new (Ok x) → KeepsResolutions old new
 resolutions_of old new k layout answers x h = kept.resolutions_stay old new k layout answers h.0
 
+pub appended_of : {X : Type 0} (old new : Table) (k : Option KsymsIds) (layout : Layout) (answers : List Answer) (x : X) → Rewrites old k layout answers new (Ok x) → AppendsAtMost 4 old new
+appended_of old new k layout answers x h = few_in_a_rewrite old new k layout answers h.0
+
+-- of the tables that bytes stand for there is one each
+pub of_tables : (order : Order) (bytes written : List ℕ) (old new : Table) (P : Table → Table → Type 0) → IsTable order bytes old → IsTable order written (strip new) → P old (strip new) → OfTables order bytes written P
+of_tables order bytes written old new P parsed again holds = λ t u is_t is_u.
+    subst (P t) (same_table order written (strip new) u again is_u) (subst (λ (x : Table). P x (strip new)) (same_table order bytes old t parsed is_t) holds)
+
 pub on_ok : {X Y : Type 0} (view : X → Y) (r : Result X BtfError) (P : Result Y Refusal → Type 0) (Q : Type 0) → Answers view r P → ((y : Y) → P (Ok y) → Q) → OnOk r Q
 on_ok view (Ok x) P Q given then_q = then_q (view x) given
 on_ok view (Err e) P Q given then_q = tt
@@ -57,3 +69,9 @@ begun_order old (Some ids) =
 
 pub rewritten_order : (old new : Table) (k : Option KsymsIds) (layout : Layout) (answers : List Answer) → Rewritten old k layout answers new → new.order ≡ old.order
 rewritten_order old new k layout answers h = ap (λ (t : Table). t.order) h.table ∙ begun_order old k
+
+-- what is written stands for the new table in the order of the bytes that were parsed
+pub written_again : (order : Order) (bytes written : List ℕ) (old new : Table) (k : Option KsymsIds) (layout : Layout) (answers : List Answer) → IsTable order bytes old → Rewritten old k layout answers new
+    → IsTable new.order written (strip new) → IsTable order written (strip new)
+written_again order bytes written old new k layout answers parsed h again =
+    subst (λ (o : Order). IsTable o written (strip new)) (rewritten_order old new k layout answers h ∙ parsed.same_order) again

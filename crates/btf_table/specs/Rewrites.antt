@@ -1,5 +1,5 @@
 -- What a rewrite answers.
-use Rattle.std.specs.Prelude.{◌≡◌, ◌≢◌, ◌⊎◌, ℕ, suc, List, [], map, slice_get, Option, Some, None, Result, Ok, Err}
+use Rattle.std.specs.Prelude.{◌≡◌, ◌≢◌, ◌≤◌, ◌+◌, ◌⊎◌, ℕ, suc, List, [], length, map, slice_get, Option, Some, None, Result, Ok, Err}
 use Rattle.std.specs.Option.{option_map}
 use Rattle.btf_model.specs.Record as kinds
 use Rattle.btf_model.specs.Record.{Record}
@@ -17,6 +17,7 @@ use Rattle.btf_rewrite_model.specs.Rewritten.{begun, pass_of, step_fault, Faults
 use Rattle.btf_table.specs.declared.sanitize.KsymsIds.{KsymsIds}
 use Rattle.btf_rules.specs.declared.features.FeatureAnswer.{FeatureAnswer}
 use Rattle.btf_table.specs.KsymsStep.{ksyms_ids}
+use Rattle.btf_table.specs.PassStep.{BeginsAsked}
 
 abbrev pub ids_of : Option KsymsIds → Option model.KsymsIds
 ids_of ids = option_map (λ (k : KsymsIds). ksyms_ids k.datasec_id k.placeholder_id) ids
@@ -61,3 +62,15 @@ KeepsSizes old new = (id size : ℕ) → WalkAnswers (FindsKept old) (record { c
 -- What ids stand for, but for a FUNC, is what they stood for.
 abbrev pub KeepsResolutions : Table → Table → Type 0
 KeepsResolutions old new = (id end : ℕ) → Resolves old.records id (Ok end) → kind_at old end ≢ Some kinds.Func → Resolves new.records id (Ok end)
+
+-- No type is taken away, and at most so many are appended.
+abbrev pub AppendsAtMost : ℕ → Table → Table → Type 0
+AppendsAtMost n old new = (length old.records ≤ length new.records) × (length new.records ≤ length old.records + n)
+
+-- Nothing was asked for; or the bytes stand for a table, and the answers are to the first features that its rewrite asks for.
+abbrev pub BeginsAskedOf : Order → List ℕ → Option model.KsymsIds → Layout → List Answer → Type 0
+BeginsAskedOf order bytes ids layout answers = (answers ≡ []) ⊎ ((old : Table) × IsTable order bytes old × BeginsAsked (pass_of old ids layout answers))
+
+-- This holds of the table that bytes stand for, and of the one that the written bytes stand for.
+abbrev pub OfTables : Order → List ℕ → List ℕ → (Table → Table → Type 0) → Type 0
+OfTables order bytes written P = (old new : Table) → IsTable order bytes old → IsTable order written new → P old new

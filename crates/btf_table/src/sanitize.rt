@@ -25,7 +25,7 @@ ghost use Rattle.btf_rules.specs.Features.{Called, answers_of};
 ghost use Rattle.btf_table.specs.KsymsStep.{ksyms_ids};
 ghost use Rattle.btf_rules.specs.Layout.{layout_of};
 ghost use Rattle.btf_table.specs.PassStep.{pass_on, BeginsAsked};
-ghost use Rattle.btf_table.specs.Rewrites.{ids_of, Rewrites, RewritesBytes, Sanitizes, NeedsAreGranted, KeepsSizes, KeepsResolutions};
+ghost use Rattle.btf_table.specs.Rewrites.{ids_of, Rewrites, RewritesBytes, Sanitizes, NeedsAreGranted, KeepsSizes, KeepsResolutions, AppendsAtMost, BeginsAskedOf, OfTables};
 
 use btf_rules::{BtfFeature, BtfFeatureResolver, FeatureAnswer, copied_answers};
 use crate::sanitize::ksyms::ksyms_changes;
@@ -66,6 +66,8 @@ impl Btf {
         ensures answer { Gives (λ u. u) result (checked (ksyms_fault self.old (ksyms_ids datasec_id placeholder_id)) tt) }
         ensures ok { OnOk result (self.new ≡ ksyms_table self.old (ksyms_ids datasec_id placeholder_id)) }
         ensures err { OnErr result (self.new ≡ self.old) }
+        // No type is taken away, and the INT is the only one that may be appended.
+        ensures appended { OnOk result (AppendsAtMost 1 self.old self.new) }
     {
         let changes = ksyms_changes(self, datasec_id, placeholder_id)?;
         self.apply(changes)?;
@@ -130,6 +132,8 @@ impl Btf {
         ensures sizes { OnOk result (KeepsSizes self.old self.new) }
         // What an id stands for, but for a FUNC, it stands for still.
         ensures resolutions { OnOk result (KeepsResolutions self.old self.new) }
+        // No type is taken away, and at most four are appended.
+        ensures appended { OnOk result (AppendsAtMost 4 self.old self.new) }
     {
         let Some(ids) = ksyms else {
             return self.sanitize(sections, symbols, resolver);
@@ -163,6 +167,20 @@ pub fn rewrite_bytes<F: FnMut(BtfFeature) -> bool>(
     ensures called { Called F.step resolver.old.0 resolver.new.1 resolver.new.0 }
     ensures rewrites { Answers (λ r. (r.0.items, r.1.items)) result (RewritesBytes (order_of endianness) «data».now (ids_of ksyms) (layout_of sections.now symbols.now) (answers_of resolver.new.1)) }
     ensures answers { IfOk result (λ r. r.1.items ≡ resolver.new.1) }
+    // In every outcome nothing was asked, or the bytes stand for a table, and the answers are to the first features that
+    // its rewrite asks for.
+    ensures asked { BeginsAskedOf (order_of endianness) «data».now (ids_of ksyms)
+        (layout_of sections.now symbols.now) (answers_of resolver.new.1) }
+    // Of the table that the bytes stand for, and the one that the written bytes stand for: what the kernel needs for the
+    // new one was asked for once, and granted;
+    ensures granted { IfOk result (λ r. OfTables (order_of endianness) «data».now r.0.items
+        (λ old new. NeedsAreGranted old (ids_of ksyms) (answers_of resolver.new.1) new)) }
+    // sizes that are found without VAR, FUNC, FUNC_PROTO, DATASEC or DECL_TAG stay;
+    ensures sizes { IfOk result (λ r. OfTables (order_of endianness) «data».now r.0.items KeepsSizes) }
+    // what an id stands for, but for a FUNC, it stands for still;
+    ensures resolutions { IfOk result (λ r. OfTables (order_of endianness) «data».now r.0.items KeepsResolutions) }
+    // and no type is taken away, and at most four are appended.
+    ensures appended { IfOk result (λ r. OfTables (order_of endianness) «data».now r.0.items (AppendsAtMost 4)) }
 {
     let mut btf = Btf::parse(alloc, data, endianness)?;
     let answers = btf.fixup_and_sanitize(sections, symbols, ksyms, resolver)?;

@@ -10,11 +10,11 @@ use Rattle.btf_plain.specs.Error.{refusal_of}
 use Rattle.btf_rules.specs.Features.{answers_of}
 use Rattle.btf_table.specs.KsymsStep.{ksyms_ids}
 use Rattle.btf_rules.specs.Layout.{layout_of}
-use Rattle.btf_table.specs.Rewrites.{ids_of, Rewrites, NeedsAreGranted, KeepsSizes, KeepsResolutions}
+use Rattle.btf_table.specs.Rewrites.{ids_of, Rewrites, NeedsAreGranted, KeepsSizes, KeepsResolutions, AppendsAtMost}
 use Rattle.btf_table.specs.declared.sanitize.KsymsIds.{KsymsIds}
 use Rattle.btf_rules.specs.declared.features.FeatureAnswer.{FeatureAnswer}
 use Rattle.btf_table.proofs.PassAsking.{begins_none}
-use Rattle.btf_table.proofs.Rewriting.{stepped_by, rewrites_by, granted_of, sizes_of, resolutions_of, on_ok}
+use Rattle.btf_table.proofs.Rewriting.{stepped_by, rewrites_by, granted_of, sizes_of, resolutions_of, appended_of, on_ok}
 use Rattle.btf_table.proofs.table.Btf.fixup_and_sanitize.Goals as goal
 
 pub returns-in_default-clause-granted : goal.returns-in_default-clause-granted
@@ -43,6 +43,14 @@ returns-in_default-clause-resolutions g c =
     let answers = answers_of c.sanitize.new.resolver.1 in
     let rewrites = rewrites_by (λ a. a.items) c.sanitize.result old old c.sanitize.new.self None layout answers refl refl c.sanitize.ensures.sanitizes in
     on_ok (λ a. a.items) c.sanitize.result (Rewrites old None layout answers c.sanitize.new.self) (KeepsResolutions old c.sanitize.new.self) rewrites (λ y h. resolutions_of old c.sanitize.new.self None layout answers y h)
+
+pub returns-in_default-clause-appended : goal.returns-in_default-clause-appended
+returns-in_default-clause-appended g c =
+    let old : Table = c.args.self.now in
+    let layout : Layout = layout_of c.args.sections.now c.args.symbols.now in
+    let answers = answers_of c.sanitize.new.resolver.1 in
+    let rewrites = rewrites_by (λ a. a.items) c.sanitize.result old old c.sanitize.new.self None layout answers refl refl c.sanitize.ensures.sanitizes in
+    on_ok (λ a. a.items) c.sanitize.result (Rewrites old None layout answers c.sanitize.new.self) (AppendsAtMost 4 old c.sanitize.new.self) rewrites (λ y h. appended_of old c.sanitize.new.self None layout answers y h)
 
 pub returns-in_err-changes-clause-asked : goal.returns-in_err-changes-clause-asked
 returns-in_err-changes-clause-asked g c = begins_none (pass_of c.args.self.now (ids_of c.args.ksyms) (layout_of c.args.sections.now c.args.symbols.now) (answers_of c.args.resolver.now.1)) (ap answers_of c.requires.unasked)
@@ -82,6 +90,17 @@ returns-in-Ok-clause-resolutions g c =
     let new : Table = c.sanitize-2.new.self in
     let h = stepped_by old c.apply.new.self new (Some ids) layout answers (Ok c.in-Ok.answers.items) c.in_ok-changes.ensures.0 there c.in-Ok.ensures.sanitizes in
     resolutions_of old new (Some ids) layout answers c.in-Ok.answers.items h
+
+pub returns-in-Ok-clause-appended : goal.returns-in-Ok-clause-appended
+returns-in-Ok-clause-appended g c =
+    let old : Table = c.args.self.now in
+    let layout : Layout = layout_of c.args.sections.now c.args.symbols.now in
+    let ids : model.KsymsIds = ksyms_ids c.in-Some.ids.datasec_id c.in-Some.ids.placeholder_id in
+    let there : c.apply.new.self ≡ begun old (Some ids) = c.in_ok-undo.ensures.ok ∙ c.in_ok-changes.ensures.2 in
+    let answers = answers_of c.sanitize-2.new.resolver.1 in
+    let new : Table = c.sanitize-2.new.self in
+    let h = stepped_by old c.apply.new.self new (Some ids) layout answers (Ok c.in-Ok.answers.items) c.in_ok-changes.ensures.0 there c.in-Ok.ensures.sanitizes in
+    appended_of old new (Some ids) layout answers c.in-Ok.answers.items h
 
 pub returns-in-Err-clause-rewrites : goal.returns-in-Err-clause-rewrites
 returns-in-Err-clause-rewrites g c =
