@@ -1,3 +1,4 @@
 pub mod Layout
 pub mod Checked
 pub mod Features
+pub mod SoleFeature

@@ -1,6 +1,21 @@
 //! What a rewrite asks of a kernel, and what it makes of a single type.
 #![tactic(auto)]
 
+mod data_sec;
+mod enumeration;
+mod enumeration64;
 mod features;
+mod func;
+mod func_proto;
+mod int;
+mod plain;
+mod var;
 
+pub use data_sec::{known_offset, renamed, section_name, section_size};
+pub use enumeration64::as_union;
 pub use features::{BtfFeature, BtfFeatureResolver, FeatureAnswer, copied_answers};
+pub use func::{global, is_builtin, made_static};
+pub use func_proto::{as_enum, param_text, with_names};
+pub use int::int_of_4;
+pub use plain::{replaced, sole_feature};
+pub use var::global_of;

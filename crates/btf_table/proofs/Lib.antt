@@ -3,11 +3,9 @@ pub mod Rewriting
 pub mod PassOne
 pub mod PassStates
 pub mod FuncRules
-pub mod Enums
 pub mod Prototypes
 pub mod PassAsking
 mod SectionItems
-mod SectionNames
 pub mod PassRules
 pub mod Adding
 pub mod Put

@@ -13,7 +13,8 @@ use Rattle.btf_rewrite_model.proofs.Passing.{AreAnswersTo, NextAnswers}
 use Rattle.btf_records.specs.BtfType.{record_of, type_kind}
 use Rattle.btf_records.specs.declared.btf_type.BtfType.TheVariants as types
 use Rattle.btf_records.specs.declared.btf_type.BtfType.{BtfType}
-use Rattle.btf_table.specs.PassStep.{pass_on, sole_feature, asks_one, IsGranted, IsType, AsksUpTo}
+use Rattle.btf_table.specs.PassStep.{pass_on, IsType, AsksUpTo}
+use Rattle.btf_rules.specs.SoleFeature.{sole_feature, asks_one, IsGranted}
 use Rattle.btf_table.proofs.PassAsking.{asked_none, asked_more}
 use Rattle.btf_table.proofs.PassRules.{record_there, kind_there}
 

@@ -31,7 +31,8 @@ use Rattle.btf_records.specs.Items.{enum64_words}
 use Rattle.btf_records.specs.declared.records.items.BtfEnum64.{BtfEnum64}
 use Rattle.btf_table.specs.Adding.{strings_end, next_id, Adds}
 use Rattle.btf_table.proofs.Adding.{adds_none}
-use Rattle.btf_table.specs.PassStep.{asks_one, IsType, IsHere, IsGrown, IsRuled, Rules, growth}
+use Rattle.btf_table.specs.PassStep.{IsType, IsHere, IsGrown, IsRuled, Rules, growth}
+use Rattle.btf_rules.specs.SoleFeature.{asks_one}
 use Rattle.btf_table.specs.declared.sanitize.made.Made.{Made}
 
 -- ---- the record of an id

@@ -19,7 +19,7 @@ use Rattle.btf_records.specs.declared.records.items.BtfParam.{BtfParam}
 use Rattle.btf_table.specs.declared.table.changes.Changes.{Changes}
 use Rattle.btf_table.specs.Adding.{strings_end, Adds}
 use Rattle.btf_rules.proofs.Checks.{fault_behind, fault_before}
-use Rattle.btf_table.proofs.KsymsItems.{put_at}
+use Rattle.btf_rules.proofs.NamedParams.{put_at}
 
 -- ---- texts
 

@@ -37,28 +37,6 @@ pub record IsType (t : Table) (id : ℕ) (b : BtfType) : Type 0 where
   pub record_is : slice_get t.records id ≡ Some (record_of b)
   pub fallback_is : slice_get t.fallbacks id ≡ Some (fallback_of b)
 
--- the feature that a record of this kind asks for, where it asks for one alone
-abbrev pub sole_feature : Option Kind → Record → Option Feature
-sole_feature (Some kinds.Var) r = Some features.DataSec
-sole_feature (Some kinds.Float) r = Some features.Float
-sole_feature (Some kinds.DeclTag) r = Some features.DeclTag
-sole_feature (Some kinds.TypeTag) r = Some features.TypeTag
-sole_feature (Some kinds.FuncProto) r = Some features.Func
-sole_feature (Some kinds.Enum64) r = Some features.Enum64
-sole_feature (Some kinds.Enum) r = if is_signed r then Some features.Enum64 else None
-sole_feature k r = None
-
--- a kind that asks for one feature at most
-abbrev pub asks_one : Option Kind → Bool
-asks_one (Some kinds.Func) = false
-asks_one (Some kinds.DataSec) = false
-asks_one k = true
-
--- whether the kernel has this feature, where there is one
-abbrev pub IsGranted : Pass → Option Feature → Bool → Type 0
-IsGranted p (Some f) granted = has p f ≡ granted
-IsGranted p None granted = granted ≡ true
-
 -- What is there when a pass comes to an id: where its texts and types are appended, and what lower ids have made.
 pub record IsHere (p : Pass) (id : ℕ) (m : Made) : Type 0 where
   pub offset : offset_at p id ≡ strings_end p.table m.changes

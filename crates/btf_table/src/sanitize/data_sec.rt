@@ -23,10 +23,10 @@ ghost use Rattle.btf_rules.specs.Layout.{sizes_of, offsets_of};
 ghost use Rattle.btf_table.specs.PassStep.{pass_on, IsType, IsHere, AsksUpTo, Steps, Rules};
 ghost use Rattle.btf_table.specs.SectionStep.{HasNewName, asks_zero};
 
-use btf_rules::{BtfFeature, BtfFeatureResolver};
+use btf_rules::{BtfFeature, BtfFeatureResolver, renamed, section_size};
 use crate::sanitize::made::Made;
 use crate::sanitize::section_names::new_name;
-use crate::sanitize::sections::{members, placed_entries, section_size};
+use crate::sanitize::sections::{members, placed_entries};
 use crate::table::{Btf, record_fits};
 use btf_plain::{BtfError, SectionIndex};
 use btf_records::{BtfType, DataSec, DataSecEntry, Struct};
@@ -52,19 +52,6 @@ fn as_struct(
     let members = members(btf, names, data_sec)?;
     let size = members.len() as u32;
     Ok(Some(BtfType::Struct(Struct::new(name_offset, members, size))))
-}
-
-/// The DATASEC with this name; None where it has it.
-fn renamed(data_sec: &DataSec, name_offset: u32) -> Result<Option<BtfType>, BtfError>
-    ensures answer { Gives (λ new. record_of (unwrap_or new (BtfType.DataSec data_sec.now))) result (Ok (record data_sec.now { name = name_offset })) }
-    ensures fallback { IfOk result (λ new. fallback_of (unwrap_or new (BtfType.DataSec data_sec.now)) ≡ None) }
-{
-    if name_offset == data_sec.name_offset() {
-        return Ok(None);
-    }
-    let mut renamed = data_sec.try_clone()?;
-    renamed.set_name_offset(name_offset);
-    Ok(Some(BtfType::DataSec(renamed)))
 }
 
 /// The DATASEC of this name and size, with each entry at the offset of its symbol, but for those of Static variables.

@@ -12,27 +12,11 @@ ghost use Rattle.btf_rules.specs.Features.{Called, IsFurther, answers_of};
 ghost use Rattle.btf_table.specs.PassStep.{pass_on, IsType, IsHere, AsksUpTo, Steps};
 ghost use Rattle.btf_table.specs.declared.sanitize.made.Made as made;
 
-use btf_rules::{BtfFeature, BtfFeatureResolver};
+use btf_rules::{BtfFeature, BtfFeatureResolver, is_builtin, made_static};
 use crate::table::Btf;
 use btf_plain::{BtfError, Func, FuncLinkage, Typedef};
 use btf_records::BtfType;
 use std::alloc::AllocError;
-
-/// Whether a function of this name is one that compilers make Global, and kernels want Static.
-fn is_builtin(name: &str) -> bool
-    ensures { result ≡ model.is_builtin name.now }
-{
-    name == "memset" || name == "memcpy" || name == "memmove" || name == "memcmp"
-}
-
-/// The function, with Static for its linkage.
-fn made_static(func: &Func) -> Result<Func, AllocError>
-    ensures { IfOk result (λ r. r ≡ with_linkage 0 func.now) }
-{
-    let mut func = func.clone()?;
-    func.set_linkage(FuncLinkage::Static);
-    Ok(func)
-}
 
 /// What a FUNC becomes; None where it stays. A kernel that has no functions gets a TYPEDEF of the prototype; one that has
 /// no Global ones, or knows a Global one as its own, a Static one. `InvalidStringOffset` where its name can't be read.

@@ -13,6 +13,7 @@ ghost use Rattle.btf_rules.specs.Checked.{checked};
 ghost use Rattle.btf_table.specs.KsymsStep.{target_of, prototype_of, laid_out_anew, FindsSymbols, StepsWith, ksyms_ids, MakesKsyms};
 
 use crate::table::{Btf, Changes, record_fits, text_fits};
+use btf_rules::{global, global_of, int_of_4, with_names};
 use btf_plain::{BtfError, Func, FuncLinkage, Int, IntEncoding, Var, VarLinkage};
 use btf_records::{BtfParam, BtfType, DataSec, DataSecEntry, FuncProto};
 use std::alloc::{AllocError, Global};
@@ -76,31 +77,6 @@ impl Symbols {
         }
         Ok(())
     }
-}
-
-/// Whether a type is an INT of 4 bytes.
-fn is_int_of_4(btf_type: &BtfType) -> bool
-    ensures { result ≡ model.is_int_of_4 (kind_of (record_of btf_type.now).info) (record_of btf_type.now) }
-{
-    // The contract speaks of the kind in the info word, which a use of it shows.
-    let _ = btf_type.info();
-    match btf_type {
-        BtfType::Int(int) => int.size() == 4,
-        _ => false,
-    }
-}
-
-/// The id of the first INT of 4 bytes, or the number of types where there is none.
-fn int_of_4(types: &[BtfType]) -> usize
-    ensures bound { result ≤ length types.now }
-    ensures first { result ≡ position_or_len (λ r. model.is_int_of_4 (kind_of r.info) r) (map record_of types.now) }
-{
-    for (id, btf_type) in types.iter().enumerate() {
-        if is_int_of_4(btf_type) {
-            return id;
-        }
-    }
-    types.len()
 }
 
 /// What symbols become without a placeholder.
@@ -199,49 +175,6 @@ fn find_symbols(
         symbols.add(entry.btf_type, prototype)?;
     }
     Ok(symbols)
-}
-
-/// The function, with Global for its linkage.
-fn global(func: &Func) -> Result<Func, AllocError>
-    ensures { IfOk result (λ r. r ≡ with_linkage 1 func.now) }
-{
-    let mut global = func.clone()?;
-    global.set_linkage(FuncLinkage::Global);
-    Ok(global)
-}
-
-/// The variable, with Global for its linkage and this type.
-fn global_of(var: &Var, btf_type: u32) -> Result<Var, AllocError>
-    ensures words { IfOk result (λ r. r ≡ record var.now { third = btf_type; tail = 1 ∷ [] }) }
-    ensures same_length { IfOk result (λ r. length r.tail ≡ length var.now.tail) }
-{
-    // The second clause speaks of the linkage, which a use of it shows.
-    let _ = var.linkage();
-    let mut global = var.clone()?;
-    global.set_target(btf_type, VarLinkage::Global);
-    Ok(global)
-}
-
-/// The string offset of the name that a parameter gets: this one, where it has a type and no name.
-fn param_name(param: &BtfParam, name_offset: u32) -> u32
-    ensures { result ≡ if wants_name param.now.name_offset param.now.btf_type then name_offset else param.now.name_offset }
-{
-    if param.name_offset == 0 && param.btf_type != 0 {
-        name_offset
-    } else {
-        param.name_offset
-    }
-}
-
-/// The prototype, with a name for each parameter that has a type and no name.
-fn with_names(proto: &FuncProto, name_offset: u32) -> Result<FuncProto, BtfError>
-    ensures { Gives (λ r. r) result (Ok (record proto.now { tail = named name_offset proto.now.tail })) }
-{
-    let mut with_names = proto.try_clone()?;
-    for (index, param) in proto.params().iter().enumerate() {
-        with_names.set_param_name(index, param_name(param, name_offset));
-    }
-    Ok(with_names)
 }
 
 impl Target {

@@ -12,13 +12,13 @@ ghost use Rattle.btf_records.specs.BtfType.{record_of};
 ghost use Rattle.btf_table.specs.Adding.{HasRoom};
 ghost use Rattle.btf_rules.specs.Features.{Called, IsFurther, answers_of};
 ghost use Rattle.btf_rules.specs.Layout.{sizes_of, offsets_of, layout_of};
-ghost use Rattle.btf_table.specs.PassStep as step;
-ghost use Rattle.btf_table.specs.PassStep.{pass_on, asks_one, IsType, IsHere, IsGranted, AsksUpTo, Steps, Passes, BeginsAsked};
+ghost use Rattle.btf_rules.specs.SoleFeature as step;
+ghost use Rattle.btf_table.specs.PassStep.{pass_on, IsType, IsHere, AsksUpTo, Steps, Passes, BeginsAsked};
+ghost use Rattle.btf_rules.specs.SoleFeature.{asks_one, IsGranted};
 
-use btf_rules::{BtfFeature, BtfFeatureResolver};
+use btf_rules::{BtfFeature, BtfFeatureResolver, sole_feature};
 use crate::sanitize::functions::rewrite_func;
 use crate::sanitize::made::Made;
-use crate::sanitize::plain::sole_feature;
 use crate::table::{Btf, Changes};
 use btf_plain::{BtfError, SectionIndex};
 use btf_records::BtfType;

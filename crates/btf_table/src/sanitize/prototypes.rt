@@ -14,16 +14,10 @@ ghost use Rattle.btf_table.specs.Adding.{strings_end, HasRoom, Adds};
 ghost use Rattle.btf_rules.specs.Checked.{checked};
 
 use crate::table::{Btf, Changes};
+use btf_rules::param_text;
 use btf_plain::BtfError;
 use btf_records::{BtfEnum, BtfParam, Enum, FuncProto};
 use std::alloc::{AllocError, Global};
-
-/// The text that names the parameter at a place.
-fn param_text(alloc: Global, index: usize) -> Result<String, AllocError>
-    ensures { IfOk result (λ text. string_bytes text ≡ model.param_text index) }
-{
-    format!(in alloc; "param{index}")
-}
 
 /// The string offset of the name that the parameter at a place gets: that of a new text, where it has a type and no
 /// name. `InvalidStringOffset` where such a text has no room.
@@ -64,22 +58,3 @@ pub fn with_param_names(
     Ok(with_names)
 }
 
-/// A variant for each parameter, of its name, whose value is its type.
-fn param_variants(alloc: Global, params: &[BtfParam]) -> Result<Vec<BtfEnum>, AllocError>
-    ensures words { IfOk result (λ v. flat_map enum_words v.items ≡ flat_map param_words params.now) }
-    ensures count { IfOk result (λ v. length v.items ≡ length params.now) }
-{
-    let mut variants = Vec::with_capacity(alloc, params.len())?;
-    for param in params {
-        variants.push(BtfEnum::new(param.name_offset, param.btf_type))?;
-    }
-    Ok(variants)
-}
-
-/// The prototype as an ENUM without sign: each parameter a variant, of its name, whose value is its type.
-pub fn as_enum(btf: &Btf, proto: &FuncProto) -> Result<Enum, BtfError>
-    ensures { Gives (λ r. r) result (Ok (enum proto.now.name (vlen proto.now.info) proto.now.tail)) }
-{
-    let variants = param_variants(btf.allocator(), proto.params())?;
-    Ok(Enum::new(proto.name_offset(), false, variants))
-}

@@ -11,21 +11,10 @@ ghost use Rattle.btf_table.specs.Adding.{strings_end, HasRoom, Adds};
 ghost use Rattle.btf_rules.specs.Checked.{checked};
 
 use crate::table::{Btf, Changes};
+use btf_rules::section_name;
 use btf_plain::BtfError;
 use btf_records::DataSec;
 use std::alloc::{AllocError, Global};
-
-/// The name that a DATASEC of this name gets: as a DATASEC, where the kernel takes one, with `.` for each `/`, which kernels
-/// refuse there; or else as a STRUCT, with `_` for each `.`, which is in no C name.
-fn section_name(alloc: Global, name: &str, granted: bool) -> Result<String, AllocError>
-    ensures { IfOk result (λ text. string_bytes text ≡ if granted then replaced slash dot name.now else replaced dot underscore name.now) }
-{
-    if granted {
-        name.replace(alloc, '/', ".")
-    } else {
-        name.replace(alloc, '.', "_")
-    }
-}
 
 /// The string offset of the name that a DATASEC gets: as a DATASEC, where the kernel takes one, with `.` for each `/`, or
 /// else as a STRUCT, with `_` for each `.`. A text is appended only where the name changes.

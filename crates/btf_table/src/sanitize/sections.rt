@@ -17,6 +17,7 @@ ghost use Rattle.btf_table.specs.KsymsStep.{entry as entry_of};
 ghost use Rattle.btf_rules.specs.Layout.{sizes_of, offsets_of};
 
 use crate::table::{Btf, Changes};
+use btf_rules::known_offset;
 use btf_plain::{BtfError, Int, IntEncoding, SectionIndex, Var, VarLinkage};
 use btf_records::{BtfMember, BtfType, DataSec, DataSecEntry};
 use std::alloc::Global;
@@ -84,44 +85,6 @@ pub fn append_filler(btf: &Btf, changes: &mut Changes) -> Result<u32, BtfError>
     let name = changes.append_text(btf, FILLER)?;
     let var = Var::new(name, int_id, VarLinkage::Static);
     changes.append_type(btf, BtfType::Var(var))
-}
-
-/// A number, where it has at most 32 bits.
-fn to_word(number: u64) -> Option<u32>
-    ensures { result ≡ in_a_word (Some number) }
-{
-    u32::try_from(number).ok()
-}
-
-/// The size of the section of this name, where it is known and has at most 32 bits.
-fn known_size(sections: &HashMap<String, (SectionIndex, u64)>, name: &str) -> Option<u32>
-    ensures { result ≡ in_a_word (sizes_of sections.now name.now) }
-{
-    let (_, size) = sections.get(name)?;
-    to_word(*size)
-}
-
-/// The offset of the symbol of this name, where it is known and has at most 32 bits.
-fn known_offset(symbols: &HashMap<String, u64>, name: &str) -> Option<u32>
-    ensures { result ≡ in_a_word (offsets_of symbols.now name.now) }
-{
-    to_word(*symbols.get(name)?)
-}
-
-/// The size of the section of this name; `UnknownSectionSize` of the name where it isn't known or has more than 32 bits.
-pub fn section_size(
-    alloc: Global,
-    sections: &HashMap<String, (SectionIndex, u64)>,
-    name: &str,
-) -> Result<u32, BtfError>
-    ensures { Gives (λ n. n) result (checked (is_sized (in_a_word (sizes_of sections.now name.now)) (Ok name.now)) (unwrap_or (in_a_word (sizes_of sections.now name.now)) 0)) }
-{
-    let Some(size) = known_size(sections, name) else {
-        return Err(BtfError::UnknownSectionSize {
-            section_name: name.to_string(alloc)?,
-        });
-    };
-    Ok(size)
 }
 
 /// The entry of a variable, at the offset of its symbol; as it is, where the variable is Static.

@@ -6,7 +6,8 @@ use Rattle.btf_rewrite_model.specs.Rule.{ruled_below, becomes_by}
 use Rattle.btf_rewrite_model.proofs.Passing.{is_quiet}
 use Rattle.btf_records.specs.BtfType.{record_of, type_kind}
 use Rattle.btf_records.specs.declared.btf_type.BtfType.{BtfType}
-use Rattle.btf_table.specs.PassStep.{pass_on, asks_one, sole_feature, IsGranted}
+use Rattle.btf_table.specs.PassStep.{pass_on}
+use Rattle.btf_rules.specs.SoleFeature.{asks_one, sole_feature, IsGranted}
 use Rattle.btf_table.proofs.PassRules.{quiet_ruled, enum64_stays, quiet_type, quiet_answer}
 use Rattle.btf_table.proofs.sanitize.made.Made.rewrite_by.Goals as goal
 

@@ -2,8 +2,8 @@ use Rattle.std.proofs.Common.{Bool, sym, ap, ◌∙◌, arith}
 use Rattle.std.specs.Prelude.{if◌then◌else◌}
 use Rattle.std.proofs.lemmas.Result.{IfOk-weaker}
 use Rattle.btf_rewrite_model.specs.Pass.{replaced, slash, dot, underscore}
-use Rattle.btf_table.proofs.SectionNames.{replaces_byte}
-use Rattle.btf_table.proofs.sanitize.section_names.section_name.Goals as goal
+use Rattle.btf_rules.proofs.SectionNames.{replaces_byte}
+use Rattle.btf_rules.proofs.data_sec.section_name.Goals as goal
 
 pub returns-then-granted : goal.returns-then-granted
 returns-then-granted c =

@@ -3,8 +3,8 @@ use Rattle.btf_model.specs.Record.{Record, vlen}
 use Rattle.btf_model.specs.Refusal.{Refusal}
 use Rattle.btf_rewrite_model.specs.Ksyms.{named}
 use Rattle.btf_model.proofs.Comparisons.{same_ok}
-use Rattle.btf_table.proofs.KsymsItems.{named_next, named_all}
-use Rattle.btf_table.proofs.sanitize.ksyms.with_names.Goals as goal
+use Rattle.btf_rules.proofs.NamedParams.{named_next, named_all}
+use Rattle.btf_rules.proofs.func_proto.with_names.Goals as goal
 
 pub loop-index-init : goal.loop-index-init
 loop-index-init c =

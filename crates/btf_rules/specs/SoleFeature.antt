@@ -1,0 +1,29 @@
+-- The feature that a type asks for, where it asks for one at most.
+use Rattle.std.specs.Prelude.{◌≡◌, if◌then◌else◌, Bool, true, false, Option, Some, None}
+use Rattle.btf_model.specs.Record as kinds
+use Rattle.btf_model.specs.Record.{Kind, Record}
+use Rattle.btf_rewrite_model.specs.Feature as features
+use Rattle.btf_rewrite_model.specs.Feature.{Feature, is_signed}
+use Rattle.btf_rewrite_model.specs.Pass.{Pass, has}
+
+-- the feature that a record of this kind asks for, where it asks for one alone
+abbrev pub sole_feature : Option Kind → Record → Option Feature
+sole_feature (Some kinds.Var) r = Some features.DataSec
+sole_feature (Some kinds.Float) r = Some features.Float
+sole_feature (Some kinds.DeclTag) r = Some features.DeclTag
+sole_feature (Some kinds.TypeTag) r = Some features.TypeTag
+sole_feature (Some kinds.FuncProto) r = Some features.Func
+sole_feature (Some kinds.Enum64) r = Some features.Enum64
+sole_feature (Some kinds.Enum) r = if is_signed r then Some features.Enum64 else None
+sole_feature k r = None
+
+-- a kind that asks for one feature at most
+abbrev pub asks_one : Option Kind → Bool
+asks_one (Some kinds.Func) = false
+asks_one (Some kinds.DataSec) = false
+asks_one k = true
+
+-- whether the kernel has this feature, where there is one
+abbrev pub IsGranted : Pass → Option Feature → Bool → Type 0
+IsGranted p (Some f) granted = has p f ≡ granted
+IsGranted p None granted = granted ≡ true

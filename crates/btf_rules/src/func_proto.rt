@@ -1,0 +1,63 @@
+//! A FUNC_PROTO whose parameters get names, or that becomes an ENUM.
+
+ghost use Rattle.std.specs.Prelude.{◌≡◌, if◌then◌else◌, length, string_bytes, IfOk, Ok};
+ghost use Rattle.std.specs.List.{flat_map};
+ghost use Rattle.btf_model.specs.Record.{vlen};
+ghost use Rattle.btf_rewrite_model.specs.Ksyms.{named};
+ghost use Rattle.btf_rewrite_model.specs.Made.{enum, wants_name};
+ghost use Rattle.btf_rewrite_model.specs.Pass as model;
+ghost use Rattle.btf_plain.specs.Error.{Gives};
+ghost use Rattle.btf_records.specs.Items.{enum_words, param_words};
+
+use btf_plain::BtfError;
+use btf_records::{BtfEnum, BtfParam, Enum, FuncProto};
+use std::alloc::{AllocError, Global};
+
+/// The text that names the parameter at a place.
+pub fn param_text(alloc: Global, index: usize) -> Result<String, AllocError>
+    ensures { IfOk result (λ text. string_bytes text ≡ model.param_text index) }
+{
+    format!(in alloc; "param{index}")
+}
+
+/// A variant for each parameter, of its name, whose value is its type.
+fn param_variants(alloc: Global, params: &[BtfParam]) -> Result<Vec<BtfEnum>, AllocError>
+    ensures words { IfOk result (λ v. flat_map enum_words v.items ≡ flat_map param_words params.now) }
+    ensures count { IfOk result (λ v. length v.items ≡ length params.now) }
+{
+    let mut variants = Vec::with_capacity(alloc, params.len())?;
+    for param in params {
+        variants.push(BtfEnum::new(param.name_offset, param.btf_type))?;
+    }
+    Ok(variants)
+}
+
+/// The prototype as an ENUM without sign: each parameter a variant, of its name, whose value is its type.
+pub fn as_enum(alloc: Global, proto: &FuncProto) -> Result<Enum, BtfError>
+    ensures { Gives (λ r. r) result (Ok (enum proto.now.name (vlen proto.now.info) proto.now.tail)) }
+{
+    let variants = param_variants(alloc, proto.params())?;
+    Ok(Enum::new(proto.name_offset(), false, variants))
+}
+
+/// The string offset of the name that a parameter gets: this one, where it has a type and no name.
+fn param_name(param: &BtfParam, name_offset: u32) -> u32
+    ensures { result ≡ if wants_name param.now.name_offset param.now.btf_type then name_offset else param.now.name_offset }
+{
+    if param.name_offset == 0 && param.btf_type != 0 {
+        name_offset
+    } else {
+        param.name_offset
+    }
+}
+
+/// The prototype, with a name for each parameter that has a type and no name.
+pub fn with_names(proto: &FuncProto, name_offset: u32) -> Result<FuncProto, BtfError>
+    ensures { Gives (λ r. r) result (Ok (record proto.now { tail = named name_offset proto.now.tail })) }
+{
+    let mut with_names = proto.try_clone()?;
+    for (index, param) in proto.params().iter().enumerate() {
+        with_names.set_param_name(index, param_name(param, name_offset));
+    }
+    Ok(with_names)
+}
