@@ -9,10 +9,10 @@ ghost use Rattle.btf_compare.specs.FieldStep.{StepIs};
 ghost use Rattle.btf_compare.specs.Pairs.{pair};
 
 use crate::resolved::resolved;
-use btf_table::{Btf, WALK_LIMIT};
 use bstr::ByteSlice;
 use btf_plain::BtfError;
 use btf_records::BtfType;
+use btf_table::{Btf, WALK_LIMIT};
 
 /// What separates a name from its flavor.
 const FLAVOR_MARK: &[u8] = b"___";

@@ -8,9 +8,9 @@ ghost use Rattle.btf_compare.specs.Compared.{PositionIs};
 ghost use Rattle.btf_compare.specs.Pairs.{pair_of};
 
 use crate::resolved::resolved;
-use btf_table::Btf;
 use btf_plain::{Array, BtfError, Int, Ptr};
 use btf_records::{BtfParam, BtfType, FuncProto};
+use btf_table::Btf;
 
 /// What is found at a pair of types.
 #[derive(Drop)]

@@ -4,9 +4,9 @@ ghost use Rattle.btf_plain.specs.Error.{Tells};
 ghost use Rattle.btf_records.specs.BtfType.{record_of, type_kind};
 ghost use Rattle.btf_compare.specs.Pairs.{IsResolved};
 
-use btf_table::Btf;
 use btf_plain::BtfError;
 use btf_records::BtfType;
+use btf_table::Btf;
 
 /// The id and the type that an id resolves to.
 pub fn resolved(table: &Btf, type_id: u32) -> Result<(u32, &BtfType), BtfError>

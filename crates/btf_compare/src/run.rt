@@ -9,8 +9,8 @@ ghost use Rattle.btf_compare.specs.Compared.{has, Changes, IsStarted, IsRefused,
 ghost use Rattle.btf_compare.specs.Pairs.{pair_of};
 
 use crate::step::{Frame, Step};
-use btf_table::{Btf, allocator_of};
 use btf_plain::BtfError;
+use btf_table::{Btf, allocator_of};
 use std::alloc::Global;
 use std::collections::HashSet;
 

@@ -9,9 +9,9 @@ ghost use Rattle.btf_compare.specs.Pairs.{pair_of};
 
 use crate::position::{Position, found_at};
 use crate::resolved::resolved;
-use btf_table::{Btf, WALK_LIMIT};
 use btf_plain::BtfError;
 use btf_records::BtfParam;
+use btf_table::{Btf, WALK_LIMIT};
 
 /// A pair of ids that is open: where its walk is, how many positions it has behind it, and which parameter comes next.
 #[derive(Clone, Copy, Drop)]

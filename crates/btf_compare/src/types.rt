@@ -9,8 +9,8 @@ ghost use Rattle.btf_compare.specs.Compared.{Traces, GainsStarts};
 ghost use Rattle.btf_compare.specs.Pairs.{pair};
 
 use crate::run::compare;
-use btf_table::{Btf, allocator_of};
 use btf_plain::BtfError;
+use btf_table::{Btf, allocator_of};
 
 /// Whether two types are compatible, where each stands in its own table, as libbpf has it: the kinds of the two ids are
 /// the same, before modifiers are resolved, where ENUM and ENUM64 are one kind; and so on behind modifiers, where

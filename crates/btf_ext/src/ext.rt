@@ -15,8 +15,8 @@ use crate::ext::header::Header;
 use crate::ext::read::{clone_relocations, read_named, read_relocations, read_sections};
 pub use crate::ext::sections::{SecInfo, SecInfoIter};
 use crate::info::{FuncInfo, LineInfo};
-use btf_table::{Btf, allocator_of};
 use btf_plain::{BtfError, Endianness};
+use btf_table::{Btf, allocator_of};
 
 /// What `.BTF.ext` says of a program: function and line records under the names of the program's sections, and
 /// relocation records.

@@ -214,7 +214,6 @@ module _ (local target : Table) where
           counts = run.counts;
         })
 
-
     ids_of : (p : Pair) → Begins p → HasIds local target p
     ids_of p begins = (begins.2.0, begins.2.1, begins.2.2.0, begins.2.3.0)
 

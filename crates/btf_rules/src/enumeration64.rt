@@ -11,9 +11,7 @@ ghost use Rattle.btf_records.specs.Fallback.{variant_of};
 ghost use Rattle.btf_records.specs.Items.{enum64_words, member_words};
 
 use btf_plain::BtfError;
-use btf_records::{
-    BtfEnum64, BtfMember, Enum64, Enum64Fallback, Enum64VariantFallback, Union,
-};
+use btf_records::{BtfEnum64, BtfMember, Enum64, Enum64Fallback, Enum64VariantFallback, Union};
 use std::alloc::{AllocError, Global};
 
 /// A member for each variant, of its name and of this type, all at bit 0.

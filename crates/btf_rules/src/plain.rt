@@ -56,7 +56,11 @@ fn without_name(ptr: &Ptr) -> Result<Ptr, AllocError>
 
 /// What a type becomes whose rule appends nothing, where the kernel has the feature that it asks for, or where it has
 /// not; None where it stays.
-pub fn replaced(alloc: Global, btf_type: &BtfType, granted: bool) -> Result<Option<BtfType>, BtfError>
+pub fn replaced(
+    alloc: Global,
+    btf_type: &BtfType,
+    granted: bool,
+) -> Result<Option<BtfType>, BtfError>
     ensures words { (p : Pass) (lower : List Record) (id : ℕ) → IsGranted p (sole.sole_feature (kind_of (record_of btf_type.now).info) (record_of btf_type.now)) granted → is_quiet (kind_of (record_of btf_type.now).info) ≡ true
         → Gives (λ new. record_of (unwrap_or new btf_type.now)) result (Ok (becomes_by p lower id (kind_of (record_of btf_type.now).info) (record_of btf_type.now))) }
     ensures len { IfOk result (λ new. length (record_of (unwrap_or new btf_type.now)).tail ≡ length (record_of btf_type.now).tail) }

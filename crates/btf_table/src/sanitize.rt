@@ -27,12 +27,12 @@ ghost use Rattle.btf_rules.specs.Layout.{layout_of};
 ghost use Rattle.btf_table.specs.PassStep.{pass_on, BeginsAsked};
 ghost use Rattle.btf_table.specs.Rewrites.{ids_of, Rewrites, RewritesBytes, Sanitizes, NeedsAreGranted, KeepsSizes, KeepsResolutions, AppendsAtMost, BeginsAskedOf, OfTables};
 
-use btf_rules::{BtfFeature, BtfFeatureResolver, FeatureAnswer, copied_answers};
 use crate::sanitize::ksyms::ksyms_changes;
 use crate::sanitize::pass::pass_changes;
 use crate::table::Btf;
 use arrayvec::ArrayVec;
 use btf_plain::{BtfError, Endianness, SectionIndex};
+use btf_rules::{BtfFeature, BtfFeatureResolver, FeatureAnswer, copied_answers};
 use std::alloc::Global;
 use std::collections::HashMap;
 

@@ -4,7 +4,8 @@
 
 pub use btf_compare::{fields_are_compatible, types_are_compatible, types_are_compatible_traced};
 pub use btf_ext::{
-    BtfExt, FuncInfo, FuncSecInfo, LineInfo, LineSecInfo, SecInfo, SecInfoIter, bpf_func_info, bpf_line_info,
+    BtfExt, FuncInfo, FuncSecInfo, LineInfo, LineSecInfo, SecInfo, SecInfoIter, bpf_func_info,
+    bpf_line_info,
 };
 pub use btf_rules::{BtfFeature, BtfFeatureResolver, FeatureAnswer};
 pub use btf_table::{Btf, BtfStr, KsymsIds, rewrite_bytes};

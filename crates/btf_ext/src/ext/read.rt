@@ -12,8 +12,8 @@ ghost use Rattle.btf_ext.specs.NamedSection.{named, relocation};
 use crate::ext::header::Part;
 use crate::ext::sections::{SecInfo, SecInfoIter};
 use crate::info::records::read_records;
-use btf_table::{Btf, BtfStr};
 use btf_plain::{BtfError, Endianness};
+use btf_table::{Btf, BtfStr};
 use std::alloc::{AllocError, Global};
 
 /// A section and the text of its name.

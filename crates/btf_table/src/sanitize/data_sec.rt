@@ -23,13 +23,13 @@ ghost use Rattle.btf_rules.specs.Layout.{sizes_of, offsets_of};
 ghost use Rattle.btf_table.specs.PassStep.{pass_on, IsType, IsHere, AsksUpTo, Steps, Rules};
 ghost use Rattle.btf_table.specs.SectionStep.{HasNewName, asks_zero};
 
-use btf_rules::{BtfFeature, BtfFeatureResolver, renamed, section_size};
 use crate::sanitize::made::Made;
 use crate::sanitize::section_names::new_name;
 use crate::sanitize::sections::{members, placed_entries};
 use crate::table::{Btf, record_fits};
 use btf_plain::{BtfError, SectionIndex};
 use btf_records::{BtfType, DataSec, DataSecEntry, Struct};
+use btf_rules::{BtfFeature, BtfFeatureResolver, renamed, section_size};
 use std::collections::HashMap;
 
 /// The length of an entry in bytes.

@@ -36,4 +36,3 @@ pub fn append_placeholder(btf: &Btf, changes: &mut Changes) -> Result<u32, BtfEr
     let int = Int::new(name_offset, 1, IntEncoding::None, 0);
     changes.append_type(btf, BtfType::Int(int))
 }
-

@@ -12,10 +12,10 @@ ghost use Rattle.btf_rules.specs.Features.{Called, IsFurther, answers_of};
 ghost use Rattle.btf_table.specs.PassStep.{pass_on, IsType, IsHere, AsksUpTo, Steps};
 ghost use Rattle.btf_table.specs.declared.sanitize.made.Made as made;
 
-use btf_rules::{BtfFeature, BtfFeatureResolver, is_builtin, made_static};
 use crate::table::Btf;
 use btf_plain::{BtfError, Func, FuncLinkage, Typedef};
 use btf_records::BtfType;
+use btf_rules::{BtfFeature, BtfFeatureResolver, is_builtin, made_static};
 use std::alloc::AllocError;
 
 /// What a FUNC becomes; None where it stays. A kernel that has no functions gets a TYPEDEF of the prototype; one that has

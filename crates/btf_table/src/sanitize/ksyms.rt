@@ -13,9 +13,9 @@ ghost use Rattle.btf_rules.specs.Checked.{checked};
 ghost use Rattle.btf_table.specs.KsymsStep.{target_of, prototype_of, laid_out_anew, FindsSymbols, StepsWith, ksyms_ids, MakesKsyms};
 
 use crate::table::{Btf, Changes, record_fits, text_fits};
-use btf_rules::{global, global_of, int_of_4, with_names};
 use btf_plain::{BtfError, Func, FuncLinkage, Int, IntEncoding, Var, VarLinkage};
 use btf_records::{BtfParam, BtfType, DataSec, DataSecEntry, FuncProto};
+use btf_rules::{global, global_of, int_of_4, with_names};
 use std::alloc::{AllocError, Global};
 use std::collections::HashSet;
 

@@ -16,12 +16,12 @@ ghost use Rattle.btf_rules.specs.SoleFeature as step;
 ghost use Rattle.btf_table.specs.PassStep.{pass_on, IsType, IsHere, AsksUpTo, Steps, Passes, BeginsAsked};
 ghost use Rattle.btf_rules.specs.SoleFeature.{asks_one, IsGranted};
 
-use btf_rules::{BtfFeature, BtfFeatureResolver, sole_feature};
 use crate::sanitize::functions::rewrite_func;
 use crate::sanitize::made::Made;
 use crate::table::{Btf, Changes};
 use btf_plain::{BtfError, SectionIndex};
 use btf_records::BtfType;
+use btf_rules::{BtfFeature, BtfFeatureResolver, sole_feature};
 use std::collections::HashMap;
 
 /// Whether the kernel has the one feature that a type asks for; true where it asks for none. The type is neither a FUNC nor

@@ -15,12 +15,12 @@ ghost use Rattle.btf_rules.specs.SoleFeature as step;
 ghost use Rattle.btf_table.specs.PassStep.{IsHere, Rules};
 ghost use Rattle.btf_rules.specs.SoleFeature.{IsGranted};
 
-use btf_rules::{as_enum, as_union, replaced};
 use crate::sanitize::made::Made;
 use crate::sanitize::prototypes::with_param_names;
 use crate::table::Btf;
 use btf_plain::{BtfError, Const, Int, IntEncoding, Ptr};
 use btf_records::{BtfType, Enum64, FuncProto, Struct};
+use btf_rules::{as_enum, as_union, replaced};
 use std::alloc::{AllocError, Global};
 
 impl Made {

@@ -14,9 +14,9 @@ ghost use Rattle.btf_table.specs.Adding.{strings_end, HasRoom, Adds};
 ghost use Rattle.btf_rules.specs.Checked.{checked};
 
 use crate::table::{Btf, Changes};
-use btf_rules::param_text;
 use btf_plain::BtfError;
 use btf_records::{BtfEnum, BtfParam, Enum, FuncProto};
+use btf_rules::param_text;
 use std::alloc::{AllocError, Global};
 
 /// The string offset of the name that the parameter at a place gets: that of a new text, where it has a type and no
@@ -57,4 +57,3 @@ pub fn with_param_names(
     }
     Ok(with_names)
 }
-

@@ -11,9 +11,9 @@ ghost use Rattle.btf_table.specs.Adding.{strings_end, HasRoom, Adds};
 ghost use Rattle.btf_rules.specs.Checked.{checked};
 
 use crate::table::{Btf, Changes};
-use btf_rules::section_name;
 use btf_plain::BtfError;
 use btf_records::DataSec;
+use btf_rules::section_name;
 use std::alloc::{AllocError, Global};
 
 /// The string offset of the name that a DATASEC gets: as a DATASEC, where the kernel takes one, with `.` for each `/`, or

@@ -17,9 +17,9 @@ ghost use Rattle.btf_table.specs.KsymsStep.{entry as entry_of};
 ghost use Rattle.btf_rules.specs.Layout.{sizes_of, offsets_of};
 
 use crate::table::{Btf, Changes};
-use btf_rules::known_offset;
 use btf_plain::{BtfError, Int, IntEncoding, SectionIndex, Var, VarLinkage};
 use btf_records::{BtfMember, BtfType, DataSec, DataSecEntry};
+use btf_rules::known_offset;
 use std::alloc::Global;
 use std::collections::HashMap;
 
