@@ -1,6 +1,6 @@
 -- The pairs that a comparison starts: their ids are known, and without repeats they are no more than the pairs of known ids.
-use Rattle.std.proofs.Common.{◌≡◌, ◌≢◌, ℕ, zero, suc, ◌+◌, ◌*◌, ◌≤◌, Bool, true, false, List, [], ◌∷◌, ◌++◌, length, refl, sym, ap, subst, ◌∙◌, arith, inl, inr, Some, Result, Ok}
-use Rattle.std.specs.Prelude.{not, cond, All, slice_get}
+use Rattle.std.proofs.Common.{◌≡◌, ℕ, ◌*◌, ◌≤◌, Bool, true, false, List, [], ◌∷◌, length, refl, sym, ap, subst, ◌∙◌, arith, inl, inr, Result, Ok}
+use Rattle.std.specs.Prelude.{not, cond, All}
 use Rattle.std.specs.List.{filter, AllByRecursion, IsDistinct}
 use Rattle.std.proofs.lemmas.Bool.{false≢true}
 use Rattle.std.proofs.lemmas.List.Elements.{All-nil, All-cons}
@@ -11,7 +11,7 @@ use Rattle.btf_model.specs.Table.{Table}
 use Rattle.btf_model.specs.Fields.{Pair}
 use Rattle.btf_model.specs.Compat.{Plain, Walked, Paid, AreKnown, pair_eq, firsts}
 use Rattle.btf_model.specs.Laws.{AreIds}
-use Rattle.btf_model.proofs.Known.{Among, HasIds, Without, without, known_pairs, known_pairs_among, length-known_pairs}
+use Rattle.btf_model.proofs.Known.{Among, HasIds, without, known_pairs, known_pairs_among, length-known_pairs}
 use Rattle.btf_model.proofs.Firsts.{eq_itself}
 use Rattle.btf_model.proofs.RunStates.{among_append, among_of_firsts}
 
