@@ -16,10 +16,11 @@ use Rattle.btf_model.specs.Compat.{Plain, pair_eq, firsts}
 use Rattle.btf_model.proofs.Firsts.{eq_itself, eq_same, eq_other}
 use Rattle.btf_model.proofs.Known.{Among, among_from_contains, contains_from_among, known_pairs}
 use Rattle.btf_model.proofs.PlainAnswers.{plain_answers}
-use Rattle.btf_model.proofs.Runs as runs
-use Rattle.btf_model.proofs.Runs.{new_frame, IsNext}
+use Rattle.btf_model.specs.Run as runs
+use Rattle.btf_model.specs.Run.{new_frame, IsNext}
 use Rattle.btf_model.proofs.RunStates as states
-use Rattle.btf_model.proofs.RunStates.{Begins, open_pairs, Outcome, BeginsWith, run_begun, run_on, run_paid, run_starts, run_fails, run_refused, run_differs, run_ends, run_begins, run_settles}
+use Rattle.btf_model.specs.Run.{Begins}
+use Rattle.btf_model.proofs.RunStates.{open_pairs, Outcome, BeginsWith, run_begun, run_on, run_paid, run_starts, run_fails, run_refused, run_differs, run_ends, run_begins, run_settles}
 use Rattle.btf_model.proofs.RunLengths.{widest, left_to_do, less_started}
 use Rattle.btf_plain.specs.Error.{Answers, Tells, refusal_of}
 use Rattle.btf_plain.specs.declared.error.BtfError.{BtfError}

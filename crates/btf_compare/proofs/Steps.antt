@@ -7,8 +7,8 @@ use Rattle.btf_model.specs.Table.{Table}
 use Rattle.btf_model.specs.Walk.{walk_limit}
 use Rattle.btf_model.specs.Fields.{Pair}
 use Rattle.btf_model.specs.Compat.{Told, On, Owes, Finds, ResolvesPair}
-use Rattle.btf_model.proofs.Runs as runs
-use Rattle.btf_model.proofs.Runs.{IsNext}
+use Rattle.btf_model.specs.Run as runs
+use Rattle.btf_model.specs.Run.{IsNext}
 use Rattle.btf_plain.specs.Error.{Tells}
 use Rattle.btf_plain.specs.declared.error.BtfError.{BtfError}
 use Rattle.btf_compare.specs.declared.step.Frame.{Frame}

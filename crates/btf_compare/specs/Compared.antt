@@ -11,9 +11,9 @@ use Rattle.btf_model.specs.Fields.{Pair}
 use Rattle.btf_model.specs.Compat.{Told, On, Owes, pairs, ResolvesPair, AreKnown, pair_eq}
 use Rattle.btf_model.specs.Compat as model
 use Rattle.btf_model.specs.Laws.{AreIds}
-use Rattle.btf_model.proofs.Runs as runs
-use Rattle.btf_model.proofs.Runs.{new_frame, IsNext}
-use Rattle.btf_model.proofs.RunStates.{Begins}
+use Rattle.btf_model.specs.Run as runs
+use Rattle.btf_model.specs.Run.{new_frame, IsNext}
+use Rattle.btf_model.specs.Run.{Begins}
 use Rattle.btf_plain.specs.Error.{Tells}
 use Rattle.btf_plain.specs.declared.error.BtfError.{BtfError}
 use Rattle.btf_plain.specs.declared.error.BtfError.TheVariants as errors

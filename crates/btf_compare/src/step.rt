@@ -3,7 +3,7 @@
 ghost use Rattle.std.specs.Prelude.{◌≡◌, ◌+◌, ◌<◌, ◌^◌, slice_get, IsSome};
 ghost use Rattle.std.specs.Option.{option_map};
 ghost use Rattle.btf_model.specs.Compat.{pairs};
-ghost use Rattle.btf_model.proofs.Runs.{new_frame};
+ghost use Rattle.btf_model.specs.Run.{new_frame};
 ghost use Rattle.btf_compare.specs.Compared.{StepIs, ParameterStepIs, frame_of, types_of};
 ghost use Rattle.btf_compare.specs.Pairs.{pair_of};
 

@@ -6,7 +6,7 @@ use Rattle.btf_model.specs.Record.{Record, Kind, Unknown, Int, Ptr, Array, Struc
 use Rattle.btf_model.specs.Table.{Table}
 use Rattle.btf_model.specs.Fields.{Pair}
 use Rattle.btf_model.specs.Compat.{Position, Told, On, Owes, Finds, parameter_types, pairs, position_by, PositionFound}
-use Rattle.btf_model.proofs.Runs.{Frame, new_frame, GoesOn, Waits, IsNext}
+use Rattle.btf_model.specs.Run.{Frame, new_frame, GoesOn, Waits, IsNext}
 
 -- ---- how many parameters a prototype has
 

@@ -12,8 +12,10 @@ use Rattle.std.specs.List.{filter}
 use Rattle.btf_model.specs.Compat.{AreKnown, Plain, pair_eq, firsts}
 use Rattle.btf_model.proofs.Known.{Among, among_from_contains, HasIds, Covers, known_pairs, known_pairs_cover, known_pairs_among, Without, without}
 use Rattle.btf_model.proofs.PlainAnswers.{true_or_not}
+use Rattle.btf_model.specs.Run.{Begins}
 use Rattle.btf_model.proofs.Firsts.{firsts_new, firsts_of_known, firsts_begin}
-use Rattle.btf_model.proofs.Runs.{Frame, new_frame, Ends, GoesOn, Waits, IsNext, RestOf, WalkOf, walked_from_rest, ends_rest, goes_on_rest, fails_rest, pays_rest, rest_answers}
+use Rattle.btf_model.specs.Run.{Frame, new_frame, Ends, GoesOn, Waits, IsNext}
+use Rattle.btf_model.proofs.Runs.{RestOf, WalkOf, walked_from_rest, ends_rest, goes_on_rest, fails_rest, pays_rest, rest_answers}
 
 -- ---- lists of pairs
 
@@ -79,25 +81,21 @@ lists_on : (early went before t more rest : List Pair) (p : Pair) → before ≡
 lists_on early went before t more rest p is = rw is (simp append_assoc)
 
 module _ (local target : Table) where
-  -- the pair is known, and of compatible kinds
-  abbrev pub Begins : Pair → Type 0
-  Begins p = (k q : Kind) × AreKnown local target p k q × (compared_kind k ≡ compared_kind q)
-
   -- a pair that is begun and walked
-  walked_pair : (above : List Pair) (p : Pair) (b : Result Bool Refusal) (t : List Pair) → Begins p → (Among above p → ⊥) → WalkOf local target above p b t → Plain local target above p b (p ∷ t)
+  walked_pair : (above : List Pair) (p : Pair) (b : Result Bool Refusal) (t : List Pair) → Begins local target p → (Among above p → ⊥) → WalkOf local target above p b t → Plain local target above p b (p ∷ t)
   walked_pair above p b t begins new h = Plain.walked above p begins.0 begins.1 b t (not_open above p new) begins.2 begins.3 h
 
   module _ (Settled : Pair → Type 0) where
     -- An open pair that is walked: what it has started, and that what is left of its walk makes the whole, under any pairs that
     -- are not settled.
     pub record Walks (f : Frame) (went : List Pair) : Type 0 where
-      pub begins : Begins f.pair
+      pub begins : Begins local target f.pair
       pub starts : (q : Pair) → Among went q → Settled q
       pub goes : (above : List Pair) → AvoidsAll Settled above → (b : Result Bool Refusal) (t : List Pair) → RestOf local target above f b t → WalkOf local target above f.pair b (went ++ t)
 
     -- The same of an open pair that waits for the answer of p, and then goes on.
     pub record Awaits (g : Frame) (p : Pair) (went : List Pair) : Type 0 where
-      pub begins : Begins g.pair
+      pub begins : Begins local target g.pair
       pub starts : (q : Pair) → Among went q → Settled q
       pub fails : (above : List Pair) → AvoidsAll Settled above → (b : Result Bool Refusal) (t : List Pair) → Plain local target (g.pair ∷ above) p b t → b ≢ Ok true → WalkOf local target above g.pair b (went ++ t)
       pub pays : (above : List Pair) → AvoidsAll Settled above → (first : List Pair) → Plain local target (g.pair ∷ above) p (Ok true) first → (b : Result Bool Refusal) (t : List Pair) → RestOf local target above g b t
@@ -114,7 +112,7 @@ module _ (local target : Table) where
 
     -- ---- what a frame does
 
-    begun_walks : (p : Pair) → Begins p → Walks (new_frame p) []
+    begun_walks : (p : Pair) → Begins local target p → Walks (new_frame p) []
     begun_walks p begins = record {
       begins = begins;
       starts = λ q m. elim m [ ];
@@ -214,7 +212,7 @@ module _ (local target : Table) where
           counts = run.counts;
         })
 
-    ids_of : (p : Pair) → Begins p → HasIds local target p
+    ids_of : (p : Pair) → Begins local target p → HasIds local target p
     ids_of p begins = (begins.2.0, begins.2.1, begins.2.2.0, begins.2.3.0)
 
     -- a pair that is neither open nor settled is not listed
@@ -229,7 +227,7 @@ module _ (local target : Table) where
         ]
 
     -- another pair is started
-    pub run_starts : (root : Pair) (f g : Frame) (p : Pair) (below : List Frame) (listed : List Pair) → Run root f below listed → IsNext local target f (Waits p g) → (Among (f.pair ∷ open_pairs below) p → ⊥) → (Settled p → ⊥) → Begins p
+    pub run_starts : (root : Pair) (f g : Frame) (p : Pair) (below : List Frame) (listed : List Pair) → Run root f below listed → IsNext local target f (Waits p g) → (Among (f.pair ∷ open_pairs below) p → ⊥) → (Settled p → ⊥) → Begins local target p
         → Run root (new_frame p) (g ∷ below) (listed ++ p ∷ [])
     run_starts root f g p below listed run next not_open_yet not_settled begins =
         let on : Frame = record f { parameter = suc f.parameter } in
@@ -350,7 +348,7 @@ module _ (local target : Table) where
         )
 
     -- a run begins with its root
-    pub run_begun : (root : Pair) → Begins root → ((q : Pair) → Settled q → ⊥) → Run root (new_frame root) [] (root ∷ [])
+    pub run_begun : (root : Pair) → Begins local target root → ((q : Pair) → Settled q → ⊥) → Run root (new_frame root) [] (root ∷ [])
     run_begun root begins none =
         let fewer = without (known_pairs local target) root (known_pairs_among local target root (ids_of root begins)) in
         record {

@@ -11,43 +11,12 @@ use Rattle.btf_model.specs.Table.{Table}
 use Rattle.btf_model.specs.Walk.{walk_limit}
 use Rattle.btf_model.specs.Fields.{Pair, HaveKinds}
 use Rattle.btf_model.specs.Compat.{Position, Told, On, Owes, ResolvesPair, Finds, Plain, Walked, Paid}
+use Rattle.btf_model.specs.Run.{Frame, new_frame, Ends, GoesOn, Waits, OwesNext, IsNext}
 use Rattle.btf_model.proofs.Comparisons.{one_position, position_answer}
 use Rattle.btf_model.proofs.PlainAnswers.{true_or_not, walked_answers, paid_answers}
 use Rattle.btf_model.proofs.PlainSteps.{Are}
 
--- An open pair: where its walk is, how many positions are left of it, and the parameter that comes next.
-pub record Frame : Type 0 where
-  pub pair : Pair
-  pub at : Pair
-  pub left : ℕ
-  pub parameter : ℕ
-
--- a pair whose walk begins
-abbrev pub new_frame : Pair → Frame
-new_frame p = record { pair = p; at = p; left = walk_limit; parameter = zero }
-
--- What comes next for an open pair: its walk ends; it goes on; or a pair has to be compatible first, and then it goes on.
-pub data Next : Type 0 where
-  Ends : Result Bool Refusal → Next
-  GoesOn : Frame → Next
-  Waits : Pair → Frame → Next
-
 module _ (local target : Table) where
-  -- the parameters that come next resolve to a, and then next is the position
-  abbrev pub OwesNext : Frame → List Pair → Pair → Result Pair Refusal → Type 0
-  OwesNext f owed to a = Finds local target f.at (Owes owed to) × ((at : Pair) × (slice_get owed f.parameter ≡ Some at) × ResolvesPair local target at a)
-
-  -- What comes next for an open pair.
-  abbrev pub IsNext : Frame → Next → Type 0
-  IsNext f (Ends answer) =
-      ((f.left ≡ zero) × (answer ≡ Err (MaximumTypeDepthReached f.at.local)))
-      ⊎ ((n : ℕ) × (f.left ≡ suc n) × (Finds local target f.at (Told answer) ⊎ ((owed : List Pair) × (to : Pair) × (refusal : Refusal) × OwesNext f owed to (Err refusal) × (answer ≡ Err refusal))))
-  IsNext f (GoesOn g) =
-      (n : ℕ) × (to : Pair) × (f.left ≡ suc n) × (g ≡ record { pair = f.pair; at = to; left = n; parameter = zero })
-      × (Finds local target f.at (On to) ⊎ ((owed : List Pair) × Finds local target f.at (Owes owed to) × (length owed ≤ f.parameter)))
-  IsNext f (Waits p g) =
-      (n : ℕ) × (owed : List Pair) × (to : Pair) × (f.left ≡ suc n) × OwesNext f owed to (Ok p) × (g ≡ record f { parameter = suc f.parameter })
-
   -- ---- what is left of a walk
 
   -- behind what is found at a position, where so many of its parameters are settled
@@ -93,7 +62,7 @@ module _ (local target : Table) where
   pays_from above owed j at b t is h = subst (λ (qs : List Pair). Paid local target above qs b t) (first_owed owed j at is) h
 
   -- a walk that ends, ends under any open pairs
-  pub ends_rest : (f : Frame) (b : Result Bool Refusal) → IsNext f (Ends b) → (above : List Pair) → RestOf above f b []
+  pub ends_rest : (f : Frame) (b : Result Bool Refusal) → IsNext local target f (Ends b) → (above : List Pair) → RestOf above f b []
   ends_rest f b (inl h) above = subst (λ (m : ℕ). Rest (f.pair ∷ above) m f.at f.parameter b []) (sym h.0) (h.1, refl)
   ends_rest f b (inr h) above =
       left_over f h.0 h.1 above b []
@@ -110,7 +79,7 @@ module _ (local target : Table) where
         )
       ])
 
-  pub goes_on_rest : (f g : Frame) → IsNext f (GoesOn g) → (above : List Pair) (b : Result Bool Refusal) (t : List Pair) → RestOf above g b t → RestOf above f b t
+  pub goes_on_rest : (f g : Frame) → IsNext local target f (GoesOn g) → (above : List Pair) (b : Result Bool Refusal) (t : List Pair) → RestOf above g b t → RestOf above f b t
   goes_on_rest f g next above b t h =
       let behind : Walked local target (f.pair ∷ above) next.0 next.1 b t = walked_from_rest (f.pair ∷ above) next.0 next.1 b t (subst (λ (x : Frame). RestOf above x b t) next.3 h) in
       left_over f next.0 next.2 above b t
@@ -119,7 +88,7 @@ module _ (local target : Table) where
         | inr o ↦ (Owes o.0 next.1, o.1, inl ([], t, subst (λ (qs : List Pair). Paid local target (f.pair ∷ above) qs (Ok true) []) (sym (drop_all f.parameter o.0 o.2)) (Paid.all (f.pair ∷ above)), behind, refl))
       ])
 
-  pub fails_rest : (f g : Frame) (p : Pair) → IsNext f (Waits p g) → (above : List Pair) (b : Result Bool Refusal) (t : List Pair) → Plain local target (f.pair ∷ above) p b t → b ≢ Ok true → RestOf above f b t
+  pub fails_rest : (f g : Frame) (p : Pair) → IsNext local target f (Waits p g) → (above : List Pair) (b : Result Bool Refusal) (t : List Pair) → Plain local target (f.pair ∷ above) p b t → b ≢ Ok true → RestOf above f b t
   fails_rest f g p next above b t plain not_true =
       let owes = next.4 in
       left_over f next.0 next.3 above b t
@@ -137,7 +106,7 @@ module _ (local target : Table) where
       )
   pays_rest_by above owed n j at p to first is resolved plain b t (inr h) = inr (pays_from above owed j at b (first ++ t) is (Paid.next above at p (drop (suc j) owed) b first t resolved plain h.0), h.1)
 
-  pub pays_rest : (f g : Frame) (p : Pair) → IsNext f (Waits p g) → (above : List Pair) (first : List Pair) → Plain local target (f.pair ∷ above) p (Ok true) first → (b : Result Bool Refusal) (t : List Pair) → RestOf above g b t → RestOf above f b (first ++ t)
+  pub pays_rest : (f g : Frame) (p : Pair) → IsNext local target f (Waits p g) → (above : List Pair) (first : List Pair) → Plain local target (f.pair ∷ above) p (Ok true) first → (b : Result Bool Refusal) (t : List Pair) → RestOf above g b t → RestOf above f b (first ++ t)
   pays_rest f g p next above first plain b t h =
       let owes = next.4 in
       let here : RestOf above (record f { parameter = suc f.parameter }) b t = subst (λ (x : Frame). RestOf above x b t) next.5 h in

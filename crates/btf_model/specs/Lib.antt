@@ -14,3 +14,4 @@ pub mod ExtExamples
 pub mod Info
 pub mod Laws
 pub mod Examples
+pub mod Run

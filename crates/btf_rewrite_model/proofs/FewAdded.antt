@@ -12,7 +12,8 @@ use Rattle.btf_rewrite_model.specs.Made.{record_at, kind_at, c_int, byte_int, st
 use Rattle.btf_rewrite_model.specs.Pass.{Pass, Layout, is_least, wants_placeholder, gets_filler, added_by, added_below, makes_placeholder, makes_filler, offset_at, filler_offset, filler_type_text}
 use Rattle.btf_rewrite_model.specs.Rewritten.{begun, pass_of, old_count, Rewritten}
 use Rattle.btf_rewrite_model.specs.Rule.{ruled_below}
-use Rattle.btf_rewrite_model.proofs.FirstMade.{MadeBelow, none_below_zero, makes_first, made_first, none_next, makes_no_second, made_next}
+use Rattle.btf_rewrite_model.specs.Passing.{MadeBelow}
+use Rattle.btf_rewrite_model.proofs.FirstMade.{none_below_zero, makes_first, made_first, none_next, makes_no_second, made_next}
 use Rattle.btf_rewrite_model.proofs.Ruled.{length-ruled}
 
 -- ---- what is made once

@@ -10,6 +10,7 @@ use Rattle.btf_rewrite_model.specs.Made.{kind_at}
 use Rattle.btf_rewrite_model.specs.Pass.{Pass, has, least, or_this, is_least, is_enum64, wants_placeholder, gets_filler}
 use Rattle.btf_rewrite_model.specs.Rewritten.{AreRuled}
 use Rattle.btf_rewrite_model.specs.RewriteLaws.{with_answers, Agree}
+use Rattle.btf_rewrite_model.specs.Passing.{MadeBelow}
 use Rattle.btf_rewrite_model.proofs.Agreeing.{AgreeAt, agree_at, agree_of, is_least_alike, filler_same, room_of_ruled}
 
 -- ---- the least
@@ -40,11 +41,6 @@ least_of_first test k (suc n) first le =
     ]
 
 -- ---- made once
-
--- Below n nothing that passes the test is there, or the least that does has made this number.
-abbrev pub MadeBelow : (ℕ → Bool) → (ℕ → ℕ) → ℕ → Option ℕ → Type 0
-MadeBelow test number n None = (j : ℕ) → j < n → test j ≡ false
-MadeBelow test number n (Some made) = (k : ℕ) × (k < n) × (is_least test k ≡ true) × (made ≡ number k)
 
 pub none_below_zero : (test : ℕ → Bool) (number : ℕ → ℕ) → MadeBelow test number 0 None
 none_below_zero test number j lt = absurd (omega (arith, lt))

@@ -24,6 +24,7 @@ use Rattle.btf_rewrite_model.specs.Rule.{becomes, ruled_below, falls_back, falls
 use Rattle.btf_rewrite_model.specs.Fault.{fault, checks_by}
 use Rattle.btf_rewrite_model.specs.Rewritten.{AreRuled, Rewritten, IsRefused, pass_of, step_fault, old_count, rewritten, ended}
 use Rattle.btf_rewrite_model.specs.RewriteLaws.{IsAmong, with_answers, Agree, IsSameBelow}
+use Rattle.btf_rewrite_model.specs.Passing.{features_of, AreAnswersTo, IsAt, HasMade, is_quiet}
 use Rattle.btf_rewrite_model.proofs.Agreeing.{same_below, same_refused}
 
 -- ---- features, each once
@@ -73,9 +74,6 @@ among_each f (g ∷ fs) among =
     [ true ↦ λ _ _. refl | false ↦ λ other later. left_in f g (each_once fs) (sym (same_sym f g) ∙ other) (among_each f fs later) ] refl among
 
 -- ---- answers
-
-abbrev pub features_of : List Answer → List Feature
-features_of answers = map (λ (answer : Answer). answer.feature) answers
 
 -- further answers do not change those to features that were answered
 pub grants_append : (answers more : List Answer) (f : Feature) → IsAmong f (features_of answers) → grants (answers ++ more) f ≡ grants answers f
@@ -127,10 +125,6 @@ unanswered (answer ∷ answers) f none =
       | true ↦ λ _ some. absurd (none-some answer.granted (sym some))
       | false ↦ λ other rest. ap (λ (b : Bool). b || list_any (same_feature f) (features_of answers)) (same_sym f answer.feature ∙ other) ∙ unanswered answers f rest
     ] refl none
-
--- the features of the answers are these, each once
-abbrev pub AreAnswersTo : List Feature → List Answer → Type 0
-AreAnswersTo fs answers = features_of answers ≡ each_once fs
 
 -- one more feature is asked for
 pub asked_next : (fs : List Feature) (answers new : List Answer) (f : Feature) (granted : Bool) → AreAnswersTo fs answers → NextAnswers answers f granted new
@@ -197,11 +191,6 @@ asks_begin p id (suc count) le =
     ]
 
 -- ---- the pass
-
--- The answers of a pass are those to what the ids below this one ask for, and none of these is refused.
-pub record IsAt (p : Pass) (id : ℕ) : Type 0 where
-  pub asked : AreAnswersTo (asks_below p id) p.answers
-  pub ruled : AreRuled p id
 
 -- further answers agree
 pub further_agree : (p : Pass) (id : ℕ) (more : List Answer) → AreAnswersTo (asks_below p id) p.answers → Agree p (p.answers ++ more) id
@@ -290,13 +279,6 @@ is_refused_at old ids layout answers id refusal step lt ruled faults = inr (step
 
 -- ---- what is made
 
--- What a pass has made when it comes to an id: the bytes and records that are appended, the new records, and the length of all records.
-pub record HasMade (p : Pass) (id : ℕ) (strings : List ℕ) (types new : List Record) (type_len : ℕ) : Type 0 where
-  pub strings_are : strings ≡ flat_map ended (texts_below p id)
-  pub types_are : types ≡ added_below p id
-  pub new_are : new ≡ ruled_below p id
-  pub type_len_is : type_len ≡ type_len_at p id
-
 -- nothing, at first
 pub made_at_first : (p : Pass) → HasMade p 0 [] [] [] (length (type_bytes p.table))
 made_at_first p = record { strings_are = refl; types_are = refl; new_are = refl; type_len_is = omega arith }
@@ -319,14 +301,6 @@ made_next p id more strings types new type_len at made =
     }
 
 -- ---- ids that append nothing
-
--- a kind whose rule appends no text and no record, and can't be refused
-abbrev pub is_quiet : Option Kind → Bool
-is_quiet (Some kinds.Func) = false
-is_quiet (Some kinds.FuncProto) = false
-is_quiet (Some kinds.Enum64) = false
-is_quiet (Some kinds.DataSec) = false
-is_quiet k = true
 
 pub record IsQuiet (p : Pass) (id : ℕ) : Type 0 where
   pub no_texts : texts p id ≡ []

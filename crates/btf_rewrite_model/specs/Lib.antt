@@ -10,3 +10,4 @@ pub mod RewriteExamples
 pub mod DataSecExamples
 pub mod KsymsExamples
 pub mod RewriteLaws
+pub mod Passing

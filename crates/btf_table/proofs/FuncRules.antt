@@ -8,7 +8,8 @@ use Rattle.btf_model.specs.Refusal.{Refusal}
 use Rattle.btf_rewrite_model.specs.Feature as features
 use Rattle.btf_rewrite_model.specs.Feature.{Feature, Answer, grants, is_global}
 use Rattle.btf_model.specs.Table.{Table}
-use Rattle.btf_rewrite_model.proofs.Passing.{AreAnswersTo, NextAnswers}
+use Rattle.btf_rewrite_model.specs.Passing.{AreAnswersTo}
+use Rattle.btf_rewrite_model.proofs.Passing.{NextAnswers}
 use Rattle.btf_plain.specs.declared.records.linkage.FuncLinkage.TheVariants as linkage
 use Rattle.btf_plain.specs.declared.records.linkage.FuncLinkage.{FuncLinkage}
 use Rattle.btf_table.proofs.PassAsking.{asked_none, asked_more, asked_kept}

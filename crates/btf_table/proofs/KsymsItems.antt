@@ -1,8 +1,7 @@
 -- Entries that are laid out, one after another.
 use Rattle.std.proofs.Common.{◌≡◌, ℕ, suc, ◌+◌, ◌*◌, ◌<◌, ◌≤◌, List, [], ◌∷◌, ◌++◌, length, get_or, take, drop, map, Option, refl, sym, ap, ◌∙◌, arith}
-use Rattle.std.specs.Prelude.{if◌then◌else◌}
 use Rattle.std.specs.List.{flat_map}
-use Rattle.std.proofs.lemmas.List.{map-append, length-append, length-take, length-map, append_assoc, append-nil, take_all, drop_all, take_at, drop_at}
+use Rattle.std.proofs.lemmas.List.{map-append, length-take, length-map, append_assoc, append-nil, take_all, drop_all}
 use Rattle.std.proofs.lemmas.List.Concat.{flat_map-append}
 use Rattle.std.proofs.Math.Seq.{take-suc, drop-cons}
 use Rattle.btf_model.specs.Table.{Table}
@@ -10,8 +9,7 @@ use Rattle.btf_rewrite_model.specs.Made as model
 use Rattle.btf_model.specs.Record.{Record}
 use Rattle.btf_rewrite_model.specs.Made.{Entry, entries, wants_name}
 use Rattle.btf_rewrite_model.specs.Ksyms.{named, laid_out, entry_type}
-use Rattle.btf_records.specs.Items.{param_words, entry_words}
-use Rattle.btf_records.specs.declared.records.items.BtfParam.{BtfParam}
+use Rattle.btf_records.specs.Items.{entry_words}
 use Rattle.btf_records.specs.declared.records.items.DataSecEntry.{DataSecEntry}
 use Rattle.btf_table.specs.KsymsStep.{entry, laid_out_anew}
 use Rattle.btf_rules.proofs.NamedParams.{put_at}

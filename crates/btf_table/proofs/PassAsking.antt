@@ -10,7 +10,8 @@ use Rattle.btf_rewrite_model.specs.Feature.{Feature, Answer, same_feature, grant
 use Rattle.btf_rewrite_model.specs.Pass.{Pass, asks_below, each_once, Asked}
 use Rattle.btf_rewrite_model.specs.Pass.{asks as model_asks}
 use Rattle.btf_rewrite_model.specs.RewriteLaws.{IsAmong}
-use Rattle.btf_rewrite_model.proofs.Passing.{AreAnswersTo, NextAnswers, AnswersWith, answer_to, asked_next, grants_append, among_each, features_of, IsAt, further_same, asks_begin, each_once_begins}
+use Rattle.btf_rewrite_model.specs.Passing.{AreAnswersTo, features_of, IsAt}
+use Rattle.btf_rewrite_model.proofs.Passing.{NextAnswers, AnswersWith, answer_to, asked_next, grants_append, among_each, further_same, asks_begin, each_once_begins}
 use Rattle.btf_rules.specs.Features.{feature_of, answer_of, answers_of, told, Asks, AsksFor, Called, IsFurther}
 use Rattle.btf_table.specs.PassStep.{HasAsked, AsksUpTo, BeginsAsked}
 use Rattle.btf_rules.specs.declared.features.BtfFeature.{BtfFeature}

@@ -9,7 +9,8 @@ use Rattle.btf_rewrite_model.specs.Feature as features
 use Rattle.btf_rewrite_model.specs.Feature.{Feature, Answer, grants, is_signed}
 use Rattle.btf_rewrite_model.specs.Made.{record_at}
 use Rattle.btf_rewrite_model.specs.Pass.{Pass, Layout, asks, asks_by, asks_below}
-use Rattle.btf_rewrite_model.proofs.Passing.{AreAnswersTo, NextAnswers}
+use Rattle.btf_rewrite_model.specs.Passing.{AreAnswersTo}
+use Rattle.btf_rewrite_model.proofs.Passing.{NextAnswers}
 use Rattle.btf_records.specs.BtfType.{record_of, type_kind}
 use Rattle.btf_records.specs.declared.btf_type.BtfType.TheVariants as types
 use Rattle.btf_records.specs.declared.btf_type.BtfType.{BtfType}

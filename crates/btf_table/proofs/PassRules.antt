@@ -16,8 +16,10 @@ use Rattle.btf_rewrite_model.specs.Pass.{Pass, has, texts, texts_by, added, adde
 use Rattle.btf_rewrite_model.specs.Rule.{becomes, becomes_by, ruled_below, falls_back, falls_back_by, named_params, placeholder_id, variant_members}
 use Rattle.btf_rewrite_model.specs.Fault.{fault, checks_by, all_fit}
 use Rattle.btf_rewrite_model.proofs.Lengths.{named_len, members_len}
-use Rattle.btf_rewrite_model.proofs.Passing.{is_quiet, IsQuiet, quiet}
-use Rattle.btf_rewrite_model.proofs.FirstMade.{MadeBelow, makes_first, made_first, none_next, makes_no_second, made_next, made_is}
+use Rattle.btf_rewrite_model.specs.Passing.{is_quiet}
+use Rattle.btf_rewrite_model.proofs.Passing.{IsQuiet, quiet}
+use Rattle.btf_rewrite_model.specs.Passing.{MadeBelow}
+use Rattle.btf_rewrite_model.proofs.FirstMade.{makes_first, made_first, none_next, makes_no_second, made_next, made_is}
 use Rattle.std.specs.Prelude.{IfOk, IfSome}
 use Rattle.std.specs.Result.{result_ok}
 use Rattle.std.proofs.lemmas.Option.{none-some}

@@ -29,8 +29,10 @@ use Rattle.btf_rewrite_model.specs.Rewritten.{ended, AreRuled, rewritten}
 use Rattle.btf_rewrite_model.specs.RewriteLaws.{IsAmong, with_answers, Agree, IsSameBelow}
 use Rattle.btf_rewrite_model.proofs.Agreeing.{AgreeAt, agree_at, agree_of, same_below, same_refused}
 use Rattle.btf_rewrite_model.proofs.Appending.{ended_len}
-use Rattle.btf_rewrite_model.proofs.FirstMade.{MadeBelow, none_next, none_below_zero, made_alike, placeholder_alike, filler_alike_below}
-use Rattle.btf_rewrite_model.proofs.Passing.{features_of, is_quiet, IsQuiet, quiet, AreAnswersTo, IsAt, Grows, grows, further_agree, further_same, goes_on, made_next}
+use Rattle.btf_rewrite_model.specs.Passing.{MadeBelow}
+use Rattle.btf_rewrite_model.proofs.FirstMade.{none_next, none_below_zero, made_alike, placeholder_alike, filler_alike_below}
+use Rattle.btf_rewrite_model.specs.Passing.{features_of, is_quiet, AreAnswersTo, IsAt}
+use Rattle.btf_rewrite_model.proofs.Passing.{IsQuiet, quiet, Grows, grows, further_agree, further_same, goes_on, made_next}
 use Rattle.btf_model.proofs.Records.{length-spell}
 use Rattle.btf_rewrite_model.proofs.Ruled.{length-ruled}
 use Rattle.btf_records.specs.BtfType.{record_of, fallback_of}

@@ -21,8 +21,10 @@ use Rattle.btf_rewrite_model.specs.Pass.{Pass, has, name_of, renaming, section_s
 use Rattle.btf_rewrite_model.specs.Rule.{becomes_by, ruled_below, new_name, name_or, completed, placed, filler_id, entry_members, member_name}
 use Rattle.btf_rewrite_model.specs.Fault.{fault, name_checks, member_checks, entry_checks, completing_checks, filler_checks, growth_checks, is_sized}
 use Rattle.btf_rewrite_model.proofs.Lengths.{entries_len}
-use Rattle.btf_rewrite_model.proofs.FirstMade.{MadeBelow, makes_first, made_first, makes_no_second, made_next, made_is}
-use Rattle.btf_rewrite_model.proofs.Passing.{AreAnswersTo, NextAnswers}
+use Rattle.btf_rewrite_model.specs.Passing.{MadeBelow}
+use Rattle.btf_rewrite_model.proofs.FirstMade.{makes_first, made_first, makes_no_second, made_next, made_is}
+use Rattle.btf_rewrite_model.specs.Passing.{AreAnswersTo}
+use Rattle.btf_rewrite_model.proofs.Passing.{NextAnswers}
 use Rattle.btf_plain.specs.Error.{Answers, Gives, refusal_of}
 use Rattle.btf_plain.specs.declared.error.BtfError.{BtfError}
 use Rattle.btf_records.specs.BtfType.{record_of, fallback_of}

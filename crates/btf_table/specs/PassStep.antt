@@ -1,19 +1,17 @@
 -- What the parts of a pass stand for.
-use Rattle.std.specs.Prelude.{◌≡◌, ℕ, suc, ◌+◌, ◌<◌, if◌then◌else◌, Bool, true, false, List, [], ◌∷◌, ◌++◌, length, map, take, slice_get, Option, Some, None, Result, Ok, Err}
+use Rattle.std.specs.Prelude.{◌≡◌, ℕ, suc, ◌+◌, ◌<◌, if◌then◌else◌, List, [], ◌∷◌, ◌++◌, length, map, take, slice_get, Option, Some, None, Result, Ok, Err}
 use Rattle.std.specs.List.{flat_map, sum_by, range_with_len}
-use Rattle.btf_model.specs.Record as kinds
 use Rattle.btf_model.specs.Record.{Kind, Record, kind_of}
 use Rattle.btf_model.specs.Refusal.{Refusal}
 use Rattle.btf_model.specs.Table.{Table, no_fallbacks}
-use Rattle.btf_rewrite_model.specs.Feature as features
-use Rattle.btf_rewrite_model.specs.Feature.{Feature, Answer, is_signed}
+use Rattle.btf_rewrite_model.specs.Feature.{Feature, Answer}
 use Rattle.btf_rewrite_model.specs.Checks.{record_len}
-use Rattle.btf_rewrite_model.specs.Pass.{Pass, Layout, has, asks, asks_below, Asked, texts, added, free_id, offset_at, type_len_at, gets_filler, growth_below, wants_placeholder}
+use Rattle.btf_rewrite_model.specs.Pass.{Pass, Layout, asks, asks_below, Asked, texts, added, free_id, offset_at, type_len_at, gets_filler, growth_below, wants_placeholder}
 use Rattle.btf_rewrite_model.specs.Rule.{becomes, ruled_below, falls_back}
 use Rattle.btf_rewrite_model.specs.Fault.{fault}
 use Rattle.btf_rewrite_model.specs.Rewritten.{ended, AreRuled, rewritten}
-use Rattle.btf_rewrite_model.proofs.Passing.{AreAnswersTo, IsAt, HasMade}
-use Rattle.btf_rewrite_model.proofs.FirstMade.{MadeBelow}
+use Rattle.btf_rewrite_model.specs.Passing.{AreAnswersTo, IsAt, HasMade}
+use Rattle.btf_rewrite_model.specs.Passing.{MadeBelow}
 use Rattle.btf_records.specs.BtfType.{record_of, fallback_of}
 use Rattle.btf_records.specs.declared.btf_type.BtfType.{BtfType}
 use Rattle.btf_table.specs.Adding.{strings_end, next_id, HasRoom}

@@ -6,7 +6,7 @@ ghost use Rattle.btf_rewrite_model.specs.Feature.{Feature};
 ghost use Rattle.btf_rewrite_model.specs.Made.{with_linkage};
 ghost use Rattle.btf_rewrite_model.specs.Pass as model;
 ghost use Rattle.btf_rewrite_model.specs.Pass.{Layout, asks_below};
-ghost use Rattle.btf_rewrite_model.proofs.Passing.{AreAnswersTo};
+ghost use Rattle.btf_rewrite_model.specs.Passing.{AreAnswersTo};
 ghost use Rattle.btf_plain.specs.Error.{Answers};
 ghost use Rattle.btf_rules.specs.Features.{Called, IsFurther, answers_of};
 ghost use Rattle.btf_table.specs.PassStep.{pass_on, IsType, IsHere, AsksUpTo, Steps};

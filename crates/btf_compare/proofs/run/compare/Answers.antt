@@ -1,8 +1,8 @@
 use Rattle.std.proofs.Common.{◌≡◌, ℕ, List, ◌∷◌, Option, Some, Bool, Result, Ok, Err, ◌∙◌, sym, ap, subst, length, ◌-◌}
 use Rattle.std.proofs.lemmas.List.{append-nil}
 use Rattle.btf_model.proofs.Known.{known_pairs}
-use Rattle.btf_model.proofs.Runs as runs
-use Rattle.btf_model.proofs.Runs.{IsNext}
+use Rattle.btf_model.specs.Run as runs
+use Rattle.btf_model.specs.Run.{IsNext}
 use Rattle.btf_model.proofs.RunLengths.{widest, less_on, less_paid, less_settled}
 use Rattle.btf_plain.specs.declared.error.BtfError.{BtfError}
 use Rattle.btf_plain.specs.declared.error.BtfError.TheVariants.{OutOfMemory}

@@ -1,9 +1,6 @@
-use Rattle.std.proofs.Common.{List, Option}
-use Rattle.btf_model.specs.Word.{Order}
 use Rattle.btf_model.specs.Refusal.{Refusal}
 use Rattle.btf_model.specs.Table.{Table}
 use Rattle.btf_model.proofs.Comparisons.{same_ok}
-use Rattle.btf_rewrite_model.specs.Ksyms.{KsymsIds}
 use Rattle.btf_plain.specs.Endianness.{order_of}
 use Rattle.btf_rules.specs.Features.{answers_of}
 use Rattle.btf_rules.specs.Layout.{layout_of}

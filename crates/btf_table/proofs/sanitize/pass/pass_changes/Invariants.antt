@@ -1,4 +1,4 @@
-use Rattle.btf_rewrite_model.proofs.Passing.{IsAt}
+use Rattle.btf_rewrite_model.specs.Passing.{IsAt}
 use Rattle.btf_rules.specs.Features.{answers_of, Called}
 use Rattle.btf_rules.specs.Layout.{layout_of}
 use Rattle.btf_table.specs.PassStep.{pass_on, IsMade}

@@ -3,7 +3,7 @@ use Rattle.btf_model.specs.Record as kinds
 use Rattle.btf_model.specs.Record.{Kind, kind_of}
 use Rattle.btf_rewrite_model.specs.Pass.{Pass}
 use Rattle.btf_rewrite_model.specs.Rule.{ruled_below, becomes_by}
-use Rattle.btf_rewrite_model.proofs.Passing.{is_quiet}
+use Rattle.btf_rewrite_model.specs.Passing.{is_quiet}
 use Rattle.btf_records.specs.BtfType.{record_of, type_kind}
 use Rattle.btf_records.specs.declared.btf_type.BtfType.{BtfType}
 use Rattle.btf_table.specs.PassStep.{pass_on}
