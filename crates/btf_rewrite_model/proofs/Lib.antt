@@ -14,3 +14,4 @@ pub mod Appending
 pub mod Passing
 pub mod FirstMade
 pub mod FewAdded
+pub mod Kernels

@@ -1,4 +1,10 @@
+pub mod NameEnds
+pub mod Told
+pub mod Colons
+pub mod Readings
 pub mod Asking
+pub mod Outcomes
+pub mod Layouts
+pub mod Kernel
+pub mod Rewritings
 pub mod Listings
-pub mod Sizes
-pub mod Comparisons

@@ -7,11 +7,18 @@ use Rattle.btf_model.specs.Blob.{IsTable, IsRefusal, canon}
 use Rattle.btf_model.specs.Walk.{HasSize}
 use Rattle.btf_model.specs.Fields.{Pair}
 use Rattle.btf_model.specs.Compat.{Plain, firsts}
-use Rattle.btf_compare.specs.Pairs.{pair}
+use Rattle.btf_rewrite_model.specs.Rewritten.{Rewritten, IsRefused}
+use Rattle.btf_types.specs.Pairs.{pair}
 use Rattle.btf_plain.specs.Endianness.{order_of}
+use Rattle.btf_plain.specs.declared.words.Endianness.{Endianness}
+use Rattle.btftool.specs.Saying.{Saying}
+use Rattle.btftool.specs.Sayings.{layout_said, kernel_said}
+use Rattle.btftool.specs.Request.{request_ids, IsSaid}
+use Rattle.btftool.specs.declared.request.Request.{Request}
 use Rattle.btftool.specs.declared.line.Line.{Line}
+use Rattle.btftool.specs.declared.line.Query.TheVariants.{Copy, Types, Size, Compat}
 use Rattle.btftool.specs.declared.line.Command.{Command}
-use Rattle.btftool.specs.declared.line.Command.TheVariants.{Copy, Types, Size, Compat}
+use Rattle.btftool.specs.declared.line.Command.TheVariants.{Ask, Rewrite}
 use Rattle.btftool.specs.Listing.{listing, size_line, comparison_lines}
 
 -- The comparison of two types of a table answers this, with so many pairs that it starts; or is refused.
@@ -19,19 +26,30 @@ abbrev pub Compares : Table → ℕ → ℕ → Result (Bool × ℕ) Refusal →
 Compares t id other (Ok found) = (starts : List Pair) × Plain t t [] (pair id other) (Ok found.0) starts × (found.1 ≡ length (firsts starts))
 Compares t id other (Err refusal) = (starts : List Pair) × Plain t t [] (pair id other) (Err refusal) starts
 
+-- The table is rewritten as the words of a request say, for a kernel that has the features that they grant; or is refused.
+abbrev pub Rewrites : Request → Table → Result Table Refusal → Type 0
+Rewrites request t (Ok new) = (said : List Saying) × IsSaid request said × Rewritten t (request_ids request) (layout_said said) (kernel_said said) new
+Rewrites request t (Err refusal) = (said : List Saying) × IsSaid request said × IsRefused t (request_ids request) (layout_said said) (kernel_said said) refusal
+
 -- what a command writes of a table
 abbrev pub Writes : Command → Table → List ℕ → Type 0
-Writes Copy t written = written ≡ canon t
-Writes Types t written = written ≡ listing t
-Writes (Size id) t written = (n : ℕ) × HasSize t.records id (Ok n) × (written ≡ size_line n)
-Writes (Compat id other) t written = (b : Bool) × (n : ℕ) × Compares t id other (Ok (b, n)) × (written ≡ comparison_lines b n)
+Writes (Ask Copy) t written = written ≡ canon t
+Writes (Ask Types) t written = written ≡ listing t
+Writes (Ask (Size id)) t written = (n : ℕ) × HasSize t.records id (Ok n) × (written ≡ size_line n)
+Writes (Ask (Compat id other)) t written = (b : Bool) × (n : ℕ) × Compares t id other (Ok (b, n)) × (written ≡ comparison_lines b n)
+Writes (Rewrite request) t written = (new : Table) × Rewrites request t (Ok new) × (written ≡ canon new)
 
 -- why a command refuses a table
 abbrev pub Declines : Command → Table → Refusal → Type 0
-Declines Copy t refusal = ⊥
-Declines Types t refusal = ⊥
-Declines (Size id) t refusal = HasSize t.records id (Err refusal)
-Declines (Compat id other) t refusal = Compares t id other (Err refusal)
+Declines (Ask Copy) t refusal = ⊥
+Declines (Ask Types) t refusal = ⊥
+Declines (Ask (Size id)) t refusal = HasSize t.records id (Err refusal)
+Declines (Ask (Compat id other)) t refusal = Compares t id other (Err refusal)
+Declines (Rewrite request) t refusal = Rewrites request t (Err refusal)
+
+-- the line that asks for a rewrite
+abbrev pub rewriting : Endianness → Request → Line
+rewriting endianness request = record { endianness = endianness; command = Rewrite request }
 
 -- the bytes stand for a table, and the command writes this of it
 abbrev pub IsAnswer : Line → List ℕ → List ℕ → Type 0

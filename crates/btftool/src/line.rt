@@ -1,15 +1,17 @@
 //! What the words after the program's name ask for.
 
-ghost use Rattle.std.specs.Prelude.{◌≡◌, ◌≢◌, ℕ, IfSome, IfNone};
+ghost use Rattle.std.specs.Prelude.{◌≡◌, ◌≢◌, IfSome, IfNone};
 ghost use Rattle.btf_model.specs.Word.{Order};
 ghost use Rattle.btf_plain.specs.Endianness.{order_of};
-ghost use Rattle.btftool.specs.Line.{order_word, IsId};
+ghost use Rattle.btftool.specs.Line.{order_word};
 
+use crate::number::read_id;
+use crate::request::Request;
 use btf_plain::Endianness;
 
-/// What is to be made of a table.
+/// What is asked of a table as it is.
 #[derive(Clone, Copy)]
-pub enum Command {
+pub enum Query {
     /// The table written again.
     Copy,
     /// A line for each type.
@@ -20,11 +22,20 @@ pub enum Command {
     Compat(u32, u32),
 }
 
+/// What is to be made of a table.
+#[derive(Clone, Copy)]
+pub enum Command<'a> {
+    /// The answer to a query.
+    Ask(Query),
+    /// The table rewritten for a kernel.
+    Rewrite(Request<'a>),
+}
+
 /// A command line that can be read.
 #[derive(Clone, Copy)]
-pub struct Line {
+pub struct Line<'a> {
     pub endianness: Endianness,
-    pub command: Command,
+    pub command: Command<'a>,
 }
 
 /// The byte order that a word names.
@@ -39,42 +50,31 @@ fn read_order(word: &str) -> Option<Endianness>
     }
 }
 
-/// The id that a word of decimal digits says.
-fn read_id(word: &str) -> Option<u32>
-    ensures some { IfSome result (IsId word.now) }
-    ensures none { IfNone result ((id : ℕ) → IsId word.now id → ⊥) }
-{
-    // A sign is no digit, and `parse` would take it.
-    if word.starts_with('+') {
-        return None;
-    }
-    word.parse().ok()
-}
-
-impl Command {
+impl Query {
     ghost use Rattle.std.specs.Prelude.{IfSome, IfNone};
-    ghost use Rattle.btftool.specs.Line.{AsksCommand, texts};
-    ghost use Rattle.btftool.specs.declared.line.Command.{Command};
+    ghost use Rattle.btftool.specs.Line.{AsksQuery};
+    ghost use Rattle.btftool.specs.Saying.{texts};
+    ghost use Rattle.btftool.specs.declared.line.Query.{Query};
 
-    /// The command that the words behind the order make.
-    fn read(words: &[String]) -> Option<Command>
-        ensures some { IfSome result (AsksCommand (texts words.now)) }
-        ensures none { IfNone result ((command : Command) → AsksCommand (texts words.now) command → ⊥) }
+    /// The query that the words after the order make.
+    fn read(words: &[String]) -> Option<Query>
+        ensures some { IfSome result (AsksQuery (texts words.now)) }
+        ensures none { IfNone result ((query : Query) → AsksQuery (texts words.now) query → ⊥) }
     {
         match words {
             [word] => match word.as_str() {
-                "copy" => Some(Command::Copy),
-                "types" => Some(Command::Types),
+                "copy" => Some(Query::Copy),
+                "types" => Some(Query::Types),
                 _ => None,
             },
             [word, id] => match word.as_str() {
-                "size" => Some(Command::Size(read_id(id.as_str())?)),
+                "size" => Some(Query::Size(read_id(id.as_str())?)),
                 _ => None,
             },
             [word, id, other] => match word.as_str() {
                 "compat" => {
                     let id = read_id(id.as_str())?;
-                    Some(Command::Compat(id, read_id(other.as_str())?))
+                    Some(Query::Compat(id, read_id(other.as_str())?))
                 }
                 _ => None,
             },
@@ -83,13 +83,32 @@ impl Command {
     }
 }
 
-impl Line {
+impl<'a> Command<'a> {
+    ghost use Rattle.std.specs.Prelude.{IfSome, IfNone};
+    ghost use Rattle.btftool.specs.Line.{AsksCommand};
+    ghost use Rattle.btftool.specs.Saying.{texts};
+    ghost use Rattle.btftool.specs.declared.line.Command.{Command};
+
+    /// The command that the words after the order make.
+    fn read(words: &'a [String]) -> Option<Command<'a>>
+        ensures some { IfSome result (AsksCommand (texts words.now)) }
+        ensures none { IfNone result ((command : Command) → AsksCommand (texts words.now) command → ⊥) }
+    {
+        let (word, rest) = words.split_first()?;
+        if word.as_str() == "rewrite" {
+            return Some(Command::Rewrite(Request::read(rest)?));
+        }
+        Some(Command::Ask(Query::read(words)?))
+    }
+}
+
+impl<'a> Line<'a> {
     ghost use Rattle.std.specs.Prelude.{IfSome, IfNone};
     ghost use Rattle.btftool.specs.Line.{Asks};
     ghost use Rattle.btftool.specs.declared.line.Line.{Line};
 
     /// The line that the words make, or None where they can't be read.
-    pub fn read(words: &[String]) -> Option<Line>
+    pub fn read(words: &'a [String]) -> Option<Line<'a>>
         ensures some { IfSome result (Asks words.now) }
         ensures none { IfNone result ((line : Line) → Asks words.now line → ⊥) }
     {

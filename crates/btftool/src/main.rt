@@ -5,9 +5,13 @@ mod comparison;
 mod fault;
 mod line;
 mod listing;
+mod number;
+mod request;
+mod rewrite;
 mod run;
 #[cfg(test)]
 mod tests;
+mod word;
 
 pub use run::run;
 use std::alloc::Global;

@@ -1,17 +1,19 @@
 //! The program over any streams.
 
 ghost use Rattle.std.specs.Prelude.{◌≡◌, ℕ, List, ◌↔◌, Some, IfOk, IfErr, OnOk, IfSome, IsErr};
-ghost use Rattle.std.specs.Io.KnownBytes.{Keeps};
+ghost use Rattle.std.specs.Io.KnownBytes.{IsAtEnd, Keeps};
 ghost use Rattle.btf_model.specs.Refusal.{Refusal};
 ghost use Rattle.btf_plain.specs.Error.{refusal_of};
+ghost use Rattle.btftool.specs.declared.line.Command.TheVariants.{Ask};
 ghost use Rattle.btftool.specs.declared.line.Line.{Line};
-ghost use Rattle.btftool.specs.Line.{Asks};
-ghost use Rattle.btftool.specs.Answer.{IsAnswer, IsDeclined, IsWritten};
+ghost use Rattle.btftool.specs.Line.{Asks, IsAsked};
+ghost use Rattle.btftool.specs.Answer.{Writes, Declines, IsAnswer, IsDeclined, IsWritten};
 
 use crate::comparison::compared;
 use crate::fault::Fault;
-use crate::line::{Command, Line};
+use crate::line::{Command, Line, Query};
 use crate::listing::{comparison_lines, listing, size_line};
+use crate::rewrite::rewritten;
 use btf_plain::{BtfError, Endianness};
 use btf_types::Btf;
 use std::alloc::Global;
@@ -21,7 +23,8 @@ const USAGE: &str = "usage: btftool little|big copy|types|size ID|compat ID ID|r
 
 /// The whole input.
 fn read_input<R: Read>(alloc: Global, input: &mut R) -> Result<Vec<u8>, Fault>
-    ensures { IfOk result (λ v. IfSome (R.remaining input.old) (λ bytes. v.items ≡ bytes)) }
+    ensures whole { IfOk result (λ v. IfSome (R.remaining input.old) (λ bytes. v.items ≡ bytes)) }
+    ensures end { OnOk result (IsAtEnd (R.remaining input.new)) }
 {
     let mut bytes = Vec::new(alloc);
     match input.read_to_end(&mut bytes) {
@@ -31,22 +34,36 @@ fn read_input<R: Read>(alloc: Global, input: &mut R) -> Result<Vec<u8>, Fault>
     }
 }
 
-/// What the command makes of a blob.
-fn answer(alloc: Global, line: Line, blob: &[u8]) -> Result<Vec<u8>, BtfError>
-    ensures made { IfOk result (λ v. IsAnswer line blob.now v.items) }
-    ensures refused { (f : Refusal) → IsDeclined line blob.now f → IsErr result }
-    // A refusal is told for its cause alone.
-    ensures told { IfErr result (λ e. IfSome (refusal_of e) (IsDeclined line blob.now)) }
+/// The answer to a query about a table.
+fn asked(alloc: Global, query: Query, table: &Btf) -> Result<Vec<u8>, BtfError>
+    ensures made { IfOk result (λ v. Writes (Ask query) table.now v.items) }
+    ensures told { IfErr result (λ e. IfSome (refusal_of e) (Declines (Ask query) table.now)) }
 {
-    let table = Btf::parse(alloc, blob, line.endianness)?;
-    match line.command {
-        Command::Copy => table.to_bytes(),
-        Command::Types => listing(alloc, &table),
-        Command::Size(id) => size_line(alloc, table.type_size(id)?),
-        Command::Compat(id, other) => {
-            let (answer, starts) = compared(alloc, &table, id, other)?;
+    match query {
+        Query::Copy => table.to_bytes(),
+        Query::Types => listing(alloc, table),
+        Query::Size(id) => size_line(alloc, table.type_size(id)?),
+        Query::Compat(id, other) => {
+            let (answer, starts) = compared(alloc, table, id, other)?;
             comparison_lines(alloc, answer, starts)
         }
+    }
+}
+
+/// What the command makes of a blob.
+fn answer(alloc: Global, line: Line, blob: &[u8]) -> Result<Vec<u8>, BtfError>
+    requires { IsAsked line }
+    ensures made { IfOk result (λ v. IsAnswer line.entry blob.now v.items) }
+    ensures refused { (f : Refusal) → IsDeclined line.entry blob.now f → IsErr result }
+    // A refusal is told for its cause alone.
+    ensures told { IfErr result (λ e. IfSome (refusal_of e) (IsDeclined line.entry blob.now)) }
+{
+    match line.command {
+        Command::Ask(query) => {
+            let table = Btf::parse(alloc, blob, line.endianness)?;
+            asked(alloc, query, &table)
+        }
+        Command::Rewrite(request) => rewritten(alloc, line.endianness, request, blob),
     }
 }
 
@@ -57,10 +74,12 @@ fn carry_out<R: Read, W: Write>(
     input: &mut R,
     out: &mut W,
 ) -> Result<(), Fault>
+    requires { IsAsked line }
     ensures written { OnOk result (IfSome (R.remaining input.old) (λ bytes.
-        IsWritten (W.contents out.old) (W.contents out.new) line bytes)) }
-    ensures refused { (bytes : List ℕ) (f : Refusal) → R.remaining input.old ≡ Some bytes → IsDeclined line bytes f
+        IsWritten (W.contents out.old) (W.contents out.new) line.entry bytes)) }
+    ensures refused { (bytes : List ℕ) (f : Refusal) → R.remaining input.old ≡ Some bytes → IsDeclined line.entry bytes f
         → IsErr result × Keeps (W.contents out.old) (W.contents out.new) }
+    ensures end { OnOk result (IsAtEnd (R.remaining input.new)) }
 {
     let blob = read_input(alloc, input)?;
     let bytes = answer(alloc, line, &blob)?;
@@ -84,6 +103,8 @@ pub fn run<R: Read, W: Write, E: Write>(
     // On success the input stands for a table, and what the command makes of it is written.
     ensures written { (line : Line) → Asks words.now line → result ≡ 0 → IfSome (R.remaining input.old) (λ bytes.
         IsWritten (W.contents out.old) (W.contents out.new) line bytes) }
+    // Then the input has been read to its end.
+    ensures end { result ≡ 0 → IsAtEnd (R.remaining input.new) }
     // Input that stands for no table, or for one that the command refuses, ends so, and nothing is written on standard
     // output.
     ensures refused { (line : Line) (bytes : List ℕ) (f : Refusal) → Asks words.now line → R.remaining input.old ≡ Some bytes

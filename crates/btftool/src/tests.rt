@@ -1,5 +1,8 @@
 //! Runs of the program: statuses, what is written, and the texts.
 
+mod rewrite;
+mod rewrite_lines;
+
 use crate::run;
 use std::alloc::{AllocError, Global};
 use std::io;
@@ -122,7 +125,7 @@ fn blob_of(alloc: Global, records: &str, strings: &str) -> Result<Vec<u8>, Fail>
     Ok(blob)
 }
 
-/// The status of a line over a blob, with all that was written behind it.
+/// The status of a line over a blob, with all that was written after it.
 fn outcome(alloc: Global, line: &str, blob: &[u8]) -> Result<String, Fail> {
     let mut input = blob;
     let mut out = Vec::new(alloc);
@@ -243,7 +246,7 @@ fn unreadable_lines_have_the_usage(rt: HostRuntime) -> Result<(), Fail> {
         "little compat 1 2 3",
         "little compat 1 +1",
         "little compat 1 4294967296",
-        "little rewrite",
+        "little rewritten",
     ];
     for line in lines {
         let words = words(alloc, line)?;

@@ -1,20 +1,24 @@
-use Rattle.btftool.proofs.Sizes.{sized_not_declined, size_declined}
-use Rattle.btftool.proofs.Comparisons.{compared_not_declined, compared_declined}
+use Rattle.std.proofs.Common.{sym, subst}
+use Rattle.std.specs.Prelude.{IfOk, IfErr, IfSome}
+use Rattle.btf_plain.specs.Error.{refusal_of}
+use Rattle.btftool.specs.declared.line.Line.{Line}
+use Rattle.btftool.specs.declared.line.Command.TheVariants.{Rewrite}
+use Rattle.btftool.specs.Answer.{IsAnswer, IsDeclined}
+use Rattle.btftool.proofs.Outcomes.{declined_fails, query_made, query_told, line_of}
 use Rattle.btftool.proofs.run.answer.Goals as goal
 
-pub returns-in-Size-clause-refused : goal.returns-in-Size-clause-refused
-returns-in-Size-clause-refused c = λ f p. absurd (sized_not_declined c.args.line c.args.blob.now c.in_ok-table.table c.in-Size.id c.in_ok-type_size-in-Size.field-0 f c.in-Size.is c.in_ok-table.ensures.parsed c.in_ok-type_size-in-Size.ensures p)
+pub returns-in_ok-table-in-Ask-clause-refused : goal.returns-in_ok-table-in-Ask-clause-refused
+returns-in_ok-table-in-Ask-clause-refused c =
+    declined_fails c.args.line c.args.blob.now c.asked.result (query_made c.args.line c.args.blob.now c.in-Ask.query c.in_ok-table-in-Ask.table c.asked.result c.in-Ask.is c.in_ok-table-in-Ask.ensures.parsed c.asked.ensures.made)
 
-pub returns-clause-refused : goal.returns-clause-refused
-returns-clause-refused c = λ f p.
-    absurd (compared_not_declined c.args.line c.args.blob.now c.in_ok-table.table c.in-Compat.id c.in-Compat.other (c.in_ok-answer-in-Compat.answer, c.in_ok-answer-in-Compat.starts) f c.in-Compat.is c.in_ok-table.ensures.parsed c.in_ok-answer-in-Compat.ensures p)
+pub returns-in_ok-table-in-Ask-clause-told : goal.returns-in_ok-table-in-Ask-clause-told
+returns-in_ok-table-in-Ask-clause-told c = query_told c.args.line c.args.blob.now c.in-Ask.query c.in_ok-table-in-Ask.table c.asked.result c.in-Ask.is c.in_ok-table-in-Ask.ensures.parsed c.asked.ensures.told
 
-pub returns-in_err-type_size-in-Size-clause-told : goal.returns-in_err-type_size-in-Size-clause-told
-returns-in_err-type_size-in-Size-clause-told c =
-    size_declined c.args.line c.args.blob.now c.in_ok-table.table c.in-Size.id c.in_err-type_size-in-Size.field-0.0 c.from_residual-in_err-type_size-in-Size.result c.in-Size.is c.in_ok-table.ensures.parsed
-    c.in_err-type_size-in-Size.ensures c.from_residual-in_err-type_size-in-Size.ensures.1
+pub returns-in-Rewrite-clause-refused : goal.returns-in-Rewrite-clause-refused
+returns-in-Rewrite-clause-refused c =
+    declined_fails c.args.line c.args.blob.now c.rewritten.result
+    (subst (λ (line : Line). IfOk c.rewritten.result (λ v. IsAnswer line c.args.blob.now v.items)) (sym (line_of c.args.line (Rewrite c.in-Rewrite.request) c.in-Rewrite.is)) c.rewritten.ensures.made)
 
-pub returns-in_err-answer-in-Compat-clause-told : goal.returns-in_err-answer-in-Compat-clause-told
-returns-in_err-answer-in-Compat-clause-told c =
-    compared_declined c.args.line c.args.blob.now c.in_ok-table.table c.in-Compat.id c.in-Compat.other c.in_err-answer-in-Compat.field-0.0 c.from_residual-in_err-answer-in-Compat.result c.in-Compat.is c.in_ok-table.ensures.parsed
-    c.in_err-answer-in-Compat.ensures c.from_residual-in_err-answer-in-Compat.ensures.1
+pub returns-in-Rewrite-clause-told : goal.returns-in-Rewrite-clause-told
+returns-in-Rewrite-clause-told c =
+    subst (λ (line : Line). IfErr c.rewritten.result (λ e. IfSome (refusal_of e) (IsDeclined line c.args.blob.now))) (sym (line_of c.args.line (Rewrite c.in-Rewrite.request) c.in-Rewrite.is)) c.rewritten.ensures.told

@@ -6,5 +6,5 @@ use Rattle.btftool.proofs.run.carry_out.Goals as goal
 
 pub returns-clause-refused : goal.returns-clause-refused
 returns-clause-refused g c = λ bytes f is declined.
-    let read : c.in_ok-blob.blob.items ≡ bytes = subst (λ (o : Option (List ℕ)). IfSome o (λ bs. c.in_ok-blob.blob.items ≡ bs)) is c.in_ok-blob.ensures in
+    let read : c.in_ok-blob.blob.items ≡ bytes = subst (λ (o : Option (List ℕ)). IfSome o (λ bs. c.in_ok-blob.blob.items ≡ bs)) is c.in_ok-blob.ensures.whole in
     absurd (false≢true (c.in_ok-bytes.ensures.refused f (subst (λ (bs : List ℕ). IsDeclined c.args.line bs f) (sym (c.deref.ensures.value ∙ read)) declined)))

@@ -1,5 +1,5 @@
 use Rattle.std.proofs.Common.{rules}
-use Rattle.btftool.specs.Line.{texts}
+use Rattle.btftool.specs.Saying.{texts}
 use Rattle.btftool.proofs.line.Line.read.Goals as goal
 
 -- src/line.rt:80:5

@@ -1,0 +1,55 @@
+-- What a word of a rewrite says.
+use Rattle.std.specs.Prelude.{◌≡◌, ◌<◌, ◌^◌, ◌++◌, List, ℕ, string_bytes, codes, map}
+use Rattle.std.specs.Prelude.{String}
+use Rattle.std.specs.Str.Parse.{IsNumeral, digits_value}
+use Rattle.std.specs.declared.alloc.Global.{Global}
+use Rattle.btf_rewrite_model.specs.Feature.{Feature}
+use Rattle.btf_rewrite_model.specs.Feature as features
+
+-- the texts of the words
+abbrev pub texts : List (String Global) → List (List ℕ)
+texts words = map string_bytes words
+
+-- one or more decimal digits, and the number that they are, which has so many bits
+abbrev pub IsNumber : ℕ → List ℕ → ℕ → Type 0
+IsNumber bits text n = IsNumeral 10 text × (digits_value 10 text ≡ n) × (n < 2 ^ bits)
+
+-- the id that a text says
+abbrev pub IsId : List ℕ → ℕ → Type 0
+IsId text id = IsNumber 32 text id
+
+-- A name and a number with `=` between them. As the number is of digits, the name ends at the last `=`.
+abbrev pub IsNamed : List ℕ → List ℕ → ℕ → Type 0
+IsNamed text name n = (digits : List ℕ) × (text ≡ name ++ codes "=" ++ digits) × IsNumber 64 digits n
+
+-- the word that grants a feature
+abbrev pub feature_word : Feature → List ℕ
+feature_word features.Func = codes "Func"
+feature_word features.FuncGlobal = codes "FuncGlobal"
+feature_word features.DataSec = codes "DataSec"
+feature_word features.DataSecZero = codes "DataSecZero"
+feature_word features.Float = codes "Float"
+feature_word features.DeclTag = codes "DeclTag"
+feature_word features.TypeTag = codes "TypeTag"
+feature_word features.Enum64 = codes "Enum64"
+
+-- what a word can say
+pub data Saying : Type 0 where
+  -- the kernel has this feature
+  Grants : (feature : Feature) → Saying
+  -- the section of this name has this size
+  SectionSize : (name : List ℕ) (size : ℕ) → Saying
+  -- the symbol of this name has this offset
+  SymbolOffset : (name : List ℕ) (offset : ℕ) → Saying
+  -- this is the id of `.ksyms`
+  KsymsId : (id : ℕ) → Saying
+  -- this is the id of the VAR that takes the place of functions
+  PlaceholderId : (id : ℕ) → Saying
+
+-- The word says this.
+abbrev pub Says : List ℕ → Saying → Type 0
+Says word (Grants feature) = word ≡ feature_word feature
+Says word (SectionSize name size) = (text : List ℕ) × (word ≡ codes "section:" ++ text) × IsNamed text name size
+Says word (SymbolOffset name offset) = (text : List ℕ) × (word ≡ codes "symbol:" ++ text) × IsNamed text name offset
+Says word (KsymsId id) = (text : List ℕ) × (word ≡ codes "ksyms:" ++ text) × IsId text id
+Says word (PlaceholderId id) = (text : List ℕ) × (word ≡ codes "placeholder:" ++ text) × IsId text id
