@@ -1,0 +1,193 @@
+-- The parts of the plain recursion, and what they stand for.
+use Rattle.std.proofs.Common.{◌≡◌, ◌≢◌, ℕ, zero, suc, List, [], ◌∷◌, ◌++◌, length, refl, sym, ap, subst, ◌∙◌, inl, inr, Bool, true, false, Some, Ok, Err, Result, Contains, arith, append_assoc}
+use Rattle.std.specs.Prelude.{map, ◌↔◌, IfOk, IsErrAnd}
+use Rattle.std.specs.List.{list_any}
+use Rattle.std.proofs.Math.Bool.{or-true}
+use Rattle.std.proofs.lemmas.Bool.{false≢true, or_cases}
+use Rattle.std.proofs.lemmas.List.{append-nil, map-append}
+use Rattle.btf_model.specs.Record.{Record, Kind, compared_kind}
+use Rattle.btf_model.specs.Refusal.{Refusal, MaximumTypeDepthReached}
+use Rattle.btf_model.specs.Table.{Table}
+use Rattle.btf_model.specs.Walk.{walk_limit}
+use Rattle.btf_model.specs.Fields.{Pair, IsAt}
+use Rattle.btf_model.specs.Compat as model
+use Rattle.btf_model.specs.Compat.{Told, On, Owes, Finds, PositionFound, parameter_types, pairs, prototypes, ResolvesPair, Plain, Walked, Paid, AreKnown, pair_eq}
+use Rattle.btf_model.proofs.Known.{Among, among_from_contains, contains_from_among}
+use Rattle.btf_model.proofs.Firsts.{eq_itself, eq_same}
+use Rattle.btf_plain.specs.Error.{Tells, refusal_of}
+use Rattle.btf_plain.specs.declared.error.BtfError.{BtfError}
+use Rattle.btf_plain.specs.declared.error.BtfError.TheVariants as errors
+use Rattle.btf_records.specs.declared.records.items.BtfParam.{BtfParam}
+use Rattle.btf_reference.specs.declared.plain_comparison.Position.{Position}
+use Rattle.btf_reference.specs.declared.plain_comparison.Position.TheVariants as positions
+use Rattle.btf_types.specs.Pairs.{pair_of, ids_of, IsResolved}
+use Rattle.btf_types.specs.Compared.{types_of}
+use Rattle.btf_reference.specs.PlainComparison.{PositionIs, AreStarted, Lists}
+
+-- ---- what is found behind modifiers
+
+told_more : (answer : Result Bool BtfError) (P Q : model.Position → Type 0) → ((x : model.Position) → P x → Q x) → Tells (λ b. b) answer (λ a. P (Told a)) → Tells (λ b. b) answer (λ a. Q (Told a))
+told_more (Ok b) P Q more h = more (Told (Ok b)) h
+told_more (Err e) P Q more h = (h.0, h.1, more (Told (Err h.0)) h.2)
+
+position_more : (x : Position) (P Q : model.Position → Type 0) → ((y : model.Position) → P y → Q y) → PositionIs x P → PositionIs x Q
+position_more (positions.Told answer) P Q more h = told_more answer P Q more h
+position_more (positions.On next) P Q more h = more _ h
+position_more (positions.Owes params others next) P Q more h = more _ h
+
+pub found_behind : (local target : Table) (at : Pair) (found other : ℕ × Kind × Record) (x : Position) → IsResolved local at.local (Ok found) → IsResolved target at.target (Ok other) → PositionIs x (PositionFound found.0 found.1 other.1 found.2 other.2) → PositionIs x (Finds local target at)
+found_behind local target at found other x h g is =
+    position_more x (PositionFound found.0 found.1 other.1 found.2 other.2) (Finds local target at)
+    (λ y is. inr (record { local = found.0; target = other.0 }, found.1, other.1, found.2, other.2, (h.0, g.0), h.1, g.1, is)) is
+
+-- ---- errors that are handed on
+
+pub told_err : {X Y : Type 0} (view : X → Y) (P : Result Y Refusal → Type 0) (r : Result X BtfError) (e : BtfError) (f : Refusal) → IsErrAnd r (λ y. y ≡ e) → refusal_of e ≡ Some f → P (Err f) → Tells view r P
+told_err view P (Ok x) e f is told h = absurd is
+told_err view P (Err y) e f is told h = (f, ap refusal_of is ∙ told, h)
+
+-- ---- open pairs
+
+any_open : (above : List (ℕ × ℕ)) (ids : ℕ × ℕ) → list_any (λ y. pair_eq (pair_of y) (pair_of ids)) above ≡ true → Among (map pair_of above) (pair_of ids)
+any_open [] ids is = absurd (false≢true is)
+any_open (y ∷ ys) ids is =
+    elim (or_cases (pair_eq (pair_of y) (pair_of ids)) (list_any (λ x. pair_eq (pair_of x) (pair_of ids)) ys) is) [
+      | inl h ↦ inl (eq_same (pair_of y) (pair_of ids) h)
+      | inr h ↦ inr (any_open ys ids h)
+    ]
+
+found_open : (above : List (ℕ × ℕ)) (ids : ℕ × ℕ) → Among (map pair_of above) (pair_of ids) → list_any (λ y. pair_eq (pair_of y) (pair_of ids)) above ≡ true
+found_open [] ids m = absurd m
+found_open (y ∷ ys) ids (inl is) = rw (subst (λ (q : Pair). pair_eq (pair_of y) q ≡ true) is (eq_itself (pair_of y))) refl
+found_open (y ∷ ys) ids (inr m) = rw (found_open ys ids m) (or-true (pair_eq (pair_of y) (pair_of ids)))
+
+pub is_open : (above : List (ℕ × ℕ)) (ids : ℕ × ℕ) (b : Bool) → b ≡ list_any (λ y. pair_eq (pair_of y) (pair_of ids)) above → (b ≡ true) ↔ Contains (map pair_of above) (pair_of ids)
+is_open above ids b is = ((λ t. contains_from_among (map pair_of above) (pair_of ids) (any_open above ids (sym is ∙ t))), (λ h. is ∙ found_open above ids (among_from_contains (map pair_of above) (pair_of ids) h)))
+
+-- ---- answers with the pairs that they list
+
+pub ok_more : {A E : Type 0} (P Q : A → Type 0) (r : Result A E) → ((a : A) → P a → Q a) → IfOk r P → IfOk r Q
+ok_more P Q (Ok a) more h = more a h
+ok_more P Q (Err e) more h = h
+
+joined : (first listed : List Pair) (old mid new : List (ℕ × ℕ)) → mid ≡ old ++ map ids_of first → new ≡ mid ++ map ids_of listed → new ≡ old ++ map ids_of (first ++ listed)
+joined first listed old mid new is more =
+    more ∙ ap (λ (xs : List (ℕ × ℕ)). xs ++ map ids_of listed) is ∙ append_assoc old (map ids_of first) (map ids_of listed) ∙ ap (λ (xs : List (ℕ × ℕ)). old ++ xs) (sym (map-append ids_of first listed))
+
+-- what is listed behind first ones
+lists_behind : (P Q : Result Bool Refusal → List Pair → Type 0) (r : Result Bool BtfError) (first : List Pair) (old mid new : List (ℕ × ℕ)) → ((a : Result Bool Refusal) (t : List Pair) → P a t → Q a (first ++ t))
+    → mid ≡ old ++ map ids_of first → Lists P r mid new → Lists Q r old new
+lists_behind P Q (Ok b) first old mid new more is h = (first ++ h.0, more (Ok b) h.0 h.1, joined first h.0 old mid new is h.2)
+lists_behind P Q (Err e) first old mid new more is h = (h.0, h.1, (first ++ h.2.0, more (Err h.0) h.2.0 h.2.1, joined first h.2.0 old mid new is h.2.2))
+
+lists_more : (P Q : Result Bool Refusal → List Pair → Type 0) (r : Result Bool BtfError) (old new : List (ℕ × ℕ)) → ((a : Result Bool Refusal) (t : List Pair) → P a t → Q a t) → Lists P r old new → Lists Q r old new
+lists_more P Q r old new more h = lists_behind P Q r [] old old new more (sym (append-nil old)) h
+
+-- an answer that is not true
+lists_other : (P Q : Result Bool Refusal → List Pair → Type 0) (r : Result Bool BtfError) (old new : List (ℕ × ℕ)) → (r ≡ Ok true → ⊥) → ((a : Result Bool Refusal) (t : List Pair) → P a t → a ≢ Ok true → Q a t) → Lists P r old new → Lists Q r old new
+lists_other P Q (Ok true) old new never more h = absurd (never refl)
+lists_other P Q (Ok false) old new never more h = (h.0, more (Ok false) h.0 h.1 (λ e. cc), h.2)
+lists_other P Q (Err e) old new never more h = (h.0, h.1, (h.2.0, more (Err h.0) h.2.0 h.2.1 (λ e. cc), h.2.2))
+
+lists_none : (P : Result Bool Refusal → List Pair → Type 0) (r : Result Bool BtfError) (old : List (ℕ × ℕ)) → Tells (λ b. b) r (λ a. P a []) → Lists P r old old
+lists_none P (Ok b) old h = ([], h, sym (append-nil old))
+lists_none P (Err e) old h = (h.0, h.1, ([], h.2, sym (append-nil old)))
+
+module _ (local target : Table) where
+  -- ---- a pair
+
+  pub again_lists : (above : List Pair) (ids : ℕ × ℕ) (old : List (ℕ × ℕ)) → Contains above (pair_of ids) → Lists (Plain local target above (pair_of ids)) (Err (errors.MaximumTypeDepthReached ids.0)) old old
+  again_lists above ids old h = lists_none (Plain local target above (pair_of ids)) (Err (errors.MaximumTypeDepthReached ids.0)) old (MaximumTypeDepthReached ids.0, refl, Plain.again above (pair_of ids) h)
+
+  not_started : (above : List Pair) (p : Pair) (f : Refusal) → ¬ (Contains above p) → AreStarted local target p (Err f) → Plain local target above p (Err f) []
+  not_started above p f new (inl h) = subst (λ (g : Refusal). Plain local target above p (Err g) []) (sym h.1) (Plain.no_local above p new h.0)
+  not_started above p f new (inr h) = subst (λ (g : Refusal). Plain local target above p (Err g) []) (sym h.3) (Plain.no_target above p h.0 new h.1 h.2)
+
+  pub unknown_lists : (above : List Pair) (ids : ℕ × ℕ) (e : BtfError) (old : List (ℕ × ℕ)) → ¬ (Contains above (pair_of ids)) → Tells {X = Bool} (λ b. b) (Err e) (AreStarted local target (pair_of ids)) → Lists (Plain local target above (pair_of ids)) (Err e) old old
+  unknown_lists above ids e old new h = lists_none (Plain local target above (pair_of ids)) (Err e) old (h.0, h.1, not_started above (pair_of ids) h.0 new h.2)
+
+  pub differing_lists : (above : List Pair) (ids : ℕ × ℕ) (old new : List (ℕ × ℕ)) → ¬ (Contains above (pair_of ids)) → AreStarted local target (pair_of ids) (Ok false) → new ≡ old ++ ids ∷ [] → Lists (Plain local target above (pair_of ids)) (Ok false) old new
+  differing_lists above ids old new never h is = (pair_of ids ∷ [], Plain.kinds_differ above (pair_of ids) h.0 h.1 never h.2 h.3, is)
+
+  pub walk_lists : (above under : List Pair) (ids : ℕ × ℕ) (r : Result Bool BtfError) (old mid new : List (ℕ × ℕ)) → ¬ (Contains above (pair_of ids)) → AreStarted local target (pair_of ids) (Ok true) → under ≡ pair_of ids ∷ above → mid ≡ old ++ ids ∷ []
+      → Lists (Walked local target under walk_limit (pair_of ids)) r mid new → Lists (Plain local target above (pair_of ids)) r old new
+  walk_lists above under ids r old mid new never h opened is walk =
+      let p = pair_of ids in
+      lists_behind (Walked local target under walk_limit p) (Plain local target above p) r (p ∷ []) old mid new
+      (λ a t w. Plain.walked above p h.0 h.1 a t never h.2 h.3 (subst (λ (u : List Pair). Walked local target u walk_limit p a t) opened w))
+      is walk
+
+  -- ---- a walk
+
+  pub deep_lists : (above : List Pair) (n : ℕ) (ids : ℕ × ℕ) (old : List (ℕ × ℕ)) → n ≡ zero → Lists (Walked local target above n (pair_of ids)) (Err (errors.MaximumTypeDepthReached ids.0)) old old
+  deep_lists above n ids old is =
+      lists_none (Walked local target above n (pair_of ids)) (Err (errors.MaximumTypeDepthReached ids.0)) old
+      (MaximumTypeDepthReached ids.0, refl, subst (λ (m : ℕ). Walked local target above m (pair_of ids) (Err (MaximumTypeDepthReached ids.0)) []) (sym is) (Walked.too_deep above (pair_of ids)))
+
+  told_walk : (above : List Pair) (n m : ℕ) (at : Pair) (r : Result Bool BtfError) → m ≡ suc n → Tells (λ b. b) r (λ a. Finds local target at (Told a)) → Tells (λ b. b) r (λ a. Walked local target above m at a [])
+  told_walk above n m at (Ok b) is h = subst (λ (k : ℕ). Walked local target above k at (Ok b) []) (sym is) (Walked.told above n at (Ok b) h)
+  told_walk above n m at (Err e) is h = (h.0, h.1, subst (λ (k : ℕ). Walked local target above k at (Err h.0) []) (sym is) (Walked.told above n at (Err h.0) h.2))
+
+  pub told_lists : (above : List Pair) (n m : ℕ) (at : Pair) (r : Result Bool BtfError) (old : List (ℕ × ℕ)) → m ≡ suc n → Tells (λ b. b) r (λ a. Finds local target at (Told a)) → Lists (Walked local target above m at) r old old
+  told_lists above n m at r old is h = lists_none (Walked local target above m at) r old (told_walk above n m at r is h)
+
+  pub on_lists : (above : List Pair) (n m : ℕ) (at next : Pair) (r : Result Bool BtfError) (old new : List (ℕ × ℕ)) → m ≡ suc n → Finds local target at (On next) → Lists (Walked local target above n next) r old new → Lists (Walked local target above m at) r old new
+  on_lists above n m at next r old new is h walk =
+      lists_more (Walked local target above n next) (Walked local target above m at) r old new (λ a t w. subst (λ (k : ℕ). Walked local target above k at a t) (sym is) (Walked.on above n at next a t h w)) walk
+
+  pub paid_walk_lists : (above owed : List Pair) (n m : ℕ) (at next : Pair) (r : Result Bool BtfError) (old mid new : List (ℕ × ℕ)) → m ≡ suc n → Finds local target at (Owes owed next) → Lists (Paid local target above owed) (Ok true) old mid
+      → Lists (Walked local target above n next) r mid new → Lists (Walked local target above m at) r old new
+  paid_walk_lists above owed n m at next r old mid new is h paid walk =
+      lists_behind (Walked local target above n next) (Walked local target above m at) r paid.0 old mid new
+      (λ a t w. subst (λ (k : ℕ). Walked local target above k at a (paid.0 ++ t)) (sym is) (Walked.paid above n at next owed a paid.0 t h paid.1 w))
+      paid.2 walk
+
+  pub unpaid_walk_lists : (above owed : List Pair) (n m : ℕ) (at next : Pair) (r : Result Bool BtfError) (old new : List (ℕ × ℕ)) → m ≡ suc n → Finds local target at (Owes owed next) → (r ≡ Ok true → ⊥) → Lists (Paid local target above owed) r old new
+      → Lists (Walked local target above m at) r old new
+  unpaid_walk_lists above owed n m at next r old new is h never paid =
+      lists_other (Paid local target above owed) (Walked local target above m at) r old new never
+      (λ a t p other. subst (λ (k : ℕ). Walked local target above k at a t) (sym is) (Walked.unpaid above n at next owed a t h p other))
+      paid
+
+  -- ---- parameters
+
+  pub all_paid_lists : (above owed : List Pair) (old : List (ℕ × ℕ)) → owed ≡ [] → Lists (Paid local target above owed) (Ok true) old old
+  all_paid_lists above owed old is = lists_none (Paid local target above owed) (Ok true) old (subst (λ (o : List Pair). Paid local target above o (Ok true) []) (sym is) (Paid.all above))
+
+  pub unresolved_lists : (above owed rest : List Pair) (at : Pair) (e : BtfError) (old : List (ℕ × ℕ)) → owed ≡ at ∷ rest → Tells pair_of (Err e) (ResolvesPair local target at) → Lists (Paid local target above owed) (Err e) old old
+  unresolved_lists above owed rest at e old is h =
+      lists_none (Paid local target above owed) (Err e) old (h.0, h.1, subst (λ (o : List Pair). Paid local target above o (Err h.0) []) (sym is) (Paid.unresolved above at rest h.0 h.2))
+
+  pub next_lists : (above owed rest : List Pair) (at p : Pair) (r : Result Bool BtfError) (old mid new : List (ℕ × ℕ)) → owed ≡ at ∷ rest → ResolvesPair local target at (Ok p) → Lists (Plain local target above p) (Ok true) old mid
+      → Lists (Paid local target above rest) r mid new → Lists (Paid local target above owed) r old new
+  next_lists above owed rest at p r old mid new is h plain behind =
+      lists_behind (Paid local target above rest) (Paid local target above owed) r plain.0 old mid new
+      (λ a t q. subst (λ (o : List Pair). Paid local target above o a (plain.0 ++ t)) (sym is) (Paid.next above at p rest a plain.0 t h plain.1 q))
+      plain.2 behind
+
+  pub other_lists : (above owed rest : List Pair) (at p : Pair) (r : Result Bool BtfError) (old new : List (ℕ × ℕ)) → owed ≡ at ∷ rest → ResolvesPair local target at (Ok p) → (r ≡ Ok true → ⊥) → Lists (Plain local target above p) r old new
+      → Lists (Paid local target above owed) r old new
+  other_lists above owed rest at p r old new is h never plain =
+      lists_other (Plain local target above p) (Paid local target above owed) r old new never
+      (λ a t q other. subst (λ (o : List Pair). Paid local target above o a t) (sym is) (Paid.other above at p rest a t h q other))
+      plain
+
+-- ---- the parameters owed
+
+pub owed_first : (params others ps os : List BtfParam) (param other : BtfParam) → params ≡ param ∷ ps → others ≡ other ∷ os → pairs (types_of params) (types_of others) ≡ pair_of (param.btf_type, other.btf_type) ∷ pairs (types_of ps) (types_of os)
+owed_first params others ps os param other is there = rw (is, there) refl
+
+pub none_owed : (params others : List BtfParam) → length params ≡ 0 → pairs (types_of params) (types_of others) ≡ []
+none_owed [] others is = refl
+none_owed (p ∷ ps) others is = absurd (omega (arith, is))
+
+pub none_owed_there : (params others : List BtfParam) → length others ≡ 0 → pairs (types_of params) (types_of others) ≡ []
+none_owed_there [] others is = refl
+none_owed_there (p ∷ ps) [] is = refl
+none_owed_there (p ∷ ps) (o ∷ os) is = absurd (omega (arith, is))
+
+-- ---- the kinds of a pair
+
+pub kinds_told : (local target : Table) (p : Pair) (k q : Kind) (r s : Record) (b : Bool) → IsAt local p.local k r → IsAt target p.target q s → (b ≡ true) ↔ (compared_kind k ≡ compared_kind q) → AreStarted local target p (Ok b)
+kinds_told local target p k q r s true here there same = (k, q, (r, s, here, there), same.0 refl)
+kinds_told local target p k q r s false here there same = (k, q, (r, s, here, there), λ e. false≢true (same.1 e))

@@ -1,0 +1,89 @@
+use Rattle.std.proofs.Common.{◌-◌, sym, ap, subst, ◌∙◌, map, arith, Ok, Result, Bool}
+use Rattle.std.proofs.lemmas.Bool.{false≢true}
+use Rattle.btf_model.specs.Compat.{Plain, Paid, pairs}
+use Rattle.btf_plain.specs.declared.error.BtfError.{BtfError}
+use Rattle.btf_types.specs.Pairs.{pair_of}
+use Rattle.btf_types.specs.Compared.{types_of}
+use Rattle.btf_reference.specs.PlainComparison.{AreStarted, Lists}
+use Rattle.btf_reference.proofs.PlainComparison.{ok_more, again_lists, unknown_lists, differing_lists, walk_lists, deep_lists, told_lists, on_lists, paid_walk_lists, unpaid_walk_lists, all_paid_lists, unresolved_lists, next_lists, other_lists, owed_first, none_owed, none_owed_there}
+use Rattle.btf_reference.proofs.plain_comparison.+plain.Goals as goal
+
+-- ---- a pair
+
+pub compared-returns-then-is_open : goal.compared-returns-then-is_open
+compared-returns-then-is_open t c = again_lists c.args.local.now c.args.target.now (map pair_of c.args.above.now) c.args.pair c.args.starts.now.items (c.is_open.ensures.0 c.if-is_open.true)
+
+pub compared-returns-in-Err : goal.compared-returns-in-Err
+compared-returns-in-Err t c =
+    unknown_lists c.args.local.now c.args.target.now (map pair_of c.args.above.now) c.args.pair c.in-Err.e c.args.starts.now.items (λ h. false≢true (sym c.if-is_open.false ∙ c.is_open.ensures.1 h)) c.in-Err.ensures
+
+pub compared-returns-then-not-is_walked : goal.compared-returns-then-not-is_walked
+compared-returns-then-not-is_walked t c =
+    differing_lists c.args.local.now c.args.target.now (map pair_of c.args.above.now) c.args.pair c.args.starts.now.items c.push.new.self.items (λ h. false≢true (sym c.if-is_open.false ∙ c.is_open.ensures.1 h))
+    (subst (λ (b : Bool). AreStarted c.args.local.now c.args.target.now (pair_of c.args.pair) (Ok b)) c.if-not-is_walked.true c.in-Ok.ensures) c.in_ok-push.ensures.items
+
+pub compared-returns : goal.compared-returns
+compared-returns t c =
+    ok_more _ _ c.walked.result
+    (λ answer.
+    walk_lists c.args.local.now c.args.target.now (map pair_of c.args.above.now) (map pair_of c.deref.result.now) c.args.pair answer c.args.starts.now.items c.push.new.self.items _ (λ h. false≢true (sym c.if-is_open.false ∙ c.is_open.ensures.1 h))
+    (subst (λ (b : Bool). AreStarted c.args.local.now c.args.target.now (pair_of c.args.pair) (Ok b)) c.if-not-is_walked.false c.in-Ok.ensures) (ap (map pair_of) (c.deref.ensures.value ∙ c.in_ok-open.ensures)) c.in_ok-push.ensures.items)
+    c.walked.ensures
+
+-- ---- parameters
+
+pub paid-returns-in_default : goal.paid-returns-in_default
+paid-returns-in_default t c =
+    all_paid_lists c.args.local.now c.args.target.now (map pair_of c.args.above.now) (pairs (types_of c.args.params.now) (types_of c.args.others.now)) c.args.starts.now.items (none_owed c.args.params.now c.args.others.now c.in_default.ensures.cases)
+
+pub paid-returns-in_default-split_first : goal.paid-returns-in_default-split_first
+paid-returns-in_default-split_first t c =
+    all_paid_lists c.args.local.now c.args.target.now (map pair_of c.args.above.now) (pairs (types_of c.args.params.now) (types_of c.args.others.now)) c.args.starts.now.items
+    (none_owed_there c.args.params.now c.args.others.now c.in_default-split_first.ensures.cases)
+
+pub paid-returns-in-Err : goal.paid-returns-in-Err
+paid-returns-in-Err t c =
+    unresolved_lists c.args.local.now c.args.target.now (map pair_of c.args.above.now) (pairs (types_of c.args.params.now) (types_of c.args.others.now)) _ _ c.in-Err.e c.args.starts.now.items
+    (owed_first c.args.params.now c.args.others.now c.in-Some.params.now c.in-Some-split_first.others.now c.in-Some.param.now c.in-Some-split_first.other.now c.in-Some.ensures.cases.0 c.in-Some-split_first.ensures.cases.0) c.in-Err.ensures
+
+pub paid-returns-then-not-is_true : goal.paid-returns-then-not-is_true
+paid-returns-then-not-is_true t c =
+    other_lists c.args.local.now c.args.target.now (map pair_of c.args.above.now) (pairs (types_of c.args.params.now) (types_of c.args.others.now)) _ _ (pair_of c.in-Ok.pair) c.in_ok-answer.answer c.args.starts.now.items c.compared.new.starts.items
+    (owed_first c.args.params.now c.args.others.now c.in-Some.params.now c.in-Some-split_first.others.now c.in-Some.param.now c.in-Some-split_first.other.now c.in-Some.ensures.cases.0 c.in-Some-split_first.ensures.cases.0) c.in-Ok.ensures
+    (λ is. false≢true (sym c.if-not-is_true.true ∙ c.is_true.ensures.1 is)) c.in_ok-answer.ensures
+
+pub paid-returns : goal.paid-returns
+paid-returns t c =
+    ok_more _ _ c.paid.result
+    (λ answer.
+    next_lists c.args.local.now c.args.target.now (map pair_of c.args.above.now) (pairs (types_of c.args.params.now) (types_of c.args.others.now)) _ _ (pair_of c.in-Ok.pair) answer c.args.starts.now.items c.compared.new.starts.items _
+    (owed_first c.args.params.now c.args.others.now c.in-Some.params.now c.in-Some-split_first.others.now c.in-Some.param.now c.in-Some-split_first.other.now c.in-Some.ensures.cases.0 c.in-Some-split_first.ensures.cases.0) c.in-Ok.ensures
+    (subst (λ (r : Result Bool BtfError). Lists (Plain c.args.local.now c.args.target.now (map pair_of c.args.above.now) (pair_of c.in-Ok.pair)) r c.args.starts.now.items c.compared.new.starts.items) (c.is_true.ensures.0 c.if-not-is_true.false) c.in_ok-answer.ensures))
+    c.paid.ensures
+
+-- ---- a walk
+
+pub walked-returns-then-left-eq0 : goal.walked-returns-then-left-eq0
+walked-returns-then-left-eq0 t c = deep_lists c.args.local.now c.args.target.now (map pair_of c.args.above.now) c.args.left c.args.at c.args.starts.now.items (omega arith)
+
+pub walked-returns-in-Told : goal.walked-returns-in-Told
+walked-returns-in-Told t c = told_lists c.args.local.now c.args.target.now (map pair_of c.args.above.now) (c.args.left - 1) c.args.left (pair_of c.args.at) c.in-Told.answer c.args.starts.now.items (omega arith) c.in-Told.ensures
+
+pub walked-returns-in-On : goal.walked-returns-in-On
+walked-returns-in-On t c =
+    ok_more _ _ c.walked.result
+    (λ answer. on_lists c.args.local.now c.args.target.now (map pair_of c.args.above.now) (c.args.left - 1) c.args.left (pair_of c.args.at) (pair_of c.in-On.next) answer c.args.starts.now.items _ (omega arith) c.in-On.ensures)
+    c.walked.ensures
+
+pub walked-returns-then-not-is_true : goal.walked-returns-then-not-is_true
+walked-returns-then-not-is_true t c =
+    unpaid_walk_lists c.args.local.now c.args.target.now (map pair_of c.args.above.now) _ (c.args.left - 1) c.args.left (pair_of c.args.at) (pair_of c.in-Owes.next) c.in_ok-answer-in-Owes.answer c.args.starts.now.items c.paid.new.starts.items (omega arith) c.in-Owes.ensures
+    (λ is. false≢true (sym c.if-not-is_true.true ∙ c.is_true.ensures.1 is)) c.in_ok-answer-in-Owes.ensures
+
+pub walked-returns-else-not-is_true : goal.walked-returns-else-not-is_true
+walked-returns-else-not-is_true t c =
+    ok_more _ _ c.walked-in-Owes.result
+    (λ answer.
+    paid_walk_lists c.args.local.now c.args.target.now (map pair_of c.args.above.now) (pairs (types_of c.in-Owes.params.now) (types_of c.in-Owes.others.now)) (c.args.left - 1) c.args.left (pair_of c.args.at) (pair_of c.in-Owes.next) answer c.args.starts.now.items c.paid.new.starts.items _ (omega arith) c.in-Owes.ensures
+    (subst (λ (r : Result Bool BtfError). Lists (Paid c.args.local.now c.args.target.now (map pair_of c.args.above.now) (pairs (types_of c.in-Owes.params.now) (types_of c.in-Owes.others.now))) r c.args.starts.now.items c.paid.new.starts.items) (c.is_true.ensures.0 c.if-not-is_true.false) c.in_ok-answer-in-Owes.ensures))
+    c.walked-in-Owes.ensures

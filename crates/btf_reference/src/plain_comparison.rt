@@ -1,0 +1,309 @@
+//! The comparison of types as it is defined, by calls: nothing that came out before is remembered. It is for small tables,
+//! against which the comparison of the library is tested.
+
+ghost use Rattle.std.specs.Prelude.{◌≡◌, ◌∷◌, ◌≤◌, ◌↔◌, true, [], map, Contains, IfOk, IsTrue};
+ghost use Rattle.btf_model.specs.Record as model;
+ghost use Rattle.btf_model.specs.Walk.{walk_limit};
+ghost use Rattle.btf_model.specs.Compat.{Finds, Plain, Walked, Paid, PositionFound, ResolvesPair, pairs, position_by};
+ghost use Rattle.btf_plain.specs.Error.{Tells};
+ghost use Rattle.btf_records.specs.BtfType.{record_of, type_kind};
+ghost use Rattle.btf_types.specs.Compared.{types_of};
+ghost use Rattle.btf_types.specs.Pairs.{IsResolved, pair_of};
+ghost use Rattle.btf_reference.specs.PlainComparison.{AreStarted, Lists, PositionIs};
+
+use btf_plain::{Array, BtfError, Int, Ptr};
+use btf_records::{BtfParam, BtfType, FuncProto};
+use btf_types::Btf;
+use std::alloc::{AllocError, AllocFailed, Global};
+
+/// The number of positions that a walk has.
+const WALK_LIMIT: u32 = 32;
+
+/// The number of pairs that may be open.
+const MOST_OPEN: u32 = 1000;
+
+/// Why the recursion was given up.
+#[derive(Debug, Drop)]
+pub enum Stop {
+    /// Memory was refused.
+    OutOfMemory,
+    /// More pairs were open than it is meant for.
+    TooDeep,
+}
+
+impl From<AllocError> for Stop {
+    fn from(_error: AllocError) -> Stop {
+        Stop::OutOfMemory
+    }
+}
+
+impl<T: Drop> From<AllocFailed<T>> for Stop {
+    fn from(_error: AllocFailed<T>) -> Stop {
+        Stop::OutOfMemory
+    }
+}
+
+/// What is found at a pair of types.
+#[derive(Drop)]
+enum Position<'a> {
+    /// The answer.
+    Told(Result<bool, BtfError>),
+    /// The pair to go on to.
+    On((u32, u32)),
+    /// The parameters of two prototypes, as many of the one as of the other, and the pair to go on to behind them.
+    Owes(&'a [BtfParam], &'a [BtfParam], (u32, u32)),
+}
+
+/// The answer of the comparison of a pair, and all pairs that it starts, in order, behind those of the list.
+pub fn compare_plainly(
+    local: &Btf,
+    target: &Btf,
+    pair: (u32, u32),
+    starts: &mut Vec<(u32, u32)>,
+) -> Result<Result<bool, BtfError>, Stop>
+    ensures { IfOk result (λ answer. Lists (Plain local.now target.now [] (pair_of pair)) answer starts.old.items starts.new.items) }
+{
+    compared(local, target, &[], pair, starts, MOST_OPEN)
+}
+
+/// The comparison of a pair, under these open ones.
+#[cycle(plain)]
+fn compared(
+    local: &Btf,
+    target: &Btf,
+    above: &[(u32, u32)],
+    pair: (u32, u32),
+    starts: &mut Vec<(u32, u32)>,
+    depth: u32,
+) -> Result<Result<bool, BtfError>, Stop>
+    ensures { IfOk result (λ answer. Lists (Plain local.now target.now (map pair_of above.now) (pair_of pair)) answer starts.old.items starts.new.items) }
+{
+    if is_open(above, pair) {
+        return Ok(Err(BtfError::MaximumTypeDepthReached { type_id: pair.0 }));
+    }
+    let is_walked = match kinds_agree(local, target, pair) {
+        Ok(agree) => agree,
+        Err(e) => return Ok(Err(e)),
+    };
+    starts.push(pair)?;
+    if !is_walked {
+        return Ok(Ok(false));
+    }
+    let depth = depth.checked_sub(1).ok_or(Stop::TooDeep)?;
+    let open = opened(*starts.allocator(), pair, above)?;
+    walked(local, target, &open, WALK_LIMIT, pair, starts, depth)
+}
+
+/// Whether a pair is one of these.
+fn is_open(above: &[(u32, u32)], pair: (u32, u32)) -> bool
+    ensures { IsTrue result ↔ Contains (map pair_of above.now) (pair_of pair) }
+{
+    above.contains(&pair)
+}
+
+/// Whether the kinds of a pair's types are compatible, or which id is unknown.
+fn kinds_agree(local: &Btf, target: &Btf, pair: (u32, u32)) -> Result<bool, BtfError>
+    ensures { Tells (λ agree. agree) result (AreStarted local.now target.now (pair_of pair)) }
+{
+    let local_type = local.type_by_id(pair.0)?;
+    let target_type = target.type_by_id(pair.1)?;
+    // The contract speaks of the kinds in the info words, which a use of them shows.
+    let _ = local_type.info();
+    let _ = target_type.info();
+    Ok(local_type.is_compatible(target_type))
+}
+
+/// A pair in front of those above it.
+fn opened(
+    alloc: Global,
+    pair: (u32, u32),
+    above: &[(u32, u32)],
+) -> Result<Vec<(u32, u32)>, AllocError>
+    ensures { IfOk result (λ pairs. pairs.items ≡ pair ∷ above.now) }
+{
+    let mut pairs = Vec::new(alloc);
+    pairs.push(pair)?;
+    pairs.extend_from_slice(above)?;
+    Ok(pairs)
+}
+
+/// The walk of a pair from this position on, which looks at so many positions more.
+#[cycle(plain)]
+fn walked(
+    local: &Btf,
+    target: &Btf,
+    above: &[(u32, u32)],
+    left: u32,
+    at: (u32, u32),
+    starts: &mut Vec<(u32, u32)>,
+    depth: u32,
+) -> Result<Result<bool, BtfError>, Stop>
+    requires { left ≤ walk_limit }
+    ensures { IfOk result (λ answer. Lists (Walked local.now target.now (map pair_of above.now) left (pair_of at)) answer starts.old.items starts.new.items) }
+{
+    if left == 0 {
+        return Ok(Err(BtfError::MaximumTypeDepthReached { type_id: at.0 }));
+    }
+    match found_at(local, target, at) {
+        Position::Told(answer) => Ok(answer),
+        Position::On(next) => walked(local, target, above, left - 1, next, starts, depth),
+        Position::Owes(params, others, next) => {
+            let answer = paid(local, target, above, params, others, starts, depth)?;
+            if !is_true(&answer) {
+                return Ok(answer);
+            }
+            walked(local, target, above, left - 1, next, starts, depth)
+        }
+    }
+}
+
+/// The comparison of parameters with others, in order: true, or the first answer that is not true.
+#[cycle(plain)]
+fn paid(
+    local: &Btf,
+    target: &Btf,
+    above: &[(u32, u32)],
+    params: &[BtfParam],
+    others: &[BtfParam],
+    starts: &mut Vec<(u32, u32)>,
+    depth: u32,
+) -> Result<Result<bool, BtfError>, Stop>
+    ensures { IfOk result (λ answer. Lists (Paid local.now target.now (map pair_of above.now) (pairs (types_of params.now) (types_of others.now))) answer starts.old.items starts.new.items) }
+{
+    let Some((param, params)) = params.split_first() else {
+        return Ok(Ok(true));
+    };
+    let Some((other, others)) = others.split_first() else {
+        return Ok(Ok(true));
+    };
+    let pair = match resolved_pair(local, target, (param.btf_type, other.btf_type)) {
+        Ok(pair) => pair,
+        Err(e) => return Ok(Err(e)),
+    };
+    let answer = compared(local, target, above, pair, starts, depth)?;
+    if !is_true(&answer) {
+        return Ok(answer);
+    }
+    paid(local, target, above, params, others, starts, depth)
+}
+
+/// Whether an answer is true.
+fn is_true(answer: &Result<bool, BtfError>) -> bool
+    ensures { IsTrue result ↔ (answer.now ≡ Ok true) }
+{
+    matches!(answer, Ok(true))
+}
+
+/// What a pair resolves to, the local id first.
+fn resolved_pair(local: &Btf, target: &Btf, at: (u32, u32)) -> Result<(u32, u32), BtfError>
+    ensures { Tells pair_of result (ResolvesPair local.now target.now (pair_of at)) }
+{
+    let local_id = local.resolve_type(at.0)?;
+    let target_id = target.resolve_type(at.1)?;
+    Ok((local_id, target_id))
+}
+
+/// What is found at a pair of ids. Both are resolved, the local one first.
+fn found_at<'a>(local: &'a Btf, target: &'a Btf, at: (u32, u32)) -> Position<'a>
+    ensures { PositionIs result (Finds local.now target.now (pair_of at)) }
+{
+    let (local_id, local_type) = match resolved(local, at.0) {
+        Ok(found) => found,
+        Err(e) => return Position::Told(Err(e)),
+    };
+    match resolved(target, at.1) {
+        Ok((_, target_type)) => found_in(local_id, local_type, target_type),
+        Err(e) => Position::Told(Err(e)),
+    }
+}
+
+/// The id and the type that an id resolves to.
+fn resolved(table: &Btf, type_id: u32) -> Result<(u32, &BtfType), BtfError>
+    ensures { Tells (λ found. (found.0, type_kind found.1.now, record_of found.1.now)) result (IsResolved table.now type_id) }
+{
+    let id = table.resolve_type(type_id)?;
+    let btf_type = table.type_by_id(id)?;
+    // The contract speaks of the kind in the info word, which a use of it shows.
+    let _ = btf_type.info();
+    Ok((id, btf_type))
+}
+
+/// What is found at two types that are no modifiers.
+fn found_in<'a>(local_id: u32, local_type: &'a BtfType, target_type: &'a BtfType) -> Position<'a>
+    ensures { PositionIs result (PositionFound local_id (type_kind local_type.now) (type_kind target_type.now) (record_of local_type.now) (record_of target_type.now)) }
+{
+    if !local_type.is_compatible(target_type) {
+        return Position::Told(Ok(false));
+    }
+    match local_type {
+        BtfType::Int(l) => ints(l, target_type),
+        BtfType::Ptr(l) => pointers(l, target_type),
+        BtfType::Array(l) => arrays(l, target_type),
+        BtfType::FuncProto(l) => prototypes(l, target_type),
+        BtfType::Unknown
+        | BtfType::Struct(_)
+        | BtfType::Union(_)
+        | BtfType::Enum(_)
+        | BtfType::Enum64(_)
+        | BtfType::Fwd(_)
+        | BtfType::Float(_) => Position::Told(Ok(true)),
+        BtfType::Typedef(_)
+        | BtfType::Volatile(_)
+        | BtfType::Const(_)
+        | BtfType::Restrict(_)
+        | BtfType::Func(_)
+        | BtfType::Var(_)
+        | BtfType::DataSec(_)
+        | BtfType::DeclTag(_)
+        | BtfType::TypeTag(_) => {
+            Position::Told(Err(BtfError::UnexpectedBtfType { type_id: local_id }))
+        }
+    }
+}
+
+/// What is found at an integer and another type: whether that is an integer, and both begin at bit 0.
+fn ints<'a>(local: &Int, target_type: &BtfType) -> Position<'a>
+    ensures { type_kind target_type.now ≡ model.Int → PositionIs result (λ found. found ≡ position_by 0 model.Int local.now (record_of target_type.now)) }
+{
+    match target_type {
+        BtfType::Int(target) => Position::Told(Ok(local.offset() == 0 && target.offset() == 0)),
+        _ => Position::Told(Ok(false)),
+    }
+}
+
+/// What is found at a pointer and another type: the types that both point to.
+fn pointers<'a>(local: &Ptr, target_type: &BtfType) -> Position<'a>
+    ensures { type_kind target_type.now ≡ model.Ptr → PositionIs result (λ found. found ≡ position_by 0 model.Ptr local.now (record_of target_type.now)) }
+{
+    match target_type {
+        BtfType::Ptr(target) => Position::On((local.btf_type(), target.btf_type())),
+        _ => Position::Told(Ok(false)),
+    }
+}
+
+/// What is found at an array and another type: the types of the elements of both.
+fn arrays<'a>(local: &Array, target_type: &BtfType) -> Position<'a>
+    ensures { type_kind target_type.now ≡ model.Array → PositionIs result (λ found. found ≡ position_by 0 model.Array local.now (record_of target_type.now)) }
+{
+    match target_type {
+        BtfType::Array(target) => {
+            Position::On((local.array().element_type, target.array().element_type))
+        }
+        _ => Position::Told(Ok(false)),
+    }
+}
+
+/// What is found at a prototype and another type: the parameters of both, if they are as many, and then what both return.
+fn prototypes<'a>(local: &'a FuncProto, target_type: &'a BtfType) -> Position<'a>
+    ensures { type_kind target_type.now ≡ model.FuncProto → PositionIs result (λ found. found ≡ position_by 0 model.FuncProto local.now (record_of target_type.now)) }
+{
+    let BtfType::FuncProto(target) = target_type else {
+        return Position::Told(Ok(false));
+    };
+    let params = local.params();
+    let others = target.params();
+    if params.len() != others.len() {
+        return Position::Told(Ok(false));
+    }
+    Position::Owes(params, others, (local.return_type(), target.return_type()))
+}

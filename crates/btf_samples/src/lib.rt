@@ -1,0 +1,7 @@
+//! Tables and rows that several test crates share, and the words and bytes that tests spell themselves.
+#![tactic(auto)]
+
+pub mod blobs;
+pub mod program;
+pub mod spelled;
+pub mod written;

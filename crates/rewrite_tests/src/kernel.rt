@@ -1,0 +1,155 @@
+//! What the tests of rewrites share: what a kernel has, and what a rewrite for it makes.
+
+use btf_plain::{Endianness, SectionIndex};
+use btf_samples::blobs::{table_bytes, table_of};
+use btf_samples::written::has_table_bytes;
+use btf_types::{Btf, BtfFeature, BtfFeatureResolver, FeatureAnswer, KsymsIds};
+use std::alloc::{AllocError, Global};
+use std::collections::HashMap;
+use std::test::Fail;
+
+/// The sizes of all sections that the tests know.
+const SECTIONS: [(&str, u64); 7] = [
+    (".a", 0),
+    (".b", 5),
+    (".d", 8),
+    (".data/foo", 32),
+    (".exact", 0xffff_ffff),
+    (".wide", 0x1_0000_0000),
+    ("license", 4),
+];
+
+/// The offsets of all symbols that the tests know.
+const SYMBOLS: [(&str, u64); 3] = [("foo", 64), ("wide", 0x1_0000_0000), ("_license", 0)];
+
+/// What a rewrite takes besides the table: the sizes of sections and the offsets of symbols, by name.
+#[derive(Drop)]
+pub struct Program {
+    pub sections: HashMap<String, (SectionIndex, u64)>,
+    pub symbols: HashMap<String, u64>,
+}
+
+fn sections(alloc: Global) -> Result<HashMap<String, (SectionIndex, u64)>, AllocError> {
+    let mut sections = HashMap::new(alloc);
+    for (name, size) in &SECTIONS {
+        sections.insert(String::from_str(alloc, name)?, (SectionIndex(0), *size))?;
+    }
+    Ok(sections)
+}
+
+fn symbols(alloc: Global) -> Result<HashMap<String, u64>, AllocError> {
+    let mut symbols = HashMap::new(alloc);
+    for (name, offset) in &SYMBOLS {
+        symbols.insert(String::from_str(alloc, name)?, *offset)?;
+    }
+    Ok(symbols)
+}
+
+/// All sections and symbols that the tests know.
+pub fn known(alloc: Global) -> Result<Program, AllocError> {
+    let sections = sections(alloc)?;
+    Ok(Program {
+        sections,
+        symbols: symbols(alloc)?,
+    })
+}
+
+/// No sections or symbols.
+pub fn unknown(alloc: Global) -> Program {
+    Program {
+        sections: HashMap::new(alloc),
+        symbols: HashMap::new(alloc),
+    }
+}
+
+/// A table, what a kernel has, and what a rewrite for that kernel makes of the table.
+#[derive(Clone, Copy)]
+pub struct Case {
+    /// The words of the types.
+    pub words: &'static str,
+    /// The strings, each of which a zero byte ends.
+    pub strings: &'static str,
+    /// The features that the kernel has.
+    pub granted: &'static [BtfFeature],
+    /// The words of the types afterwards.
+    pub new_words: &'static str,
+    /// The strings that are appended.
+    pub appended: &'static str,
+    /// What the predicate is asked for, and what it grants.
+    pub answers: &'static [(BtfFeature, bool)],
+}
+
+/// The strings after a case's rewrite.
+fn new_strings(alloc: Global, case: &Case) -> Result<String, AllocError> {
+    let mut strings = String::from_str(alloc, case.strings)?;
+    strings.push_str(case.appended)?;
+    Ok(strings)
+}
+
+/// The bytes that a case's rewritten table is written as.
+pub fn new_bytes(alloc: Global, case: &Case) -> Result<Vec<u8>, Fail> {
+    let strings = new_strings(alloc, case)?;
+    table_bytes(alloc, case.new_words, strings.as_str(), Endianness::Little)
+}
+
+/// Whether a table is written as a case's rewritten table.
+pub fn is_new(alloc: Global, table: &Btf, case: &Case) -> Result<bool, Fail> {
+    let wanted = new_bytes(alloc, case)?;
+    has_table_bytes(table, &wanted)
+}
+
+/// Whether answers are these.
+pub fn are_answers(answers: &[FeatureAnswer], wanted: &[(BtfFeature, bool)]) -> bool {
+    for (answer, (feature, granted)) in answers.iter().zip(wanted.iter()) {
+        if answer.feature != *feature || answer.granted != *granted {
+            return false;
+        }
+    }
+    answers.len() == wanted.len()
+}
+
+/// Whether a rewrite of a case's table returns the answers that the case says, and its resolver keeps them.
+fn asks(
+    program: &Program,
+    table: &mut Btf,
+    ksyms: Option<KsymsIds>,
+    case: &Case,
+) -> Result<bool, Fail> {
+    let granted = case.granted;
+    let mut resolver = BtfFeatureResolver::new(|feature| granted.contains(&feature));
+    let answers = table.fixup_and_sanitize(
+        &program.sections,
+        &program.symbols,
+        ksyms,
+        &mut resolver,
+    )?;
+    let returned = are_answers(answers.as_slice(), case.answers);
+    Ok(returned && are_answers(resolver.answers(), case.answers))
+}
+
+/// Whether the rewrite of a case's table asks for and makes what the case says.
+fn makes(
+    alloc: Global,
+    program: &Program,
+    table: &mut Btf,
+    ksyms: Option<KsymsIds>,
+    case: &Case,
+) -> Result<bool, Fail> {
+    Ok(asks(program, table, ksyms, case)? && is_new(alloc, table, case)?)
+}
+
+fn is_rewritten_under(
+    alloc: Global,
+    program: &Program,
+    ksyms: Option<KsymsIds>,
+    case: &Case,
+) -> Result<bool, Fail> {
+    let mut table = table_of(alloc, case.words, case.strings)?;
+    makes(alloc, program, &mut table, ksyms, case)
+}
+
+/// Whether the rewrite of a case's table asks for and makes what the case says.
+pub fn is_rewritten(alloc: Global, ksyms: Option<KsymsIds>, case: &Case) -> Result<bool, Fail> {
+    let program = known(alloc)?;
+    is_rewritten_under(alloc, &program, ksyms, case)
+}
