@@ -3,13 +3,12 @@ use Rattle.std.proofs.Common.{◌≡◌, ◌≢◌, zero, suc, ◌+◌, List, []
 use Rattle.std.specs.Prelude.{◌⊎◌, map, not, cond}
 use Rattle.std.proofs.lemmas.List.{append-nil, length-append}
 use Rattle.std.proofs.lemmas.List.Elements.{Contains-append_left, Contains-push}
-use Rattle.btf_model.specs.Record.{Kind, compared_kind}
 use Rattle.btf_model.specs.Refusal.{Refusal}
 use Rattle.btf_model.specs.Table.{Table}
 use Rattle.btf_model.specs.Walk.{walk_limit}
 use Rattle.btf_model.specs.Fields.{Pair, HaveKinds}
 use Rattle.std.specs.List.{filter}
-use Rattle.btf_model.specs.Compat.{AreKnown, Plain, pair_eq, firsts}
+use Rattle.btf_model.specs.Compat.{Plain, pair_eq, firsts}
 use Rattle.btf_model.proofs.Known.{Among, among_from_contains, HasIds, Covers, known_pairs, known_pairs_cover, known_pairs_among, Without, without}
 use Rattle.btf_model.proofs.PlainAnswers.{true_or_not}
 use Rattle.btf_model.specs.Run.{Begins}

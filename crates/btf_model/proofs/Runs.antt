@@ -1,6 +1,6 @@
 -- A run of the comparison of types that remembers the pairs which came out true: the pairs that are open, each with the position
 -- of its walk, and what the run has to say of the comparison that remembers nothing.
-use Rattle.std.proofs.Common.{◌≡◌, ◌≢◌, ℕ, zero, suc, ◌≤◌, List, [], ◌∷◌, ◌++◌, length, drop, refl, sym, ap, subst, ◌∙◌, inl, inr, Bool, true, Some, Result, Ok, Err, append_assoc, slice_get}
+use Rattle.std.proofs.Common.{◌≡◌, ◌≢◌, ℕ, zero, suc, List, [], ◌∷◌, ◌++◌, drop, refl, sym, ap, subst, ◌∙◌, inl, inr, Bool, true, Some, Result, Ok, Err, append_assoc, slice_get}
 use Rattle.std.specs.Prelude.{◌⊎◌}
 use Rattle.std.specs.Result.{result_ok}
 use Rattle.std.proofs.Math.Seq.{drop-cons}
@@ -11,7 +11,7 @@ use Rattle.btf_model.specs.Table.{Table}
 use Rattle.btf_model.specs.Walk.{walk_limit}
 use Rattle.btf_model.specs.Fields.{Pair, HaveKinds}
 use Rattle.btf_model.specs.Compat.{Position, Told, On, Owes, ResolvesPair, Finds, Plain, Walked, Paid}
-use Rattle.btf_model.specs.Run.{Frame, new_frame, Ends, GoesOn, Waits, OwesNext, IsNext}
+use Rattle.btf_model.specs.Run.{Frame, Ends, GoesOn, Waits, IsNext}
 use Rattle.btf_model.proofs.Comparisons.{one_position, position_answer}
 use Rattle.btf_model.proofs.PlainAnswers.{true_or_not, walked_answers, paid_answers}
 use Rattle.btf_model.proofs.PlainSteps.{Are}
