@@ -1,9 +1,10 @@
 -- A command has one outcome: what it writes something of, it does not refuse.
-use Rattle.std.proofs.Common.{◌≡◌, ℕ, Bool, List, [], Ok, Err, refl, sym, ap, subst, ⊎_elim, Result, Option, Some, None, inr, Vec, Global}
-use Rattle.std.specs.Prelude.{slice_get, IfOk, IfErr, IfSome, IsErr}
+use Rattle.std.proofs.Common.{◌≡◌, ◌∙◌, ℕ, Bool, List, [], Ok, Err, refl, sym, ap, subst, ⊎_elim, Result, Option, Some, None, inr, Vec, Global}
+use Rattle.std.specs.Prelude.{slice_get, IfOk, IfErr, IfSome, IsErr, IsErrAnd}
 use Rattle.std.specs.Result.{is_ok, result_ok}
 use Rattle.std.proofs.lemmas.Bool.{false≢true}
 use Rattle.std.proofs.lemmas.Option.{none-some}
+use Rattle.std.proofs.lemmas.Result.{err_from_is_err_and}
 use Rattle.btf_model.specs.Record.{Record}
 use Rattle.btf_model.specs.Refusal.{Refusal, MaximumTypeDepthReached}
 use Rattle.btf_model.specs.Table.{Table}
@@ -28,6 +29,9 @@ use Rattle.btftool.specs.declared.line.Query.TheVariants.{Copy, Types, Size, Com
 use Rattle.btftool.specs.declared.line.Command.{Command}
 use Rattle.btftool.specs.declared.line.Command.TheVariants.{Ask, Rewrite}
 use Rattle.btftool.specs.Answer.{Compares, Rewrites, Writes, Declines, IsAnswer, IsDeclined}
+use Rattle.btftool.specs.Fault.{fault_refusal}
+use Rattle.btftool.specs.declared.fault.Fault.{Fault}
+use Rattle.btftool.specs.declared.fault.Fault.TheVariants as faults
 use Rattle.btftool.proofs.Told.{said_once}
 
 compared_or_refused : (t : Table) (id other : ℕ) (found : Bool × ℕ) (refusal : Refusal) → Compares t id other (Ok found) → Compares t id other (Err refusal) → ⊥
@@ -81,3 +85,15 @@ query_told line bytes query t (Err e) is parsed told =
 -- a line by its command
 pub line_of : (line : Line) (command : Command) → line.command ≡ command → line ≡ record { endianness = line.endianness; command = command }
 line_of line command is = ap (λ (x : Command). record { endianness = line.endianness; command = x }) is
+
+-- ---- faults
+
+-- a refusal of what was read is one of the known bytes
+pub fault_told : {X : Type 0} (line : Line) (read : List ℕ) (known : Option (List ℕ)) (e : BtfError) (r : Result X Fault) → IfSome known (λ bytes. read ≡ bytes) → IfSome (refusal_of e) (IsDeclined line read) → IsErrAnd r (λ fault. fault ≡ faults.Btf e)
+    → IfErr r (λ fault. IfSome known (λ bytes. IfSome (fault_refusal fault) (IsDeclined line bytes)))
+fault_told {X} line read known e r whole told err =
+    let q = err_from_is_err_and r err in
+    let here : IfSome known (λ bytes. IfSome (refusal_of e) (IsDeclined line bytes)) =
+    elim known as (λ (o : Option (List ℕ)). IfSome o (λ bytes. read ≡ bytes) → IfSome o (λ bytes. IfSome (refusal_of e) (IsDeclined line bytes)))
+    [ None ↦ λ none. tt | Some bytes ↦ λ is. subst (λ (bs : List ℕ). IfSome (refusal_of e) (IsDeclined line bs)) is told ] whole in
+    subst (λ (x : Result X Fault). IfErr x (λ fault. IfSome known (λ bytes. IfSome (fault_refusal fault) (IsDeclined line bytes)))) (sym (q.1 ∙ ap (λ (x : Fault). Err x) q.2)) here

@@ -5,3 +5,4 @@ pub mod Request
 pub mod Line
 pub mod Listing
 pub mod Answer
+pub mod Fault

@@ -14,5 +14,16 @@ pub enum Fault {
     Write,
     /// The table was refused, or the command on it.
     #[error(transparent)]
-    Btf(#[from] BtfError),
+    Btf(BtfError),
+}
+
+impl From<BtfError> for Fault {
+    ghost use Rattle.std.specs.Prelude.{◌≡◌};
+    ghost use Rattle.btftool.specs.declared.fault.Fault.TheVariants.{Btf};
+
+    ghost from_gives = { λ error fault. fault ≡ Btf error };
+
+    fn from(error: BtfError) -> Fault {
+        Fault::Btf(error)
+    }
 }

@@ -1,11 +1,12 @@
 //! The program over any streams.
 
-ghost use Rattle.std.specs.Prelude.{◌≡◌, ℕ, List, ◌↔◌, Some, IfOk, IfErr, OnOk, IfSome, IsErr};
+ghost use Rattle.std.specs.Prelude.{◌≡◌, ℕ, List, ◌↔◌, None, Some, IfOk, IfErr, OnOk, IfSome, IsErr};
 ghost use Rattle.std.specs.Io.KnownBytes.{IsAtEnd, Keeps};
 ghost use Rattle.btf_model.specs.Refusal.{Refusal};
 ghost use Rattle.btf_plain.specs.Error.{refusal_of};
 ghost use Rattle.btftool.specs.declared.line.Command.TheVariants.{Ask};
 ghost use Rattle.btftool.specs.declared.line.Line.{Line};
+ghost use Rattle.btftool.specs.Fault.{fault_refusal};
 ghost use Rattle.btftool.specs.Line.{Asks, IsAsked};
 ghost use Rattle.btftool.specs.Answer.{Writes, Declines, IsAnswer, IsDeclined, IsWritten};
 
@@ -25,6 +26,7 @@ const USAGE: &str = "usage: btftool little|big copy|types|size ID|compat ID ID|r
 fn read_input<R: Read>(alloc: Global, input: &mut R) -> Result<Vec<u8>, Fault>
     ensures whole { IfOk result (λ v. IfSome (R.remaining input.old) (λ bytes. v.items ≡ bytes)) }
     ensures end { OnOk result (IsAtEnd (R.remaining input.new)) }
+    ensures no_refusal { IfErr result (λ fault. fault_refusal fault ≡ None) }
 {
     let mut bytes = Vec::new(alloc);
     match input.read_to_end(&mut bytes) {
@@ -55,7 +57,7 @@ fn answer(alloc: Global, line: Line, blob: &[u8]) -> Result<Vec<u8>, BtfError>
     requires { IsAsked line }
     ensures made { IfOk result (λ v. IsAnswer line.entry blob.now v.items) }
     ensures refused { (f : Refusal) → IsDeclined line.entry blob.now f → IsErr result }
-    // A refusal is told for its cause alone.
+    // A refusal is reported for its cause alone.
     ensures told { IfErr result (λ e. IfSome (refusal_of e) (IsDeclined line.entry blob.now)) }
 {
     match line.command {
@@ -79,6 +81,9 @@ fn carry_out<R: Read, W: Write>(
         IsWritten (W.contents out.old) (W.contents out.new) line.entry bytes)) }
     ensures refused { (bytes : List ℕ) (f : Refusal) → R.remaining input.old ≡ Some bytes → IsDeclined line.entry bytes f
         → IsErr result × Keeps (W.contents out.old) (W.contents out.new) }
+    // A refusal is reported for its cause alone.
+    ensures told { IfErr result (λ fault. IfSome (R.remaining input.old) (λ bytes.
+        IfSome (fault_refusal fault) (IsDeclined line.entry bytes))) }
     ensures end { OnOk result (IsAtEnd (R.remaining input.new)) }
 {
     let blob = read_input(alloc, input)?;
