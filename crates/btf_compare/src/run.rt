@@ -100,7 +100,7 @@ pub fn compare(
     let Some(mut top) = run.start(local, target, root, starts)? else {
         return Ok(false);
     };
-    loop {
+    'steps: loop {
         match top.step(local, target) {
             Step::GoesOn(next) => top = next,
             Step::Ends(answer) => {

@@ -23,114 +23,114 @@ returns-in_default c =
     root_differs c.args.local.now c.args.target.now c.args.root c.args.starts.now.items c.start.new.starts.items (subst (λ (o : Option Frame). IsStarted c.args.local.now c.args.target.now (pair_of c.args.root) o) c.in_default.is c.in_ok-top.ensures.started)
     c.in_ok-top.ensures.listed
 
-pub loop-next-init : goal.loop-next-init
-loop-next-init c =
+pub steps-init : goal.steps-init
+steps-init c =
     root_started c.args.local.now c.args.target.now c.args.root c.in-Some.top c.new-run.result.opened c.start.new.self.opened c.start.new.self.settled c.start.new.self.below.items c.args.starts.now.items c.start.new.starts.items
     (subst (λ (o : Option Frame). IsStarted c.args.local.now c.args.target.now (pair_of c.args.root) o) c.in-Some.is c.in_ok-top.ensures.started)
     (ap (λ v. v.items) c.start.ensures.below ∙ c.new-run.ensures.below) c.new-run.ensures.opened (ap (λ s. s.keys) c.start.ensures.settled ∙ c.new-run.ensures.settled) c.in_ok-top.ensures.opened c.in_ok-top.ensures.listed
 
-pub loop-next-smaller-in-GoesOn : goal.loop-next-smaller-in-GoesOn
-loop-next-smaller-in-GoesOn c =
+pub steps-smaller-in-GoesOn : goal.steps-smaller-in-GoesOn
+steps-smaller-in-GoesOn c =
     let local = c.args.local.now in
     let target = c.args.target.now in
-    less_on local target (length (known_pairs local target)) (length c.loop-next.starts.items - length c.args.starts.now.items) (widest local.records) (frame_of c.loop-next.top) (frame_of c.in-GoesOn.next) (stack_of c.loop-next.run.below.items) c.in-GoesOn.ensures
+    less_on local target (length (known_pairs local target)) (length c.steps.starts.items - length c.args.starts.now.items) (widest local.records) (frame_of c.steps.top) (frame_of c.in-GoesOn.next) (stack_of c.steps.run.below.items) c.in-GoesOn.ensures
 
-pub loop-next-preserved-in-GoesOn : goal.loop-next-preserved-in-GoesOn
-loop-next-preserved-in-GoesOn c =
-    goes_on c.args.local.now c.args.target.now (pair_of c.args.root) c.loop-next.run.opened c.loop-next.run.settled (frame_of c.loop-next.top) (stack_of c.loop-next.run.below.items) c.args.starts.now.items c.loop-next.starts.items c.loop-next.invariant
+pub steps-preserved-in-GoesOn : goal.steps-preserved-in-GoesOn
+steps-preserved-in-GoesOn c =
+    goes_on c.args.local.now c.args.target.now (pair_of c.args.root) c.steps.run.opened c.steps.run.settled (frame_of c.steps.top) (stack_of c.steps.run.below.items) c.args.starts.now.items c.steps.starts.items c.steps.invariant
     (frame_of c.in-GoesOn.next) c.in-GoesOn.ensures
 
 pub returns-in_err-answer-in-Ends : goal.returns-in_err-answer-in-Ends
 returns-in_err-answer-in-Ends c =
-    ends_refused c.args.local.now c.args.target.now (pair_of c.args.root) c.loop-next.run.opened c.loop-next.run.settled (frame_of c.loop-next.top) (stack_of c.loop-next.run.below.items) c.args.starts.now.items c.loop-next.starts.items c.loop-next.invariant
+    ends_refused c.args.local.now c.args.target.now (pair_of c.args.root) c.steps.run.opened c.steps.run.settled (frame_of c.steps.top) (stack_of c.steps.run.below.items) c.args.starts.now.items c.steps.starts.items c.steps.invariant
     c.in-Ends.answer c.from_residual-in_err-answer-in-Ends.result c.in_err-answer-in-Ends.field-0.0 c.in_err-answer-in-Ends.was (handed c.from_residual-in_err-answer-in-Ends.result c.in_err-answer-in-Ends.field-0.0 c.from_residual-in_err-answer-in-Ends.ensures.1)
     c.in-Ends.ensures
 
 pub returns-then-not-branch : goal.returns-then-not-branch
 returns-then-not-branch c =
-    ends_false c.args.local.now c.args.target.now (pair_of c.args.root) c.loop-next.run.opened c.loop-next.run.settled (frame_of c.loop-next.top) (stack_of c.loop-next.run.below.items) c.args.starts.now.items c.loop-next.starts.items c.loop-next.invariant
-    (subst (λ (r : Result Bool BtfError). Tells (λ b. b) r (λ a. IsNext c.args.local.now c.args.target.now (frame_of c.loop-next.top) (runs.Ends a))) (c.in_ok-answer-in-Ends.was ∙ ap (λ (b : Bool). Ok b) c.if-not-branch.true) c.in-Ends.ensures)
+    ends_false c.args.local.now c.args.target.now (pair_of c.args.root) c.steps.run.opened c.steps.run.settled (frame_of c.steps.top) (stack_of c.steps.run.below.items) c.args.starts.now.items c.steps.starts.items c.steps.invariant
+    (subst (λ (r : Result Bool BtfError). Tells (λ b. b) r (λ a. IsNext c.args.local.now c.args.target.now (frame_of c.steps.top) (runs.Ends a))) (c.in_ok-answer-in-Ends.was ∙ ap (λ (b : Bool). Ok b) c.if-not-branch.true) c.in-Ends.ensures)
 
 pub returns-in_err-next-in-Ends : goal.returns-in_err-next-in-Ends
 returns-in_err-next-in-Ends c =
-    no_memory c.args.local.now c.args.target.now (pair_of c.args.root) c.loop-next.run.opened c.loop-next.run.settled (frame_of c.loop-next.top) (stack_of c.loop-next.run.below.items) c.args.starts.now.items c.loop-next.starts.items c.loop-next.invariant
+    no_memory c.args.local.now c.args.target.now (pair_of c.args.root) c.steps.run.opened c.steps.run.settled (frame_of c.steps.top) (stack_of c.steps.run.below.items) c.args.starts.now.items c.steps.starts.items c.steps.invariant
     c.allocator_of.ensures c.allocator_of-2.ensures c.from_residual-in_err-next-in-Ends.result
     (handed c.from_residual-in_err-next-in-Ends.result c.in_err-next-in-Ends.field-0.0 c.from_residual-in_err-next-in-Ends.ensures.1 ∙ ap (λ (e : BtfError). Err e) c.in_err-next-in-Ends.ensures.err)
 
 pub returns-in_default-2 : goal.returns-in_default-2
 returns-in_default-2 c =
-    ends_true c.args.local.now c.args.target.now (pair_of c.args.root) c.loop-next.run.opened c.loop-next.run.settled (frame_of c.loop-next.top) (stack_of c.loop-next.run.below.items) c.args.starts.now.items c.loop-next.starts.items c.loop-next.invariant
-    (subst (λ (r : Result Bool BtfError). Tells (λ b. b) r (λ a. IsNext c.args.local.now c.args.target.now (frame_of c.loop-next.top) (runs.Ends a))) (c.in_ok-answer-in-Ends.was ∙ ap (λ (b : Bool). Ok b) c.if-not-branch.false) c.in-Ends.ensures)
+    ends_true c.args.local.now c.args.target.now (pair_of c.args.root) c.steps.run.opened c.steps.run.settled (frame_of c.steps.top) (stack_of c.steps.run.below.items) c.args.starts.now.items c.steps.starts.items c.steps.invariant
+    (subst (λ (r : Result Bool BtfError). Tells (λ b. b) r (λ a. IsNext c.args.local.now c.args.target.now (frame_of c.steps.top) (runs.Ends a))) (c.in_ok-answer-in-Ends.was ∙ ap (λ (b : Bool). Ok b) c.if-not-branch.false) c.in-Ends.ensures)
     (ap stack_of (rw c.in_default-2.is at c.in_ok-next-in-Ends.ensures.next))
 
-pub loop-next-smaller-in-Ends : goal.loop-next-smaller-in-Ends
-loop-next-smaller-in-Ends c =
+pub steps-smaller-in-Ends : goal.steps-smaller-in-Ends
+steps-smaller-in-Ends c =
     let local = c.args.local.now in
     let target = c.args.target.now in
-    let stack : stack_of c.loop-next.run.below.items ≡ frame_of c.in-Some-2.next ∷ stack_of c.settle.new.self.below.items = stack_push c.settle.new.self.below.items c.loop-next.run.below.items c.in-Some-2.next (rw c.in-Some-2.is at c.in_ok-next-in-Ends.ensures.next) in
-    rw stack (less_settled local target (length (known_pairs local target)) (length c.loop-next.starts.items - length c.args.starts.now.items) (widest local.records) (frame_of c.loop-next.top) (frame_of c.in-Some-2.next) (stack_of c.settle.new.self.below.items))
+    let stack : stack_of c.steps.run.below.items ≡ frame_of c.in-Some-2.next ∷ stack_of c.settle.new.self.below.items = stack_push c.settle.new.self.below.items c.steps.run.below.items c.in-Some-2.next (rw c.in-Some-2.is at c.in_ok-next-in-Ends.ensures.next) in
+    rw stack (less_settled local target (length (known_pairs local target)) (length c.steps.starts.items - length c.args.starts.now.items) (widest local.records) (frame_of c.steps.top) (frame_of c.in-Some-2.next) (stack_of c.settle.new.self.below.items))
 
-pub loop-next-preserved-in-Ends : goal.loop-next-preserved-in-Ends
-loop-next-preserved-in-Ends c =
-    let stack : stack_of c.loop-next.run.below.items ≡ frame_of c.in-Some-2.next ∷ stack_of c.settle.new.self.below.items = stack_push c.settle.new.self.below.items c.loop-next.run.below.items c.in-Some-2.next (rw c.in-Some-2.is at c.in_ok-next-in-Ends.ensures.next) in
-    settles c.args.local.now c.args.target.now (pair_of c.args.root) c.loop-next.run.opened c.loop-next.run.settled (frame_of c.loop-next.top) (frame_of c.in-Some-2.next) (stack_of c.settle.new.self.below.items) c.args.starts.now.items c.loop-next.starts.items
-    (rw stack at c.loop-next.invariant) c.settle.new.self.opened c.settle.new.self.settled
-    (subst (λ (r : Result Bool BtfError). Tells (λ b. b) r (λ a. IsNext c.args.local.now c.args.target.now (frame_of c.loop-next.top) (runs.Ends a))) (c.in_ok-answer-in-Ends.was ∙ ap (λ (b : Bool). Ok b) c.if-not-branch.false) c.in-Ends.ensures)
+pub steps-preserved-in-Ends : goal.steps-preserved-in-Ends
+steps-preserved-in-Ends c =
+    let stack : stack_of c.steps.run.below.items ≡ frame_of c.in-Some-2.next ∷ stack_of c.settle.new.self.below.items = stack_push c.settle.new.self.below.items c.steps.run.below.items c.in-Some-2.next (rw c.in-Some-2.is at c.in_ok-next-in-Ends.ensures.next) in
+    settles c.args.local.now c.args.target.now (pair_of c.args.root) c.steps.run.opened c.steps.run.settled (frame_of c.steps.top) (frame_of c.in-Some-2.next) (stack_of c.settle.new.self.below.items) c.args.starts.now.items c.steps.starts.items
+    (rw stack at c.steps.invariant) c.settle.new.self.opened c.settle.new.self.settled
+    (subst (λ (r : Result Bool BtfError). Tells (λ b. b) r (λ a. IsNext c.args.local.now c.args.target.now (frame_of c.steps.top) (runs.Ends a))) (c.in_ok-answer-in-Ends.was ∙ ap (λ (b : Bool). Ok b) c.if-not-branch.false) c.in-Ends.ensures)
     c.in_ok-next-in-Ends.ensures.settled c.in_ok-next-in-Ends.ensures.closed
 
 pub returns-then-contains : goal.returns-then-contains
 returns-then-contains c =
-    is_open c.args.local.now c.args.target.now (pair_of c.args.root) c.loop-next.run.opened c.loop-next.run.settled (frame_of c.loop-next.top) (stack_of c.loop-next.run.below.items) c.args.starts.now.items c.loop-next.starts.items c.loop-next.invariant
+    is_open c.args.local.now c.args.target.now (pair_of c.args.root) c.steps.run.opened c.steps.run.settled (frame_of c.steps.top) (stack_of c.steps.run.below.items) c.args.starts.now.items c.steps.starts.items c.steps.invariant
     (pair_of c.in-Waits.pair) (frame_of c.in-Waits.next) c.in-Waits.ensures (sym c.contains.ensures ∙ c.if-contains.true)
 
-pub loop-next-smaller-then-contains-2 : goal.loop-next-smaller-then-contains-2
-loop-next-smaller-then-contains-2 c =
+pub steps-smaller-then-contains-2 : goal.steps-smaller-then-contains-2
+steps-smaller-then-contains-2 c =
     let local = c.args.local.now in
     let target = c.args.target.now in
-    less_paid local target (length (known_pairs local target)) (length c.loop-next.starts.items - length c.args.starts.now.items) (frame_of c.loop-next.top) (frame_of c.in-Waits.next) (pair_of c.in-Waits.pair) (stack_of c.loop-next.run.below.items) c.in-Waits.ensures
+    less_paid local target (length (known_pairs local target)) (length c.steps.starts.items - length c.args.starts.now.items) (frame_of c.steps.top) (frame_of c.in-Waits.next) (pair_of c.in-Waits.pair) (stack_of c.steps.run.below.items) c.in-Waits.ensures
 
-pub loop-next-preserved-then-contains-2 : goal.loop-next-preserved-then-contains-2
-loop-next-preserved-then-contains-2 c =
-    pays c.args.local.now c.args.target.now (pair_of c.args.root) c.loop-next.run.opened c.loop-next.run.settled (frame_of c.loop-next.top) (stack_of c.loop-next.run.below.items) c.args.starts.now.items c.loop-next.starts.items c.loop-next.invariant
+pub steps-preserved-then-contains-2 : goal.steps-preserved-then-contains-2
+steps-preserved-then-contains-2 c =
+    pays c.args.local.now c.args.target.now (pair_of c.args.root) c.steps.run.opened c.steps.run.settled (frame_of c.steps.top) (stack_of c.steps.run.below.items) c.args.starts.now.items c.steps.starts.items c.steps.invariant
     (pair_of c.in-Waits.pair) (frame_of c.in-Waits.next) c.in-Waits.ensures (sym c.contains-in-Waits.ensures ∙ c.if-contains-2.true)
 
 pub returns-in_err-push-in-Waits : goal.returns-in_err-push-in-Waits
 returns-in_err-push-in-Waits c =
-    no_memory c.args.local.now c.args.target.now (pair_of c.args.root) c.loop-next.run.opened c.loop-next.run.settled (frame_of c.loop-next.top) (stack_of c.loop-next.run.below.items) c.args.starts.now.items c.loop-next.starts.items c.loop-next.invariant
+    no_memory c.args.local.now c.args.target.now (pair_of c.args.root) c.steps.run.opened c.steps.run.settled (frame_of c.steps.top) (stack_of c.steps.run.below.items) c.args.starts.now.items c.steps.starts.items c.steps.invariant
     c.allocator_of.ensures c.allocator_of-2.ensures c.from_residual-in_err-push-in-Waits.result (handed c.from_residual-in_err-push-in-Waits.result OutOfMemory c.from_residual-in_err-push-in-Waits.ensures.1)
 
 pub returns-in_err-new-in-Waits : goal.returns-in_err-new-in-Waits
 returns-in_err-new-in-Waits c =
     subst (λ (new : List (ℕ × ℕ)). Compares c.args.local.now c.args.target.now (pair_of c.args.root) c.from_residual-in_err-new-in-Waits.result c.args.starts.now.items new) (sym c.in_err-new-in-Waits.ensures.not_listed)
-    (is_refused c.args.local.now c.args.target.now (pair_of c.args.root) c.loop-next.run.opened c.loop-next.run.settled (frame_of c.loop-next.top) (stack_of c.loop-next.run.below.items) c.args.starts.now.items c.loop-next.starts.items c.loop-next.invariant
+    (is_refused c.args.local.now c.args.target.now (pair_of c.args.root) c.steps.run.opened c.steps.run.settled (frame_of c.steps.top) (stack_of c.steps.run.below.items) c.args.starts.now.items c.steps.starts.items c.steps.invariant
     (pair_of c.in-Waits.pair) (frame_of c.in-Waits.next) c.in-Waits.ensures (sym c.contains.ensures ∙ c.if-contains.false) (sym c.contains-in-Waits.ensures ∙ c.if-contains-2.false) c.allocator_of.ensures c.allocator_of-2.ensures
     c.in_err-new-in-Waits.field-0.0 c.from_residual-in_err-new-in-Waits.result c.in_err-new-in-Waits.ensures.refused (handed c.from_residual-in_err-new-in-Waits.result c.in_err-new-in-Waits.field-0.0 c.from_residual-in_err-new-in-Waits.ensures.1))
 
 pub returns-in_default-3 : goal.returns-in_default-3
 returns-in_default-3 c =
-    differs c.args.local.now c.args.target.now (pair_of c.args.root) c.loop-next.run.opened c.loop-next.run.settled (frame_of c.loop-next.top) (stack_of c.loop-next.run.below.items) c.args.starts.now.items c.loop-next.starts.items c.loop-next.invariant
+    differs c.args.local.now c.args.target.now (pair_of c.args.root) c.steps.run.opened c.steps.run.settled (frame_of c.steps.top) (stack_of c.steps.run.below.items) c.args.starts.now.items c.steps.starts.items c.steps.invariant
     (pair_of c.in-Waits.pair) (frame_of c.in-Waits.next) c.in-Waits.ensures (sym c.contains.ensures ∙ c.if-contains.false) (sym c.contains-in-Waits.ensures ∙ c.if-contains-2.false) c.start-in-Waits.new.starts.items
     (subst (λ (o : Option Frame). IsStarted c.args.local.now c.args.target.now (pair_of c.in-Waits.pair) o) c.in_default-3.is c.in_ok-new-in-Waits.ensures.started) c.in_ok-new-in-Waits.ensures.listed
 
 -- the stack behind a pair that is started
-new_stack : (c : goal.In-Some-3) → stack_of c.start-in-Waits.new.self.below.items ≡ frame_of c.in-Waits.next ∷ stack_of c.loop-next.run.below.items
-new_stack c = stack_push c.loop-next.run.below.items c.start-in-Waits.new.self.below.items c.in-Waits.next (ap (λ v. v.items) c.start-in-Waits.ensures.below ∙ c.in_ok-push-in-Waits.ensures.items)
+new_stack : (c : goal.In-Some-3) → stack_of c.start-in-Waits.new.self.below.items ≡ frame_of c.in-Waits.next ∷ stack_of c.steps.run.below.items
+new_stack c = stack_push c.steps.run.below.items c.start-in-Waits.new.self.below.items c.in-Waits.next (ap (λ v. v.items) c.start-in-Waits.ensures.below ∙ c.in_ok-push-in-Waits.ensures.items)
 
 is_started : (c : goal.In-Some-3) → IsStarted c.args.local.now c.args.target.now (pair_of c.in-Waits.pair) (Some c.in-Some-3.new)
 is_started c = subst (λ (o : Option Frame). IsStarted c.args.local.now c.args.target.now (pair_of c.in-Waits.pair) o) c.in-Some-3.is c.in_ok-new-in-Waits.ensures.started
 
-started : (c : goal.In-Some-3) → IsRunning c.args.local.now c.args.target.now (pair_of c.args.root) c.start-in-Waits.new.self.opened c.loop-next.run.settled (frame_of c.in-Some-3.new) (frame_of c.in-Waits.next ∷ stack_of c.loop-next.run.below.items) c.args.starts.now.items c.start-in-Waits.new.starts.items
+started : (c : goal.In-Some-3) → IsRunning c.args.local.now c.args.target.now (pair_of c.args.root) c.start-in-Waits.new.self.opened c.steps.run.settled (frame_of c.in-Some-3.new) (frame_of c.in-Waits.next ∷ stack_of c.steps.run.below.items) c.args.starts.now.items c.start-in-Waits.new.starts.items
 started c =
-    starts c.args.local.now c.args.target.now (pair_of c.args.root) c.loop-next.run.opened c.loop-next.run.settled (frame_of c.loop-next.top) (stack_of c.loop-next.run.below.items) c.args.starts.now.items c.loop-next.starts.items c.loop-next.invariant
+    starts c.args.local.now c.args.target.now (pair_of c.args.root) c.steps.run.opened c.steps.run.settled (frame_of c.steps.top) (stack_of c.steps.run.below.items) c.args.starts.now.items c.steps.starts.items c.steps.invariant
     (pair_of c.in-Waits.pair) (frame_of c.in-Waits.next) c.in-Waits.ensures (sym c.contains.ensures ∙ c.if-contains.false) (sym c.contains-in-Waits.ensures ∙ c.if-contains-2.false) c.in-Some-3.new c.start-in-Waits.new.self.opened c.start-in-Waits.new.starts.items
     (is_started c) c.in_ok-new-in-Waits.ensures.opened c.in_ok-new-in-Waits.ensures.listed
 
-pub loop-next-smaller : goal.loop-next-smaller
-loop-next-smaller c =
+pub steps-smaller : goal.steps-smaller
+steps-smaller c =
     rw (new_stack c)
-    (less_by_start c.args.local.now c.args.target.now (pair_of c.args.root) c.args.starts.now.items c.loop-next.run.opened c.loop-next.run.settled c.start-in-Waits.new.self.opened c.loop-next.run.settled (frame_of c.loop-next.top) (frame_of c.in-Waits.next)
-    (frame_of c.in-Some-3.new) (pair_of c.in-Waits.pair) (stack_of c.loop-next.run.below.items) c.loop-next.starts.items c.start-in-Waits.new.starts.items c.in-Waits.pair c.in-Waits.ensures (is_started c).1 c.in_ok-new-in-Waits.ensures.listed
-    c.loop-next.invariant (started c))
+    (less_by_start c.args.local.now c.args.target.now (pair_of c.args.root) c.args.starts.now.items c.steps.run.opened c.steps.run.settled c.start-in-Waits.new.self.opened c.steps.run.settled (frame_of c.steps.top) (frame_of c.in-Waits.next)
+    (frame_of c.in-Some-3.new) (pair_of c.in-Waits.pair) (stack_of c.steps.run.below.items) c.steps.starts.items c.start-in-Waits.new.starts.items c.in-Waits.pair c.in-Waits.ensures (is_started c).1 c.in_ok-new-in-Waits.ensures.listed
+    c.steps.invariant (started c))
 
-pub loop-next-preserved : goal.loop-next-preserved
-loop-next-preserved c = rw (new_stack c, c.start-in-Waits.ensures.settled) (started c)
+pub steps-preserved : goal.steps-preserved
+steps-preserved c = rw (new_stack c, c.start-in-Waits.ensures.settled) (started c)

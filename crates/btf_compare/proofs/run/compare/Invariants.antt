@@ -6,9 +6,9 @@ use Rattle.btf_compare.specs.Pairs.{pair_of}
 use Rattle.btf_compare.proofs.Comparing.{IsRunning, stack_of}
 use Rattle.btf_compare.proofs.run.compare.Given as goal
 
-abbrev pub invariant-loop-next : goal.invariant-loop-next
-invariant-loop-next l = IsRunning l.local l.target (pair_of l.fn.root) l.run.opened l.run.settled (frame_of l.top) (stack_of l.run.below.items) l.fn.starts.items l.starts.items
+abbrev pub invariant-steps : goal.invariant-steps
+invariant-steps l = IsRunning l.local l.target (pair_of l.fn.root) l.run.opened l.run.settled (frame_of l.top) (stack_of l.run.below.items) l.fn.starts.items l.starts.items
 
 -- what is left to do, where as many pairs are listed as the list has grown by
-abbrev pub decreases-loop-next : goal.decreases-loop-next
-decreases-loop-next l = left_to_do (length (known_pairs l.local l.target)) (length l.starts.items - length l.fn.starts.items) (widest l.local.records) (frame_of l.top) (stack_of l.run.below.items)
+abbrev pub decreases-steps : goal.decreases-steps
+decreases-steps l = left_to_do (length (known_pairs l.local l.target)) (length l.starts.items - length l.fn.starts.items) (widest l.local.records) (frame_of l.top) (stack_of l.run.below.items)
