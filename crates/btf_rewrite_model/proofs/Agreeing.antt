@@ -10,16 +10,16 @@ use Rattle.btf_model.specs.Record as kinds
 use Rattle.btf_model.specs.Record.{Kind, Record, kind_of, vlen}
 use Rattle.btf_model.specs.Refusal.{Refusal}
 use Rattle.btf_rewrite_model.specs.Feature as features
-use Rattle.btf_rewrite_model.specs.Feature.{Feature, Answer, grants, same_feature, is_global, is_signed, has_no_entries}
+use Rattle.btf_rewrite_model.specs.Feature.{Feature, Answer, grants, same_feature, is_global, is_signed, has_no_entries, fills_sized, is_sized_and_empty}
 use Rattle.btf_rewrite_model.specs.Made.{entries, variants, record_at, kind_at, byte_int, static_var, const, typedef, struct, union, enum, data_sec, with_linkage, unsigned}
 use Rattle.btf_rewrite_model.specs.Checks.{Check, first_fault, is_read, has_room, have_room, fits, record_len}
 use Rattle.btf_model.specs.Table.{type_bytes}
-use Rattle.btf_rewrite_model.specs.Pass.{Pass, has, name_of, least, or_this, is_least, renaming, section_size, is_unsized, is_zero_or, is_positive, gets_filler, makes_filler, wants_placeholder, makes_placeholder, param_texts, filler, filler_type_text, filler_text, placeholder_text, texts, texts_by, texts_below, texts_len, offset_at, filler_offset, added_by, added_below, with_added, free_id, added, growth_below, type_len_at, func_asks, asks_by, asks, asks_below, is_builtin, is_enum64}
+use Rattle.btf_rewrite_model.specs.Pass.{Pass, has, name_of, name_checks, least, or_this, is_least, renaming, section_size, is_unsized, is_zero_or, is_positive, fills_sized_one, fills_unsized, gets_filler, sized_asks_zero, unsized_asks_zero, makes_filler, wants_placeholder, makes_placeholder, param_texts, filler, filler_type_text, filler_text, placeholder_text, texts, texts_by, texts_below, texts_len, offset_at, filler_offset, added_by, added_below, with_added, free_id, added, growth_below, type_len_at, func_asks, asks_by, asks, asks_below, is_builtin, is_enum64}
 use Rattle.btf_rewrite_model.specs.Rule.{becomes_by, ruled_below, with_ruled, known_func, new_name, name_or, filler_id, placed, named_params, variant_members, entry_members, placeholder_id}
-use Rattle.btf_rewrite_model.specs.Fault.{fault, checks_by, name_checks, completing_checks, member_checks, entry_checks, is_sized, all_fit}
+use Rattle.btf_rewrite_model.specs.Fault.{fault, checks_by, completing_checks, filling_checks, member_checks, entry_checks, is_sized, all_fit}
 use Rattle.btf_rewrite_model.specs.Rewritten.{AreRuled}
 use Rattle.btf_rewrite_model.specs.RewriteLaws.{IsAmong, with_answers, Agree, IsSameBelow}
-use Rattle.btf_rewrite_model.proofs.Lengths.{unsized_section}
+use Rattle.btf_rewrite_model.proofs.Lengths.{unsized_section, sized_section}
 use Rattle.btf_rewrite_model.proofs.Granted.{passed_head, passed_tail, passed_left}
 
 -- ---- the least that passes a test
@@ -63,68 +63,110 @@ agree_at p answers (suc n) id lt agree =
 
 -- ---- the filler
 
-filler_alike : (d g u e z y : Bool) (size : Option ℕ) → (u ≡ true → g ≡ d) → (d ≡ true → u ≡ true → e ≡ true → is_positive size ≡ true → y ≡ z)
-    → (g && u && e && is_zero_or (not y) size) ≡ (d && u && e && is_zero_or (not z) size)
-filler_alike true true false e z y size same_d same_z = refl
-filler_alike true false false e z y size same_d same_z = refl
-filler_alike false true false e z y size same_d same_z = refl
-filler_alike false false false e z y size same_d same_z = refl
-filler_alike true false true e z y size same_d same_z = absurd (false≢true (same_d refl))
-filler_alike false true true e z y size same_d same_z = absurd (false≢true (sym (same_d refl)))
-filler_alike false false true e z y size same_d same_z = refl
-filler_alike true true true false z y size same_d same_z = refl
-filler_alike true true true true z y None same_d same_z = refl
-filler_alike true true true true z y (Some size) same_d same_z =
-    elim (size == 0) as (λ (b : Bool). (not b ≡ true → y ≡ z) → (b || not y) ≡ (b || not z)) [ true ↦ λ same. refl | false ↦ λ same. ap not (same refl) ] (same_z refl refl refl)
+-- of one of size 0
+unsized_alike : (u e z y : Bool) (size : Option ℕ) → (u ≡ true → e ≡ true → is_positive size ≡ true → y ≡ z) → (u && e && is_zero_or (not y) size) ≡ (u && e && is_zero_or (not z) size)
+unsized_alike false e z y size same = refl
+unsized_alike true false z y size same = refl
+unsized_alike true true z y None same = refl
+unsized_alike true true z y (Some size) same =
+    elim (size == 0) as (λ (b : Bool). (not b ≡ true → y ≡ z) → (b || not y) ≡ (b || not z)) [ true ↦ λ is. refl | false ↦ λ is. ap not (is refl) ] (same refl refl)
+
+-- of one that has a size
+sized_alike : (s w z y : Bool) → (s ≡ true → w ≡ true → y ≡ z) → (s && w && not y) ≡ (s && w && not z)
+sized_alike false w z y same = refl
+sized_alike true false z y same = refl
+sized_alike true true z y same = ap not (same refl refl)
+
+-- of both, where either is a DATASEC
+filler_alike : (d g s t u v : Bool) → (s ≡ true → g ≡ d) → (t ≡ true → g ≡ d) → (u ≡ true → g ≡ d) → (v ≡ true → g ≡ d) → (d ≡ true → s ≡ t) → (d ≡ true → u ≡ v) → (g && (s || u)) ≡ (d && (t || v))
+filler_alike true true s t u v is_s is_t is_u is_v same_s same_u = ap (λ (b : Bool). b || u) (same_s refl) ∙ ap (λ (b : Bool). t || b) (same_u refl)
+filler_alike true false s true u v is_s is_t is_u is_v same_s same_u = absurd (false≢true (is_t refl))
+filler_alike true false s false u true is_s is_t is_u is_v same_s same_u = absurd (false≢true (is_v refl))
+filler_alike true false s false u false is_s is_t is_u is_v same_s same_u = refl
+filler_alike false true true t u v is_s is_t is_u is_v same_s same_u = absurd (false≢true (sym (is_s refl)))
+filler_alike false true false t true v is_s is_t is_u is_v same_s same_u = absurd (false≢true (sym (is_u refl)))
+filler_alike false true false t false v is_s is_t is_u is_v same_s same_u = refl
+filler_alike false false s t u v is_s is_t is_u is_v same_s same_u = refl
 
 -- what an id of this kind asks for agrees
 pub agree_of : (p : Pass) (answers : List Answer) (id : ℕ) (k : Option Kind) (f : Feature) → AgreeAt p answers id → kind_at p.table id ≡ k → IsAmong f (asks_by p id k (record_at p.table id)) → grants answers f ≡ has p f
 agree_of p answers id k f agree kind among = agree f (subst (λ (j : Option Kind). IsAmong f (asks_by p id j (record_at p.table id))) (sym kind) among)
 
-first_among : (c : Bool) → IsAmong features.DataSec (if c then features.DataSec ∷ features.DataSecZero ∷ [] else features.DataSec ∷ [])
+pub first_among : (c : Bool) → IsAmong features.DataSec (if c then features.DataSec ∷ features.DataSecZero ∷ [] else features.DataSec ∷ [])
 first_among true = refl
 first_among false = refl
 
-second_among : (c : Bool) → c ≡ true → IsAmong features.DataSecZero (if c then features.DataSec ∷ features.DataSecZero ∷ [] else features.DataSec ∷ [])
+pub second_among : (c : Bool) → c ≡ true → IsAmong features.DataSecZero (if c then features.DataSec ∷ features.DataSecZero ∷ [] else features.DataSec ∷ [])
 second_among true is = refl
 second_among false is = absurd (false≢true is)
 
-five : (a b c d e : Bool) → a ≡ true → b ≡ true → c ≡ true → d ≡ true → e ≡ true → (a && b && c && d && e) ≡ true
-five true true true true true is_a is_b is_c is_d is_e = refl
-five false b c d e is_a is_b is_c is_d is_e = absurd (false≢true is_a)
-five true false c d e is_a is_b is_c is_d is_e = absurd (false≢true is_b)
-five true true false d e is_a is_b is_c is_d is_e = absurd (false≢true is_c)
-five true true true false e is_a is_b is_c is_d is_e = absurd (false≢true is_d)
-five true true true true false is_a is_b is_c is_d is_e = absurd (false≢true is_e)
+-- the name of a section is read, and the new one has room
+abbrev pub IsNamed : Pass → ℕ → Type 0
+IsNamed p id = first_fault (name_checks p id) ≡ None
 
--- the new name of a section has room
-abbrev pub has_name_room : Pass → ℕ → Bool
-has_name_room p id = is_none (first_fault (have_room (offset_at p id) (renaming p (name_of p id))))
+pub name_room : (p : Pass) (id : ℕ) → IsNamed p id → is_none (first_fault (have_room (offset_at p id) (renaming p (name_of p id)))) ≡ true
+name_room p id named = ap is_none (passed_tail (is_read (name_of p id)) (have_room (offset_at p id) (renaming p (name_of p id))) named)
+
+abbrev asks_zero : Pass → ℕ → Bool
+asks_zero p id = has p features.DataSec && (sized_asks_zero p id (record_at p.table id) || unsized_asks_zero p id (record_at p.table id))
 
 section_agrees : (p : Pass) (answers : List Answer) (id : ℕ) → AgreeAt p answers id → kind_at p.table id ≡ Some kinds.DataSec → grants answers features.DataSec ≡ has p features.DataSec
-section_agrees p answers id agree kind =
-    let r : Record = record_at p.table id in
-    agree_of p answers id (Some kinds.DataSec) features.DataSec agree kind (first_among (has p features.DataSec && (r.third == 0) && has_no_entries r && has_name_room p id && is_positive (section_size p id)))
+section_agrees p answers id agree kind = agree_of p answers id (Some kinds.DataSec) features.DataSec agree kind (first_among (asks_zero p id))
 
-pub filler_same : (p : Pass) (answers : List Answer) (id : ℕ) → AgreeAt p answers id → (kind_at p.table id ≡ Some kinds.DataSec → has_name_room p id ≡ true) → gets_filler (with_answers p answers) id ≡ gets_filler p id
-filler_same p answers id agree room =
-    let r : Record = record_at p.table id in
-    let section : is_unsized (kind_at p.table id) r ≡ true → (kind_at p.table id ≡ Some kinds.DataSec) × ((r.third == 0) ≡ true) = unsized_section (kind_at p.table id) r in
-    filler_alike (has p features.DataSec) (grants answers features.DataSec) (is_unsized (kind_at p.table id) r) (has_no_entries r) (has p features.DataSecZero) (grants answers features.DataSecZero) (section_size p id)
-    (λ u. section_agrees p answers id agree (section u).0)
-    (λ d u e size. agree_of p answers id (Some kinds.DataSec) features.DataSecZero agree (section u).0
-    (second_among (has p features.DataSec && (r.third == 0) && has_no_entries r && has_name_room p id && is_positive (section_size p id))
-    (five (has p features.DataSec) (r.third == 0) (has_no_entries r) (has_name_room p id) (is_positive (section_size p id)) d (section u).1 e (room (section u).0) size)))
+zero_agrees : (p : Pass) (answers : List Answer) (id : ℕ) → AgreeAt p answers id → kind_at p.table id ≡ Some kinds.DataSec → asks_zero p id ≡ true → grants answers features.DataSecZero ≡ has p features.DataSecZero
+zero_agrees p answers id agree kind is = agree_of p answers id (Some kinds.DataSec) features.DataSecZero agree kind (second_among (asks_zero p id) is)
 
--- an id that is not refused has room for its new name
-pub room_of_ruled : (p : Pass) (id : ℕ) → fault p id ≡ None → kind_at p.table id ≡ Some kinds.DataSec → has_name_room p id ≡ true
-room_of_ruled p id ruled kind =
+asks_unsized : (d a z e room size : Bool) → d ≡ true → z ≡ true → e ≡ true → room ≡ true → size ≡ true → (d && (a || (z && e && room && size))) ≡ true
+asks_unsized true true z e room size is_d is_z is_e is_room is_size = refl
+asks_unsized true false true true true true is_d is_z is_e is_room is_size = refl
+asks_unsized false a z e room size is_d is_z is_e is_room is_size = absurd (false≢true is_d)
+asks_unsized true false false e room size is_d is_z is_e is_room is_size = absurd (false≢true is_z)
+asks_unsized true false true false room size is_d is_z is_e is_room is_size = absurd (false≢true is_e)
+asks_unsized true false true true false size is_d is_z is_e is_room is_size = absurd (false≢true is_room)
+asks_unsized true false true true true false is_d is_z is_e is_room is_size = absurd (false≢true is_size)
+
+asks_sized : (d s z e named a : Bool) → d ≡ true → s ≡ true → z ≡ false → e ≡ true → named ≡ true → (d && ((s && not z && e && named) || a)) ≡ true
+asks_sized true true false true true a is_d is_s is_z is_e is_named = refl
+asks_sized false s z e named a is_d is_s is_z is_e is_named = absurd (false≢true is_d)
+asks_sized true false z e named a is_d is_s is_z is_e is_named = absurd (false≢true is_s)
+asks_sized true true true e named a is_d is_s is_z is_e is_named = absurd (false≢true (sym is_z))
+asks_sized true true false false named a is_d is_s is_z is_e is_named = absurd (false≢true is_e)
+asks_sized true true false true false a is_d is_s is_z is_e is_named = absurd (false≢true is_named)
+
+first_two : (a b c : Bool) → (a && b && c) ≡ true → (a ≡ true) × (b ≡ true)
+first_two true true c is = (refl, refl)
+first_two true false c is = absurd (false≢true is)
+first_two false b c is = absurd (false≢true is)
+
+pub filler_same : (p : Pass) (answers : List Answer) (id : ℕ) → AgreeAt p answers id → (kind_at p.table id ≡ Some kinds.DataSec → IsNamed p id) → gets_filler (with_answers p answers) id ≡ gets_filler p id
+filler_same p answers id agree named =
+    let q : Pass = with_answers p answers in
+    let r : Record = record_at p.table id in
+    let k : Option Kind = kind_at p.table id in
+    let no : Pass → Bool = λ (o : Pass). not (has o features.DataSecZero) in
+    let same : k ≡ Some kinds.DataSec → grants answers features.DataSec ≡ has p features.DataSec = section_agrees p answers id agree in
+    let of_sized : (h : Bool) → (fills_sized p.policy && is_sized_and_empty k r && h) ≡ true → grants answers features.DataSec ≡ has p features.DataSec =
+    λ h is. same (sized_section k r (first_two (fills_sized p.policy) (is_sized_and_empty k r) h is).1).0 in
+    let of_unsized : (h : Bool) → (is_unsized k r && has_no_entries r && h) ≡ true → grants answers features.DataSec ≡ has p features.DataSec =
+    λ h is. same (unsized_section k r (first_two (is_unsized k r) (has_no_entries r) h is).0).0 in
+    filler_alike (has p features.DataSec) (grants answers features.DataSec) (fills_sized_one q id) (fills_sized_one p id) (fills_unsized q id) (fills_unsized p id)
+    (of_sized (no q)) (of_sized (no p)) (of_unsized (is_zero_or (no q) (section_size p id))) (of_unsized (is_zero_or (no p) (section_size p id)))
+    (λ d. sized_alike (fills_sized p.policy) (is_sized_and_empty k r) (has p features.DataSecZero) (grants answers features.DataSecZero)
+    (λ s w. let section = sized_section k r w in zero_agrees p answers id agree section.0
+    (asks_sized (has p features.DataSec) (fills_sized p.policy) (r.third == 0) (has_no_entries r) (is_none (first_fault (name_checks p id))) (unsized_asks_zero p id r) d s section.2 section.1 (ap is_none (named section.0)))))
+    (λ d. unsized_alike (is_unsized k r) (has_no_entries r) (has p features.DataSecZero) (grants answers features.DataSecZero) (section_size p id)
+    (λ u e size. let section = unsized_section k r u in zero_agrees p answers id agree section.0
+    (asks_unsized (has p features.DataSec) (sized_asks_zero p id r) (r.third == 0) (has_no_entries r) (is_none (first_fault (have_room (offset_at p id) (renaming p (name_of p id))))) (is_positive (section_size p id)) d section.1 e (name_room p id (named section.0)) size)))
+
+-- the name of an id that is not refused
+pub named_of_ruled : (p : Pass) (id : ℕ) → fault p id ≡ None → kind_at p.table id ≡ Some kinds.DataSec → IsNamed p id
+named_of_ruled p id ruled kind =
     let r : Record = record_at p.table id in
     let checks : first_fault (checks_by p id (Some kinds.DataSec) r) ≡ None = subst (λ (k : Option Kind). first_fault (checks_by p id k r) ≡ None) kind ruled in
-    ap is_none (passed_tail (is_read (name_of p id)) (have_room (offset_at p id) (renaming p (name_of p id))) (passed_left (name_checks p id) _ checks))
+    passed_left (name_checks p id) _ checks
 
 fillers_same : (p : Pass) (answers : List Answer) (n id : ℕ) → Agree p answers n → AreRuled p n → id < n → gets_filler (with_answers p answers) id ≡ gets_filler p id
-fillers_same p answers n id agree ruled lt = filler_same p answers id (agree_at p answers n id lt agree) (room_of_ruled p id (ruled id lt))
+fillers_same p answers n id agree ruled lt = filler_same p answers id (agree_at p answers n id lt agree) (named_of_ruled p id (ruled id lt))
 
 -- ---- texts
 
@@ -171,6 +213,14 @@ func_asks_same p answers r (Ok name) agree =
     ap (λ (b : Bool). if b && is_global r && not (is_builtin name) then features.Func ∷ features.FuncGlobal ∷ [] else features.Func ∷ []) (agree features.Func first)
 func_asks_same p answers r (Err refusal) agree = refl
 
+rooms_same : (p : Pass) (answers : List Answer) (id : ℕ) → offset_at (with_answers p answers) id ≡ offset_at p id → renaming (with_answers p answers) (name_of p id) ≡ renaming p (name_of p id)
+    → have_room (offset_at (with_answers p answers) id) (renaming (with_answers p answers) (name_of p id)) ≡ have_room (offset_at p id) (renaming p (name_of p id))
+rooms_same p answers id offset same = ap (λ (o : ℕ). have_room o (renaming (with_answers p answers) (name_of p id))) offset ∙ ap (λ (ts : List (List ℕ)). have_room (offset_at p id) ts) same
+
+names_same : (p : Pass) (answers : List Answer) (id : ℕ) → offset_at (with_answers p answers) id ≡ offset_at p id → renaming (with_answers p answers) (name_of p id) ≡ renaming p (name_of p id)
+    → name_checks (with_answers p answers) id ≡ name_checks p id
+names_same p answers id offset same = ap (λ (cs : List Check). is_read (name_of p id) ∷ cs) (rooms_same p answers id offset same)
+
 asks_same : (p : Pass) (answers : List Answer) (id : ℕ) (k : Option Kind) → kind_at p.table id ≡ k → AgreeAt p answers id → offset_at (with_answers p answers) id ≡ offset_at p id
     → asks_by (with_answers p answers) id k (record_at p.table id) ≡ asks_by p id k (record_at p.table id)
 asks_same p answers id (Some kinds.Func) kind agree offset = func_asks_same p answers (record_at p.table id) (name_of p id) (λ f among. agree_of p answers id (Some kinds.Func) f agree kind among)
@@ -178,9 +228,15 @@ asks_same p answers id (Some kinds.DataSec) kind agree offset =
     let r : Record = record_at p.table id in
     let granted : grants answers features.DataSec ≡ has p features.DataSec = section_agrees p answers id agree kind in
     let same : renaming (with_answers p answers) (name_of p id) ≡ renaming p (name_of p id) = renaming_same p answers (name_of p id) granted in
-    let room : has_name_room (with_answers p answers) id ≡ has_name_room p id = ap (λ (o : ℕ). is_none (first_fault (have_room o (renaming (with_answers p answers) (name_of p id))))) offset ∙ ap (λ (ts : List (List ℕ)). is_none (first_fault (have_room (offset_at p id) ts))) same in
-    ap (λ (b : Bool). if b && (r.third == 0) && has_no_entries r && has_name_room (with_answers p answers) id && is_positive (section_size p id) then features.DataSec ∷ features.DataSecZero ∷ [] else features.DataSec ∷ []) granted
-    ∙ ap (λ (b : Bool). if has p features.DataSec && (r.third == 0) && has_no_entries r && b && is_positive (section_size p id) then features.DataSec ∷ features.DataSecZero ∷ [] else features.DataSec ∷ []) room
+    let room : List Check → Bool = λ cs. is_none (first_fault cs) in
+    let names : name_checks (with_answers p answers) id ≡ name_checks p id = names_same p answers id offset same in
+    let rooms : have_room (offset_at (with_answers p answers) id) (renaming (with_answers p answers) (name_of p id)) ≡ have_room (offset_at p id) (renaming p (name_of p id)) = rooms_same p answers id offset same in
+    let asked : Bool → List Check → List Check → List Feature =
+    λ b named has_room. if b && ((fills_sized p.policy && not (r.third == 0) && has_no_entries r && room named) || ((r.third == 0) && has_no_entries r && room has_room && is_positive (section_size p id)))
+    then features.DataSec ∷ features.DataSecZero ∷ [] else features.DataSec ∷ [] in
+    ap (λ (b : Bool). asked b (name_checks (with_answers p answers) id) (have_room (offset_at (with_answers p answers) id) (renaming (with_answers p answers) (name_of p id)))) granted
+    ∙ ap (λ (cs : List Check). asked (has p features.DataSec) cs (have_room (offset_at (with_answers p answers) id) (renaming (with_answers p answers) (name_of p id)))) names
+    ∙ ap (λ (cs : List Check). asked (has p features.DataSec) (name_checks p id) cs) rooms
 asks_same p answers id k kind agree offset = refl
 
 -- ---- what records become
@@ -230,7 +286,8 @@ abbrev section_made : Pass → List Record → ℕ → Bool → Bool → ℕ →
 section_made p lower id granted filled name at =
     let r : Record = record_at p.table id in
     let size : ℕ = unwrap_or (section_size p id) 0 in
-    if granted then (if r.third == 0 then (if filled then data_sec name (max size 1) 1 (record { type = at; offset = 0; size = max size 1 } ∷ []) else data_sec name size (vlen r.info) (map (placed p) (entries r.tail))) else record r { name = name })
+    let filling : ℕ → Record = λ n. data_sec name n 1 (record { type = at; offset = 0; size = n } ∷ []) in
+    if granted then (if r.third == 0 then (if filled then filling (max size 1) else data_sec name size (vlen r.info) (map (placed p) (entries r.tail))) else (if filled then filling r.third else record r { name = name }))
     else struct name (vlen r.info) (vlen r.info) (entry_members p lower id (entries r.tail))
 
 section_same : (p : Pass) (answers : List Answer) (lower : List Record) (id : ℕ) → kind_at p.table id ≡ Some kinds.DataSec → Same p answers id
@@ -357,32 +414,35 @@ type_len_same : (p : Pass) (answers : List Answer) (id : ℕ) → IsSameBelow p 
 type_len_same p answers id below =
     ap (λ (rs : List Record). length (type_bytes p.table) + sum_by record_len rs + growth_below (with_answers p answers) id) below.added ∙ ap (λ (n : ℕ). length (type_bytes p.table) + sum_by record_len (added_below p id) + n) below.growth
 
-abbrev completing_by : Pass → ℕ → Bool → Bool → ℕ → ℕ → List Record → List Check
-completing_by p id makes gets offset used records =
+-- the tests of a DATASEC by its size, by whether it makes and gets the filler, by the filler's offset, the bytes before it and its records
+abbrev sizing_by : Pass → ℕ → Bool → Bool → ℕ → ℕ → List Record → List Check
+sizing_by p id makes gets offset used records =
     let r : Record = record_at p.table id in
-    is_sized (section_size p id) (name_of p id) ∷ (if makes then has_room offset filler_type_text ∷ fits used (record_len (byte_int 0)) ∷ has_room (offset + length filler_type_text + 1) filler_text ∷ fits (used + record_len (byte_int 0)) (record_len (static_var 0 0)) ∷ [] else [])
-    ++ flat_map (entry_checks p) (entries r.tail) ++ (if gets then fits (used + sum_by record_len records) 12 ∷ [] else [])
+    let making : List Check =
+    if makes then has_room offset filler_type_text ∷ fits used (record_len (byte_int 0)) ∷ has_room (offset + length filler_type_text + 1) filler_text ∷ fits (used + record_len (byte_int 0)) (record_len (static_var 0 0)) ∷ [] else [] in
+    let growing : List Check = if gets then fits (used + sum_by record_len records) 12 ∷ [] else [] in
+    if r.third == 0 then is_sized (section_size p id) (name_of p id) ∷ making ++ flat_map (entry_checks p) (entries r.tail) ++ growing else making ++ growing
 
-fillers_to : (p : Pass) (answers : List Answer) (id : ℕ) → Agree p answers (suc id) → AreRuled p id → (kind_at p.table id ≡ Some kinds.DataSec → has_name_room p id ≡ true) → (j : ℕ) → j ≤ id → gets_filler (with_answers p answers) j ≡ gets_filler p j
-fillers_to p answers id agree ruled room j le =
+fillers_to : (p : Pass) (answers : List Answer) (id : ℕ) → Agree p answers (suc id) → AreRuled p id → (kind_at p.table id ≡ Some kinds.DataSec → IsNamed p id) → (j : ℕ) → j ≤ id → gets_filler (with_answers p answers) j ≡ gets_filler p j
+fillers_to p answers id agree ruled named j le =
     elim (cases_order j id) as (λ c. gets_filler (with_answers p answers) j ≡ gets_filler p j) [
-      | inl same ↦ subst (λ (i : ℕ). gets_filler (with_answers p answers) i ≡ gets_filler p i) (sym same) (filler_same p answers id (agree_itself p answers id agree) room)
+      | inl same ↦ subst (λ (i : ℕ). gets_filler (with_answers p answers) i ≡ gets_filler p i) (sym same) (filler_same p answers id (agree_itself p answers id agree) named)
       | inr other ↦ elim other as (λ c. gets_filler (with_answers p answers) j ≡ gets_filler p j)
           [ inl less ↦ fillers_same p answers id j (agree_below p answers id agree) ruled less | inr more ↦ absurd (omega (arith, le, more)) ]
     ]
 
 -- the tests of a DATASEC behind those of its name
 abbrev section_rest : Pass → ℕ → List Check
-section_rest p id = if has p features.DataSec then (if (record_at p.table id).third == 0 then completing_checks p id (record_at p.table id) else []) else flat_map (member_checks p) (entries (record_at p.table id).tail)
+section_rest p id = if has p features.DataSec then (if (record_at p.table id).third == 0 then completing_checks p id (record_at p.table id) else filling_checks p id) else flat_map (member_checks p) (entries (record_at p.table id).tail)
 
-section_rest_same : (p : Pass) (answers : List Answer) (id : ℕ) → kind_at p.table id ≡ Some kinds.DataSec → Agree p answers (suc id) → AreRuled p id → has_name_room p id ≡ true
+section_rest_same : (p : Pass) (answers : List Answer) (id : ℕ) → kind_at p.table id ≡ Some kinds.DataSec → Agree p answers (suc id) → AreRuled p id → IsNamed p id
     → section_rest (with_answers p answers) id ≡ section_rest p id
-section_rest_same p answers id kind agree ruled room =
+section_rest_same p answers id kind agree ruled named =
     let q : Pass = with_answers p answers in
     let r : Record = record_at p.table id in
     let at_id : AgreeAt p answers id = agree_itself p answers id agree in
     let below : IsSameBelow p answers id = same_below p answers id (agree_below p answers id agree) ruled in
-    let fillers : (j : ℕ) → j ≤ id → gets_filler q j ≡ gets_filler p j = fillers_to p answers id agree ruled (λ is. room) in
+    let fillers : (j : ℕ) → j ≤ id → gets_filler q j ≡ gets_filler p j = fillers_to p answers id agree ruled (λ is. named) in
     let makes : makes_filler q id ≡ makes_filler p id = makes_same p answers id fillers in
     let granted : grants answers features.DataSec ≡ has p features.DataSec = section_agrees p answers id at_id kind in
     let renamed : renaming q (name_of p id) ≡ renaming p (name_of p id) = renaming_same p answers (name_of p id) granted in
@@ -390,14 +450,14 @@ section_rest_same p answers id kind agree ruled room =
     let used : type_len_at q id ≡ type_len_at p id = type_len_same p answers id below in
     let records : added q id ≡ added p id =
     ap (λ (n : ℕ). added_by q n id (kind_at p.table id)) (free_same p answers id below) ∙ added_same p answers (free_id p id) id (kind_at p.table id) refl at_id makes (offset_same p answers id below) in
-    let completing_same : completing_checks q id r ≡ completing_checks p id r =
-    ap (λ (b : Bool). completing_by p id b (gets_filler q id) (filler_offset q id) (type_len_at q id) (added q id)) makes
-    ∙ ap (λ (b : Bool). completing_by p id (makes_filler p id) b (filler_offset q id) (type_len_at q id) (added q id)) (fillers id (omega arith))
-    ∙ ap (λ (o : ℕ). completing_by p id (makes_filler p id) (gets_filler p id) o (type_len_at q id) (added q id)) offset
-    ∙ ap (λ (n : ℕ). completing_by p id (makes_filler p id) (gets_filler p id) (filler_offset p id) n (added q id)) used
-    ∙ ap (λ (rs : List Record). completing_by p id (makes_filler p id) (gets_filler p id) (filler_offset p id) (type_len_at p id) rs) records in
-    ap (λ (cs : List Check). if grants answers features.DataSec then (if r.third == 0 then cs else []) else flat_map (member_checks p) (entries r.tail)) completing_same
-    ∙ ap (λ (b : Bool). if b then (if r.third == 0 then completing_checks p id r else []) else flat_map (member_checks p) (entries r.tail)) granted
+    let same : sizing_by q id (makes_filler q id) (gets_filler q id) (filler_offset q id) (type_len_at q id) (added q id) ≡ sizing_by p id (makes_filler p id) (gets_filler p id) (filler_offset p id) (type_len_at p id) (added p id) =
+    ap (λ (b : Bool). sizing_by p id b (gets_filler q id) (filler_offset q id) (type_len_at q id) (added q id)) makes
+    ∙ ap (λ (b : Bool). sizing_by p id (makes_filler p id) b (filler_offset q id) (type_len_at q id) (added q id)) (fillers id (omega arith))
+    ∙ ap (λ (o : ℕ). sizing_by p id (makes_filler p id) (gets_filler p id) o (type_len_at q id) (added q id)) offset
+    ∙ ap (λ (n : ℕ). sizing_by p id (makes_filler p id) (gets_filler p id) (filler_offset p id) n (added q id)) used
+    ∙ ap (λ (rs : List Record). sizing_by p id (makes_filler p id) (gets_filler p id) (filler_offset p id) (type_len_at p id) rs) records in
+    ap (λ (cs : List Check). if grants answers features.DataSec then cs else flat_map (member_checks p) (entries r.tail)) same
+    ∙ ap (λ (b : Bool). if b then (if r.third == 0 then completing_checks p id r else filling_checks p id) else flat_map (member_checks p) (entries r.tail)) granted
 
 section_fault_same : (p : Pass) (answers : List Answer) (id : ℕ) → kind_at p.table id ≡ Some kinds.DataSec → Agree p answers (suc id) → AreRuled p id
     → first_fault (name_checks (with_answers p answers) id ++ section_rest (with_answers p answers) id) ≡ first_fault (name_checks p id ++ section_rest p id)
@@ -405,11 +465,10 @@ section_fault_same p answers id kind agree ruled =
     let q : Pass = with_answers p answers in
     let below : IsSameBelow p answers id = same_below p answers id (agree_below p answers id agree) ruled in
     let renamed : renaming q (name_of p id) ≡ renaming p (name_of p id) = renaming_same p answers (name_of p id) (section_agrees p answers id (agree_itself p answers id agree) kind) in
-    let names : name_checks q id ≡ name_checks p id =
-    ap (λ (o : ℕ). is_read (name_of p id) ∷ have_room o (renaming q (name_of p id))) (offset_same p answers id below) ∙ ap (λ (ts : List (List ℕ)). is_read (name_of p id) ∷ have_room (offset_at p id) ts) renamed in
+    let names : name_checks q id ≡ name_checks p id = names_same p answers id (offset_same p answers id below) renamed in
     ap (λ (cs : List Check). first_fault (cs ++ section_rest q id)) names
     ∙ both_parts (name_checks p id) (section_rest q id) (section_rest p id)
-    (λ passed. ap first_fault (section_rest_same p answers id kind agree ruled (ap is_none (passed_tail (is_read (name_of p id)) (have_room (offset_at p id) (renaming p (name_of p id))) passed))))
+    (λ passed. ap first_fault (section_rest_same p answers id kind agree ruled passed))
 
 no_section : (k : Option Kind) → k ≡ Some kinds.Enum64 → k ≡ Some kinds.DataSec → ⊥
 no_section k is_enum is_section = false≢true (ap is_enum64 (sym is_section ∙ is_enum))

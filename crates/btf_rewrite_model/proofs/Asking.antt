@@ -6,8 +6,8 @@ use Rattle.btf_model.specs.Record as kinds
 use Rattle.btf_model.specs.Record.{Kind, Record}
 use Rattle.btf_model.specs.Refusal.{Refusal}
 use Rattle.btf_rewrite_model.specs.Feature as features
-use Rattle.btf_rewrite_model.specs.Feature.{Feature, same_feature, needs_by, is_sized_and_empty, is_global, is_signed, has_no_entries}
-use Rattle.btf_rewrite_model.specs.Pass.{Pass, has, name_of, func_asks, asks_by, is_builtin, offset_at, renaming, section_size, is_positive}
+use Rattle.btf_rewrite_model.specs.Feature.{Feature, same_feature, needs_by, is_sized_and_empty, fills_sized, is_global, is_signed, has_no_entries}
+use Rattle.btf_rewrite_model.specs.Pass.{Pass, has, name_of, name_checks, func_asks, asks_by, is_builtin, offset_at, renaming, section_size, is_positive}
 use Rattle.btf_rewrite_model.specs.Checks.{first_fault, have_room}
 use Rattle.std.specs.Option.{is_none}
 use Rattle.btf_rewrite_model.specs.RewriteLaws.{IsAmong}
@@ -29,19 +29,24 @@ func_needed p f r (Ok name) is = fewer_tests f features.Func features.FuncGlobal
 func_needed p f r (Err refusal) is = absurd (false≢true is)
 
 -- the second is needed without these, and asked for only on more tests
-zero_needed : (f a b : Feature) (h z e room size : Bool) → IsAmong f (if h && z && e && room && size then a ∷ b ∷ [] else a ∷ []) → IsAmong f (if e && not (e && not z) then a ∷ b ∷ [] else a ∷ [])
-zero_needed f a b true true true true true is = is
-zero_needed f a b true true true true false is = first_of_two f a b is
-zero_needed f a b true true true false size is = first_of_two f a b is
-zero_needed f a b true true false room size is = is
-zero_needed f a b true false true room size is = is
-zero_needed f a b true false false room size is = is
-zero_needed f a b false true true room size is = first_of_two f a b is
-zero_needed f a b false true false room size is = is
-zero_needed f a b false false true room size is = is
-zero_needed f a b false false false room size is = is
+among_more : (f a b : Feature) (c : Bool) → IsAmong f (if c then a ∷ b ∷ [] else a ∷ []) → IsAmong f (a ∷ b ∷ [])
+among_more f a b true is = is
+among_more f a b false is = first_of_two f a b is
 
-pub needed_by : (p : Pass) (id : ℕ) (f : Feature) (k : Option Kind) (r : Record) → IsAmong f (asks_by p id k r) → IsAmong f (needs_by (is_sized_and_empty k r) k r)
+zero_needed : (f a b : Feature) (h s z e named room size : Bool) → IsAmong f (if h && ((s && not z && e && named) || (z && e && room && size)) then a ∷ b ∷ [] else a ∷ [])
+    → IsAmong f (if e && not (not s && (e && not z)) then a ∷ b ∷ [] else a ∷ [])
+zero_needed f a b h true true true named room size is = among_more f a b (h && (room && size)) is
+zero_needed f a b h false true true named room size is = among_more f a b (h && (room && size)) is
+zero_needed f a b h true false true named room size is = among_more f a b (h && (named || false)) is
+zero_needed f a b true false false true named room size is = is
+zero_needed f a b false s z false named room size is = is
+zero_needed f a b true true true false named room size is = is
+zero_needed f a b true true false false named room size is = is
+zero_needed f a b true false true false named room size is = is
+zero_needed f a b true false false false named room size is = is
+zero_needed f a b false false false true named room size is = is
+
+pub needed_by : (p : Pass) (id : ℕ) (f : Feature) (k : Option Kind) (r : Record) → IsAmong f (asks_by p id k r) → IsAmong f (needs_by (not (fills_sized p.policy) && is_sized_and_empty k r) k r)
 needed_by p id f (Some kinds.Var) r is = is
 needed_by p id f (Some kinds.Float) r is = is
 needed_by p id f (Some kinds.DeclTag) r is = is
@@ -50,5 +55,5 @@ needed_by p id f (Some kinds.Enum) r is = is
 needed_by p id f (Some kinds.Enum64) r is = is
 needed_by p id f (Some kinds.Func) r is = func_needed p f r (name_of p id) is
 needed_by p id f (Some kinds.FuncProto) r is = is
-needed_by p id f (Some kinds.DataSec) r is = zero_needed f features.DataSec features.DataSecZero (has p features.DataSec) (r.third == 0) (has_no_entries r) (is_none (first_fault (have_room (offset_at p id) (renaming p (name_of p id))))) (is_positive (section_size p id)) is
+needed_by p id f (Some kinds.DataSec) r is = zero_needed f features.DataSec features.DataSecZero (has p features.DataSec) (fills_sized p.policy) (r.third == 0) (has_no_entries r) (is_none (first_fault (name_checks p id))) (is_none (first_fault (have_room (offset_at p id) (renaming p (name_of p id))))) (is_positive (section_size p id)) is
 needed_by p id f k r is = absurd (false≢true is)

@@ -11,7 +11,7 @@ use Rattle.btf_rewrite_model.specs.Pass.{Pass, has, least, or_this, is_least, is
 use Rattle.btf_rewrite_model.specs.Rewritten.{AreRuled}
 use Rattle.btf_rewrite_model.specs.RewriteLaws.{with_answers, Agree}
 use Rattle.btf_rewrite_model.specs.Passing.{MadeBelow}
-use Rattle.btf_rewrite_model.proofs.Agreeing.{AgreeAt, agree_at, agree_of, is_least_alike, filler_same, room_of_ruled}
+use Rattle.btf_rewrite_model.proofs.Agreeing.{AgreeAt, agree_at, agree_of, is_least_alike, filler_same, named_of_ruled}
 
 -- ---- the least
 
@@ -101,4 +101,4 @@ placeholder_alike p answers n agree j lt = enum64_alike p answers j (kind_at p.t
 
 -- So are those that get a filler.
 pub filler_alike_below : (p : Pass) (answers : List Answer) (n : ℕ) → Agree p answers n → AreRuled p n → (j : ℕ) → j < n → gets_filler (with_answers p answers) j ≡ gets_filler p j
-filler_alike_below p answers n agree ruled j lt = filler_same p answers j (agree_at p answers n j lt agree) (room_of_ruled p j (ruled j lt))
+filler_alike_below p answers n agree ruled j lt = filler_same p answers j (agree_at p answers n j lt agree) (named_of_ruled p j (ruled j lt))

@@ -9,12 +9,12 @@ use Rattle.btf_model.specs.Record.{Kind, Record, kind_of, kind_number, kind_flag
 use Rattle.btf_model.specs.Info.{with_vlen, with_flag}
 use Rattle.btf_model.specs.Refusal.{Refusal, UnknownSectionSize}
 use Rattle.btf_rewrite_model.specs.Feature as features
-use Rattle.btf_rewrite_model.specs.Feature.{Feature, Answer, number, same_feature, grants, needs, needs_by, is_sized_and_empty, is_global, is_signed, has_no_entries}
+use Rattle.btf_rewrite_model.specs.Feature.{Feature, Answer, number, same_feature, grants, needs, needs_by, is_sized_and_empty, fills_sized, is_global, is_signed, has_no_entries}
 use Rattle.btf_rewrite_model.specs.Made.{Entry, entries, record_at, kind_at, struct, union, enum, data_sec, with_linkage, unsigned}
 use Rattle.btf_rewrite_model.specs.Checks.{Check, first_fault, is_read}
-use Rattle.btf_rewrite_model.specs.Pass.{Pass, has, name_of, is_builtin, gets_filler, section_size, is_unsized, is_zero_or}
-use Rattle.btf_rewrite_model.specs.Rule.{becomes, becomes_by, ruled_below, known_func, completed, new_name, filler_id, placed}
-use Rattle.btf_rewrite_model.specs.Fault.{fault, checks_by, is_sized, name_checks, completing_checks}
+use Rattle.btf_rewrite_model.specs.Pass.{Pass, has, name_of, name_checks, is_builtin, gets_filler, section_size, is_unsized, is_zero_or, fills_sized_one, fills_unsized}
+use Rattle.btf_rewrite_model.specs.Rule.{becomes, becomes_by, ruled_below, known_func, completed, sized, filled, new_name, placed}
+use Rattle.btf_rewrite_model.specs.Fault.{fault, checks_by, is_sized, completing_checks, filling_checks}
 use Rattle.btf_rewrite_model.specs.RewriteLaws.{IsAmong}
 
 -- ---- kinds of made records
@@ -154,23 +154,29 @@ made_vlen count small = omega arith
 section_needs : (f : Feature) (e x : Bool) → (e && not x) ≡ false → IsAmong f (if e && not x then features.DataSec ∷ features.DataSecZero ∷ [] else features.DataSec ∷ []) → IsAmong f (features.DataSec ∷ [])
 section_needs f e x one is = subst (λ (b : Bool). IsAmong f (if b then features.DataSec ∷ features.DataSecZero ∷ [] else features.DataSec ∷ [])) one is
 
--- one that is sized stays, and is exempt where it has no entries
-exempt : (e z : Bool) → z ≡ false → (e && not (e && not z)) ≡ false
-exempt true false is = refl
-exempt true true is = absurd (false≢true (sym is))
-exempt false z is = refl
-
 or_true : (b : Bool) → (b || true) ≡ true
 or_true true = refl
 or_true false = refl
 
 -- where the size of its section is known, one that gets no filler has entries, or its kernel takes it without
-unfilled : (d u e h : Bool) (size : ℕ) → d ≡ true → u ≡ true → (d && u && e && is_zero_or (not h) (Some size)) ≡ false → (e && not h) ≡ false
-unfilled false u e h size is_d is_u no_filler = absurd (false≢true is_d)
-unfilled true false e h size is_d is_u no_filler = absurd (false≢true is_u)
-unfilled true true true true size is_d is_u no_filler = refl
-unfilled true true true false size is_d is_u no_filler = absurd (false≢true (sym no_filler ∙ or_true (size == 0)))
-unfilled true true false h size is_d is_u no_filler = refl
+unfilled : (d s u e h : Bool) (size : ℕ) → d ≡ true → u ≡ true → (d && (s || (u && e && is_zero_or (not h) (Some size)))) ≡ false → (e && not h) ≡ false
+unfilled false s u e h size is_d is_u no_filler = absurd (false≢true is_d)
+unfilled true s false e h size is_d is_u no_filler = absurd (false≢true is_u)
+unfilled true true true e h size is_d is_u no_filler = absurd (false≢true (sym no_filler))
+unfilled true false true true true size is_d is_u no_filler = refl
+unfilled true false true true false size is_d is_u no_filler = absurd (false≢true (sym no_filler ∙ or_true (size == 0)))
+unfilled true false true false h size is_d is_u no_filler = refl
+
+-- where one that has a size gets no filler, it has entries, or is exempt, or its kernel takes it without
+unfilled_sized : (p : Pass) (f : Feature) (d s e z h u : Bool) → has p features.DataSec ≡ true → has p features.DataSecZero ≡ h → d ≡ true → z ≡ false
+    → (d && ((s && (e && not z) && not h) || u)) ≡ false
+    → IsAmong f (if e && not (not s && (e && not z)) then features.DataSec ∷ features.DataSecZero ∷ [] else features.DataSec ∷ []) → has p f ≡ true
+unfilled_sized p f false s e z h u granted is_h is_d is_z no_filler is = absurd (false≢true is_d)
+unfilled_sized p f true s e true h u granted is_h is_d is_z no_filler is = absurd (false≢true (sym is_z))
+unfilled_sized p f true true true false true u granted is_h is_d is_z no_filler is = two_granted p f features.DataSec features.DataSecZero granted is_h is
+unfilled_sized p f true true true false false u granted is_h is_d is_z no_filler is = absurd (false≢true (sym no_filler))
+unfilled_sized p f true false true false h u granted is_h is_d is_z no_filler is = one_granted p f features.DataSec granted is
+unfilled_sized p f true s false false h u granted is_h is_d is_z no_filler is = one_granted p f features.DataSec granted is
 
 zero_granted : (p : Pass) (f : Feature) (e x h : Bool) → has p features.DataSec ≡ true → has p features.DataSecZero ≡ h → (e && not h) ≡ false
     → IsAmong f (if e && not x then features.DataSec ∷ features.DataSecZero ∷ [] else features.DataSec ∷ []) → has p f ≡ true
@@ -208,20 +214,22 @@ size_known None (Err refusal) read sized = absurd (none-some refusal (sym read))
 -- ---- a DATASEC
 
 -- the tests of one that is completed
-module _ (p : Pass) (id : ℕ) (sized : Bool) (others : List Check) (granted : has p features.DataSec ≡ true) where
-  completing : sized ≡ true → first_fault (name_checks p id ++ (if has p features.DataSec then (if sized then completing_checks p id (record_at p.table id) else []) else others)) ≡ None
+module _ (p : Pass) (id : ℕ) (unsized : Bool) (others : List Check) (granted : has p features.DataSec ≡ true) where
+  completing : unsized ≡ true → first_fault (name_checks p id ++ (if has p features.DataSec then (if unsized then completing_checks p id (record_at p.table id) else filling_checks p id) else others)) ≡ None
       → (n : ℕ) × (section_size p id ≡ Some n)
   completing is passed =
-      let rest : first_fault (if has p features.DataSec then (if sized then completing_checks p id (record_at p.table id) else []) else others) ≡ None = passed_right (name_checks p id) _ passed in
+      let rest : first_fault (if has p features.DataSec then (if unsized then completing_checks p id (record_at p.table id) else filling_checks p id) else others) ≡ None = passed_right (name_checks p id) _ passed in
       let inner : first_fault (completing_checks p id (record_at p.table id)) ≡ None =
-      subst (λ (b : Bool). first_fault (if b then completing_checks p id (record_at p.table id) else []) ≡ None) is
-      (subst (λ (b : Bool). first_fault (if b then (if sized then completing_checks p id (record_at p.table id) else []) else others) ≡ None) granted rest) in
+      subst (λ (b : Bool). first_fault (if b then completing_checks p id (record_at p.table id) else filling_checks p id) ≡ None) is
+      (subst (λ (b : Bool). first_fault (if b then (if unsized then completing_checks p id (record_at p.table id) else filling_checks p id) else others) ≡ None) granted rest) in
       size_known (section_size p id) (name_of p id) (passed_head _ _ (passed_left (name_checks p id) _ passed)) (passed_head _ _ inner)
 
+-- one that gets the filler has an entry
+filled_granted : (p : Pass) (is_exempt : Bool) (f : Feature) (id size : ℕ) (r : Record) → has p features.DataSec ≡ true → Needs is_exempt f (filled p id size r) → has p f ≡ true
+filled_granted p is_exempt f id size r granted is =
+    one_granted p f features.DataSec granted (of_kind is_exempt f (filled p id size r) (Some kinds.DataSec) (kind_made 15 1 kinds.DataSec (omega arith) (omega arith) refl) is)
+
 -- one that is completed: the entry of the filler, or entries of its own, or none where that was granted
-filled_granted : (p : Pass) (is_exempt : Bool) (f : Feature) (name size : ℕ) (es : List Entry) → has p features.DataSec ≡ true → Needs is_exempt f (data_sec name size 1 es) → has p f ≡ true
-filled_granted p is_exempt f name size es granted is =
-    one_granted p f features.DataSec granted (of_kind is_exempt f (data_sec name size 1 es) (Some kinds.DataSec) (kind_made 15 1 kinds.DataSec (omega arith) (omega arith) refl) is)
 
 laid_granted : (p : Pass) (is_exempt : Bool) (f : Feature) (name size count : ℕ) (es : List Entry) → has p features.DataSec ≡ true → count < 2 ^ 16
     → ((count == 0) && not (has p features.DataSecZero)) ≡ false → Needs is_exempt f (data_sec name size count es) → has p f ≡ true
@@ -236,59 +244,71 @@ completed_granted p id is_exempt f size kind granted unsized known is =
     let r : Record = record_at p.table id in
     let is_u : is_unsized (kind_at p.table id) r ≡ true = ap (λ (k : Option Kind). is_unsized k r) kind ∙ unsized in
     either (Needs is_exempt f) (has p f ≡ true) (gets_filler p id) _ _
-    (λ filled n. filled_granted p is_exempt f (new_name p id r) (max size 1) (record { type = filler_id p id; offset = 0; size = max size 1 } ∷ []) granted n)
+    (λ is_filled n. filled_granted p is_exempt f id (max size 1) r granted n)
     (λ not_filled n. laid_granted p is_exempt f (new_name p id r) size (vlen r.info) (map (placed p) (entries r.tail)) granted (vlen_small r.info)
-    (unfilled (has p features.DataSec) (is_unsized (kind_at p.table id) r) (has_no_entries r) (has p features.DataSecZero) known.0 granted is_u
-    (subst (λ (o : Option ℕ). (has p features.DataSec && is_unsized (kind_at p.table id) r && has_no_entries r && is_zero_or (not (has p features.DataSecZero)) o) ≡ false) known.1 not_filled)) n)
+    (unfilled (has p features.DataSec) (fills_sized_one p id) (is_unsized (kind_at p.table id) r) (has_no_entries r) (has p features.DataSecZero) known.0 granted is_u
+    (subst (λ (o : Option ℕ). (has p features.DataSec && (fills_sized_one p id || (is_unsized (kind_at p.table id) r && has_no_entries r && is_zero_or (not (has p features.DataSecZero)) o))) ≡ false) known.1 not_filled)) n)
     is
 
--- one that is sized stays
-sized_granted : (p : Pass) (f : Feature) (r : Record) (name : ℕ) → kind_of r.info ≡ Some kinds.DataSec → has p features.DataSec ≡ true → (r.third == 0) ≡ false
-    → Needs (has_no_entries r && not (r.third == 0)) f (record r { name = name }) → has p f ≡ true
-sized_granted p f r name kind granted sized is =
-    one_granted p f features.DataSec granted
-    (section_needs f (has_no_entries r) (has_no_entries r && not (r.third == 0)) (exempt (has_no_entries r) (r.third == 0) sized)
-    (of_kind (has_no_entries r && not (r.third == 0)) f (record r { name = name }) (Some kinds.DataSec) kind is))
+-- whether a DATASEC is exempt
+abbrev exempt : Pass → Record → Bool
+exempt p r = not (fills_sized p.policy) && (has_no_entries r && not (r.third == 0))
+
+-- one that has a size: the entry of the filler, or as it was
+sized_granted : (p : Pass) (id : ℕ) (f : Feature) → kind_at p.table id ≡ Some kinds.DataSec → has p features.DataSec ≡ true → ((record_at p.table id).third == 0) ≡ false
+    → Needs (exempt p (record_at p.table id)) f (sized p id (record_at p.table id)) → has p f ≡ true
+sized_granted p id f kind granted is_sized is =
+    let r : Record = record_at p.table id in
+    either (Needs (exempt p r) f) (has p f ≡ true) (gets_filler p id) _ _
+    (λ is_filled n. filled_granted p (exempt p r) f id r.third r granted n)
+    (λ not_filled n. unfilled_sized p f (has p features.DataSec) (fills_sized p.policy) (has_no_entries r) (r.third == 0) (has p features.DataSecZero) (fills_unsized p id) granted refl granted is_sized
+    (subst (λ (k : Option Kind). (has p features.DataSec && ((fills_sized p.policy && is_sized_and_empty k r && not (has p features.DataSecZero)) || fills_unsized p id)) ≡ false) kind not_filled)
+    (of_kind (exempt p r) f (record r { name = new_name p id r }) (Some kinds.DataSec) kind n))
+    is
 
 section_granted : (p : Pass) (id : ℕ) (f : Feature) (words : List ℕ) → kind_at p.table id ≡ Some kinds.DataSec
     → first_fault (checks_by p id (Some kinds.DataSec) (record_at p.table id)) ≡ None
-    → Needs (has_no_entries (record_at p.table id) && not ((record_at p.table id).third == 0)) f
-    (if has p features.DataSec then (if (record_at p.table id).third == 0 then completed p id (unwrap_or (section_size p id) 0) (record_at p.table id) else record (record_at p.table id) { name = new_name p id (record_at p.table id) })
+    → Needs (exempt p (record_at p.table id)) f
+    (if has p features.DataSec then (if (record_at p.table id).third == 0 then completed p id (unwrap_or (section_size p id) 0) (record_at p.table id) else sized p id (record_at p.table id))
     else struct (new_name p id (record_at p.table id)) (vlen (record_at p.table id).info) (vlen (record_at p.table id).info) words)
     → has p f ≡ true
 section_granted p id f words kind passed is =
     let r : Record = record_at p.table id in
-    let x : Bool = has_no_entries r && not (r.third == 0) in
+    let x : Bool = exempt p r in
     either (Needs x f) (has p f ≡ true) (has p features.DataSec) _ _
     (λ granted n. either (Needs x f) (has p f ≡ true) (r.third == 0) _ _
     (λ unsized m. completed_granted p id x f _ kind granted unsized (completing p id (r.third == 0) _ granted unsized passed) m)
-    (λ sized m. sized_granted p f r _ kind granted sized m) n)
+    (λ is_sized m. sized_granted p id f kind granted is_sized m) n)
     (λ denied n. struct_needs_none x f _ _ (vlen r.info) words (vlen_small r.info) n)
     is
 
 -- ---- all kinds
 
+-- whether a record of another kind is exempt
+abbrev none_exempt : Pass → Bool
+none_exempt p = not (fills_sized p.policy) && false
+
 -- What the kernel needs for the new record of an id was granted, where the id is not refused.
 granted_by : (p : Pass) (lower : List Record) (id : ℕ) (f : Feature) (k : Option Kind) → kind_at p.table id ≡ k → first_fault (checks_by p id k (record_at p.table id)) ≡ None
-    → Needs (is_sized_and_empty k (record_at p.table id)) f (becomes_by p lower id k (record_at p.table id)) → has p f ≡ true
+    → Needs (not (fills_sized p.policy) && is_sized_and_empty k (record_at p.table id)) f (becomes_by p lower id k (record_at p.table id)) → has p f ≡ true
 granted_by p lower id f (Some kinds.Var) kind passed is =
-    either (Needs false f) (has p f ≡ true) (has p features.DataSec) _ _ (λ granted n. one_granted p f features.DataSec granted (of_kind false f (record_at p.table id) _ kind n)) (λ denied n. none f n) is
+    either (Needs (none_exempt p) f) (has p f ≡ true) (has p features.DataSec) _ _ (λ granted n. one_granted p f features.DataSec granted (of_kind (none_exempt p) f (record_at p.table id) _ kind n)) (λ denied n. none f n) is
 granted_by p lower id f (Some kinds.Float) kind passed is =
-    either (Needs false f) (has p f ≡ true) (has p features.Float) _ _ (λ granted n. one_granted p f features.Float granted (of_kind false f (record_at p.table id) _ kind n)) (λ denied n. none f n) is
+    either (Needs (none_exempt p) f) (has p f ≡ true) (has p features.Float) _ _ (λ granted n. one_granted p f features.Float granted (of_kind (none_exempt p) f (record_at p.table id) _ kind n)) (λ denied n. none f n) is
 granted_by p lower id f (Some kinds.DeclTag) kind passed is =
-    either (Needs false f) (has p f ≡ true) (has p features.DeclTag) _ _ (λ granted n. one_granted p f features.DeclTag granted (of_kind false f (record_at p.table id) _ kind n)) (λ denied n. none f n) is
+    either (Needs (none_exempt p) f) (has p f ≡ true) (has p features.DeclTag) _ _ (λ granted n. one_granted p f features.DeclTag granted (of_kind (none_exempt p) f (record_at p.table id) _ kind n)) (λ denied n. none f n) is
 granted_by p lower id f (Some kinds.TypeTag) kind passed is =
-    either (Needs false f) (has p f ≡ true) (has p features.TypeTag) _ _ (λ granted n. one_granted p f features.TypeTag granted (of_kind false f (record_at p.table id) _ kind n)) (λ denied n. none f n) is
-granted_by p lower id f (Some kinds.Enum) kind passed is = enum_granted p false f (record_at p.table id) kind is
+    either (Needs (none_exempt p) f) (has p f ≡ true) (has p features.TypeTag) _ _ (λ granted n. one_granted p f features.TypeTag granted (of_kind (none_exempt p) f (record_at p.table id) _ kind n)) (λ denied n. none f n) is
+granted_by p lower id f (Some kinds.Enum) kind passed is = enum_granted p (none_exempt p) f (record_at p.table id) kind is
 granted_by p lower id f (Some kinds.Enum64) kind passed is =
-    either (Needs false f) (has p f ≡ true) (has p features.Enum64) _ _ (λ granted n. one_granted p f features.Enum64 granted (of_kind false f (record_at p.table id) _ kind n))
-    (λ denied n. union_needs_none false f _ _ _ _ (vlen_small (record_at p.table id).info) n) is
+    either (Needs (none_exempt p) f) (has p f ≡ true) (has p features.Enum64) _ _ (λ granted n. one_granted p f features.Enum64 granted (of_kind (none_exempt p) f (record_at p.table id) _ kind n))
+    (λ denied n. union_needs_none (none_exempt p) f _ _ _ _ (vlen_small (record_at p.table id).info) n) is
 granted_by p lower id f (Some kinds.Func) kind passed is =
-    either (Needs false f) (has p f ≡ true) (has p features.Func) _ _ (λ granted n. known_granted p false f (record_at p.table id) (name_of p id) kind granted passed n) (λ denied n. none f n) is
-granted_by p lower id f (Some kinds.FuncProto) kind passed is = proto_granted p false f (record_at p.table id) _ kind is
+    either (Needs (none_exempt p) f) (has p f ≡ true) (has p features.Func) _ _ (λ granted n. known_granted p (none_exempt p) f (record_at p.table id) (name_of p id) kind granted passed n) (λ denied n. none f n) is
+granted_by p lower id f (Some kinds.FuncProto) kind passed is = proto_granted p (none_exempt p) f (record_at p.table id) _ kind is
 granted_by p lower id f (Some kinds.DataSec) kind passed is = section_granted p id f _ kind passed is
-granted_by p lower id f (Some kinds.Ptr) kind passed is = none f (of_kind false f (record (record_at p.table id) { name = 0 }) (Some kinds.Ptr) kind is)
-granted_by p lower id f k kind passed is = none f (of_kind (is_sized_and_empty k (record_at p.table id)) f (record_at p.table id) k kind is)
+granted_by p lower id f (Some kinds.Ptr) kind passed is = none f (of_kind (none_exempt p) f (record (record_at p.table id) { name = 0 }) (Some kinds.Ptr) kind is)
+granted_by p lower id f k kind passed is = none f (of_kind (not (fills_sized p.policy) && is_sized_and_empty k (record_at p.table id)) f (record_at p.table id) k kind is)
 
-pub new_granted : (p : Pass) (id : ℕ) (f : Feature) → fault p id ≡ None → IsAmong f (needs (record_at p.table id) (becomes p id)) → has p f ≡ true
+pub new_granted : (p : Pass) (id : ℕ) (f : Feature) → fault p id ≡ None → IsAmong f (needs p.policy (record_at p.table id) (becomes p id)) → has p f ≡ true
 new_granted p id f passed is = granted_by p (ruled_below p id) id f (kind_at p.table id) refl passed is

@@ -8,13 +8,13 @@ use Rattle.btf_model.specs.Record as kinds
 use Rattle.btf_model.specs.Record.{Kind, Record, unknown}
 use Rattle.btf_model.specs.Table.{Table}
 use Rattle.btf_rewrite_model.specs.Feature as features
-use Rattle.btf_rewrite_model.specs.Feature.{Feature, Answer, needs}
+use Rattle.btf_rewrite_model.specs.Feature.{Feature, Answer, FillPolicy, needs}
 use Rattle.btf_rewrite_model.specs.Made.{record_at, kind_at, byte_int, static_var}
 use Rattle.btf_rewrite_model.specs.Ksyms.{KsymsIds}
 use Rattle.btf_rewrite_model.specs.Pass.{Pass, Layout, has, makes_filler, makes_placeholder, filler, filler_type_text, offset_at, filler_offset, added_by, added_below, Asked, asks_below}
 use Rattle.btf_rewrite_model.specs.Rule.{becomes, ruled_below}
 use Rattle.btf_rewrite_model.specs.Fault.{fault}
-use Rattle.btf_rewrite_model.specs.Rewritten.{begun, pass_of, old_count, Rewritten}
+use Rattle.btf_rewrite_model.specs.Rewritten.{begun, pass_with, old_count, RewrittenWith}
 use Rattle.btf_rewrite_model.specs.RewriteLaws.{IsAmong, IsGrantedOnce}
 use Rattle.btf_rewrite_model.proofs.Ruled.{length-ruled, ruled_at}
 use Rattle.btf_rewrite_model.proofs.Granted.{one_granted, new_granted}
@@ -22,7 +22,7 @@ use Rattle.btf_rewrite_model.proofs.GrantedOnce.{AreOnce, each_is_once, granted_
 
 -- what the kernel needs for a record that is appended was granted
 abbrev AddedGranted : Pass → Record → Type 0
-AddedGranted p r = (before : Record) (f : Feature) → IsAmong f (needs before r) → has p f ≡ true
+AddedGranted p r = (before : Record) (f : Feature) → IsAmong f (needs p.policy before r) → has p f ≡ true
 
 nothing_needed : (p : Pass) (name : ℕ) → AddedGranted p (byte_int name)
 nothing_needed p name before f is = absurd (false≢true is)
@@ -31,9 +31,9 @@ var_granted : (p : Pass) (name type : ℕ) → has p features.DataSec ≡ true �
 var_granted p name type granted before f is = one_granted p f features.DataSec granted is
 
 -- a filler is made where sections are granted
-made_granted : (d u e z l : Bool) → ((d && u && e && z) && l) ≡ true → d ≡ true
-made_granted true u e z l is = refl
-made_granted false u e z l is = is
+made_granted : (d x l : Bool) → ((d && x) && l) ≡ true → d ≡ true
+made_granted true x l is = refl
+made_granted false x l is = is
 
 by_test : (p : Pass) (b : Bool) (rs : List Record) → (b ≡ true → AllByRecursion (AddedGranted p) rs) → AllByRecursion (AddedGranted p) (if b then rs else [])
 by_test p true rs all = all refl
@@ -44,7 +44,7 @@ filler_granted p offset id granted = (nothing_needed p offset, (var_granted p (o
 
 added_granted : (p : Pass) (free id : ℕ) (k : Option Kind) → AllByRecursion (AddedGranted p) (added_by p free id k)
 added_granted p free id (Some kinds.Enum64) = by_test p (makes_placeholder p id) (byte_int (offset_at p id) ∷ []) (λ made. (nothing_needed p (offset_at p id), tt))
-added_granted p free id (Some kinds.DataSec) = by_test p (makes_filler p id) (filler (filler_offset p id) free) (λ made. filler_granted p (filler_offset p id) free (made_granted (has p features.DataSec) _ _ _ _ made))
+added_granted p free id (Some kinds.DataSec) = by_test p (makes_filler p id) (filler (filler_offset p id) free) (λ made. filler_granted p (filler_offset p id) free (made_granted (has p features.DataSec) _ _ made))
 added_granted p free id k = tt
 
 pub all_of_both : (P : Record → Type 0) (rs more : List Record) → AllByRecursion P rs → AllByRecursion P more → AllByRecursion P (rs ++ more)
@@ -70,17 +70,17 @@ of_either (q ∷ rs) more (suc i) r at =
 
 pub has_granted : (p : Pass) (id : ℕ) (r : Record) (f : Feature) → ((low : ℕ) → low < old_count p → fault p low ≡ None)
     → ((id < length (ruled_below p (old_count p))) × (slice_get (ruled_below p (old_count p)) id ≡ Some r)) ⊎ ((j : ℕ) × (slice_get (added_below p (old_count p)) j ≡ Some r))
-    → IsAmong f (needs (record_at p.table id) r) → has p f ≡ true
+    → IsAmong f (needs p.policy (record_at p.table id) r) → has p f ≡ true
 has_granted p id r f ruled (inl old) is =
     let lt : id < old_count p = omega (arith, old.0, length-ruled p (old_count p)) in
     let same : r ≡ becomes p id = same_Some r (becomes p id) (sym old.1 ∙ ruled_at p (old_count p) id lt) in
-    new_granted p id f (ruled id lt) (subst (λ (q : Record). IsAmong f (needs (record_at p.table id) q)) same is)
+    new_granted p id f (ruled id lt) (subst (λ (q : Record). IsAmong f (needs p.policy (record_at p.table id) q)) same is)
 has_granted p id r f ruled (inr added) is = each_of (AddedGranted p) (added_below p (old_count p)) added.0 r (all_added_granted p (old_count p)) added.1 (record_at p.table id) f is
 
-pub suffice : (old new : Table) (ids : Option KsymsIds) (layout : Layout) (answers : List Answer) → Rewritten old ids layout answers new → map (λ (answer : Answer). answer.feature) answers ≡ Asked (pass_of old ids layout answers)
-    → (id : ℕ) (r : Record) → slice_get new.records id ≡ Some r → (f : Feature) → IsAmong f (needs (record_at (begun old ids) id) r) → IsGrantedOnce answers f
-suffice old new ids layout answers is asked id r at f needed =
-    let p : Pass = pass_of old ids layout answers in
+pub suffice : (policy : FillPolicy) (old new : Table) (ids : Option KsymsIds) (layout : Layout) (answers : List Answer) → RewrittenWith policy old ids layout answers new → map (λ (answer : Answer). answer.feature) answers ≡ Asked (pass_with policy old ids layout answers)
+    → (id : ℕ) (r : Record) → slice_get new.records id ≡ Some r → (f : Feature) → IsAmong f (needs policy (record_at (begun old ids) id) r) → IsGrantedOnce answers f
+suffice policy old new ids layout answers is asked id r at f needed =
+    let p : Pass = pass_with policy old ids layout answers in
     let place : slice_get (ruled_below p (old_count p) ++ added_below p (old_count p)) id ≡ Some r = ap (λ (t : Table). slice_get t.records id) (sym is.table) ∙ at in
     granted_once answers f (subst AreOnce (sym asked) (each_is_once (asks_below p (old_count p))))
     (has_granted p id r f is.ruled (of_either (ruled_below p (old_count p)) (added_below p (old_count p)) id r place) needed)

@@ -12,12 +12,12 @@ use Rattle.btf_model.specs.Refusal.{Refusal, UnknownBtfType, MaximumTypeDepthRea
 use Rattle.btf_model.specs.Table.{Table}
 use Rattle.btf_model.specs.Walk.{Extent, Finding, Ends, GoesOn, Leads, WalkAnswers, By, Elements, size_in, size_by, extent, modified, modified_type, behind_modifier, unmodified_in, Resolves, HasSize}
 use Rattle.btf_rewrite_model.specs.Feature as features
-use Rattle.btf_rewrite_model.specs.Feature.{Answer, is_global, is_signed}
+use Rattle.btf_rewrite_model.specs.Feature.{FillPolicy, Answer, is_global, is_signed}
 use Rattle.btf_rewrite_model.specs.Made.{entries, variants, record_at, kind_at, ids_of, byte_int, const, struct, union, enum, data_sec, unsigned, c_int}
 use Rattle.btf_rewrite_model.specs.Ksyms.{KsymsIds, stepped, each_stepped, appends_int}
 use Rattle.btf_rewrite_model.specs.Pass.{Pass, Layout, has, gets_filler, section_size, offset_at}
-use Rattle.btf_rewrite_model.specs.Rule.{becomes, becomes_by, ruled_below, completed, new_name, filler_id, placed, named_params, variant_members, entry_members, placeholder_id}
-use Rattle.btf_rewrite_model.specs.Rewritten.{begun, pass_of, Rewritten}
+use Rattle.btf_rewrite_model.specs.Rule.{becomes, becomes_by, ruled_below, completed, sized, filled, new_name, filler_id, placed, named_params, variant_members, entry_members, placeholder_id}
+use Rattle.btf_rewrite_model.specs.Rewritten.{begun, pass_with, RewrittenWith}
 use Rattle.btf_rewrite_model.specs.RewriteLaws.{keeps_size, FindsKept}
 use Rattle.btf_model.proofs.Blobs.{slice_get-append_left}
 use Rattle.btf_rewrite_model.proofs.Granted.{kind_made, vlen_small}
@@ -63,13 +63,13 @@ no_modifier q n count k info small few is none = modified_as q k (ap kind_of inf
 section_unmodified : (p : Pass) (lower : List Record) (id : ℕ) (r : Record) → kind_of r.info ≡ Some kinds.DataSec → modified_type (becomes_by p lower id (Some kinds.DataSec) r) ≡ None
 section_unmodified p lower id r kind =
     let size : ℕ = unwrap_or (section_size p id) 0 in
-    let filled : Record = data_sec (new_name p id r) (max size 1) 1 (record { type = filler_id p id; offset = 0; size = max size 1 } ∷ []) in
+    let with_filler : (n : ℕ) → modified_type (filled p id n r) ≡ None = λ n. no_modifier (filled p id n r) 15 1 kinds.DataSec refl (omega arith) (omega arith) refl refl in
     let laid : Record = data_sec (new_name p id r) size (vlen r.info) (map (placed p) (entries r.tail)) in
     let made : Record = struct (new_name p id r) (vlen r.info) (vlen r.info) (entry_members p lower id (entries r.tail)) in
-    by_both (λ q. modified_type q ≡ None) (has p features.DataSec) (if r.third == 0 then completed p id size r else record r { name = new_name p id r }) made
-    (by_both (λ q. modified_type q ≡ None) (r.third == 0) (completed p id size r) (record r { name = new_name p id r })
-    (by_both (λ q. modified_type q ≡ None) (gets_filler p id) filled laid (no_modifier filled 15 1 kinds.DataSec refl (omega arith) (omega arith) refl refl) (no_modifier laid 15 (vlen r.info) kinds.DataSec refl (omega arith) (vlen_small r.info) refl refl))
-    (modified_as (record r { name = new_name p id r }) kinds.DataSec kind))
+    by_both (λ q. modified_type q ≡ None) (has p features.DataSec) (if r.third == 0 then completed p id size r else sized p id r) made
+    (by_both (λ q. modified_type q ≡ None) (r.third == 0) (completed p id size r) (sized p id r)
+    (by_both (λ q. modified_type q ≡ None) (gets_filler p id) (filled p id (max size 1) r) laid (with_filler (max size 1)) (no_modifier laid 15 (vlen r.info) kinds.DataSec refl (omega arith) (vlen_small r.info) refl refl))
+    (by_both (λ q. modified_type q ≡ None) (gets_filler p id) (filled p id r.third r) (record r { name = new_name p id r }) (with_filler r.third) (modified_as (record r { name = new_name p id r }) kinds.DataSec kind)))
     (no_modifier made 4 (vlen r.info) kinds.Struct refl (omega arith) (vlen_small r.info) refl refl)
 
 keeps_modified : (p : Pass) (lower : List Record) (id : ℕ) (k : Option Kind) (r : Record) → kind_of r.info ≡ k → k ≢ Some kinds.Func → modified_type (becomes_by p lower id k r) ≡ modified k r
@@ -168,11 +168,11 @@ answers_too : {P A : Type 0} (Finds Found : P → Finding P A → Type 0) (start
 answers_too Finds Found start too_deep answer on ends (inl walk) = inl (walk.0, walk.1, walk.2, leads_too Finds Found on walk.0 start walk.1 walk.3, ends walk.1 (walk.0, walk.2, walk.3) walk.4)
 answers_too Finds Found start too_deep answer on ends (inr deep) = absurd (false≢true (sym (ap is_ok deep.2)))
 
-module _ (old new : Table) (ids : Option KsymsIds) (layout : Layout) (answers : List Answer) (is : Rewritten old ids layout answers new) where
+module _ (policy : FillPolicy) (old new : Table) (ids : Option KsymsIds) (layout : Layout) (answers : List Answer) (is : RewrittenWith policy old ids layout answers new) where
   -- the new record of an id that the old table has
-  new_record : (id : ℕ) (r : Record) → slice_get old.records id ≡ Some r → slice_get new.records id ≡ Some (becomes (pass_of old ids layout answers) id)
+  new_record : (id : ℕ) (r : Record) → slice_get old.records id ≡ Some r → slice_get new.records id ≡ Some (becomes (pass_with policy old ids layout answers) id)
   new_record id r at =
-      new_at old new ids layout answers is id (slice_get_within (begun old ids).records id (begun_record old ids id r) (begun_at old ids id r at))
+      new_at policy old new ids layout answers is id (slice_get_within (begun old ids).records id (begun_record old ids id r) (begun_at old ids id r at))
 
   record_begun : (id : ℕ) (r : Record) → slice_get old.records id ≡ Some r → record_at (begun old ids) id ≡ begun_record old ids id r
   record_begun id r at = ap (λ (o : Option Record). unwrap_or o unknown) (begun_at old ids id r at)
@@ -180,7 +180,7 @@ module _ (old new : Table) (ids : Option KsymsIds) (layout : Layout) (answers : 
   same_extent : (id : ℕ) (r : Record) → slice_get old.records id ≡ Some r → keeps_size (kind_of r.info) ≡ true
       → (q : Record) × (slice_get new.records id ≡ Some q) × (extent (kind_of q.info) q ≡ extent (kind_of r.info) r)
   same_extent id r at keeps =
-      let p : Pass = pass_of old ids layout answers in
+      let p : Pass = pass_with policy old ids layout answers in
       let same : record_at (begun old ids) id ≡ r = record_begun id r at ∙ begun_same old ids id r keeps in (
         becomes p id,
         new_record id r at,
@@ -190,7 +190,7 @@ module _ (old new : Table) (ids : Option KsymsIds) (layout : Layout) (answers : 
 
   same_modified : (id : ℕ) (r : Record) → slice_get old.records id ≡ Some r → kind_of r.info ≢ Some kinds.Func → (q : Record) × (slice_get new.records id ≡ Some q) × (modified_type q ≡ modified_type r)
   same_modified id r at other =
-      let p : Pass = pass_of old ids layout answers in
+      let p : Pass = pass_with policy old ids layout answers in
       let b : Record = begun_record old ids id r in
       let info : b.info ≡ r.info = begun_info old ids id r other in
       let not_func : kind_of b.info ≢ Some kinds.Func = λ e. other (sym (ap kind_of info) ∙ e) in (

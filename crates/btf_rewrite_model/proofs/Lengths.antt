@@ -11,11 +11,12 @@ use Rattle.btf_model.specs.Record.{Kind, Record, kind_of, vlen, tail_words}
 use Rattle.btf_model.specs.Refusal.{Refusal}
 use Rattle.btf_model.specs.Spelling.{HasKind}
 use Rattle.btf_rewrite_model.specs.Feature as features
-use Rattle.btf_rewrite_model.specs.Feature.{is_global, is_signed, has_no_entries}
+use Rattle.btf_rewrite_model.specs.Feature.{is_global, is_signed, has_no_entries, is_sized_and_empty}
 use Rattle.btf_rewrite_model.specs.Made.{Entry, entries, entry_words, variants, record_at, kind_at, wants_name, byte_int, const, typedef, struct, union, enum, data_sec, with_linkage, unsigned}
 use Rattle.btf_rewrite_model.specs.Checks.{record_len}
-use Rattle.btf_rewrite_model.specs.Pass.{Pass, has, name_of, is_builtin, gets_filler, section_size, is_unsized, is_zero_or, param_text, offset_at}
-use Rattle.btf_rewrite_model.specs.Rule.{becomes, becomes_by, ruled_below, known_func, completed, new_name, filler_id, placed, named_params, variant_members, entry_members, member_name, placeholder_id}
+use Rattle.btf_rewrite_model.specs.Pass.{Pass, has, name_of, is_builtin, gets_filler, fills_sized_one, fills_unsized, section_size, is_unsized, is_zero_or, param_text, offset_at}
+use Rattle.btf_rewrite_model.specs.Rule as rule
+use Rattle.btf_rewrite_model.specs.Rule.{becomes, becomes_by, ruled_below, known_func, completed, sized, new_name, filler_id, placed, named_params, variant_members, entry_members, member_name, placeholder_id}
 
 -- ---- items
 
@@ -60,13 +61,16 @@ known_len p r (Err refusal) = refl
 -- a DATASEC that gets no filler
 laid_len : (p : Pass) (id size : ℕ) (r : Record) → length r.tail ≡ 3 * vlen r.info → gets_filler p id ≡ false → AsLong r (completed p id size r)
 laid_len p id size r tail unfilled =
-    ap (λ (b : Bool). length (if b then data_sec (new_name p id r) (max size 1) 1 (record { type = filler_id p id; offset = 0; size = max size 1 } ∷ []) else data_sec (new_name p id r) size (vlen r.info) (map (placed p) (entries r.tail))).tail) unfilled
+    ap (λ (b : Bool). length (if b then rule.filled p id (max size 1) r else data_sec (new_name p id r) size (vlen r.info) (map (placed p) (entries r.tail))).tail) unfilled
     ∙ ap length (flat_map-map entry_words (placed p) (entries r.tail)) ∙ entries_len (λ e. entry_words (placed p e)) (λ e. refl) (vlen r.info) r.tail tail
+
+sized_len : (p : Pass) (id : ℕ) (r : Record) → gets_filler p id ≡ false → AsLong r (sized p id r)
+sized_len p id r unfilled = ap (λ (b : Bool). length (if b then rule.filled p id r.third r else record r { name = new_name p id r }).tail) unfilled
 
 section_len : (p : Pass) (lower : List Record) (id : ℕ) (r : Record) → length r.tail ≡ 3 * vlen r.info → gets_filler p id ≡ false → AsLong r (becomes_by p lower id (Some kinds.DataSec) r)
 section_len p lower id r tail unfilled =
-    by_both (AsLong r) (has p features.DataSec) (if r.third == 0 then completed p id (unwrap_or (section_size p id) 0) r else record r { name = new_name p id r }) (struct (new_name p id r) (vlen r.info) (vlen r.info) (entry_members p lower id (entries r.tail)))
-    (by_both (AsLong r) (r.third == 0) (completed p id (unwrap_or (section_size p id) 0) r) (record r { name = new_name p id r }) (laid_len p id (unwrap_or (section_size p id) 0) r tail unfilled) refl)
+    by_both (AsLong r) (has p features.DataSec) (if r.third == 0 then completed p id (unwrap_or (section_size p id) 0) r else sized p id r) (struct (new_name p id r) (vlen r.info) (vlen r.info) (entry_members p lower id (entries r.tail)))
+    (by_both (AsLong r) (r.third == 0) (completed p id (unwrap_or (section_size p id) 0) r) (sized p id r) (laid_len p id (unwrap_or (section_size p id) 0) r tail unfilled) (sized_len p id r unfilled))
     (entries_len (λ e. member_name p lower id e.type ∷ e.type ∷ e.offset * 8 ∷ []) (λ e. refl) (vlen r.info) r.tail tail)
 
 stays_long : (p : Pass) (lower : List Record) (id : ℕ) (k : Kind) (r : Record) → length r.tail ≡ tail_words k (vlen r.info) → gets_filler p id ≡ false → AsLong r (becomes_by p lower id (Some k) r)
@@ -94,28 +98,54 @@ pub unsized_section : (k : Option Kind) (r : Record) → is_unsized k r ≡ true
 unsized_section (Some kinds.DataSec) r is = (refl, is)
 unsized_section k r is = absurd (false≢true is)
 
-filled_parts : (d u e z : Bool) → (d && u && e && z) ≡ true → (d ≡ true) × (u ≡ true) × (e ≡ true)
-filled_parts true true true z is = (refl, refl, refl)
-filled_parts true true false z is = absurd (false≢true is)
-filled_parts true false e z is = absurd (false≢true is)
-filled_parts false u e z is = absurd (false≢true is)
+sized_parts : (e z : Bool) → (e && not z) ≡ true → (e ≡ true) × (z ≡ false)
+sized_parts true false is = (refl, refl)
+sized_parts true true is = absurd (false≢true is)
+sized_parts false z is = absurd (false≢true is)
 
-filled_tail : (p : Pass) (lower : List Record) (id : ℕ) (k : Option Kind) (r : Record) → k ≡ Some kinds.DataSec → has p features.DataSec ≡ true → (r.third == 0) ≡ true → gets_filler p id ≡ true → length (becomes_by p lower id k r).tail ≡ 3
-filled_tail p lower id k r kind granted unsized filled =
+pub sized_section : (k : Option Kind) (r : Record) → is_sized_and_empty k r ≡ true → (k ≡ Some kinds.DataSec) × (has_no_entries r ≡ true) × ((r.third == 0) ≡ false)
+sized_section (Some kinds.DataSec) r is = (refl, (sized_parts (has_no_entries r) (r.third == 0) is).0, (sized_parts (has_no_entries r) (r.third == 0) is).1)
+sized_section k r is = absurd (false≢true is)
+
+-- What gets the filler is a DATASEC, and has no entries.
+pub record IsFilled (p : Pass) (id : ℕ) : Type 0 where
+  pub granted : has p features.DataSec ≡ true
+  pub kind : kind_at p.table id ≡ Some kinds.DataSec
+  pub empty : has_no_entries (record_at p.table id) ≡ true
+
+filled_by : (p : Pass) (id : ℕ) (d u w e s z h : Bool) → has p features.DataSec ≡ d → (u ≡ true → kind_at p.table id ≡ Some kinds.DataSec) → has_no_entries (record_at p.table id) ≡ e
+    → (w ≡ true → (kind_at p.table id ≡ Some kinds.DataSec) × (has_no_entries (record_at p.table id) ≡ true)) → (d && ((s && w && h) || (u && e && z))) ≡ true → IsFilled p id
+filled_by p id false u w e s z h is_d unsized is_e sized is = absurd (false≢true is)
+filled_by p id true true w true s z h is_d unsized is_e sized is = record { granted = is_d; kind = unsized refl; empty = is_e }
+filled_by p id true u true e true z true is_d unsized is_e sized is = record { granted = is_d; kind = (sized refl).0; empty = (sized refl).1 }
+filled_by p id true false w e false z h is_d unsized is_e sized is = absurd (false≢true is)
+filled_by p id true false false e true z h is_d unsized is_e sized is = absurd (false≢true is)
+filled_by p id true false true e true z false is_d unsized is_e sized is = absurd (false≢true is)
+filled_by p id true true w false false z h is_d unsized is_e sized is = absurd (false≢true is)
+filled_by p id true true false false true z h is_d unsized is_e sized is = absurd (false≢true is)
+filled_by p id true true true false true z false is_d unsized is_e sized is = absurd (false≢true is)
+
+pub is_filled : (p : Pass) (id : ℕ) → gets_filler p id ≡ true → IsFilled p id
+is_filled p id filled =
+    let r : Record = record_at p.table id in
+    filled_by p id (has p features.DataSec) (is_unsized (kind_at p.table id) r) (is_sized_and_empty (kind_at p.table id) r) (has_no_entries r) (features.fills_sized p.policy)
+    (is_zero_or (not (has p features.DataSecZero)) (section_size p id)) (not (has p features.DataSecZero)) refl
+    (λ u. (unsized_section (kind_at p.table id) r u).0) refl (λ w. ((sized_section (kind_at p.table id) r w).0, (sized_section (kind_at p.table id) r w).1)) filled
+
+filled_tail : (p : Pass) (lower : List Record) (id : ℕ) (k : Option Kind) (r : Record) → k ≡ Some kinds.DataSec → has p features.DataSec ≡ true → gets_filler p id ≡ true → length (becomes_by p lower id k r).tail ≡ 3
+filled_tail p lower id k r kind granted filled =
     let size : ℕ = unwrap_or (section_size p id) 0 in
-    let kept : Record = record r { name = new_name p id r } in
     let made : Record = struct (new_name p id r) (vlen r.info) (vlen r.info) (entry_members p lower id (entries r.tail)) in
     let laid : Record = data_sec (new_name p id r) size (vlen r.info) (map (placed p) (entries r.tail)) in
-    ap (λ (j : Option Kind). length (becomes_by p lower id j r).tail) kind ∙ ap (λ (b : Bool). length (if b then (if r.third == 0 then completed p id size r else kept) else made).tail) granted
-    ∙ ap (λ (b : Bool). length (if b then completed p id size r else kept).tail) unsized
-    ∙ ap (λ (b : Bool). length (if b then data_sec (new_name p id r) (max size 1) 1 (record { type = filler_id p id; offset = 0; size = max size 1 } ∷ []) else laid).tail) filled
+    ap (λ (j : Option Kind). length (becomes_by p lower id j r).tail) kind ∙ ap (λ (b : Bool). length (if b then (if r.third == 0 then completed p id size r else sized p id r) else made).tail) granted
+    ∙ ap (λ (b : Bool). length (if r.third == 0 then (if b then rule.filled p id (max size 1) r else laid) else (if b then rule.filled p id r.third r else record r { name = new_name p id r })).tail) filled
+    ∙ by_both (λ (q : Record). length q.tail ≡ 3) (r.third == 0) (rule.filled p id (max size 1) r) (rule.filled p id r.third r) refl refl
 
 pub filled_len : (p : Pass) (id : ℕ) (k : Kind) → HasKind k (record_at p.table id) → gets_filler p id ≡ true → (record_len (record_at p.table id) ≡ 12) × (record_len (becomes p id) ≡ 24)
 filled_len p id k has_kind filled =
     let r : Record = record_at p.table id in
-    let parts = filled_parts (has p features.DataSec) (is_unsized (kind_at p.table id) r) (has_no_entries r) (is_zero_or (not (has p features.DataSecZero)) (section_size p id)) filled in
-    let section = unsized_section (kind_at p.table id) r parts.1 in
-    let none : vlen r.info ≡ 0 = eqb-true (vlen r.info) 0 parts.2 in
-    let kind : k ≡ kinds.DataSec = same_Some k kinds.DataSec (sym has_kind.kind ∙ section.0) in
+    let is : IsFilled p id = is_filled p id filled in
+    let none : vlen r.info ≡ 0 = eqb-true (vlen r.info) 0 is.empty in
+    let kind : k ≡ kinds.DataSec = same_Some k kinds.DataSec (sym has_kind.kind ∙ is.kind) in
     let tail : length r.tail ≡ 3 * vlen r.info = has_kind.tail ∙ ap (λ (j : Kind). tail_words j (vlen r.info)) kind in
-    (ap (λ (n : ℕ). 4 * (3 + n)) (tail ∙ ap (λ (n : ℕ). 3 * n) none), ap (λ (n : ℕ). 4 * (3 + n)) (filled_tail p (ruled_below p id) id (kind_at p.table id) r section.0 parts.0 section.1 filled))
+    (ap (λ (n : ℕ). 4 * (3 + n)) (tail ∙ ap (λ (n : ℕ). 3 * n) none), ap (λ (n : ℕ). 4 * (3 + n)) (filled_tail p (ruled_below p id) id (kind_at p.table id) r is.kind is.granted filled))

@@ -15,3 +15,4 @@ pub mod Passing
 pub mod FirstMade
 pub mod FewAdded
 pub mod Kernels
+pub mod KeepSized

@@ -11,7 +11,7 @@ use Rattle.std.proofs.lemmas.List.Folds.{list_any-append}
 use Rattle.std.proofs.lemmas.List.Concat.{flat_map-append}
 use Rattle.std.proofs.lemmas.List.Sums.{sum_by-append}
 use Rattle.btf_rewrite_model.specs.Feature as features
-use Rattle.btf_rewrite_model.specs.Feature.{Feature, Answer, number, same_feature, grants, has_no_entries}
+use Rattle.btf_rewrite_model.specs.Feature.{FillPolicy, Feature, Answer, number, same_feature, grants, has_no_entries}
 use Rattle.btf_rewrite_model.specs.Made.{record_at, kind_at}
 use Rattle.btf_model.specs.Record as kinds
 use Rattle.btf_model.specs.Record.{Kind, Record}
@@ -22,7 +22,7 @@ use Rattle.btf_rewrite_model.specs.Ksyms.{KsymsIds}
 use Rattle.btf_rewrite_model.specs.Pass.{Pass, Layout, has, is_unsized, is_zero_or, section_size, texts_by, added_by, asks, asks_below, each_once, Asked, texts, texts_below, texts_len, added, added_below, gets_filler, growth_below, offset_at, free_id, type_len_at}
 use Rattle.btf_rewrite_model.specs.Rule.{becomes, ruled_below, falls_back, falls_back_by}
 use Rattle.btf_rewrite_model.specs.Fault.{fault, checks_by}
-use Rattle.btf_rewrite_model.specs.Rewritten.{AreRuled, Rewritten, IsRefused, pass_of, step_fault, old_count, rewritten, ended}
+use Rattle.btf_rewrite_model.specs.Rewritten.{AreRuled, RewrittenWith, IsRefusedWith, pass_with, step_fault, old_count, rewritten, ended}
 use Rattle.btf_rewrite_model.specs.RewriteLaws.{IsAmong, with_answers, Agree, IsSameBelow}
 use Rattle.btf_rewrite_model.specs.Passing.{features_of, AreAnswersTo, IsAt, HasMade, is_quiet}
 use Rattle.btf_rewrite_model.proofs.Agreeing.{same_below, same_refused}
@@ -268,14 +268,14 @@ grows p more id at =
 -- ---- the end
 
 -- A pass that has gone past all ids is a rewrite, and the answers are those to what it asks for.
-pub passes : (old : Table) (ids : Option KsymsIds) (layout : Layout) (answers : List Answer) → step_fault old ids ≡ None → IsAt (pass_of old ids layout answers) (old_count (pass_of old ids layout answers))
-    → Rewritten old ids layout answers (rewritten (pass_of old ids layout answers)) × (features_of answers ≡ Asked (pass_of old ids layout answers))
-passes old ids layout answers step at = (record { step = step; ruled = at.ruled; table = refl }, at.asked)
+pub passes : (policy : FillPolicy) (old : Table) (ids : Option KsymsIds) (layout : Layout) (answers : List Answer) → step_fault old ids ≡ None → IsAt (pass_with policy old ids layout answers) (old_count (pass_with policy old ids layout answers))
+    → RewrittenWith policy old ids layout answers (rewritten (pass_with policy old ids layout answers)) × (features_of answers ≡ Asked (pass_with policy old ids layout answers))
+passes policy old ids layout answers step at = (record { step = step; ruled = at.ruled; table = refl }, at.asked)
 
 -- One that is refused at an id is refused for that.
-pub is_refused_at : (old : Table) (ids : Option KsymsIds) (layout : Layout) (answers : List Answer) (id : ℕ) (refusal : Refusal) → step_fault old ids ≡ None → id < old_count (pass_of old ids layout answers)
-    → AreRuled (pass_of old ids layout answers) id → fault (pass_of old ids layout answers) id ≡ Some refusal → IsRefused old ids layout answers refusal
-is_refused_at old ids layout answers id refusal step lt ruled faults = inr (step, (id, (lt, ruled, faults)))
+pub is_refused_at : (policy : FillPolicy) (old : Table) (ids : Option KsymsIds) (layout : Layout) (answers : List Answer) (id : ℕ) (refusal : Refusal) → step_fault old ids ≡ None → id < old_count (pass_with policy old ids layout answers)
+    → AreRuled (pass_with policy old ids layout answers) id → fault (pass_with policy old ids layout answers) id ≡ Some refusal → IsRefusedWith policy old ids layout answers refusal
+is_refused_at policy old ids layout answers id refusal step lt ruled faults = inr (step, (id, (lt, ruled, faults)))
 
 -- ---- what is made
 
@@ -331,13 +331,16 @@ quiet p id is = record {
     none_added (Some kinds.DataSec) quiet_kind = absurd (false≢true quiet_kind)
     none_added k quiet_kind = refl
 
-    never : (a b c : Bool) → (a && false && b && c) ≡ false
-    never true b c = refl
-    never false b c = refl
+    never : (d s h : Bool) → (d && ((s && false && h) || false)) ≡ false
+    never true true h = refl
+    never true false h = refl
+    never false s h = refl
 
-    no_filler : (k : Option Kind) → is_quiet k ≡ true → (has p features.DataSec && is_unsized k (record_at p.table id) && has_no_entries (record_at p.table id) && is_zero_or (not (has p features.DataSecZero)) (section_size p id)) ≡ false
+    no_filler : (k : Option Kind) → is_quiet k ≡ true
+        → (has p features.DataSec && ((features.fills_sized p.policy && features.is_sized_and_empty k (record_at p.table id) && not (has p features.DataSecZero))
+        || (is_unsized k (record_at p.table id) && has_no_entries (record_at p.table id) && is_zero_or (not (has p features.DataSecZero)) (section_size p id)))) ≡ false
     no_filler (Some kinds.DataSec) quiet_kind = absurd (false≢true quiet_kind)
-    no_filler k quiet_kind = never (has p features.DataSec) (has_no_entries (record_at p.table id)) (is_zero_or (not (has p features.DataSecZero)) (section_size p id))
+    no_filler k quiet_kind = never (has p features.DataSec) (features.fills_sized p.policy) (not (has p features.DataSecZero))
 
     no_checks : (k : Option Kind) → is_quiet k ≡ true → checks_by p id k (record_at p.table id) ≡ []
     no_checks (Some kinds.Func) quiet_kind = absurd (false≢true quiet_kind)

@@ -2,33 +2,23 @@
 use Rattle.std.proofs.Common.{◌≡◌, ◌==◌, ℕ, ◌+◌, Bool, true, false, ◌&&◌, ◌||◌, not, List, [], ◌∷◌, ◌++◌, length, Option, None, Some, Ok, refl, sym, ap, subst, ◌∙◌}
 use Rattle.std.specs.Prelude.{if◌then◌else◌}
 use Rattle.std.specs.Option.{is_none, unwrap_or}
-use Rattle.std.specs.List.{list_any, flat_map}
+use Rattle.std.specs.List.{list_any, flat_map, sum_by}
 use Rattle.std.proofs.lemmas.Bool.{false≢true, true≢false}
 use Rattle.std.proofs.lemmas.Slice.Eq.{bytes_eq-Decides}
 use Rattle.btf_model.specs.Record as kinds
 use Rattle.btf_model.specs.Record.{Kind, Record, unknown, kind_of, vlen}
 use Rattle.btf_model.specs.Table.{Fallback}
 use Rattle.btf_rewrite_model.specs.Feature as features
-use Rattle.btf_rewrite_model.specs.Feature.{Feature, Answer, same_feature, is_global, is_signed, has_no_entries, needs_by, is_sized_and_empty}
+use Rattle.btf_rewrite_model.specs.Feature.{Feature, Answer, same_feature, is_global, is_signed, has_no_entries, needs_by, is_sized_and_empty, fills_sized}
 use Rattle.btf_rewrite_model.specs.Made.{record_at, kind_at, entries, variants, byte_int, const, typedef, struct, union, enum, with_linkage, unsigned, fallback_of}
-use Rattle.btf_rewrite_model.specs.Checks.{first_fault, is_read, have_room}
-use Rattle.btf_rewrite_model.specs.Pass.{Pass, has, name_of, replaced, slash, dot, section_name, renaming, gets_filler, makes_filler, makes_placeholder, wants_placeholder, least, is_enum64, is_unsized, is_zero_or, is_positive, section_size, is_builtin, texts, texts_by, param_texts, offset_at, added, added_by, free_id, func_asks, data_sec_asks, asks_by, filler_type_text, filler_text, filler, filler_offset, placeholder_text, param_text, underscore, type_len_at}
-use Rattle.btf_rewrite_model.specs.Rule.{becomes_by, known_func, new_name, name_or, named_params, falls_back_by, completed, variant_members, entry_members, placeholder_id}
-use Rattle.btf_rewrite_model.specs.Fault.{checks_by, completing_checks, member_checks, all_fit}
+use Rattle.btf_rewrite_model.specs.Checks.{first_fault, is_read, have_room, fits, record_len}
+use Rattle.btf_rewrite_model.specs.Pass.{Pass, has, name_of, name_checks, sized_asks_zero, unsized_asks_zero, replaced, slash, dot, section_name, renaming, gets_filler, makes_filler, makes_placeholder, wants_placeholder, least, is_enum64, is_unsized, is_zero_or, is_positive, section_size, is_builtin, texts, texts_by, param_texts, offset_at, added, added_by, free_id, func_asks, data_sec_asks, asks_by, filler_type_text, filler_text, filler, filler_offset, placeholder_text, param_text, underscore, type_len_at}
+use Rattle.btf_rewrite_model.specs.Rule.{becomes_by, known_func, new_name, name_or, named_params, falls_back_by, completed, sized, filled, variant_members, entry_members, placeholder_id}
+use Rattle.btf_rewrite_model.specs.Fault.{checks_by, completing_checks, filling_checks, filler_checks, growth_checks, member_checks, all_fit}
 use Rattle.btf_rewrite_model.specs.RewriteLaws.{IsAmong}
 use Rattle.btf_rewrite_model.proofs.Asking.{needed_by}
+use Rattle.btf_rewrite_model.proofs.Agreeing.{first_among, second_among}
 use Rattle.btf_rewrite_model.proofs.NewFacts.{NoneWants, FactOf}
-
-never_zero : (d e f g : Bool) → (d && false && e && f && g) ≡ false
-never_zero true e f g = refl
-never_zero false e f g = refl
-
--- one of a size asks for one feature
-asks_one : (q : Pass) (id : ℕ) (r : Record) → (r.third == 0) ≡ false → data_sec_asks q id r ≡ features.DataSec ∷ []
-asks_one q id r sized =
-    let room : Bool = is_none (first_fault (have_room (offset_at q id) (renaming q (name_of q id)))) in
-    ap (λ (b : Bool). if has q features.DataSec && b && has_no_entries r && room && is_positive (section_size q id) then features.DataSec ∷ features.DataSecZero ∷ [] else features.DataSec ∷ []) sized
-    ∙ ap (λ (b : Bool). if b then features.DataSec ∷ features.DataSecZero ∷ [] else features.DataSec ∷ []) (never_zero (has q features.DataSec) (has_no_entries r) room (is_positive (section_size q id)))
 
 one_in_both : (f : Feature) (c : Bool) → IsAmong f (features.DataSec ∷ []) → IsAmong f (if c then features.DataSec ∷ features.DataSecZero ∷ [] else features.DataSec ∷ [])
 one_in_both f false among = among
@@ -38,10 +28,28 @@ one_in_both f true among = ap (λ (b : Bool). b || (same_feature f features.Data
     or_false true is = refl
     or_false false is = is
 
+-- one that has a size asks for the second where it has no entries, and is never exempt then
+zero_asked : (f : Feature) (d s x z e named room size : Bool) → z ≡ false → IsAmong f (if d && ((s && not z && e && named) || (z && e && room && size)) then features.DataSec ∷ features.DataSecZero ∷ [] else features.DataSec ∷ [])
+    → IsAmong f (if e && not (not s && x) then features.DataSec ∷ features.DataSecZero ∷ [] else features.DataSec ∷ [])
+zero_asked f d s x true e named room size sized among = absurd (false≢true (sym sized))
+zero_asked f d true x false true named room size sized among = both_of (d && (named || false)) among
+  where
+    both_of : (b : Bool) → IsAmong f (if b then features.DataSec ∷ features.DataSecZero ∷ [] else features.DataSec ∷ []) → IsAmong f (features.DataSec ∷ features.DataSecZero ∷ [])
+    both_of true is = is
+    both_of false is = one_in_both f true is
+zero_asked f true false x false true named room size sized among = one_in_both f (not x) among
+zero_asked f false false x false true named room size sized among = one_in_both f (not x) among
+zero_asked f true true x false false named room size sized among = among
+zero_asked f true false x false false named room size sized among = among
+zero_asked f false s x false false named room size sized among = among
+
 -- what a record asks for is needed for it, whatever stood there before
-pub asks_need : (q : Pass) (id : ℕ) (is_exempt : Bool) (f : Feature) (k : Option Kind) (r : Record) → (k ≡ Some kinds.DataSec → (r.third == 0) ≡ false) → IsAmong f (asks_by q id k r) → IsAmong f (needs_by is_exempt k r)
-asks_need q id is_exempt f (Some kinds.DataSec) r sized among = one_in_both f (has_no_entries r && not is_exempt) (subst (IsAmong f) (asks_one q id r (sized refl)) among)
-asks_need q id is_exempt f k r sized among = needed_by q id f k r among
+pub asks_need : (q : Pass) (id : ℕ) (x : Bool) (f : Feature) (k : Option Kind) (r : Record) → (k ≡ Some kinds.DataSec → (r.third == 0) ≡ false) → IsAmong f (asks_by q id k r)
+    → IsAmong f (needs_by (not (fills_sized q.policy) && x) k r)
+asks_need q id x f (Some kinds.DataSec) r sized among =
+    zero_asked f (has q features.DataSec) (fills_sized q.policy) x (r.third == 0) (has_no_entries r) (is_none (first_fault (name_checks q id)))
+    (is_none (first_fault (have_room (offset_at q id) (renaming q (name_of q id))))) (is_positive (section_size q id)) (sized refl) among
+asks_need q id x f k r sized among = needed_by q id f k r among
 
 -- ---- each rule
 
@@ -91,17 +99,23 @@ module _ (p q : Pass) (id : ℕ) where
       let wants_none : wants_placeholder q id ≡ false = ap (λ (b : Bool). is_enum64 (kind_at q.table id) && not b) granted ∙ and_false (is_enum64 (kind_at q.table id)) in
       ap (λ (b : Bool). b && (least (wants_placeholder q) id == id)) wants_none
 
-  no_filler : kind_at q.table id ≡ Some kinds.DataSec → ((record_at q.table id).third == 0) ≡ false → makes_filler q id ≡ false
-  no_filler kind sized =
-      let unsized : is_unsized (kind_at q.table id) (record_at q.table id) ≡ false = ap (λ (k : Option Kind). is_unsized k (record_at q.table id)) kind ∙ sized in
-      let gets_none : gets_filler q id ≡ false =
-      ap (λ (b : Bool). has q features.DataSec && b && has_no_entries (record_at q.table id) && is_zero_or (not (has q features.DataSecZero)) (section_size q id)) unsized
-      ∙ never (has q features.DataSec) (has_no_entries (record_at q.table id)) (is_zero_or (not (has q features.DataSecZero)) (section_size q id)) in
-      ap (λ (b : Bool). b && (least (gets_filler q) id == id)) gets_none
+  -- one that has a size gets no filler where what it asks for is granted
+  no_filler : kind_at q.table id ≡ Some kinds.DataSec → ((record_at q.table id).third == 0) ≡ false → has q features.DataSec ≡ true → first_fault (name_checks q id) ≡ None
+      → ((f : Feature) → IsAmong f (data_sec_asks q id (record_at q.table id)) → has q f ≡ true) → gets_filler q id ≡ false
+  no_filler kind sized is_granted named granted =
+      let r : Record = record_at q.table id in
+      ap (λ (k : Option Kind). has q features.DataSec && ((fills_sized q.policy && is_sized_and_empty k r && not (has q features.DataSecZero)) || (is_unsized k r && has_no_entries r && is_zero_or (not (has q features.DataSecZero)) (section_size q id)))) kind
+      ∙ never (has q features.DataSec) (fills_sized q.policy) (has_no_entries r) (r.third == 0) (has q features.DataSecZero) (is_none (first_fault (name_checks q id))) (unsized_asks_zero q id r)
+      (is_zero_or (not (has q features.DataSecZero)) (section_size q id)) is_granted sized (ap is_none named)
+      (λ is. granted features.DataSecZero (second_among (has q features.DataSec && (sized_asks_zero q id r || unsized_asks_zero q id r)) is))
     where
-      never : (a b c : Bool) → (a && false && b && c) ≡ false
-      never true b c = refl
-      never false b c = refl
+      never : (d s e z h named a x : Bool) → d ≡ true → z ≡ false → named ≡ true → ((d && ((s && not z && e && named) || a)) ≡ true → h ≡ true) → (d && ((s && (e && not z) && not h) || (z && e && x))) ≡ false
+      never false s e z h named a x is_d is_z is_named asked = absurd (false≢true is_d)
+      never true s e true h named a x is_d is_z is_named asked = absurd (false≢true (sym is_z))
+      never true s e false h false a x is_d is_z is_named asked = absurd (false≢true is_named)
+      never true true true false h true a x is_d is_z is_named asked = ap (λ (b : Bool). not b || false) (asked refl)
+      never true true false false h true a x is_d is_z is_named asked = refl
+      never true false e false h true a x is_d is_z is_named asked = refl
 
   pub stays : (k : Option Kind) → kind_at q.table id ≡ k → FactOf p q.table.strings k (record_at q.table id) → (k ≡ Some kinds.DataSec → ((record_at q.table id).third == 0) ≡ false)
       → ((f : Feature) → IsAmong f (asks_by q id k (record_at q.table id)) → has q f ≡ true) → Stays q id k
@@ -141,24 +155,29 @@ module _ (p q : Pass) (id : ℕ) where
       kept q id (Some kinds.FuncProto)
       (λ lower. ap (λ (b : Bool). if b then record r { tail = named_params 0 (offset_at q id) r.tail } else enum r.name (vlen r.info) r.tail) is_granted ∙ ap (λ ws. record r { tail = ws }) same.0)
       no_texts (λ free. refl) (λ old. refl) (ap (λ ts. first_fault (have_room (offset_at q id) ts)) (ap (λ k. texts_by q id k r) kind ∙ no_texts))
-  stays (Some kinds.DataSec) kind fact sized granted =
+  stays (Some kinds.DataSec) kind fact has_third granted =
       let r : Record = record_at q.table id in
       let name : List ℕ = fact.0 in
       let reads : name_of q id ≡ Ok name = fact.1 in
-      let has_size : (r.third == 0) ≡ false = sized refl in
-      let is_granted : has q features.DataSec ≡ true = granted features.DataSec (ap (list_any (same_feature features.DataSec)) (asks_one q id r has_size)) in
+      let has_size : (r.third == 0) ≡ false = has_third refl in
+      let is_granted : has q features.DataSec ≡ true = granted features.DataSec (first_among (has q features.DataSec && (sized_asks_zero q id r || unsized_asks_zero q id r))) in
       let section : section_name q name ≡ name = ap (λ (b : Bool). if b then replaced slash dot name else replaced dot underscore name) is_granted ∙ fact.2 in
       let none_renamed : renaming q (name_of q id) ≡ [] =
       ap (renaming q) reads ∙ ap (λ (b : Bool). if b then [] else section_name q name ∷ []) ((bytes_eq-Decides (section_name q name) name).1 section) in
-      let makes_none : makes_filler q id ≡ false = no_filler kind has_size in
+      let named : first_fault (name_checks q id) ≡ None = ap (λ ts. first_fault (is_read (name_of q id) ∷ have_room (offset_at q id) ts)) none_renamed ∙ ap (λ m. first_fault (is_read m ∷ [])) reads in
+      let gets_none : gets_filler q id ≡ false = no_filler kind has_size is_granted named granted in
+      let makes_none : makes_filler q id ≡ false = ap (λ (b : Bool). b && (least (gets_filler q) id == id)) gets_none in
+      let none_tested : filling_checks q id ≡ [] =
+      ap (λ (b : Bool). (if b then filler_checks q id else []) ++ growth_checks q id) makes_none ∙ ap (λ (b : Bool). if b then fits (type_len_at q id + sum_by record_len (added q id)) 12 ∷ [] else []) gets_none in
       kept q id (Some kinds.DataSec)
-      (λ lower. ap (λ (b : Bool). if b then (if r.third == 0 then completed q id (unwrap_or (section_size q id) 0) r else record r { name = new_name q id r }) else struct (new_name q id r) (vlen r.info) (vlen r.info) (entry_members q lower id (entries r.tail))) is_granted
-      ∙ ap (λ (b : Bool). if b then completed q id (unwrap_or (section_size q id) 0) r else record r { name = new_name q id r }) has_size
+      (λ lower. ap (λ (b : Bool). if b then (if r.third == 0 then completed q id (unwrap_or (section_size q id) 0) r else sized q id r) else struct (new_name q id r) (vlen r.info) (vlen r.info) (entry_members q lower id (entries r.tail))) is_granted
+      ∙ ap (λ (b : Bool). if b then completed q id (unwrap_or (section_size q id) 0) r else sized q id r) has_size
+      ∙ ap (λ (b : Bool). if b then filled q id r.third r else record r { name = new_name q id r }) gets_none
       ∙ ap (λ ts. record r { name = name_or r.name (offset_at q id) ts }) none_renamed)
       (ap (λ ts. ts ++ (if makes_filler q id then filler_type_text ∷ filler_text ∷ [] else [])) none_renamed ∙ ap (λ (b : Bool). if b then filler_type_text ∷ filler_text ∷ [] else []) makes_none)
       (λ free. ap (λ (b : Bool). if b then filler (filler_offset q id) free else []) makes_none) (λ old. refl)
-      (ap (λ ts. first_fault (is_read (name_of q id) ∷ have_room (offset_at q id) ts ++ (if has q features.DataSec then (if r.third == 0 then completing_checks q id r else []) else flat_map (member_checks q) (entries r.tail)))) none_renamed
-      ∙ ap (λ m. first_fault (is_read m ∷ [] ++ (if has q features.DataSec then (if r.third == 0 then completing_checks q id r else []) else flat_map (member_checks q) (entries r.tail)))) reads
-      ∙ ap (λ (b : Bool). first_fault (if b then (if r.third == 0 then completing_checks q id r else []) else flat_map (member_checks q) (entries r.tail))) is_granted
-      ∙ ap (λ (b : Bool). first_fault (if b then completing_checks q id r else [])) has_size)
+      (ap (λ ts. first_fault (is_read (name_of q id) ∷ have_room (offset_at q id) ts ++ (if has q features.DataSec then (if r.third == 0 then completing_checks q id r else filling_checks q id) else flat_map (member_checks q) (entries r.tail)))) none_renamed
+      ∙ ap (λ m. first_fault (is_read m ∷ [] ++ (if has q features.DataSec then (if r.third == 0 then completing_checks q id r else filling_checks q id) else flat_map (member_checks q) (entries r.tail)))) reads
+      ∙ ap (λ (b : Bool). first_fault (if b then (if r.third == 0 then completing_checks q id r else filling_checks q id) else flat_map (member_checks q) (entries r.tail))) is_granted
+      ∙ ap (λ (b : Bool). first_fault (if b then completing_checks q id r else filling_checks q id)) has_size ∙ ap first_fault none_tested)
   stays k kind fact sized granted = kept q id k (λ lower. refl) refl (λ free. refl) (λ old. refl) refl

@@ -7,7 +7,7 @@ use lib.Utf8.{encode}
 use Rattle.btf_model.specs.Record.{Record, unknown}
 use Rattle.btf_model.specs.Refusal.{InvalidStringOffset, InvalidTypeInfo, InvalidDatasec, UnknownBtfType, UnknownSectionSize}
 use Rattle.btf_rewrite_model.specs.Feature as features
-use Rattle.btf_rewrite_model.specs.Feature.{Feature, Answer, needs}
+use Rattle.btf_rewrite_model.specs.Feature.{Feature, Answer, FillPolicy, KeepSized, FillSized, needs}
 use Rattle.btf_rewrite_model.specs.Pass.{Pass, Asked, asks, texts_below, added_below}
 use Rattle.btf_rewrite_model.specs.Fault.{fault}
 use Rattle.btf_rewrite_model.specs.Rule.{ruled_below, becomes}
@@ -26,6 +26,7 @@ abbrev completed_section : Pass
 completed_section = record {
   table = named_table (codes "int" ∷ codes "foo" ∷ codes ".data/foo" ∷ []) (int 1 ∷ record { name = 5; info = 0x0e000000; third = 1; tail = 1 ∷ [] } ∷ data_sec 9 0 1 (2 ∷ 0 ∷ 4 ∷ []) ∷ []);
   layout = record { sections = only (codes ".data/foo") 32; symbols = only (codes "foo") 64 };
+  policy = KeepSized;
   answers = granted (features.DataSec ∷ []);
 }
 
@@ -53,6 +54,7 @@ abbrev empty_sections : Pass
 empty_sections = record {
   table = named_table (codes ".a" ∷ codes ".b" ∷ []) (data_sec 1 0 0 [] ∷ data_sec 4 0 0 [] ∷ []);
   layout = record { sections = λ name. option_or (only (codes ".a") 0 name) (only (codes ".b") 5 name); symbols = λ name. None };
+  policy = KeepSized;
   answers = granted (features.DataSec ∷ []);
 }
 
@@ -73,19 +75,32 @@ empty_section_is_asked_about : (asks empty_sections 1 ≡ features.DataSec ∷ [
 unfolding pieces_from encode
 empty_section_is_asked_about = (refl, refl)
 
--- a DATASEC of 9 bytes without entries stays, is not asked about, and needs nothing more
-abbrev sized_section : Pass
-sized_section = record { table = named_table (codes ".a" ∷ []) (data_sec 1 9 0 [] ∷ []); layout = no_layout; answers = granted (features.DataSec ∷ []) }
+-- ".a" at 1: DATASEC 1 of 9 bytes without entries, whose section is not known
+abbrev sized_section : FillPolicy → List Feature → Pass
+sized_section policy fs = record { table = named_table (codes ".a" ∷ []) (data_sec 1 9 0 [] ∷ []); layout = no_layout; policy = policy; answers = granted fs }
 
-sized_section_stays : (becomes sized_section 1 ≡ data_sec 1 9 0 []) × (Asked sized_section ≡ features.DataSec ∷ []) × (needs (data_sec 1 9 0 []) (data_sec 1 9 0 []) ≡ features.DataSec ∷ [])
+-- it stays, is not asked about, and needs nothing more
+sized_section_stays : (becomes (sized_section KeepSized (features.DataSec ∷ [])) 1 ≡ data_sec 1 9 0 []) × (Asked (sized_section KeepSized (features.DataSec ∷ [])) ≡ features.DataSec ∷ [])
+    × (needs KeepSized (data_sec 1 9 0 []) (data_sec 1 9 0 []) ≡ features.DataSec ∷ [])
 unfolding pieces_from encode
 sized_section_stays = (refl, refl, refl)
+
+-- under the other policy it is asked about, and gets the filler with its own size
+sized_section_is_filled : (becomes (sized_section FillSized (features.DataSec ∷ [])) 1 ≡ data_sec 1 9 1 (3 ∷ 0 ∷ 9 ∷ [])) × (Asked (sized_section FillSized (features.DataSec ∷ [])) ≡ features.DataSec ∷ features.DataSecZero ∷ [])
+unfolding pieces_from encode
+sized_section_is_filled = (refl, refl)
+
+-- or it stays, where the kernel takes it
+sized_section_is_taken : (becomes (sized_section FillSized (features.DataSec ∷ features.DataSecZero ∷ [])) 1 ≡ data_sec 1 9 0 []) × (needs FillSized (data_sec 1 9 0 []) (data_sec 1 9 0 []) ≡ features.DataSec ∷ features.DataSecZero ∷ [])
+unfolding pieces_from encode
+sized_section_is_taken = (refl, refl)
 
 -- ".a" at 1: ENUM64 1 without variants, and DATASEC 2 of size 0 without entries: the placeholder stands before the filler
 abbrev placeholder_and_filler : Pass
 placeholder_and_filler = record {
   table = named_table (codes ".a" ∷ []) (record { name = 0; info = 0x13000000; third = 8; tail = [] } ∷ data_sec 1 0 0 [] ∷ []);
   layout = record { sections = only (codes ".a") 0; symbols = λ name. None };
+  policy = KeepSized;
   answers = granted (features.DataSec ∷ []);
 }
 
@@ -107,6 +122,7 @@ no_sections = record {
   table = named_table (codes "p" ∷ codes "d" ∷ [])
       (record { name = 1; info = 0x02000000; third = 0; tail = [] } ∷ data_sec 3 0 2 (1 ∷ 0 ∷ 8 ∷ 3 ∷ 8 ∷ 8 ∷ []) ∷ record { name = 1; info = 0x02000000; third = 0; tail = [] } ∷ []);
   layout = no_layout;
+  policy = KeepSized;
   answers = [];
 }
 
@@ -116,7 +132,7 @@ members_have_new_names = refl
 
 -- ".d" at 1: a DATASEC that is its own entry is named as before
 abbrev own_entry : List Feature → Pass
-own_entry fs = record { table = named_table (codes ".d" ∷ []) (data_sec 1 0 1 (1 ∷ 0 ∷ 4 ∷ []) ∷ []); layout = record { sections = only (codes ".d") 8; symbols = λ name. None }; answers = granted fs }
+own_entry fs = record { table = named_table (codes ".d" ∷ []) (data_sec 1 0 1 (1 ∷ 0 ∷ 4 ∷ []) ∷ []); layout = record { sections = only (codes ".d") 8; symbols = λ name. None }; policy = KeepSized; answers = granted fs }
 
 own_entry_becomes_member : (becomes (own_entry []) 1 ≡ record { name = 4; info = 0x04000001; third = 1; tail = 1 ∷ 1 ∷ 0 ∷ [] }) × (texts_below (own_entry []) 2 ≡ codes "_d" ∷ [])
 unfolding pieces_from encode
@@ -128,7 +144,7 @@ own_entry_is_no_variable = refl
 
 -- ".x" at 1: one of 5 bytes without entries becomes a STRUCT of size 0, since that is the number of its entries
 abbrev sized_structure : Pass
-sized_structure = record { table = named_table (codes ".x" ∷ []) (data_sec 1 5 0 [] ∷ []); layout = no_layout; answers = [] }
+sized_structure = record { table = named_table (codes ".x" ∷ []) (data_sec 1 5 0 [] ∷ []); layout = no_layout; policy = KeepSized; answers = [] }
 
 sized_section_becomes_struct : (becomes sized_structure 1 ≡ record { name = 4; info = 0x04000000; third = 0; tail = [] }) × (texts_below sized_structure 2 ≡ codes "_x" ∷ []) × (Asked sized_structure ≡ features.DataSec ∷ [])
 unfolding pieces_from encode
@@ -136,7 +152,7 @@ sized_section_becomes_struct = (refl, refl, refl)
 
 -- bits past 32 bits, and the last that are not
 abbrev member_at : ℕ → Pass
-member_at offset = record { table = named_table (codes "d" ∷ []) (data_sec 1 0 1 (0 ∷ offset ∷ 4 ∷ []) ∷ []); layout = no_layout; answers = [] }
+member_at offset = record { table = named_table (codes "d" ∷ []) (data_sec 1 0 1 (0 ∷ offset ∷ 4 ∷ []) ∷ []); layout = no_layout; policy = KeepSized; answers = [] }
 
 member_too_far : (fault (member_at 0x20000000) 1 ≡ Some InvalidTypeInfo) × (fault (member_at 0x1fffffff) 1 ≡ None) × ((becomes (member_at 0x1fffffff) 1).tail ≡ 0 ∷ 0 ∷ 0xfffffff8 ∷ [])
 unfolding pieces_from encode
@@ -147,6 +163,7 @@ abbrev appended_entry : Pass
 appended_entry = record {
   table = named_table (codes "d" ∷ []) (record { name = 0; info = 0x13000000; third = 8; tail = [] } ∷ data_sec 1 0 1 (3 ∷ 0 ∷ 4 ∷ []) ∷ []);
   layout = no_layout;
+  policy = KeepSized;
   answers = [];
 }
 
@@ -161,6 +178,7 @@ abbrev behind_all_strings : Pass
 behind_all_strings = record {
   table = table_of (int 0 ∷ record { name = 0; info = 0x0d000001; third = 0; tail = 0 ∷ 1 ∷ [] } ∷ record { name = 1; info = 0x0c000000; third = 2; tail = [] } ∷ []);
   layout = no_layout;
+  policy = KeepSized;
   answers = granted (features.Func ∷ []);
 }
 

@@ -9,7 +9,7 @@ use Rattle.btf_rewrite_model.specs.Feature as features
 use Rattle.btf_rewrite_model.specs.Made.{Entry, entries, record_at, kind_at, is_static, byte_int, static_var}
 use Rattle.btf_rewrite_model.specs.Checks.{Check, first_fault, is_read, is_known, has_room, have_room, fits, record_len}
 use Rattle.btf_rewrite_model.specs.Ksyms.{is_var}
-use Rattle.btf_rewrite_model.specs.Pass.{Pass, has, name_of, renaming, section_size, gets_filler, makes_filler, filler_type_text, filler_text, filler_offset, texts, added, offset_at, type_len_at, symbol_offset}
+use Rattle.btf_rewrite_model.specs.Pass.{Pass, has, name_of, name_checks, section_size, gets_filler, makes_filler, filler_type_text, filler_text, filler_offset, texts, added, offset_at, type_len_at, symbol_offset}
 
 -- ---- DATASEC
 
@@ -42,6 +42,10 @@ filler_checks p id =
 abbrev pub growth_checks : Pass → ℕ → List Check
 growth_checks p id = if gets_filler p id then fits (type_len_at p id + sum_by record_len (added p id)) 12 ∷ [] else []
 
+-- the tests of a DATASEC that has a size, once its name is read: room for the filler, where this id makes it, and for its entry
+abbrev pub filling_checks : Pass → ℕ → List Check
+filling_checks p id = (if makes_filler p id then filler_checks p id else []) ++ growth_checks p id
+
 -- the tests of a DATASEC of size 0, once its name is read
 abbrev pub completing_checks : Pass → ℕ → Record → List Check
 completing_checks p id r =
@@ -54,17 +58,13 @@ abbrev pub all_fit : ℕ → List Record → List Check
 all_fit used [] = []
 all_fit used (r ∷ rs) = fits used (record_len r) ∷ all_fit (used + record_len r) rs
 
--- the name of a DATASEC is read, and the new one has room
-abbrev pub name_checks : Pass → ℕ → List Check
-name_checks p id = is_read (name_of p id) ∷ have_room (offset_at p id) (renaming p (name_of p id))
-
 -- The tests of an id, in order, by its kind.
 abbrev pub checks_by : Pass → ℕ → Option Kind → Record → List Check
 checks_by p id (Some kinds.Func) r = is_read (name_of p id) ∷ []
 checks_by p id (Some kinds.FuncProto) r = have_room (offset_at p id) (texts p id)
 checks_by p id (Some kinds.Enum64) r = have_room (offset_at p id) (texts p id) ++ all_fit (type_len_at p id) (added p id)
 checks_by p id (Some kinds.DataSec) r =
-    name_checks p id ++ (if has p features.DataSec then (if r.third == 0 then completing_checks p id r else []) else flat_map (member_checks p) (entries r.tail))
+    name_checks p id ++ (if has p features.DataSec then (if r.third == 0 then completing_checks p id r else filling_checks p id) else flat_map (member_checks p) (entries r.tail))
 checks_by p id k r = []
 
 -- Why a rewrite is refused at this id, if it is.

@@ -1,7 +1,7 @@
 -- The features of a kernel's BTF that a rewrite asks for, and those that a record needs.
 -- Source: aya-obj's `BtfFeatures`, and which kind came with which in the kernel's BTF documentation; when the lack of a DATASEC
--- without entries is asked for is this project's profile.
-use Rattle.std.specs.Prelude.{ℕ, ◌==◌, ◌&&◌, not, Bool, false, if◌then◌else◌, List, [], ◌∷◌, Option, Some}
+-- without entries is asked for, and that a caller may have those filled that have a size, is this project's profile.
+use Rattle.std.specs.Prelude.{ℕ, ◌==◌, ◌&&◌, not, Bool, true, false, if◌then◌else◌, List, [], ◌∷◌, Option, Some}
 use Rattle.btf_model.specs.Record as kinds
 use Rattle.btf_model.specs.Record.{Kind, Record, kind_of, vlen, kind_flag}
 
@@ -44,6 +44,17 @@ abbrev pub grants : List Answer → Feature → Bool
 grants [] f = false
 grants (answer ∷ answers) f = if same_feature answer.feature f then answer.granted else grants answers f
 
+-- What a rewrite does with a DATASEC that has a size and no entries, for a kernel that takes no DATASEC without entries.
+pub data FillPolicy : Type 0 where
+  -- It stays without entries, and the kernel is not asked about it.
+  KeepSized : FillPolicy
+  -- It gets an entry of its own, as one of size 0 does.
+  FillSized : FillPolicy
+
+abbrev pub fills_sized : FillPolicy → Bool
+fills_sized KeepSized = false
+fills_sized FillSized = true
+
 -- the linkage of a FUNC, by its vlen: Static is 0, Global is 1
 abbrev pub is_global : Record → Bool
 is_global r = vlen r.info == 1
@@ -70,11 +81,12 @@ needs_by is_exempt (Some kinds.Enum64) r = Enum64 ∷ []
 needs_by is_exempt (Some kinds.Enum) r = if is_signed r then Enum64 ∷ [] else []
 needs_by is_exempt k r = []
 
--- A DATASEC that has a size and no entries: a rewrite leaves it as it is, so the kernel is not asked about it.
+-- a DATASEC that has a size and no entries
 abbrev pub is_sized_and_empty : Option Kind → Record → Bool
 is_sized_and_empty (Some kinds.DataSec) r = has_no_entries r && not (r.third == 0)
 is_sized_and_empty k r = false
 
--- The features that a record needs, by the record that its id had before the pass.
-abbrev pub needs : Record → Record → List Feature
-needs before r = needs_by (is_sized_and_empty (kind_of before.info) before) (kind_of r.info) r
+-- The features that a record needs, by the record that its id had before the pass. A DATASEC that had a size and no entries is exempt,
+-- where the policy keeps it.
+abbrev pub needs : FillPolicy → Record → Record → List Feature
+needs policy before r = needs_by (not (fills_sized policy) && is_sized_and_empty (kind_of before.info) before) (kind_of r.info) r

@@ -1,6 +1,6 @@
 -- What each record asks of the kernel in a rewrite, and what it appends to the table.
 -- Source: aya-obj's `fixup_and_sanitize`; that a feature is asked for where its answer is first wanted, and when DataSecZero is, is
--- this project's profile.
+-- this project's profile, as is the policy on DATASECs that have a size.
 use Rattle.std.specs.Prelude.{ℕ, zero, suc, ◌+◌, ◌==◌, ◌&&◌, ◌||◌, not, Bool, true, false, if◌then◌else◌, List, [], ◌∷◌, ◌++◌, length, map, codes, Option, Some, None, Result, Ok, Err}
 use Rattle.std.specs.List.{list_any, filter, sum_by}
 use Rattle.std.specs.Option.{is_none}
@@ -12,19 +12,21 @@ use Rattle.btf_model.specs.Refusal.{Refusal}
 use Rattle.btf_model.specs.Table.{Table, type_bytes}
 use Rattle.btf_model.specs.Text.{text_at}
 use Rattle.btf_rewrite_model.specs.Feature as features
-use Rattle.btf_rewrite_model.specs.Feature.{Feature, Answer, grants, same_feature, is_global, is_signed, has_no_entries}
+use Rattle.btf_rewrite_model.specs.Feature.{Feature, Answer, FillPolicy, fills_sized, grants, same_feature, is_global, is_signed, has_no_entries, is_sized_and_empty}
 use Rattle.btf_rewrite_model.specs.Made.{record_at, kind_at, byte_int, static_var, wants_name}
-use Rattle.btf_rewrite_model.specs.Checks.{first_fault, have_room, record_len, in_a_word}
+use Rattle.btf_rewrite_model.specs.Checks.{Check, first_fault, is_read, have_room, record_len, in_a_word}
 
 -- what a rewrite is told of the program: the sizes of its sections and the offsets of its symbols, by name
 pub record Layout : Type 0 where
   pub sections : List ℕ → Option ℕ
   pub symbols : List ℕ → Option ℕ
 
--- A pass over a table: the table as the pass begins, from which all names and ids are read, and the kernel's answers.
+-- A pass over a table: the table as the pass begins, from which all names and ids are read, what becomes of DATASECs that have a size and
+-- no entries, and the kernel's answers.
 pub record Pass : Type 0 where
   pub table : Table
   pub layout : Layout
+  pub policy : FillPolicy
   pub answers : List Answer
 
 abbrev pub has : Pass → Feature → Bool
@@ -100,11 +102,17 @@ abbrev pub is_zero_or : Bool → Option ℕ → Bool
 is_zero_or other (Some size) = (size == 0) || other
 is_zero_or other None = false
 
--- A DATASEC that gets an entry of its own: one of size 0 without entries, where its section has size 0, or the kernel takes no
--- DATASEC without entries.
+-- One of size 0 without entries gets an entry of its own where its section has size 0, or the kernel takes no DATASEC without entries.
+abbrev pub fills_unsized : Pass → ℕ → Bool
+fills_unsized p id = is_unsized (kind_at p.table id) (record_at p.table id) && has_no_entries (record_at p.table id) && is_zero_or (not (has p features.DataSecZero)) (section_size p id)
+
+-- One that has a size and no entries gets an entry where the policy has it filled, and the kernel takes no DATASEC without entries.
+abbrev pub fills_sized_one : Pass → ℕ → Bool
+fills_sized_one p id = fills_sized p.policy && is_sized_and_empty (kind_at p.table id) (record_at p.table id) && not (has p features.DataSecZero)
+
+-- A DATASEC that gets an entry of its own.
 abbrev pub gets_filler : Pass → ℕ → Bool
-gets_filler p id =
-    has p features.DataSec && is_unsized (kind_at p.table id) (record_at p.table id) && has_no_entries (record_at p.table id) && is_zero_or (not (has p features.DataSecZero)) (section_size p id)
+gets_filler p id = has p features.DataSec && (fills_sized_one p id || fills_unsized p id)
 
 -- The filler, an INT and a VAR of it, is made by the least id that gets one.
 abbrev pub makes_filler : Pass → ℕ → Bool
@@ -224,11 +232,22 @@ abbrev pub is_positive : Option ℕ → Bool
 is_positive (Some size) = not (size == 0)
 is_positive None = false
 
--- DataSec first; then DataSecZero, of one of size 0 without entries whose section has a size above 0, once the new name has room.
+-- the name of a DATASEC is read, and the new one has room
+abbrev pub name_checks : Pass → ℕ → List Check
+name_checks p id = is_read (name_of p id) ∷ have_room (offset_at p id) (renaming p (name_of p id))
+
+-- It matters whether the kernel takes a DATASEC without entries: of one of size 0 whose section has a size above 0,
+abbrev pub unsized_asks_zero : Pass → ℕ → Record → Bool
+unsized_asks_zero p id r = (r.third == 0) && has_no_entries r && is_none (first_fault (have_room (offset_at p id) (renaming p (name_of p id)))) && is_positive (section_size p id)
+
+-- and of one that has a size, where the policy has it filled; of both once the new name has room.
+abbrev pub sized_asks_zero : Pass → ℕ → Record → Bool
+sized_asks_zero p id r = fills_sized p.policy && not (r.third == 0) && has_no_entries r && is_none (first_fault (name_checks p id))
+
+-- DataSec first; then DataSecZero, where that matters.
 abbrev pub data_sec_asks : Pass → ℕ → Record → List Feature
 data_sec_asks p id r =
-    if has p features.DataSec && (r.third == 0) && has_no_entries r && is_none (first_fault (have_room (offset_at p id) (renaming p (name_of p id)))) && is_positive (section_size p id)
-    then features.DataSec ∷ features.DataSecZero ∷ [] else features.DataSec ∷ []
+    if has p features.DataSec && (sized_asks_zero p id r || unsized_asks_zero p id r) then features.DataSec ∷ features.DataSecZero ∷ [] else features.DataSec ∷ []
 
 -- The features that an id asks for, in order, by its kind.
 abbrev pub asks_by : Pass → ℕ → Option Kind → Record → List Feature

@@ -9,7 +9,7 @@ use Rattle.btf_model.specs.Record.{Record, unknown}
 use Rattle.btf_model.specs.Refusal.{InvalidStringOffset}
 use Rattle.btf_model.specs.Table.{Table}
 use Rattle.btf_rewrite_model.specs.Feature as features
-use Rattle.btf_rewrite_model.specs.Feature.{Feature, Answer}
+use Rattle.btf_rewrite_model.specs.Feature.{Feature, Answer, KeepSized}
 use Rattle.btf_rewrite_model.specs.Pass.{Pass, Layout, Asked, asks, texts_below, added_below}
 use Rattle.btf_rewrite_model.specs.Fault.{fault}
 use Rattle.btf_rewrite_model.specs.Rule.{ruled_below, becomes, falls_back}
@@ -51,6 +51,7 @@ abbrev floats : List Feature → Pass
 floats fs = record {
   table = table_of (record { name = 5; info = 0x10000000; third = 4; tail = [] } ∷ record { name = 9; info = 0x10000000; third = 8; tail = [] } ∷ []);
   layout = no_layout;
+  policy = KeepSized;
   answers = granted fs;
 }
 
@@ -75,6 +76,7 @@ kept_and_replaced = record {
       ∷ record { name = 7; info = 0x02000000; third = 4; tail = [] }
       ∷ []);
   layout = no_layout;
+  policy = KeepSized;
   answers = granted (features.Float ∷ []);
 }
 
@@ -104,6 +106,7 @@ abbrev nameless : Pass
 nameless = record {
   table = named_table (codes "int" ∷ []) (int 1 ∷ record { name = 0; info = 0x0d000002; third = 1; tail = 0 ∷ 1 ∷ 0 ∷ 1 ∷ [] } ∷ []);
   layout = no_layout;
+  policy = KeepSized;
   answers = granted (features.Func ∷ []);
 }
 
@@ -120,6 +123,7 @@ abbrev three_funcs : List Feature → Pass
 three_funcs fs = record {
   table = named_table (codes "static" ∷ codes "memcpy" ∷ codes "global" ∷ []) (func 1 0 0 ∷ func 8 1 0 ∷ func 15 1 0 ∷ []);
   layout = no_layout;
+  policy = KeepSized;
   answers = granted fs;
 }
 
@@ -138,7 +142,7 @@ denied_global_becomes_static = refl
 
 -- a name that cannot be read: nothing is asked, and the rewrite is refused
 abbrev unreadable : Pass
-unreadable = record { table = table_of (func 1 1 0 ∷ []); layout = no_layout; answers = [] }
+unreadable = record { table = table_of (func 1 1 0 ∷ []); layout = no_layout; policy = KeepSized; answers = [] }
 
 unreadable_name_asks_nothing : (asks unreadable 1 ≡ []) × (fault unreadable 1 ≡ Some (InvalidStringOffset 1))
 unreadable_name_asks_nothing = (refl, refl)
@@ -148,6 +152,7 @@ abbrev no_functions : Pass
 no_functions = record {
   table = named_table (codes "int" ∷ codes "a" ∷ codes "b" ∷ codes "inc" ∷ []) (int 1 ∷ record { name = 0; info = 0x0d000002; third = 1; tail = 5 ∷ 1 ∷ 7 ∷ 1 ∷ [] } ∷ func 9 0 2 ∷ []);
   layout = no_layout;
+  policy = KeepSized;
   answers = [];
 }
 
@@ -167,6 +172,7 @@ abbrev large_enum : Pass
 large_enum = record {
   table = table_of (record { name = 0; info = 0x13000002; third = 8; tail = 0 ∷ 1 ∷ 0 ∷ 0 ∷ 5 ∷ 1 ∷ [] } ∷ []);
   layout = no_layout;
+  policy = KeepSized;
   answers = [];
 }
 

@@ -61,10 +61,17 @@ filler_id p id = free_id p (least (gets_filler p) id) + 1
 abbrev pub placed : Pass → Entry → Entry
 placed p e = if is_static (record_at p.table e.type) then e else record e { offset = unwrap_or (symbol_offset p e.type) e.offset }
 
+-- a DATASEC of this size with the filler as its one entry
+abbrev pub filled : Pass → ℕ → ℕ → Record → Record
+filled p id size r = data_sec (new_name p id r) size 1 (record { type = filler_id p id; offset = 0; size = size } ∷ [])
+
 -- A DATASEC of size 0 is completed: it gets the size of its section, and each entry its place; or the filler as its one entry.
 abbrev pub completed : Pass → ℕ → ℕ → Record → Record
-completed p id size r =
-    if gets_filler p id then data_sec (new_name p id r) (max size 1) 1 (record { type = filler_id p id; offset = 0; size = max size 1 } ∷ []) else data_sec (new_name p id r) size (vlen r.info) (map (placed p) (entries r.tail))
+completed p id size r = if gets_filler p id then filled p id (max size 1) r else data_sec (new_name p id r) size (vlen r.info) (map (placed p) (entries r.tail))
+
+-- One that has a size stays, but for its name; or it keeps its size, and gets the filler.
+abbrev pub sized : Pass → ℕ → Record → Record
+sized p id r = if gets_filler p id then filled p id r.third r else record r { name = new_name p id r }
 
 -- ---- the rule of each kind
 
@@ -80,7 +87,7 @@ becomes_by p lower id (Some kinds.Enum64) r = if has p features.Enum64 then r el
 becomes_by p lower id (Some kinds.Func) r = if has p features.Func then known_func p r (name_of p id) else typedef r.name r.third
 becomes_by p lower id (Some kinds.FuncProto) r = if has p features.Func then record r { tail = named_params 0 (offset_at p id) r.tail } else enum r.name (vlen r.info) r.tail
 becomes_by p lower id (Some kinds.DataSec) r =
-    if has p features.DataSec then (if r.third == 0 then completed p id (unwrap_or (section_size p id) 0) r else record r { name = new_name p id r })
+    if has p features.DataSec then (if r.third == 0 then completed p id (unwrap_or (section_size p id) 0) r else sized p id r)
     else struct (new_name p id r) (vlen r.info) (vlen r.info) (entry_members p lower id (entries r.tail))
 becomes_by p lower id k r = r
 

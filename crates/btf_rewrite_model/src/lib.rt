@@ -3,7 +3,7 @@
 //! The definitions lie in `specs/`. Each law is the contract of a function here that does nothing.
 #![tactic(auto)]
 
-ghost use Rattle.btf_rewrite_model.specs.RewriteLaws.{AskedOnlyIfNeeded, GrantedFeaturesSuffice, Enum64KeepsItsValues, RecordLengthsStay, FewTypesAreAppended, SizesStay, ResolutionsStay, OtherAnswersChangeNothing, SecondRewriteChangesNothing};
+ghost use Rattle.btf_rewrite_model.specs.RewriteLaws.{AskedOnlyIfNeeded, GrantedFeaturesSuffice, Enum64KeepsItsValues, RecordLengthsStay, FewTypesAreAppended, SizesStay, ResolutionsStay, OtherAnswersChangeNothing, SecondRewriteChangesNothing, SizedSectionsAreKept};
 
 /// A rewrite asks for a feature only where the kernel needs it for a record of the table.
 pub fn asked_only_if_needed()
@@ -50,7 +50,12 @@ pub fn other_answers_change_nothing()
 {}
 
 /// Where a rewrite without symbols of the kernel succeeds, of a table that has strings, and leaves no DATASEC of size 0, a
-/// second rewrite changes nothing, under a kernel that grants again what it granted.
+/// second rewrite changes nothing, under the same policy and a kernel that grants again what it granted.
 pub fn second_rewrite_changes_nothing()
     ensures { SecondRewriteChangesNothing }
+{}
+
+/// Where DATASECs that have a size are kept, each definition of a rewrite says what it says without the policy.
+pub fn sized_sections_are_kept()
+    ensures { SizedSectionsAreKept }
 {}
