@@ -7,6 +7,8 @@ use Rattle.btf_rewrite_model.specs.Feature.{Feature, Answer, same_feature, numbe
 use Rattle.btf_rules.specs.declared.features.BtfFeature.{BtfFeature}
 use Rattle.btf_rules.specs.declared.features.BtfFeature.TheVariants.{Func, FuncGlobal, DataSec, DataSecZero, Float, DeclTag, TypeTag, Enum64}
 use Rattle.btf_rules.specs.declared.features.FeatureAnswer.{FeatureAnswer}
+use Rattle.btf_rules.specs.declared.features.FillPolicy.{FillPolicy}
+use Rattle.btf_rules.specs.declared.features.FillPolicy.TheVariants.{KeepSized, FillSized}
 
 abbrev pub feature_of : BtfFeature → Feature
 feature_of Func = model.Func
@@ -17,6 +19,10 @@ feature_of Float = model.Float
 feature_of DeclTag = model.DeclTag
 feature_of TypeTag = model.TypeTag
 feature_of Enum64 = model.Enum64
+
+abbrev pub policy_of : FillPolicy → model.FillPolicy
+policy_of KeepSized = model.KeepSized
+policy_of FillSized = model.FillSized
 
 abbrev pub answer_of : FeatureAnswer → Answer
 answer_of a = record { feature = feature_of a.feature; granted = a.granted }

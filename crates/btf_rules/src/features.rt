@@ -29,6 +29,16 @@ pub enum BtfFeature {
     Enum64,
 }
 
+/// What a rewrite does with a DATASEC that has a size and no entries, for a kernel that takes no DATASEC without entries.
+#[derive(Clone, Copy, Debug, Default, Eq, PartialEq)]
+pub enum FillPolicy {
+    /// It stays without entries, and the kernel is not asked about it, as in aya.
+    #[default]
+    KeepSized,
+    /// It gets an entry of its own, of its size, as one of size 0 does.
+    FillSized,
+}
+
 /// A feature that was asked for, and whether the kernel has it.
 #[derive(Clone, Copy, Debug, Default, Eq, PartialEq)]
 pub struct FeatureAnswer {

@@ -13,7 +13,7 @@ mod var;
 
 pub use data_sec::{known_offset, renamed, section_name, section_size};
 pub use enumeration64::as_union;
-pub use features::{BtfFeature, BtfFeatureResolver, FeatureAnswer, copied_answers};
+pub use features::{BtfFeature, BtfFeatureResolver, FeatureAnswer, FillPolicy, copied_answers};
 pub use func::{global, is_builtin, made_static};
 pub use func_proto::{as_enum, param_text, with_names};
 pub use int::int_of_4;

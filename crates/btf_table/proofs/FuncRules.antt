@@ -16,7 +16,7 @@ use Rattle.btf_table.proofs.PassAsking.{asked_none, asked_more, asked_kept}
 use Rattle.btf_rewrite_model.specs.Made.{record_at, typedef, with_linkage}
 use Rattle.btf_rewrite_model.specs.Checks.{first_fault, is_read}
 use Rattle.btf_model.specs.Text.{text_at}
-use Rattle.btf_rewrite_model.specs.Pass.{Pass, Layout, asks_below, has, name_of, is_builtin, func_asks, asks, asks_by, gets_filler, wants_placeholder, free_id}
+use Rattle.btf_rewrite_model.specs.Pass.{Pass, asks_below, has, name_of, is_builtin, func_asks, asks, asks_by, gets_filler, wants_placeholder, free_id}
 use Rattle.btf_rewrite_model.specs.Rule.{becomes, known_func}
 use Rattle.btf_rewrite_model.specs.Fault.{fault}
 use Rattle.btf_plain.specs.Linkage.{func_linkage_of}
@@ -24,7 +24,7 @@ use Rattle.btf_records.specs.BtfType.{record_of, fallback_of}
 use Rattle.btf_records.specs.declared.btf_type.BtfType.{BtfType}
 use Rattle.btf_table.proofs.Adding.{adds_none}
 use Rattle.btf_table.proofs.PassRules.{record_there, kind_there, becomes_there, fault_there, texts_there, added_there, falls_back_there, made_on, wants_none, no_filler, grown_by, same_len}
-use Rattle.btf_table.specs.PassStep.{pass_on, IsType, IsHere, IsRuled, AsksUpTo}
+use Rattle.btf_table.specs.PassStep.{Given, pass_on, IsType, IsHere, IsRuled, AsksUpTo}
 use Rattle.btf_table.specs.declared.sanitize.made.Made.{Made}
 
 module _ (p : Pass) (id : ℕ) (b : BtfType) (there : IsType p.table id b) (kind : kind_of (record_of b).info ≡ Some kinds.Func) where
@@ -79,29 +79,29 @@ module _ (p : Pass) (id : ℕ) (b : BtfType) (there : IsType p.table id b) (kind
 
 -- ---- what is asked
 
-module _ (t : Table) (layout : Layout) (id : ℕ) (b : BtfType) (there : IsType t id b) (kind : kind_of (record_of b).info ≡ Some kinds.Func) (name : List ℕ) (is_name : Ok name ≡ text_at t.strings (record_of b).name)
-    (old : List Answer) (asked : AreAnswersTo (asks_below (pass_on t layout old) id) old) where
+module _ (t : Table) (given : Given) (id : ℕ) (b : BtfType) (there : IsType t id b) (kind : kind_of (record_of b).info ≡ Some kinds.Func) (name : List ℕ) (is_name : Ok name ≡ text_at t.strings (record_of b).name)
+    (old : List Answer) (asked : AreAnswersTo (asks_below (pass_on t given old) id) old) where
   -- Func is asked for
   pub one_granted : (new : List Answer) (granted : Bool) → NextAnswers old features.Func granted new → grants new features.Func ≡ granted
-  one_granted new granted next = (asked_more (pass_on t layout old) id [] old new features.Func granted (asked_none (pass_on t layout old) id asked) next).1
+  one_granted new granted next = (asked_more (pass_on t given old) id [] old new features.Func granted (asked_none (pass_on t given old) id asked) next).1
 
-  pub one_asked : (new : List Answer) (granted : Bool) → NextAnswers old features.Func granted new → (granted && is_global (record_of b) && not (is_builtin name)) ≡ false → AsksUpTo (pass_on t layout old) id new []
+  pub one_asked : (new : List Answer) (granted : Bool) → NextAnswers old features.Func granted new → (granted && is_global (record_of b) && not (is_builtin name)) ≡ false → AsksUpTo (pass_on t given old) id new []
   one_asked new granted next alone =
-      let has = asked_more (pass_on t layout old) id [] old new features.Func granted (asked_none (pass_on t layout old) id asked) next in
-      (features.Func ∷ [], has.0, asks_func (pass_on t layout new) id b there kind name is_name (ap (λ (g : Bool). g && is_global (record_of b) && not (is_builtin name)) has.1 ∙ alone))
+      let has = asked_more (pass_on t given old) id [] old new features.Func granted (asked_none (pass_on t given old) id asked) next in
+      (features.Func ∷ [], has.0, asks_func (pass_on t given new) id b there kind name is_name (ap (λ (g : Bool). g && is_global (record_of b) && not (is_builtin name)) has.1 ∙ alone))
 
   -- and FuncGlobal
   pub both_asked : (mid new : List Answer) (granted : Bool) → NextAnswers old features.Func true mid → NextAnswers mid features.FuncGlobal granted new → is_global (record_of b) ≡ true → is_builtin name ≡ false
-      → AsksUpTo (pass_on t layout old) id new [] × (grants new features.Func ≡ true) × (grants new features.FuncGlobal ≡ granted)
+      → AsksUpTo (pass_on t given old) id new [] × (grants new features.Func ≡ true) × (grants new features.FuncGlobal ≡ granted)
   both_asked mid new granted first second global other =
-      let p : Pass = pass_on t layout old in
+      let p : Pass = pass_on t given old in
       let one = asked_more p id [] old mid features.Func true (asked_none p id asked) first in
       let two = asked_more p id (features.Func ∷ []) mid new features.FuncGlobal granted one.0 second in
       let kept : grants new features.Func ≡ true = asked_kept p id (features.Func ∷ []) mid new features.FuncGlobal features.Func granted one.0 second refl ∙ one.1 in (
         (
           features.Func ∷ features.FuncGlobal ∷ [],
           two.0,
-          asks_both (pass_on t layout new) id b there kind name is_name
+          asks_both (pass_on t given new) id b there kind name is_name
               (ap (λ (g : Bool). g && is_global (record_of b) && not (is_builtin name)) kept ∙ ap (λ (g : Bool). g && not (is_builtin name)) global ∙ ap not other),
         ),
         kept,
@@ -127,8 +127,8 @@ pub linkage_other : (n : ℕ) → func_linkage_of n ≢ linkage.Global → (n ==
 linkage_other n other = false_from_ne_true (n == 1) (λ is. other (ap func_linkage_of (eqb-true n 1 is)))
 
 -- nothing is asked
-pub none_asked : (t : Table) (layout : Layout) (id : ℕ) (old : List Answer) → AreAnswersTo (asks_below (pass_on t layout old) id) old → (left : List Feature) × AsksUpTo (pass_on t layout old) id old left
-none_asked t layout id old asked = (asks (pass_on t layout old) id, ([], asked_none (pass_on t layout old) id asked, refl))
+pub none_asked : (t : Table) (given : Given) (id : ℕ) (old : List Answer) → AreAnswersTo (asks_below (pass_on t given old) id) old → (left : List Feature) × AsksUpTo (pass_on t given old) id old left
+none_asked t given id old asked = (asks (pass_on t given old) id, ([], asked_none (pass_on t given old) id asked, refl))
 
 -- ---- three tests
 

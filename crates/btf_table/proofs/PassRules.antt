@@ -1,5 +1,5 @@
 -- That a type was rewritten by the rule of its kind.
-use Rattle.std.proofs.Common.{◌≡◌, ◌==◌, ℕ, suc, ◌+◌, ◌*◌, Bool, true, false, not, ◌&&◌, List, [], ◌∷◌, ◌++◌, length, Option, None, Some, Result, Ok, Err, refl, sym, ap, subst, ◌∙◌, arith}
+use Rattle.std.proofs.Common.{◌≡◌, ◌==◌, ℕ, suc, ◌+◌, ◌*◌, Bool, true, false, not, ◌&&◌, ◌||◌, List, [], ◌∷◌, ◌++◌, length, Option, None, Some, Result, Ok, Err, refl, sym, ap, subst, ◌∙◌, arith}
 use Rattle.std.specs.Prelude.{if◌then◌else◌, slice_get}
 use Rattle.std.specs.Option.{unwrap_or}
 use Rattle.std.specs.List.{flat_map, sum_by}
@@ -9,6 +9,7 @@ use Rattle.btf_model.specs.Record.{Kind, Record, unknown, kind_of, vlen}
 use Rattle.btf_model.specs.Refusal.{Refusal}
 use Rattle.btf_model.specs.Table.{Table, Fallback}
 use Rattle.btf_rewrite_model.specs.Feature as features
+use Rattle.btf_rewrite_model.specs.Feature.{fills_sized, has_no_entries, is_sized_and_empty}
 use Rattle.btf_rewrite_model.specs.Made as model
 use Rattle.btf_rewrite_model.specs.Made.{record_at, kind_at, byte_int}
 use Rattle.btf_rewrite_model.specs.Checks.{first_fault, have_room, record_len}
@@ -74,15 +75,19 @@ made_on test number n (Some k) made fails = made_next test number n k made
 pub wants_none : (p : Pass) (id : ℕ) (k : Option Kind) → kind_at p.table id ≡ k → is_enum64 k ≡ false → wants_placeholder p id ≡ false
 wants_none p id k kind other = ap (λ (b : Bool). b && not (has p features.Enum64)) (ap is_enum64 kind ∙ other)
 
-never : (a b c : Bool) → (a && false && b && c) ≡ false
-never true b c = refl
-never false b c = refl
+never : (d s u w e z h : Bool) → (u || w) ≡ false → (d && ((s && w && h) || (u && e && z))) ≡ false
+never d s true w e z h none = absurd (false≢true (sym none))
+never d s false true e z h none = absurd (false≢true (sym none))
+never true true false false e z h none = refl
+never true false false false e z h none = refl
+never false s false false e z h none = refl
 
 -- a kind that is no DATASEC gets no filler
-pub no_filler : (p : Pass) (id : ℕ) (k : Option Kind) → kind_at p.table id ≡ k → is_unsized k (record_at p.table id) ≡ false → gets_filler p id ≡ false
+pub no_filler : (p : Pass) (id : ℕ) (k : Option Kind) → kind_at p.table id ≡ k → (is_unsized k (record_at p.table id) || is_sized_and_empty k (record_at p.table id)) ≡ false → gets_filler p id ≡ false
 no_filler p id k kind other =
-    ap (λ (b : Bool). has p features.DataSec && b && features.has_no_entries (record_at p.table id) && is_zero_or (not (has p features.DataSecZero)) (section_size p id)) (ap (λ (j : Option Kind). is_unsized j (record_at p.table id)) kind ∙ other)
-    ∙ never (has p features.DataSec) (features.has_no_entries (record_at p.table id)) (is_zero_or (not (has p features.DataSecZero)) (section_size p id))
+    let r : Record = record_at p.table id in
+    ap (λ (j : Option Kind). has p features.DataSec && ((fills_sized p.policy && is_sized_and_empty j r && not (has p features.DataSecZero)) || (is_unsized j r && has_no_entries r && is_zero_or (not (has p features.DataSecZero)) (section_size p id)))) kind
+    ∙ never (has p features.DataSec) (fills_sized p.policy) (is_unsized k r) (is_sized_and_empty k r) (has_no_entries r) (is_zero_or (not (has p features.DataSecZero)) (section_size p id)) (not (has p features.DataSecZero)) other
 
 -- ---- what is appended
 
@@ -139,7 +144,7 @@ quiet_ruled p id b new before there is_q here is tail fallback =
 -- ---- FUNC_PROTO
 
 -- its fallback stays, and the filler is none of its
-loud_no_filler : (p : Pass) (id : ℕ) (b : BtfType) (k : Option Kind) → IsType p.table id b → kind_of (record_of b).info ≡ k → is_unsized k (record_at p.table id) ≡ false → gets_filler p id ≡ false
+loud_no_filler : (p : Pass) (id : ℕ) (b : BtfType) (k : Option Kind) → IsType p.table id b → kind_of (record_of b).info ≡ k → (is_unsized k (record_at p.table id) || is_sized_and_empty k (record_at p.table id)) ≡ false → gets_filler p id ≡ false
 loud_no_filler p id b k there kind other = no_filler p id k (kind_there p.table id b there ∙ kind) other
 
 pub proto_names : (p : Pass) (id : ℕ) (b : BtfType) → IsType p.table id b → kind_of (record_of b).info ≡ Some kinds.FuncProto → has p features.Func ≡ true → texts p id ≡ param_texts 0 (record_of b).tail

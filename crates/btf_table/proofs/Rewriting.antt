@@ -5,51 +5,50 @@ use Rattle.btf_model.specs.Refusal.{Refusal}
 use Rattle.btf_model.specs.Word.{Order}
 use Rattle.btf_model.specs.Table.{Table, strip, with_string, with_type}
 use Rattle.btf_model.specs.Blob.{IsTable}
-use Rattle.btf_rewrite_model.specs.Feature.{Answer}
+use Rattle.btf_rewrite_model.specs.Feature.{Answer, FillPolicy}
 use Rattle.btf_rewrite_model.specs.Ksyms.{KsymsIds, appends_int, each_stepped, int_text}
 use Rattle.btf_rewrite_model.specs.Made.{c_int}
-use Rattle.btf_rewrite_model.specs.Pass.{Layout}
-use Rattle.btf_rewrite_model.specs.Rewritten.{begun, pass_of, step_fault, Rewritten}
+use Rattle.btf_rewrite_model.specs.Rewritten.{begun, pass_with, step_fault, RewrittenWith}
 use Rattle.btf_rewrite_model.proofs.GrantedAll.{suffice}
 use Rattle.btf_rewrite_model.proofs.FewAdded.{few_in_a_rewrite}
 use Rattle.btf_rewrite_model.proofs.Kept as kept
 use Rattle.btf_model.proofs.Blobs.{same_table}
 use Rattle.btf_plain.specs.declared.error.BtfError.{BtfError}
 use Rattle.btf_plain.specs.Error.{Answers, refusal_of}
-use Rattle.btf_table.specs.PassStep.{pass_on}
-use Rattle.btf_table.specs.Rewrites.{Rewrites, Sanitizes, NeedsAreGranted, KeepsSizes, KeepsResolutions, AppendsAtMost, OfTables}
+use Rattle.btf_table.specs.PassStep.{Given, pass_on}
+use Rattle.btf_table.specs.Rewrites.{RewritesWith, Sanitizes, NeedsAreGrantedWith, KeepsSizes, KeepsResolutions, AppendsAtMost, OfTables}
 
 -- a pass over the table as it begins, behind the step
-sanitized : {X : Type 0} (old new : Table) (k : Option KsymsIds) (layout : Layout) (answers : List Answer) (r : Result X Refusal) → step_fault old k ≡ None → Sanitizes (pass_of old k layout answers) new r → Rewrites old k layout answers new r
-sanitized old new k layout answers (Ok x) step s = (record { step = step; ruled = s.0; table = s.1 }, s.2)
-sanitized old new k layout answers (Err refusal) step s = inr (step, s)
+sanitized : {X : Type 0} (old new : Table) (k : Option KsymsIds) (given : Given) (answers : List Answer) (r : Result X Refusal) → step_fault old k ≡ None → Sanitizes (pass_with given.policy old k given.layout answers) new r → RewritesWith given.policy old k given.layout answers new r
+sanitized old new k given answers (Ok x) step s = (record { step = step; ruled = s.0; table = s.1 }, s.2)
+sanitized old new k given answers (Err refusal) step s = inr (step, s)
 
-pub stepped_by : {X : Type 0} (old t new : Table) (k : Option KsymsIds) (layout : Layout) (answers : List Answer) (r : Result X Refusal) → step_fault old k ≡ None → t ≡ begun old k → Sanitizes (pass_on t layout answers) new r → Rewrites old k layout answers new r
-stepped_by old t new k layout answers r step is s = sanitized old new k layout answers r step (subst (λ u. Sanitizes (pass_on u layout answers) new r) is s)
+pub stepped_by : {X : Type 0} (old t new : Table) (k : Option KsymsIds) (given : Given) (answers : List Answer) (r : Result X Refusal) → step_fault old k ≡ None → t ≡ begun old k → Sanitizes (pass_on t given answers) new r → RewritesWith given.policy old k given.layout answers new r
+stepped_by old t new k given answers r step is s = sanitized old new k given answers r step (subst (λ u. Sanitizes (pass_on u given answers) new r) is s)
 
 -- the same of what a call answers
-pub rewrites_by : {X Y : Type 0} (view : X → Y) (r : Result X BtfError) (old t new : Table) (k : Option KsymsIds) (layout : Layout) (answers : List Answer) → step_fault old k ≡ None → t ≡ begun old k
-    → Answers view r (Sanitizes (pass_on t layout answers) new) → Answers view r (Rewrites old k layout answers new)
-rewrites_by view (Ok x) old t new k layout answers step is given = stepped_by old t new k layout answers (Ok (view x)) step is given
-rewrites_by {X} {Y} view (Err e) old t new k layout answers step is given = refused (refusal_of e) given
+pub rewrites_by : {X Y : Type 0} (view : X → Y) (r : Result X BtfError) (old t new : Table) (k : Option KsymsIds) (given : Given) (answers : List Answer) → step_fault old k ≡ None → t ≡ begun old k
+    → Answers view r (Sanitizes (pass_on t given answers) new) → Answers view r (RewritesWith given.policy old k given.layout answers new)
+rewrites_by view (Ok x) old t new k given answers step is told = stepped_by old t new k given answers (Ok (view x)) step is told
+rewrites_by {X} {Y} view (Err e) old t new k given answers step is told = refused (refusal_of e) told
   where
-    refused : (o : Option Refusal) → IfSome o (λ f. Sanitizes {X = Y} (pass_on t layout answers) new (Err f)) → IfSome o (λ f. Rewrites {X = Y} old k layout answers new (Err f))
+    refused : (o : Option Refusal) → IfSome o (λ f. Sanitizes {X = Y} (pass_on t given answers) new (Err f)) → IfSome o (λ f. RewritesWith {X = Y} given.policy old k given.layout answers new (Err f))
     refused None none = tt
-    refused (Some f) one = stepped_by {X = Y} old t new k layout answers (Err f) step is one
+    refused (Some f) one = stepped_by {X = Y} old t new k given answers (Err f) step is one
 
 -- ---- what follows
 
-pub granted_of : {X : Type 0} (old new : Table) (k : Option KsymsIds) (layout : Layout) (answers : List Answer) (x : X) → Rewrites old k layout answers new (Ok x) → NeedsAreGranted old k answers new
-granted_of old new k layout answers x h = suffice old new k layout answers h.0 h.1
+pub granted_of : {X : Type 0} (old new : Table) (k : Option KsymsIds) (given : Given) (answers : List Answer) (x : X) → RewritesWith given.policy old k given.layout answers new (Ok x) → NeedsAreGrantedWith given.policy old k answers new
+granted_of old new k given answers x h = suffice given.policy old new k given.layout answers h.0 h.1
 
-pub sizes_of : {X : Type 0} (old new : Table) (k : Option KsymsIds) (layout : Layout) (answers : List Answer) (x : X) → Rewrites old k layout answers new (Ok x) → KeepsSizes old new
-sizes_of old new k layout answers x h = kept.sizes_stay old new k layout answers h.0
+pub sizes_of : {X : Type 0} (old new : Table) (k : Option KsymsIds) (given : Given) (answers : List Answer) (x : X) → RewritesWith given.policy old k given.layout answers new (Ok x) → KeepsSizes old new
+sizes_of old new k given answers x h = kept.sizes_stay given.policy old new k given.layout answers h.0
 
-pub resolutions_of : {X : Type 0} (old new : Table) (k : Option KsymsIds) (layout : Layout) (answers : List Answer) (x : X) → Rewrites old k layout answers new (Ok x) → KeepsResolutions old new
-resolutions_of old new k layout answers x h = kept.resolutions_stay old new k layout answers h.0
+pub resolutions_of : {X : Type 0} (old new : Table) (k : Option KsymsIds) (given : Given) (answers : List Answer) (x : X) → RewritesWith given.policy old k given.layout answers new (Ok x) → KeepsResolutions old new
+resolutions_of old new k given answers x h = kept.resolutions_stay given.policy old new k given.layout answers h.0
 
-pub appended_of : {X : Type 0} (old new : Table) (k : Option KsymsIds) (layout : Layout) (answers : List Answer) (x : X) → Rewrites old k layout answers new (Ok x) → AppendsAtMost 4 old new
-appended_of old new k layout answers x h = few_in_a_rewrite old new k layout answers h.0
+pub appended_of : {X : Type 0} (old new : Table) (k : Option KsymsIds) (given : Given) (answers : List Answer) (x : X) → RewritesWith given.policy old k given.layout answers new (Ok x) → AppendsAtMost 4 old new
+appended_of old new k given answers x h = few_in_a_rewrite given.policy old new k given.layout answers h.0
 
 -- of the tables that bytes stand for there is one each
 pub of_tables : (order : Order) (bytes written : List ℕ) (old new : Table) (P : Table → Table → Type 0) → IsTable order bytes old → IsTable order written (strip new) → P old (strip new) → OfTables order bytes written P
@@ -67,11 +66,11 @@ begun_order old None = refl
 begun_order old (Some ids) =
     elim (appends_int old ids.placeholder) as (λ (b : Bool). (if b then with_type (c_int (length old.strings)) None (with_string int_text (each_stepped old ids)) else each_stepped old ids).order ≡ old.order) [ true ↦ refl | false ↦ refl ]
 
-pub rewritten_order : (old new : Table) (k : Option KsymsIds) (layout : Layout) (answers : List Answer) → Rewritten old k layout answers new → new.order ≡ old.order
-rewritten_order old new k layout answers h = ap (λ (t : Table). t.order) h.table ∙ begun_order old k
+pub rewritten_order : (old new : Table) (k : Option KsymsIds) (given : Given) (answers : List Answer) → RewrittenWith given.policy old k given.layout answers new → new.order ≡ old.order
+rewritten_order old new k given answers h = ap (λ (t : Table). t.order) h.table ∙ begun_order old k
 
 -- what is written stands for the new table in the order of the bytes that were parsed
-pub written_again : (order : Order) (bytes written : List ℕ) (old new : Table) (k : Option KsymsIds) (layout : Layout) (answers : List Answer) → IsTable order bytes old → Rewritten old k layout answers new
+pub written_again : (order : Order) (bytes written : List ℕ) (old new : Table) (k : Option KsymsIds) (given : Given) (answers : List Answer) → IsTable order bytes old → RewrittenWith given.policy old k given.layout answers new
     → IsTable new.order written (strip new) → IsTable order written (strip new)
-written_again order bytes written old new k layout answers parsed h again =
-    subst (λ (o : Order). IsTable o written (strip new)) (rewritten_order old new k layout answers h ∙ parsed.same_order) again
+written_again order bytes written old new k given answers parsed h again =
+    subst (λ (o : Order). IsTable o written (strip new)) (rewritten_order old new k given answers h ∙ parsed.same_order) again

@@ -1,11 +1,12 @@
 -- The rule of a DATASEC.
-use Rattle.std.proofs.Common.{◌≡◌, ◌==◌, ℕ, suc, ◌+◌, ◌*◌, ◌≤◌, max, Bool, true, false, not, ◌&&◌, ◌||◌, List, [], ◌∷◌, ◌++◌, length, map, Option, None, Some, Result, Ok, Err, refl, sym, ap, subst, ◌∙◌, arith}
+use Rattle.std.proofs.Common.{◌≡◌, ◌==◌, ℕ, zero, suc, ◌+◌, ◌*◌, ◌≤◌, max, Bool, true, false, not, ◌&&◌, ◌||◌, List, [], ◌∷◌, ◌++◌, length, map, Option, None, Some, Result, Ok, Err, refl, sym, ap, subst, ◌∙◌, arith}
 use Rattle.std.specs.Prelude.{if◌then◌else◌, nat_le, IfSome, IfOk, IsErrAnd}
 use Rattle.std.specs.List.{flat_map, sum_by}
 use Rattle.std.specs.Option.{unwrap_or, is_none}
 use Rattle.std.proofs.lemmas.Bool.{false≢true, eqb-true, leb-true}
-use Rattle.std.proofs.lemmas.Option.{none-some, IfSome_then}
+use Rattle.std.proofs.lemmas.Option.{none-some, same_Some, IfSome_then}
 use Rattle.std.proofs.lemmas.List.{append-nil}
+use Rattle.std.proofs.lemmas.Int.{clamps}
 use Rattle.std.proofs.lemmas.List.Folds.{flat_map-map}
 use Rattle.btf_model.specs.Record as kinds
 use Rattle.btf_model.specs.Record.{Kind, Record, kind_of, vlen}
@@ -13,14 +14,15 @@ use Rattle.btf_model.specs.Refusal.{Refusal, InvalidTypeInfo}
 use Rattle.btf_model.specs.Table.{section_limit}
 use Rattle.btf_model.specs.Text.{text_at}
 use Rattle.btf_rewrite_model.specs.Feature as features
-use Rattle.btf_rewrite_model.specs.Feature.{Feature, Answer, grants, has_no_entries}
+use Rattle.btf_rewrite_model.specs.Feature.{Feature, Answer, FillPolicy, fills_sized, grants, has_no_entries, is_sized_and_empty}
 use Rattle.btf_rewrite_model.specs.Made as model
 use Rattle.btf_rewrite_model.specs.Made.{entries, record_at, kind_at, byte_int, static_var}
 use Rattle.btf_rewrite_model.specs.Checks.{Check, first_fault, is_read, has_room, have_room, fits, record_len}
-use Rattle.btf_rewrite_model.specs.Pass.{Pass, has, name_of, renaming, section_size, size_by_name, is_unsized, is_zero_or, is_positive, gets_filler, makes_filler, least, filler_type_text, filler_text, filler, filler_offset, texts, texts_len, added, free_id, offset_at, type_len_at, wants_placeholder, asks, asks_by, asks_below, data_sec_asks}
+use Rattle.btf_rewrite_model.specs.Pass.{Pass, has, name_of, name_checks, sized_asks_zero, unsized_asks_zero, renaming, section_size, size_by_name, is_unsized, is_zero_or, is_positive, gets_filler, makes_filler, least, filler_type_text, filler_text, filler, filler_offset, texts, texts_len, added, free_id, offset_at, type_len_at, wants_placeholder, asks, asks_by, asks_below, data_sec_asks}
+use Rattle.btf_rewrite_model.specs.Rule as rule
 use Rattle.btf_rewrite_model.specs.Rule.{becomes_by, ruled_below, new_name, name_or, completed, placed, filler_id, entry_members, member_name}
-use Rattle.btf_rewrite_model.specs.Fault.{fault, name_checks, member_checks, entry_checks, completing_checks, filler_checks, growth_checks, is_sized}
-use Rattle.btf_rewrite_model.proofs.Lengths.{entries_len}
+use Rattle.btf_rewrite_model.specs.Fault.{fault, member_checks, entry_checks, completing_checks, filling_checks, filler_checks, growth_checks, is_sized}
+use Rattle.btf_rewrite_model.proofs.Lengths.{entries_len, IsFilled, is_filled}
 use Rattle.btf_rewrite_model.specs.Passing.{MadeBelow}
 use Rattle.btf_rewrite_model.proofs.FirstMade.{makes_first, made_first, makes_no_second, made_next, made_is}
 use Rattle.btf_rewrite_model.specs.Passing.{AreAnswersTo}
@@ -33,7 +35,7 @@ use Rattle.btf_records.specs.declared.btf_type.BtfType.TheVariants.{DataSec}
 use Rattle.btf_table.specs.Adding.{strings_end, next_id, Adds}
 use Rattle.btf_rules.specs.Checked.{checked}
 use Rattle.btf_table.specs.PassStep.{IsType, IsHere, IsRuled, Rules, growth, HasAsked, AsksUpTo}
-use Rattle.btf_table.specs.SectionStep.{HasNewName, filled, asks_zero}
+use Rattle.btf_table.specs.SectionStep.{HasNewName, filled, final_size, is_fillable, asks_zero}
 use Rattle.btf_table.specs.declared.sanitize.made.Made.{Made}
 use Rattle.btf_table.proofs.Adding.{adds_none, adds_then}
 use Rattle.btf_rules.proofs.Checks.{fault_behind, fault_before, fault_third, checked_ok, checked_err}
@@ -66,10 +68,6 @@ ruled_answer p id b before after f x (Err e) words fallback refused rule = IfSom
 
 -- ---- what a DATASEC asks for, and whether it gets the filler
 
-never : (a b c : Bool) → (a && false && b && c) ≡ false
-never true b c = refl
-never false b c = refl
-
 read_name : (name : Result (List ℕ) Refusal) (rest : List Check) → first_fault (is_read name ∷ rest) ≡ None → (is_read name ≡ None) × (first_fault rest ≡ None)
 read_name (Ok name) rest passed = (refl, passed)
 read_name (Err refusal) rest passed = absurd (none-some refusal (sym passed))
@@ -98,7 +96,7 @@ module _ (p : Pass) (id : ℕ) (r : Record) (there : IsType p.table id (DataSec 
 
   -- whether DataSecZero is asked for
   abbrev pub is_zero_asked : Bool
-  is_zero_asked = has p features.DataSec && (r.third == 0) && has_no_entries r && is_none (first_fault (have_room (offset_at p id) (renaming p (name_of p id)))) && is_positive (section_size p id)
+  is_zero_asked = has p features.DataSec && (sized_asks_zero p id r || unsized_asks_zero p id r)
 
   pub section_asks : (b : Bool) → is_zero_asked ≡ b → asks p id ≡ (if b then features.DataSec ∷ features.DataSecZero ∷ [] else features.DataSec ∷ [])
   section_asks b is = asks_is ∙ ap (λ (c : Bool). if c then features.DataSec ∷ features.DataSecZero ∷ [] else features.DataSec ∷ []) is
@@ -112,33 +110,38 @@ module _ (p : Pass) (id : ℕ) (r : Record) (there : IsType p.table id (DataSec 
       ] refl
 
   pub denied_asks : has p features.DataSec ≡ false → asks p id ≡ features.DataSec ∷ []
-  denied_asks denied =
-      section_asks false (ap (λ (b : Bool). b && (r.third == 0) && has_no_entries r && is_none (first_fault (have_room (offset_at p id) (renaming p (name_of p id)))) && is_positive (section_size p id)) denied)
+  denied_asks denied = section_asks false (ap (λ (b : Bool). b && (sized_asks_zero p id r || unsized_asks_zero p id r)) denied)
 
-  pub sized_asks : (r.third == 0) ≡ false → asks p id ≡ features.DataSec ∷ []
-  sized_asks sized =
+  abbrev reads_name : Bool
+  reads_name = is_none (first_fault (name_checks p id))
+
+  abbrev has_room_for_it : Bool
+  has_room_for_it = is_none (first_fault (have_room (offset_at p id) (renaming p (name_of p id))))
+
+  pub unknown_asks : (r.third == 0) ≡ true → is_positive (section_size p id) ≡ false → asks p id ≡ features.DataSec ∷ []
+  unknown_asks unsized none =
       section_asks false
-      (ap (λ (b : Bool). has p features.DataSec && b && has_no_entries r && is_none (first_fault (have_room (offset_at p id) (renaming p (name_of p id)))) && is_positive (section_size p id)) sized
-      ∙ never_more (has p features.DataSec) (has_no_entries r) (is_none (first_fault (have_room (offset_at p id) (renaming p (name_of p id))))) (is_positive (section_size p id)))
+      (ap (λ (z : Bool). has p features.DataSec && ((fills_sized p.policy && not z && has_no_entries r && reads_name) || (z && has_no_entries r && has_room_for_it && is_positive (section_size p id)))) unsized
+      ∙ ap (λ (b : Bool). has p features.DataSec && ((fills_sized p.policy && false && has_no_entries r && reads_name) || (has_no_entries r && has_room_for_it && b))) none
+      ∙ never (has p features.DataSec) (fills_sized p.policy) (has_no_entries r) reads_name has_room_for_it)
     where
-      never_more : (a b c d : Bool) → (a && false && b && c && d) ≡ false
-      never_more true b c d = refl
-      never_more false b c d = refl
-
-  pub unknown_asks : is_positive (section_size p id) ≡ false → asks p id ≡ features.DataSec ∷ []
-  unknown_asks none =
-      let before : Bool = has p features.DataSec && (r.third == 0) && has_no_entries r && is_none (first_fault (have_room (offset_at p id) (renaming p (name_of p id)))) in
-      section_asks false (ap (λ (b : Bool). before && b) none ∙ and_false before)
-    where
-      and_false : (b : Bool) → (b && false) ≡ false
-      and_false true = refl
-      and_false false = refl
+      never : (d s e n room : Bool) → (d && ((s && false && e && n) || (e && room && false))) ≡ false
+      never false s e n room = refl
+      never true true true n true = refl
+      never true true true n false = refl
+      never true true false n room = refl
+      never true false true n true = refl
+      never true false true n false = refl
+      never true false false n room = refl
 
   -- a name that can't be read, or has no room
   pub unnamed_asks : (refusal : Refusal) → first_fault (name_checks p id) ≡ Some refusal → asks p id ≡ features.DataSec ∷ []
   unnamed_asks refusal faults =
-      let before : Bool = has p features.DataSec && (r.third == 0) && has_no_entries r in
-      section_asks false (ends before (name_of p id) faults)
+      let before : Bool = (r.third == 0) && has_no_entries r in
+      section_asks false
+      (ap (λ (o : Option Refusal). has p features.DataSec && ((fills_sized p.policy && not (r.third == 0) && has_no_entries r && is_none o) || unsized_asks_zero p id r)) faults
+      ∙ ap (λ (b : Bool). has p features.DataSec && ((fills_sized p.policy && not (r.third == 0) && has_no_entries r && false) || b)) (ends before (name_of p id) faults)
+      ∙ never (has p features.DataSec) (fills_sized p.policy && not (r.third == 0) && has_no_entries r))
     where
       ends : (before : Bool) (name : Result (List ℕ) Refusal) → first_fault (is_read name ∷ have_room (offset_at p id) (renaming p name)) ≡ Some refusal
           → (before && is_none (first_fault (have_room (offset_at p id) (renaming p name))) && is_positive (size_by_name p name)) ≡ false
@@ -147,18 +150,22 @@ module _ (p : Pass) (id : ℕ) (r : Record) (there : IsType p.table id (DataSec 
       ends true (Err other) faulty = refl
       ends false (Err other) faulty = refl
 
-  pub filler_there : gets_filler p id ≡ (has p features.DataSec && (r.third == 0) && has_no_entries r && is_zero_or (not (has p features.DataSecZero)) (section_size p id))
+      never : (d a : Bool) → (d && ((a && false) || false)) ≡ false
+      never true true = refl
+      never true false = refl
+      never false a = refl
+
+  pub filler_there : gets_filler p id
+      ≡ (has p features.DataSec && ((fills_sized p.policy && (has_no_entries r && not (r.third == 0)) && not (has p features.DataSecZero)) || ((r.third == 0) && has_no_entries r && is_zero_or (not (has p features.DataSecZero)) (section_size p id))))
   filler_there =
-      ap (λ (k : Option Kind). has p features.DataSec && is_unsized k (record_at p.table id) && has_no_entries (record_at p.table id) && is_zero_or (not (has p features.DataSecZero)) (section_size p id)) kind_is
-      ∙ ap (λ (q : Record). has p features.DataSec && (q.third == 0) && has_no_entries q && is_zero_or (not (has p features.DataSecZero)) (section_size p id)) (record_there p.table id (DataSec r) there)
+      ap (λ (k : Option Kind). has p features.DataSec && ((fills_sized p.policy && is_sized_and_empty k (record_at p.table id) && not (has p features.DataSecZero))
+      || (is_unsized k (record_at p.table id) && has_no_entries (record_at p.table id) && is_zero_or (not (has p features.DataSecZero)) (section_size p id)))) kind_is
+      ∙ ap (λ (q : Record). has p features.DataSec && ((fills_sized p.policy && (has_no_entries q && not (q.third == 0)) && not (has p features.DataSecZero))
+      || ((q.third == 0) && has_no_entries q && is_zero_or (not (has p features.DataSecZero)) (section_size p id)))) (record_there p.table id (DataSec r) there)
 
   denied_unfilled : has p features.DataSec ≡ false → gets_filler p id ≡ false
-  denied_unfilled denied = filler_there ∙ ap (λ (b : Bool). b && (r.third == 0) && has_no_entries r && is_zero_or (not (has p features.DataSecZero)) (section_size p id)) denied
-
-  sized_unfilled : (r.third == 0) ≡ false → gets_filler p id ≡ false
-  sized_unfilled sized =
-      filler_there ∙ ap (λ (b : Bool). has p features.DataSec && b && has_no_entries r && is_zero_or (not (has p features.DataSecZero)) (section_size p id)) sized
-      ∙ never (has p features.DataSec) (has_no_entries r) (is_zero_or (not (has p features.DataSecZero)) (section_size p id))
+  denied_unfilled denied =
+      filler_there ∙ ap (λ (b : Bool). b && ((fills_sized p.policy && (has_no_entries r && not (r.third == 0)) && not (has p features.DataSecZero)) || ((r.third == 0) && has_no_entries r && is_zero_or (not (has p features.DataSecZero)) (section_size p id)))) denied
 
   -- ---- its tests, once it has its name
 
@@ -166,7 +173,7 @@ module _ (p : Pass) (id : ℕ) (r : Record) (there : IsType p.table id (DataSec 
   unnamed_faults refusal faults = fault_there p id (DataSec r) (Some kinds.DataSec) there kind ∙ fault_before (name_checks p id) _ refusal faults
 
   abbrev rest_by : Bool → Bool → List Check
-  rest_by granted unsized = if granted then (if unsized then completing_checks p id r else []) else flat_map (member_checks p) (entries r.tail)
+  rest_by granted unsized = if granted then (if unsized then completing_checks p id r else filling_checks p id) else flat_map (member_checks p) (entries r.tail)
 
   fault_by : (granted unsized : Bool) → first_fault (name_checks p id) ≡ None → has p features.DataSec ≡ granted → (r.third == 0) ≡ unsized → fault p id ≡ first_fault (rest_by granted unsized)
   fault_by granted unsized passed has_it is =
@@ -178,7 +185,7 @@ module _ (p : Pass) (id : ℕ) (r : Record) (there : IsType p.table id (DataSec 
   size_fault refusal passed granted unsized faults =
       let read = read_name (name_of p id) _ passed in
       let is = size_faults (name_of p id) (section_size p id) ((if makes_filler p id then filler_checks p id else []) ++ flat_map (entry_checks p) (entries r.tail) ++ growth_checks p id) refusal read.0 faults in
-      (unknown_asks is.1, fault_by true true passed granted unsized ∙ is.0)
+      (unknown_asks unsized is.1, fault_by true true passed granted unsized ∙ is.0)
 
   pub size_known : (size : ℕ) → first_fault (name_checks p id) ≡ None → first_fault (is_read (name_of p id) ∷ is_sized (section_size p id) (name_of p id) ∷ []) ≡ None → size ≡ unwrap_or (section_size p id) 0 → section_size p id ≡ Some size
   size_known size passed known is = size_passes (name_of p id) (section_size p id) size (read_name (name_of p id) _ passed).0 known is
@@ -212,10 +219,9 @@ module _ (p : Pass) (id : ℕ) (r : Record) (name : ℕ) (before now : Made) (n 
   as_struct_is = model.struct (new_name p id r) (vlen r.info) (vlen r.info) (entry_members p (ruled_below p id) id (entries r.tail))
 
   becomes_if : (granted unsized : Bool) → has p features.DataSec ≡ granted → (r.third == 0) ≡ unsized
-      → becomes_by p (ruled_below p id) id (Some kinds.DataSec) r ≡ (if granted then (if unsized then completed_is else record r { name = new_name p id r }) else as_struct_is)
+      → becomes_by p (ruled_below p id) id (Some kinds.DataSec) r ≡ (if granted then (if unsized then completed_is else rule.sized p id r) else as_struct_is)
   becomes_if granted unsized has_it is =
-      ap (λ (b : Bool). if b then (if r.third == 0 then completed_is else record r { name = new_name p id r }) else as_struct_is) has_it
-      ∙ ap (λ (b : Bool). if granted then (if b then completed_is else record r { name = new_name p id r }) else as_struct_is) is
+      ap (λ (b : Bool). if b then (if r.third == 0 then completed_is else rule.sized p id r) else as_struct_is) has_it ∙ ap (λ (b : Bool). if granted then (if b then completed_is else rule.sized p id r) else as_struct_is) is
 
   pub struct_answer : (result : Result (Option BtfType) BtfError) → has p features.DataSec ≡ false
       → Gives (λ new. record_of (unwrap_or new (DataSec r))) result (checked (first_fault (flat_map (member_checks p) (entries r.tail))) (model.struct name (vlen r.info) (vlen r.info) (entry_members p (ruled_below p id) (length (ruled_below p id)) (entries r.tail))))
@@ -229,17 +235,20 @@ module _ (p : Pass) (id : ℕ) (r : Record) (name : ℕ) (before now : Made) (n 
       ∙ sym (becomes_if false (r.third == 0) denied refl))
       (ap (λ (x : Record). length x.tail) is ∙ entries_len (λ e. member_name p (ruled_below p id) (length (ruled_below p id)) e.type ∷ e.type ∷ e.offset * 8 ∷ []) (λ e. refl) (vlen r.info) r.tail n.tail) none)
 
-  pub renamed_answer : (result : Result (Option BtfType) BtfError) → has p features.DataSec ≡ true → (r.third == 0) ≡ false → Gives (λ new. record_of (unwrap_or new (DataSec r))) result (Ok (record r { name = name })) → IfOk result (λ new. fallback_of (unwrap_or new (DataSec r)) ≡ None)
+  pub renamed_answer : (result : Result (Option BtfType) BtfError) → has p features.DataSec ≡ true → (r.third == 0) ≡ false → gets_filler p id ≡ false → Gives (λ new. record_of (unwrap_or new (DataSec r))) result (Ok (record r { name = name })) → IfOk result (λ new. fallback_of (unwrap_or new (DataSec r)) ≡ None)
       → Answers (λ new. unwrap_or new (DataSec r)) result (Rules p id (DataSec r) before now)
-  renamed_answer result granted sized words fallback =
-      let faults = fault_by p id r n.there n.kind true false n.passed granted sized in
+  renamed_answer result granted sized unfilled words fallback =
+      let makes : makes_filler p id ≡ false = ap (λ (b : Bool). b && (least (gets_filler p) id == id)) unfilled in
+      let faults : fault p id ≡ None =
+      fault_by p id r n.there n.kind true false n.passed granted sized ∙ ap (λ (b : Bool). first_fault ((if b then filler_checks p id else []) ++ growth_checks p id)) makes
+      ∙ ap (λ (b : Bool). first_fault (if b then fits (type_len_at p id + sum_by record_len (added p id)) 12 ∷ [] else [])) unfilled in
       ruled_answer p id (DataSec r) before now None (record r { name = name }) result words fallback (λ refusal is. absurd (none-some refusal is))
-      (λ new passed is none. unfilled_ruled new (sized_unfilled p id r n.there n.kind sized) faults
-      (is ∙ ap (λ (m : ℕ). record r { name = m }) (sym n.name_is) ∙ sym (becomes_if true false granted sized)) (ap (λ (x : Record). length x.tail) is) none)
+      (λ new passed is none. unfilled_ruled new unfilled faults
+      (is ∙ ap (λ (m : ℕ). record r { name = m }) (sym n.name_is)
+      ∙ sym (becomes_if true false granted sized ∙ ap (λ (b : Bool). if b then rule.filled p id r.third r else record r { name = new_name p id r }) unfilled)) (ap (λ (x : Record). length x.tail) is) none)
 
   abbrev completed_by : ℕ → Bool → Record
-  completed_by size b =
-      if b then model.data_sec (new_name p id r) (max size 1) 1 (record { type = filler_id p id; offset = 0; size = max size 1 } ∷ []) else model.data_sec (new_name p id r) size (vlen r.info) (map (placed p) (entries r.tail))
+  completed_by size b = if b then rule.filled p id (max size 1) r else model.data_sec (new_name p id r) size (vlen r.info) (map (placed p) (entries r.tail))
 
   completed_if : (b : Bool) (size : ℕ) → gets_filler p id ≡ b → section_size p id ≡ Some size → completed_is ≡ completed_by size b
   completed_if b size fills known = ap (λ (o : Option ℕ). completed p id (unwrap_or o 0) r) known ∙ ap (completed_by size) fills
@@ -274,11 +283,9 @@ pub record HasFiller (p : Pass) (id : ℕ) (now after : Made) (number : ℕ) : T
   pub made : MadeBelow (gets_filler p) (λ k. free_id p k + 1) (suc id) after.filler
   pub number_is : filler_id p id ≡ number
 
-all_four : (a b c d : Bool) → (a && b && c && d) ≡ true → (a ≡ true) × (b ≡ true) × (c ≡ true)
-all_four true true true d is = (refl, refl, refl)
-all_four true true false d is = absurd (false≢true is)
-all_four true false c d is = absurd (false≢true is)
-all_four false b c d is = absurd (false≢true is)
+at_least_one : (n : ℕ) → (n == 0) ≡ false → n ≡ max n 1
+at_least_one zero is = absurd (false≢true (sym is))
+at_least_one (suc n) is = omega (arith, clamps)
 
 no_words : (words : List ℕ) → length words ≡ 0 → words ≡ []
 no_words [] none = refl
@@ -289,11 +296,13 @@ passes_if true refusal is = refl
 passes_if false refusal is = absurd (none-some refusal (sym is))
 
 module _ (p : Pass) (id : ℕ) (r : Record) (name : ℕ) (before now : Made) (n : HasNewName p id r name before now) (fills : gets_filler p id ≡ true) where
-  parts : (has p features.DataSec ≡ true) × ((r.third == 0) ≡ true) × (has_no_entries r ≡ true)
-  parts = all_four _ _ _ _ (sym (filler_there p id r n.there n.kind) ∙ fills)
+  parts : IsFilled p id
+  parts = is_filled p id fills
 
   tail_none : r.tail ≡ []
-  tail_none = no_words r.tail (n.tail ∙ ap (λ (m : ℕ). 3 * m) (eqb-true (vlen r.info) 0 parts.2))
+  tail_none =
+      let empty : has_no_entries r ≡ true = ap has_no_entries (sym (record_there p.table id (DataSec r) n.there)) ∙ parts.empty in
+      no_words r.tail (n.tail ∙ ap (λ (m : ℕ). 3 * m) (eqb-true (vlen r.info) 0 empty))
 
   offset_is : filler_offset p id ≡ strings_end p.table now.changes
   offset_is = ap (λ (o : ℕ). o + texts_len (renaming p (name_of p id))) n.here.offset ∙ sym (end_after p.table before.changes now.changes (renaming p (name_of p id)) [] n.adds)
@@ -365,17 +374,36 @@ module _ (p : Pass) (id : ℕ) (r : Record) (name : ℕ) (before now : Made) (n 
         | Some k ↦ λ some. subst (HasFiller p id now after) (old k some).0 (filler_old after k some (old k some).1)
       ] refl
 
-  module _ (size : ℕ) (known : section_size p id ≡ Some size) where
+  module _ (size : ℕ) (known : final_size p id r ≡ Some size) where
     abbrev first_checks : List Check
     first_checks = if makes_filler p id then filler_checks p id else []
 
     abbrev last_checks : List Check
     last_checks = fits (type_len_at p id + sum_by record_len (added p id)) 12 ∷ []
 
+    size_of : (z : Bool) → (r.third == 0) ≡ z → (if z then section_size p id else Some r.third) ≡ Some size
+    size_of z is = ap (λ (b : Bool). if b then section_size p id else Some r.third) (sym is) ∙ known
+
     filled_faults : fault p id ≡ first_fault (first_checks ++ [] ++ last_checks)
     filled_faults =
-        completing_if p id r name before now n true size fills known parts.0 parts.1
-        ∙ ap (λ (words : List ℕ). first_fault (first_checks ++ flat_map (entry_checks p) (entries words) ++ last_checks)) tail_none
+        elim (r.third == 0) as (λ (z : Bool). (r.third == 0) ≡ z → fault p id ≡ first_fault (first_checks ++ [] ++ last_checks)) [
+          | true ↦ λ is.
+              completing_if p id r name before now n true size fills (size_of true is) parts.granted is
+              ∙ ap (λ (words : List ℕ). first_fault (first_checks ++ flat_map (entry_checks p) (entries words) ++ last_checks)) tail_none
+          | false ↦ λ is.
+              fault_by p id r n.there n.kind true false n.passed parts.granted is ∙ ap (λ (b : Bool). first_fault (first_checks ++ (if b then last_checks else []))) fills
+              ∙ ap (λ (cs : List Check). first_fault (cs ++ last_checks)) (sym (append-nil first_checks))
+        ] refl
+
+    filled_becomes : becomes_by p (ruled_below p id) id (Some kinds.DataSec) r ≡ rule.filled p id (max size 1) r
+    filled_becomes =
+        elim (r.third == 0) as (λ (z : Bool). (r.third == 0) ≡ z → becomes_by p (ruled_below p id) id (Some kinds.DataSec) r ≡ rule.filled p id (max size 1) r) [
+          | true ↦ λ is. becomes_if p id r name before now n true true parts.granted is ∙ completed_if p id r name before now n true size fills (size_of true is)
+          | false ↦ λ is.
+              let own : r.third ≡ size = same_Some r.third size (size_of false is) in
+              becomes_if p id r name before now n true false parts.granted is ∙ ap (λ (b : Bool). if b then rule.filled p id r.third r else record r { name = new_name p id r }) fills
+              ∙ ap (λ (m : ℕ). rule.filled p id m r) (at_least_one r.third is ∙ ap (λ (m : ℕ). max m 1) own)
+        ] refl
 
     pub filler_fault : (refusal : Refusal) → now.filler ≡ None → first_fault checks_now ≡ Some refusal → fault p id ≡ Some refusal
     filler_fault refusal none faults =
@@ -412,7 +440,7 @@ module _ (p : Pass) (id : ℕ) (r : Record) (name : ℕ) (before now : Made) (n 
           record {
             passed = grown_faults ∙ ap (λ (o : Check). first_fault (o ∷ [])) fits_in;
             record_is = is ∙ ap (λ (k : ℕ). model.data_sec name (max size 1) 1 (entry k ∷ [])) (sym h.number_is) ∙ ap (λ (m : ℕ). model.data_sec m (max size 1) 1 (entry (filler_id p id) ∷ [])) (sym n.name_is)
-                ∙ sym (becomes_there p id (DataSec r) (Some kinds.DataSec) n.there n.kind ∙ becomes_if p id r name before now n true true parts.0 parts.1 ∙ completed_if p id r name before now n true size fills known);
+                ∙ sym (becomes_there p id (DataSec r) (Some kinds.DataSec) n.there n.kind ∙ filled_becomes);
             fallback_is = none ∙ sym (falls_back_there p id (DataSec r) (Some kinds.DataSec) n.there n.kind);
             len = ap record_len is ∙ sym (ap (λ (words : List ℕ). 4 * (3 + length words) + growth p id) tail_none ∙ ap (λ (b : Bool). 12 + (if b then 12 else 0)) fills);
             grown = record {
@@ -444,9 +472,30 @@ asked_fills true false y f is same = sym (ap not same ∙ not_not f)
 asked_fills true true y f is same = absurd (false≢true is)
 asked_fills false z y f is same = absurd (false≢true is)
 
-and_true_and : (e z : Bool) → (e && true && z) ≡ (e && z)
-and_true_and true z = refl
-and_true_and false z = refl
+-- whether one of size 0 gets the filler, and asks
+fills_unsized_so : (s e h z : Bool) → ((s && (e && false) && not h) || (e && (z || not h))) ≡ ((s || true) && e && (z || not h))
+fills_unsized_so true true h z = refl
+fills_unsized_so true false h z = refl
+fills_unsized_so false true h z = refl
+fills_unsized_so false false h z = refl
+
+asks_unsized_so : (s e n z : Bool) → ((s && false && e && n) || (e && true && z)) ≡ ((s || true) && e && z)
+asks_unsized_so true true n z = refl
+asks_unsized_so true false n z = refl
+asks_unsized_so false true n z = refl
+asks_unsized_so false false n z = refl
+
+-- and of one that has a size
+fills_sized_so : (s e h x : Bool) → ((s && (e && true) && not h) || (false && x)) ≡ ((s || false) && e && (false || not h))
+fills_sized_so true true true x = refl
+fills_sized_so true true false x = refl
+fills_sized_so true false h x = refl
+fills_sized_so false e h x = refl
+
+asks_sized_so : (s e : Bool) → ((s && true && e && true) || false) ≡ ((s || false) && e && true)
+asks_sized_so true true = refl
+asks_sized_so true false = refl
+asks_sized_so false e = refl
 
 abbrev zero_too : Bool → List Feature
 zero_too b = features.DataSec ∷ (if b then features.DataSecZero ∷ [] else [])
@@ -495,27 +544,53 @@ module _ (p : Pass) (id : ℕ) (r : Record) (there : IsType p.table id (DataSec 
   pub size_refused : (refusal : Refusal) → first_fault (name_checks p id) ≡ None → has p features.DataSec ≡ true → (r.third == 0) ≡ true → size_tests old_name ≡ Some refusal → (asks p id ≡ features.DataSec ∷ []) × (fault p id ≡ Some refusal)
   size_refused refusal passed granted unsized faults = size_fault p id r there kind refusal passed granted unsized (ap size_tests (section_name_is p id r there kind) ∙ faults)
 
-  pub size_is : (size : ℕ) → first_fault (name_checks p id) ≡ None → ◌≡◌ {A = Result ℕ Refusal} (Ok size) (checked (size_tests old_name) (unwrap_or (size_by_name p old_name) 0)) → section_size p id ≡ Some size
-  size_is size passed answer =
+  section_size_is : (size : ℕ) → first_fault (name_checks p id) ≡ None → ◌≡◌ {A = Result ℕ Refusal} (Ok size) (checked (size_tests old_name) (unwrap_or (size_by_name p old_name) 0)) → section_size p id ≡ Some size
+  section_size_is size passed answer =
       let ok = checked_ok _ _ _ answer in
       size_known p id r there kind size passed (ap size_tests (section_name_is p id r there kind) ∙ ok.0) (ok.1 ∙ ap (λ (o : Result (List ℕ) Refusal). unwrap_or (size_by_name p o) 0) (sym (section_name_is p id r there kind)))
 
-  -- with a size that is known
-  pub fills_by : (size : ℕ) → has p features.DataSec ≡ true → (r.third == 0) ≡ true → section_size p id ≡ Some size → gets_filler p id ≡ (has_no_entries r && ((size == 0) || not (has p features.DataSecZero)))
-  fills_by size granted unsized known =
-      filler_there p id r there kind ∙ ap (λ (b : Bool). b && (r.third == 0) && has_no_entries r && is_zero_or (not (has p features.DataSecZero)) (section_size p id)) granted
-      ∙ ap (λ (b : Bool). true && b && has_no_entries r && is_zero_or (not (has p features.DataSecZero)) (section_size p id)) unsized
-      ∙ ap (λ (o : Option ℕ). has_no_entries r && is_zero_or (not (has p features.DataSecZero)) o) known
+  pub size_is : (size : ℕ) → first_fault (name_checks p id) ≡ None → ((r.third == 0) ≡ false → size ≡ r.third)
+      → ((r.third == 0) ≡ true → ◌≡◌ {A = Result ℕ Refusal} (Ok size) (checked (size_tests old_name) (unwrap_or (size_by_name p old_name) 0))) → final_size p id r ≡ Some size
+  size_is size passed own section =
+      elim (r.third == 0) as (λ (z : Bool). (r.third == 0) ≡ z → (if z then section_size p id else Some r.third) ≡ Some size) [
+        | true ↦ λ is. section_size_is size passed (section is)
+        | false ↦ λ is. ap (λ (m : ℕ). Some m) (sym (own is))
+      ] refl
 
-  pub asks_by_size : (size : ℕ) → first_fault (name_checks p id) ≡ None → has p features.DataSec ≡ true → (r.third == 0) ≡ true → section_size p id ≡ Some size → asks p id ≡ zero_too (asks_zero r size)
-  asks_by_size size passed granted unsized known =
-      let room : Option Refusal → Bool = λ o. is_none o in
-      section_asks p id r there kind (asks_zero r size)
-      (ap (λ (b : Bool). b && (r.third == 0) && has_no_entries r && is_none (first_fault (have_room (offset_at p id) (renaming p (name_of p id)))) && is_positive (section_size p id)) granted
-      ∙ ap (λ (b : Bool). true && b && has_no_entries r && is_none (first_fault (have_room (offset_at p id) (renaming p (name_of p id)))) && is_positive (section_size p id)) unsized
-      ∙ ap (λ (o : Option Refusal). has_no_entries r && is_none o && is_positive (section_size p id)) (read_name (name_of p id) _ passed).1
-      ∙ ap (λ (o : Option ℕ). has_no_entries r && true && is_positive o) known ∙ and_true_and (has_no_entries r) (not (size == 0)))
-      ∙ both_ways (asks_zero r size)
+  abbrev sizes_by : Bool → Option ℕ
+  sizes_by z = if z then section_size p id else Some r.third
+
+  -- with a size that is known
+  pub fills_by : (size : ℕ) → has p features.DataSec ≡ true → final_size p id r ≡ Some size → gets_filler p id ≡ (is_fillable p.policy r && ((size == 0) || not (has p features.DataSecZero)))
+  fills_by size granted known =
+      let s : Bool = fills_sized p.policy in
+      let e : Bool = has_no_entries r in
+      let h : Bool = has p features.DataSecZero in
+      let unsized : Bool → Bool = λ z. z && e && is_zero_or (not h) (section_size p id) in
+      filler_there p id r there kind ∙ ap (λ (b : Bool). b && ((s && (e && not (r.third == 0)) && not h) || unsized (r.third == 0))) granted
+      ∙ elim (r.third == 0) as (λ (z : Bool). (r.third == 0) ≡ z → sizes_by z ≡ Some size → ((s && (e && not z) && not h) || (z && e && is_zero_or (not h) (section_size p id))) ≡ ((s || z) && e && ((size == 0) || not h))) [
+        | true ↦ λ is size_there. ap (λ (o : Option ℕ). (s && (e && false) && not h) || (e && is_zero_or (not h) o)) size_there ∙ fills_unsized_so s e h (size == 0)
+        | false ↦ λ is size_there.
+            fills_sized_so s e h (is_zero_or (not h) (section_size p id))
+            ∙ ap (λ (b : Bool). (s || false) && e && (b || not h)) (sym (ap (λ (m : ℕ). m == 0) (sym (same_Some r.third size size_there)) ∙ is))
+      ] refl known
+
+  pub asks_by_size : (size : ℕ) → first_fault (name_checks p id) ≡ None → has p features.DataSec ≡ true → final_size p id r ≡ Some size → asks p id ≡ zero_too (asks_zero p.policy r size)
+  asks_by_size size passed granted known =
+      let s : Bool = fills_sized p.policy in
+      let e : Bool = has_no_entries r in
+      let asked : Bool → Option Refusal → Option Refusal → Bool → Bool = λ z named room positive. (s && not z && e && is_none named) || (z && e && is_none room && positive) in
+      let room : Option Refusal = first_fault (have_room (offset_at p id) (renaming p (name_of p id))) in
+      section_asks p id r there kind (asks_zero p.policy r size)
+      (ap (λ (b : Bool). b && asked (r.third == 0) (first_fault (name_checks p id)) room (is_positive (section_size p id))) granted
+      ∙ ap (λ (o : Option Refusal). asked (r.third == 0) o room (is_positive (section_size p id))) passed
+      ∙ ap (λ (o : Option Refusal). asked (r.third == 0) None o (is_positive (section_size p id))) (read_name (name_of p id) _ passed).1
+      ∙ elim (r.third == 0) as (λ (z : Bool). (r.third == 0) ≡ z → sizes_by z ≡ Some size → asked z None None (is_positive (section_size p id)) ≡ ((s || z) && e && not (size == 0))) [
+        | true ↦ λ is size_there. ap (λ (o : Option ℕ). asked true None None (is_positive o)) size_there ∙ asks_unsized_so s e true (not (size == 0))
+        | false ↦ λ is size_there.
+            asks_sized_so s e ∙ ap (λ (b : Bool). (s || false) && e && not b) (sym (ap (λ (m : ℕ). m == 0) (sym (same_Some r.third size size_there)) ∙ is))
+      ] refl known)
+      ∙ both_ways (asks_zero p.policy r size)
 
   module _ (below : AreAnswersTo (asks_below p id) p.answers) (one : List Answer) (granted : Bool) (next : NextAnswers p.answers features.DataSec granted one) where
     first_asked : HasAsked p id (features.DataSec ∷ []) one × (grants one features.DataSec ≡ granted)
@@ -532,38 +607,38 @@ module _ (p : Pass) (id : ℕ) (r : Record) (there : IsType p.table id (DataSec 
     pub asks_one : asks (record p { answers = one }) id ≡ features.DataSec ∷ [] → AsksUpTo p id one []
     asks_one is = (features.DataSec ∷ [], first_asked.0, is)
 
-    module _ (size : ℕ) (two : List Answer) (fills : Bool) (quiet : asks_zero r size ≡ false → (two ≡ one) × (fills ≡ has_no_entries r)) (asked : asks_zero r size ≡ true → NextAnswers one features.DataSecZero (not fills) two) where
-      second_asked : (grants two features.DataSec ≡ granted) × HasAsked p id (zero_too (asks_zero r size)) two × (fills ≡ (has_no_entries r && ((size == 0) || not (grants two features.DataSecZero))))
+    module _ (size : ℕ) (two : List Answer) (fills : Bool) (quiet : asks_zero p.policy r size ≡ false → (two ≡ one) × (fills ≡ is_fillable p.policy r)) (asked : asks_zero p.policy r size ≡ true → NextAnswers one features.DataSecZero (not fills) two) where
+      second_asked : (grants two features.DataSec ≡ granted) × HasAsked p id (zero_too (asks_zero p.policy r size)) two × (fills ≡ (is_fillable p.policy r && ((size == 0) || not (grants two features.DataSecZero))))
       second_asked =
-          elim (asks_zero r size)
-          as (λ (b : Bool). asks_zero r size ≡ b → (grants two features.DataSec ≡ granted) × HasAsked p id (zero_too b) two × (fills ≡ (has_no_entries r && ((size == 0) || not (grants two features.DataSecZero))))) [
+          elim (asks_zero p.policy r size)
+          as (λ (b : Bool). asks_zero p.policy r size ≡ b → (grants two features.DataSec ≡ granted) × HasAsked p id (zero_too b) two × (fills ≡ (is_fillable p.policy r && ((size == 0) || not (grants two features.DataSecZero))))) [
             | true ↦ λ is.
                 let more = asked_more p id (features.DataSec ∷ []) one two features.DataSecZero (not fills) first_asked.0 (asked is) in (
                   asked_kept p id (features.DataSec ∷ []) one two features.DataSecZero features.DataSec (not fills) first_asked.0 (asked is) refl ∙ first_asked.1,
                   more.0,
-                  asked_fills (has_no_entries r) (size == 0) (grants two features.DataSecZero) fills is more.1,
+                  asked_fills (is_fillable p.policy r) (size == 0) (grants two features.DataSecZero) fills is more.1,
                 )
             | false ↦ λ is. (
               ap (λ (answers : List Answer). grants answers features.DataSec) (quiet is).0 ∙ first_asked.1,
               subst (HasAsked p id (features.DataSec ∷ [])) (sym (quiet is).0) first_asked.0,
-              (quiet is).1 ∙ quiet_fills (has_no_entries r) (size == 0) (grants two features.DataSecZero) is,
+              (quiet is).1 ∙ quiet_fills (is_fillable p.policy r) (size == 0) (grants two features.DataSecZero) is,
             )
           ] refl
 
       pub granted_two : grants two features.DataSec ≡ granted
       granted_two = second_asked.0
 
-      pub asks_two : asks (record p { answers = two }) id ≡ zero_too (asks_zero r size) → AsksUpTo p id two []
-      asks_two is = (zero_too (asks_zero r size), second_asked.1, is ∙ sym (append-nil (zero_too (asks_zero r size))))
+      pub asks_two : asks (record p { answers = two }) id ≡ zero_too (asks_zero p.policy r size) → AsksUpTo p id two []
+      asks_two is = (zero_too (asks_zero p.policy r size), second_asked.1, is ∙ sym (append-nil (zero_too (asks_zero p.policy r size))))
 
-      pub fills_two : gets_filler (record p { answers = two }) id ≡ (has_no_entries r && ((size == 0) || not (grants two features.DataSecZero))) → gets_filler (record p { answers = two }) id ≡ fills
+      pub fills_two : gets_filler (record p { answers = two }) id ≡ (is_fillable p.policy r && ((size == 0) || not (grants two features.DataSecZero))) → gets_filler (record p { answers = two }) id ≡ fills
       fills_two is = is ∙ sym second_asked.2
 
 -- the predicate was called for what was asked
-pub zero_called : {F : Type 0} (step : F → BtfFeature → Bool → F → Type 0) (first : F) (r : Record) (size : ℕ) (old new : F × List FeatureAnswer) (fills : Bool)
-    → (asks_zero r size ≡ false → (new ≡ old) × (fills ≡ has_no_entries r)) → (asks_zero r size ≡ true → Asks step asked_features.DataSecZero old (not fills) new) → Called step first old.1 old.0 → Called step first new.1 new.0
-zero_called {F} step first r size old new fills quiet asked called =
-    elim (asks_zero r size) as (λ (b : Bool). asks_zero r size ≡ b → Called step first new.1 new.0) [
+pub zero_called : {F : Type 0} (step : F → BtfFeature → Bool → F → Type 0) (first : F) (policy : FillPolicy) (r : Record) (size : ℕ) (old new : F × List FeatureAnswer) (fills : Bool)
+    → (asks_zero policy r size ≡ false → (new ≡ old) × (fills ≡ is_fillable policy r)) → (asks_zero policy r size ≡ true → Asks step asked_features.DataSecZero old (not fills) new) → Called step first old.1 old.0 → Called step first new.1 new.0
+zero_called {F} step first policy r size old new fills quiet asked called =
+    elim (asks_zero policy r size) as (λ (b : Bool). asks_zero policy r size ≡ b → Called step first new.1 new.0) [
       | true ↦ λ is. asks_called step first asked_features.DataSecZero old new (not fills) (asked is) called
       | false ↦ λ is. subst (λ (s : F × List FeatureAnswer). Called step first s.1 s.0) (sym (quiet is).0) called
     ] refl
@@ -576,10 +651,10 @@ entry_tail r es words count = ap length words ∙ each_three es ∙ ap (λ (m : 
     each_three [] = refl
     each_three (x ∷ xs) = omega (arith, each_three xs)
 
-pub zero_further : {F : Type 0} (step : F → BtfFeature → Bool → F → Type 0) (r : Record) (size : ℕ) (old new : F × List FeatureAnswer) (fills : Bool) → (asks_zero r size ≡ false → (new ≡ old) × (fills ≡ has_no_entries r))
-    → (asks_zero r size ≡ true → Asks step asked_features.DataSecZero old (not fills) new) → IsFurther old.1 new.1
-zero_further {F} step r size old new fills quiet asked =
-    elim (asks_zero r size) as (λ (b : Bool). asks_zero r size ≡ b → IsFurther old.1 new.1) [
+pub zero_further : {F : Type 0} (step : F → BtfFeature → Bool → F → Type 0) (policy : FillPolicy) (r : Record) (size : ℕ) (old new : F × List FeatureAnswer) (fills : Bool) → (asks_zero policy r size ≡ false → (new ≡ old) × (fills ≡ is_fillable policy r))
+    → (asks_zero policy r size ≡ true → Asks step asked_features.DataSecZero old (not fills) new) → IsFurther old.1 new.1
+zero_further {F} step policy r size old new fills quiet asked =
+    elim (asks_zero policy r size) as (λ (b : Bool). asks_zero policy r size ≡ b → IsFurther old.1 new.1) [
       | true ↦ λ is. asks_further step asked_features.DataSecZero old new (not fills) (asked is)
       | false ↦ λ is. subst (λ (s : F × List FeatureAnswer). IsFurther old.1 s.1) (sym (quiet is).0) (further_none old.1)
     ] refl

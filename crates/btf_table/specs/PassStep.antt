@@ -4,6 +4,7 @@ use Rattle.std.specs.List.{flat_map, sum_by, range_with_len}
 use Rattle.btf_model.specs.Record.{Kind, Record, kind_of}
 use Rattle.btf_model.specs.Refusal.{Refusal}
 use Rattle.btf_model.specs.Table.{Table, no_fallbacks}
+use Rattle.btf_rewrite_model.specs.Feature as model
 use Rattle.btf_rewrite_model.specs.Feature.{Feature, Answer}
 use Rattle.btf_rewrite_model.specs.Checks.{record_len}
 use Rattle.btf_rewrite_model.specs.Pass.{Pass, Layout, asks, asks_below, Asked, texts, added, free_id, offset_at, type_len_at, gets_filler, growth_below, wants_placeholder}
@@ -16,14 +17,23 @@ use Rattle.btf_records.specs.BtfType.{record_of, fallback_of}
 use Rattle.btf_records.specs.declared.btf_type.BtfType.{BtfType}
 use Rattle.btf_table.specs.Adding.{strings_end, next_id, HasRoom}
 use Rattle.btf_table.specs.Changes.{put_all, each, AreInside, AreOf, changed}
-use Rattle.btf_rules.specs.Features.{answers_of}
+use Rattle.btf_rules.specs.Features.{answers_of, policy_of}
+use Rattle.btf_rules.specs.declared.features.FillPolicy.{FillPolicy}
 use Rattle.btf_rules.specs.declared.features.FeatureAnswer.{FeatureAnswer}
 use Rattle.btf_table.specs.declared.sanitize.made.Made.{Made}
 use Rattle.btf_table.specs.declared.table.changes.Changes.{Changes}
 
+-- what a pass is given beside its table
+pub record Given : Type 0 where
+  pub layout : Layout
+  pub policy : model.FillPolicy
+
+abbrev pub under : FillPolicy → Layout → Given
+under policy layout = record { layout = layout; policy = policy_of policy }
+
 -- the pass over a table, with these answers
-abbrev pub pass_on : Table → Layout → List Answer → Pass
-pass_on t layout answers = record { table = t; layout = layout; answers = answers }
+abbrev pub pass_on : Table → Given → List Answer → Pass
+pass_on t given answers = record { table = t; layout = given.layout; policy = given.policy; answers = answers }
 
 -- the changes of types, and the new type of one more id, if it has one
 abbrev pub kept_changes : List (ℕ × BtfType) → ℕ → Option BtfType → List (ℕ × BtfType)

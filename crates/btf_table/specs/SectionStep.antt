@@ -1,13 +1,12 @@
 -- A DATASEC that a pass comes to, once it has its new name.
-use Rattle.std.specs.Prelude.{◌≡◌, ℕ, [], ◌∷◌, ◌==◌, ◌*◌, length, ◌&&◌, not, Bool, Some, None, max}
+use Rattle.std.specs.Prelude.{◌≡◌, ℕ, [], ◌∷◌, ◌==◌, ◌*◌, length, ◌&&◌, ◌||◌, not, Bool, if◌then◌else◌, Option, Some, None, max}
 use Rattle.btf_model.specs.Record as kinds
 use Rattle.btf_model.specs.Record.{Record, kind_of, vlen}
 use Rattle.btf_rewrite_model.specs.Made.{data_sec}
 use Rattle.btf_rewrite_model.specs.Checks.{first_fault}
-use Rattle.btf_rewrite_model.specs.Pass.{Pass, name_of, renaming}
+use Rattle.btf_rewrite_model.specs.Pass.{Pass, name_of, renaming, section_size, name_checks}
 use Rattle.btf_rewrite_model.specs.Rule.{new_name}
-use Rattle.btf_rewrite_model.specs.Fault.{name_checks}
-use Rattle.btf_rewrite_model.specs.Feature.{has_no_entries}
+use Rattle.btf_rewrite_model.specs.Feature.{FillPolicy, fills_sized, has_no_entries}
 use Rattle.btf_records.specs.declared.btf_type.BtfType.TheVariants.{DataSec}
 use Rattle.btf_table.specs.Adding.{Adds}
 use Rattle.btf_table.specs.PassStep.{IsType, IsHere}
@@ -30,6 +29,14 @@ pub record HasNewName (p : Pass) (id : ℕ) (r : Record) (name : ℕ) (before no
 abbrev pub filled : ℕ → ℕ → ℕ → Record
 filled name size id = data_sec name (max size 1) 1 (record { type = id; offset = 0; size = max size 1 } ∷ [])
 
--- a DATASEC without entries in a section of this size, above 0: the kernel is asked whether it takes one
-abbrev pub asks_zero : Record → ℕ → Bool
-asks_zero r size = has_no_entries r && not (size == 0)
+-- the size that a DATASEC has in the end, if it is known: its own, or that of its section where it has none
+abbrev pub final_size : Pass → ℕ → Record → Option ℕ
+final_size p id r = if r.third == 0 then section_size p id else Some r.third
+
+-- a DATASEC that gets the filler where it needs an entry: it has none, and no size, but under a policy that fills others too
+abbrev pub is_fillable : FillPolicy → Record → Bool
+is_fillable policy r = (fills_sized policy || (r.third == 0)) && has_no_entries r
+
+-- such a one, of this size in the end, above 0: the kernel is asked whether it takes one without entries
+abbrev pub asks_zero : FillPolicy → Record → ℕ → Bool
+asks_zero policy r size = is_fillable policy r && not (size == 0)

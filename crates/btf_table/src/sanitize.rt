@@ -16,23 +16,23 @@ ghost use Rattle.btf_rewrite_model.specs.Feature.{Feature, needs};
 ghost use Rattle.btf_rewrite_model.specs.Ksyms.{ksyms_fault, ksyms_table};
 ghost use Rattle.btf_rewrite_model.specs.Made.{record_at};
 ghost use Rattle.btf_model.specs.Record.{Record};
-ghost use Rattle.btf_rewrite_model.specs.Rewritten.{begun, pass_of};
+ghost use Rattle.btf_rewrite_model.specs.Rewritten.{begun, pass_of, pass_with};
 ghost use Rattle.btf_rewrite_model.specs.RewriteLaws.{IsAmong, IsGrantedOnce};
 ghost use Rattle.btf_plain.specs.Endianness.{order_of};
 ghost use Rattle.btf_plain.specs.Error.{Answers, Gives};
 ghost use Rattle.btf_rules.specs.Checked.{checked};
-ghost use Rattle.btf_rules.specs.Features.{Called, answers_of};
+ghost use Rattle.btf_rules.specs.Features.{Called, answers_of, policy_of};
 ghost use Rattle.btf_table.specs.KsymsStep.{ksyms_ids};
 ghost use Rattle.btf_rules.specs.Layout.{layout_of};
-ghost use Rattle.btf_table.specs.PassStep.{pass_on, BeginsAsked};
-ghost use Rattle.btf_table.specs.Rewrites.{ids_of, Rewrites, RewritesBytes, Sanitizes, NeedsAreGranted, KeepsSizes, KeepsResolutions, AppendsAtMost, BeginsAskedOf, OfTables};
+ghost use Rattle.btf_table.specs.PassStep.{pass_on, under, BeginsAsked};
+ghost use Rattle.btf_table.specs.Rewrites.{ids_of, Rewrites, RewritesWith, RewritesBytes, RewritesBytesWith, Sanitizes, NeedsAreGranted, NeedsAreGrantedWith, KeepsSizes, KeepsResolutions, AppendsAtMost, BeginsAskedOf, BeginsAskedOfWith, OfTables};
 
 use crate::sanitize::ksyms::ksyms_changes;
 use crate::sanitize::pass::pass_changes;
 use crate::table::Btf;
 use arrayvec::ArrayVec;
 use btf_plain::{BtfError, Endianness, SectionIndex};
-use btf_rules::{BtfFeature, BtfFeatureResolver, FeatureAnswer, copied_answers};
+use btf_rules::{BtfFeature, BtfFeatureResolver, FeatureAnswer, FillPolicy, copied_answers};
 use std::alloc::Global;
 use std::collections::HashMap;
 
@@ -79,18 +79,19 @@ impl Btf {
         &mut self,
         sections: &HashMap<String, (SectionIndex, u64)>,
         symbols: &HashMap<String, u64>,
+        policy: FillPolicy,
         resolver: &mut BtfFeatureResolver<F>,
     ) -> Result<ArrayVec<FeatureAnswer, 8>, BtfError>
         requires callable { F.IsAlwaysCallable resolver.old.0 }
         requires unasked { resolver.old.1 ≡ [] }
         ensures callable { F.IsAlwaysCallable resolver.new.0 }
         ensures called { Called F.step resolver.old.0 resolver.new.1 resolver.new.0 }
-        ensures asked { BeginsAsked (pass_on self.old (layout_of sections.now symbols.now) (answers_of resolver.new.1)) }
-        ensures sanitizes { Answers (λ a. a.items) result (Sanitizes (pass_on self.old (layout_of sections.now symbols.now) (answers_of resolver.new.1)) self.new) }
+        ensures asked { BeginsAsked (pass_on self.old (under policy (layout_of sections.now symbols.now)) (answers_of resolver.new.1)) }
+        ensures sanitizes { Answers (λ a. a.items) result (Sanitizes (pass_on self.old (under policy (layout_of sections.now symbols.now)) (answers_of resolver.new.1)) self.new) }
         ensures answers { IfOk result (λ a. a.items ≡ resolver.new.1) }
         ensures err { OnErr result (self.new ≡ self.old) }
     {
-        let changes = pass_changes(self, sections, symbols, resolver)?;
+        let changes = pass_changes(self, sections, symbols, policy, resolver)?;
         let answers = copied_answers(resolver)?;
         self.apply(changes)?;
         Ok(answers)
@@ -135,12 +136,50 @@ impl Btf {
         // No type is taken away, and at most four are appended.
         ensures appended { OnOk result (AppendsAtMost 4 self.old self.new) }
     {
+        self.fixup_and_sanitize_with(sections, symbols, ksyms, FillPolicy::KeepSized, resolver)
+    }
+
+    /// Rewrites the table as `fixup_and_sanitize` does, with the same errors, and with a policy for DATASECs that have a
+    /// size and no entries.
+    ///
+    /// Under `FillPolicy::FillSized` a kernel that takes DATASECs is asked whether it takes such a one; where it takes
+    /// none without entries, the DATASEC keeps its size, and its one entry is the variable that DATASECs of size 0
+    /// without entries get: `InvalidStringOffset` and `InvalidTypeInfo` where strings or types have no room for that
+    /// variable, and `InvalidTypeInfo` where types have none for the entry. `sections` is not asked for its size.
+    pub fn fixup_and_sanitize_with<F: FnMut(BtfFeature) -> bool>(
+        &mut self,
+        sections: &HashMap<String, (SectionIndex, u64)>,
+        symbols: &HashMap<String, u64>,
+        ksyms: Option<KsymsIds>,
+        policy: FillPolicy,
+        resolver: &mut BtfFeatureResolver<F>,
+    ) -> Result<ArrayVec<FeatureAnswer, 8>, BtfError>
+        requires callable { F.IsAlwaysCallable resolver.old.0 }
+        requires unasked { resolver.old.1 ≡ [] }
+        ensures callable { F.IsAlwaysCallable resolver.new.0 }
+        // One call of the predicate for each answer, in order, and no other.
+        ensures called { Called F.step resolver.old.0 resolver.new.1 resolver.new.0 }
+        // In every outcome the answers are to the first features that the rewrite asks for.
+        ensures asked { BeginsAsked (pass_with (policy_of policy) self.old (ids_of ksyms) (layout_of sections.now symbols.now) (answers_of resolver.new.1)) }
+        // The table is the rewritten one, and all is asked for; or the first cause of refusal.
+        ensures rewrites { Answers (λ a. a.items) result (RewritesWith (policy_of policy) self.old (ids_of ksyms) (layout_of sections.now symbols.now) (answers_of resolver.new.1) self.new) }
+        ensures answers { IfOk result (λ a. a.items ≡ resolver.new.1) }
+        ensures err { OnErr result (self.new ≡ self.old) }
+        // What the kernel needs for the new table was asked for once, and granted.
+        ensures granted { OnOk result (NeedsAreGrantedWith (policy_of policy) self.old (ids_of ksyms) (answers_of resolver.new.1) self.new) }
+        // A walk that meets no VAR, FUNC, FUNC_PROTO, DATASEC or DECL_TAG finds the size that it found.
+        ensures sizes { OnOk result (KeepsSizes self.old self.new) }
+        // What an id stands for, but for a FUNC, it stands for still.
+        ensures resolutions { OnOk result (KeepsResolutions self.old self.new) }
+        // No type is taken away, and at most four are appended.
+        ensures appended { OnOk result (AppendsAtMost 4 self.old self.new) }
+    {
         let Some(ids) = ksyms else {
-            return self.sanitize(sections, symbols, resolver);
+            return self.sanitize(sections, symbols, policy, resolver);
         };
         let changes = ksyms_changes(self, ids.datasec_id, ids.placeholder_id)?;
         let undo = self.apply(changes)?;
-        match self.sanitize(sections, symbols, resolver) {
+        match self.sanitize(sections, symbols, policy, resolver) {
             Ok(answers) => Ok(answers),
             Err(error) => {
                 self.undo(undo);
@@ -182,7 +221,44 @@ pub fn rewrite_bytes<F: FnMut(BtfFeature) -> bool>(
     // and no type is taken away, and at most four are appended.
     ensures appended { IfOk result (λ r. OfTables (order_of endianness) «data».now r.0.items (AppendsAtMost 4)) }
 {
+    let policy = FillPolicy::KeepSized;
+    rewrite_bytes_with(alloc, data, endianness, sections, symbols, ksyms, policy, resolver)
+}
+
+/// The bytes of a table that is parsed, rewritten by `fixup_and_sanitize_with`, and written in its own order, with what the
+/// predicate was asked. The errors are those of `Btf::parse` and of `fixup_and_sanitize_with`.
+pub fn rewrite_bytes_with<F: FnMut(BtfFeature) -> bool>(
+    alloc: Global,
+    data: &[u8],
+    endianness: Endianness,
+    sections: &HashMap<String, (SectionIndex, u64)>,
+    symbols: &HashMap<String, u64>,
+    ksyms: Option<KsymsIds>,
+    policy: FillPolicy,
+    resolver: &mut BtfFeatureResolver<F>,
+) -> Result<(Vec<u8>, ArrayVec<FeatureAnswer, 8>), BtfError>
+    requires callable { F.IsAlwaysCallable resolver.old.0 }
+    requires unasked { resolver.old.1 ≡ [] }
+    ensures callable { F.IsAlwaysCallable resolver.new.0 }
+    ensures called { Called F.step resolver.old.0 resolver.new.1 resolver.new.0 }
+    ensures rewrites { Answers (λ r. (r.0.items, r.1.items)) result (RewritesBytesWith (policy_of policy) (order_of endianness) «data».now (ids_of ksyms) (layout_of sections.now symbols.now) (answers_of resolver.new.1)) }
+    ensures answers { IfOk result (λ r. r.1.items ≡ resolver.new.1) }
+    // In every outcome nothing was asked, or the bytes stand for a table, and the answers are to the first features that
+    // its rewrite asks for.
+    ensures asked { BeginsAskedOfWith (policy_of policy) (order_of endianness) «data».now (ids_of ksyms)
+        (layout_of sections.now symbols.now) (answers_of resolver.new.1) }
+    // Of the table that the bytes stand for, and the one that the written bytes stand for: what the kernel needs for the
+    // new one was asked for once, and granted;
+    ensures granted { IfOk result (λ r. OfTables (order_of endianness) «data».now r.0.items
+        (λ old new. NeedsAreGrantedWith (policy_of policy) old (ids_of ksyms) (answers_of resolver.new.1) new)) }
+    // sizes that are found without VAR, FUNC, FUNC_PROTO, DATASEC or DECL_TAG stay;
+    ensures sizes { IfOk result (λ r. OfTables (order_of endianness) «data».now r.0.items KeepsSizes) }
+    // what an id stands for, but for a FUNC, it stands for still;
+    ensures resolutions { IfOk result (λ r. OfTables (order_of endianness) «data».now r.0.items KeepsResolutions) }
+    // and no type is taken away, and at most four are appended.
+    ensures appended { IfOk result (λ r. OfTables (order_of endianness) «data».now r.0.items (AppendsAtMost 4)) }
+{
     let mut btf = Btf::parse(alloc, data, endianness)?;
-    let answers = btf.fixup_and_sanitize(sections, symbols, ksyms, resolver)?;
+    let answers = btf.fixup_and_sanitize_with(sections, symbols, ksyms, policy, resolver)?;
     Ok((btf.to_bytes()?, answers))
 }

@@ -1,15 +1,15 @@
 //! The rule of a DATASEC.
 
-ghost use Rattle.std.specs.Prelude.{◌≡◌, ℕ, List, [], ◌∷◌, length, map, not, true, false, None, Some, Ok, IfOk};
+ghost use Rattle.std.specs.Prelude.{◌≡◌, ◌==◌, ℕ, List, [], ◌∷◌, length, map, not, true, false, None, Some, Ok, IfOk};
 ghost use Rattle.std.specs.List.{flat_map};
 ghost use Rattle.std.specs.Option.{unwrap_or};
 ghost use Rattle.btf_model.specs.Record.{Record, vlen};
 ghost use Rattle.btf_rewrite_model.specs.Feature as features;
-ghost use Rattle.btf_rewrite_model.specs.Feature.{Feature, Answer, has_no_entries};
+ghost use Rattle.btf_rewrite_model.specs.Feature.{Feature, Answer};
 ghost use Rattle.btf_rewrite_model.specs.Made as model;
 ghost use Rattle.btf_rewrite_model.specs.Made.{entries};
 ghost use Rattle.btf_rewrite_model.specs.Checks.{first_fault, is_read, in_a_word};
-ghost use Rattle.btf_rewrite_model.specs.Pass.{Pass, Layout, asks_below, gets_filler, section_size as size_of_section, size_by_name};
+ghost use Rattle.btf_rewrite_model.specs.Pass.{Pass, asks_below, gets_filler, size_by_name};
 ghost use Rattle.btf_rewrite_model.specs.Rule.{entry_members, placed};
 ghost use Rattle.btf_rewrite_model.specs.Fault.{member_checks, entry_checks, is_sized};
 ghost use Rattle.btf_model.specs.Text.{text_at};
@@ -18,10 +18,10 @@ ghost use Rattle.btf_plain.specs.Error.{Answers, Gives};
 ghost use Rattle.btf_records.specs.BtfType.{record_of, fallback_of};
 ghost use Rattle.btf_table.specs.Adding.{HasRoom};
 ghost use Rattle.btf_rules.specs.Checked.{checked};
-ghost use Rattle.btf_rules.specs.Features.{Called, Asks, IsFurther, answers_of};
+ghost use Rattle.btf_rules.specs.Features.{Called, Asks, IsFurther, answers_of, policy_of};
 ghost use Rattle.btf_rules.specs.Layout.{sizes_of, offsets_of};
-ghost use Rattle.btf_table.specs.PassStep.{pass_on, IsType, IsHere, AsksUpTo, Steps, Rules};
-ghost use Rattle.btf_table.specs.SectionStep.{HasNewName, asks_zero};
+ghost use Rattle.btf_table.specs.PassStep.{Given, pass_on, IsType, IsHere, AsksUpTo, Steps, Rules};
+ghost use Rattle.btf_table.specs.SectionStep.{HasNewName, final_size, is_fillable, asks_zero};
 
 use crate::sanitize::made::Made;
 use crate::sanitize::section_names::new_name;
@@ -29,7 +29,7 @@ use crate::sanitize::sections::{members, placed_entries};
 use crate::table::{Btf, record_fits};
 use btf_plain::{BtfError, SectionIndex};
 use btf_records::{BtfType, DataSec, DataSecEntry, Struct};
-use btf_rules::{BtfFeature, BtfFeatureResolver, renamed, section_size};
+use btf_rules::{BtfFeature, BtfFeatureResolver, FillPolicy, renamed, section_size};
 use std::collections::HashMap;
 
 /// The length of an entry in bytes.
@@ -74,36 +74,45 @@ fn laid_out(
     Ok(Some(BtfType::DataSec(DataSec::new(name_offset, entries, size))))
 }
 
-/// The size of the section that a DATASEC stands for, by its name.
+/// The size that a DATASEC has in the end: its own, or that of its section, by its name, where it has none.
 ///
-/// `InvalidStringOffset` where the name can't be read; `UnknownSectionSize` of the name where the size isn't known or has
-/// more than 32 bits.
+/// Of one of size 0: `InvalidStringOffset` where the name can't be read; `UnknownSectionSize` of the name where the size
+/// isn't known or has more than 32 bits.
 fn known_size(
     btf: &Btf,
     sections: &HashMap<String, (SectionIndex, u64)>,
     data_sec: &DataSec,
 ) -> Result<u32, BtfError>
-    ensures { (p : Pass) → p.table ≡ btf.now → p.layout.sections ≡ sizes_of sections.now
+    ensures own { (data_sec.now.third == 0) ≡ false → result ≡ Ok data_sec.now.third }
+    ensures section { (data_sec.now.third == 0) ≡ true → (p : Pass) → p.table ≡ btf.now → p.layout.sections ≡ sizes_of sections.now
         → Gives (λ n. n) result (checked (first_fault (is_read (text_at btf.now.strings data_sec.now.name) ∷ is_sized (size_by_name p (text_at btf.now.strings data_sec.now.name)) (text_at btf.now.strings data_sec.now.name) ∷ []))
         (unwrap_or (size_by_name p (text_at btf.now.strings data_sec.now.name)) 0)) }
 {
+    if data_sec.size() != 0 {
+        return Ok(data_sec.size());
+    }
     let name = btf.string_at(data_sec.name_offset())?;
     section_size(btf.allocator(), sections, name.as_str())
 }
 
-/// Whether a DATASEC gets the filler for its entry: it has none, and its section has size 0, or the kernel takes no DATASEC
-/// without entries.
+/// Whether a DATASEC of this size in the end gets the filler for its entry: it has none, and that size is 0, or the kernel
+/// takes no DATASEC without entries. One that has a size of its own gets it only under a policy that fills such.
 fn wants_filler<F: FnMut(BtfFeature) -> bool>(
     data_sec: &DataSec,
     size: u32,
+    policy: FillPolicy,
     resolver: &mut BtfFeatureResolver<F>,
 ) -> bool
     requires { F.IsAlwaysCallable resolver.old.0 }
     ensures callable { F.IsAlwaysCallable resolver.new.0 }
-    ensures quiet { asks_zero data_sec.now size ≡ false → (resolver.new ≡ resolver.old) × (result ≡ has_no_entries data_sec.now) }
-    ensures asks { asks_zero data_sec.now size ≡ true → Asks F.step BtfFeature.DataSecZero resolver.old (not result) resolver.new }
+    ensures quiet { asks_zero (policy_of policy) data_sec.now size ≡ false → (resolver.new ≡ resolver.old) × (result ≡ is_fillable (policy_of policy) data_sec.now) }
+    ensures asks { asks_zero (policy_of policy) data_sec.now size ≡ true → Asks F.step BtfFeature.DataSecZero resolver.old (not result) resolver.new }
 {
-    if !data_sec.entries().is_empty() {
+    let is_kept = match policy {
+        FillPolicy::KeepSized => data_sec.size() != 0,
+        FillPolicy::FillSized => false,
+    };
+    if is_kept || !data_sec.entries().is_empty() {
         return false;
     }
     size == 0 || !resolver.is_supported(BtfFeature::DataSecZero)
@@ -123,9 +132,9 @@ impl Made {
         size: u32,
     ) -> Result<Option<BtfType>, BtfError>
         requires { HasRoom btf.now self.old.changes }
-        ensures { (layout : Layout) (answers : List Answer) (id : ℕ) (r : Record) (before : Made) → HasNewName (pass_on btf.now layout answers) id r name_offset before self.old
-            → gets_filler (pass_on btf.now layout answers) id ≡ true → size_of_section (pass_on btf.now layout answers) id ≡ Some size
-            → Answers (λ new. unwrap_or new (BtfType.DataSec r)) result (Rules (pass_on btf.now layout answers) id (BtfType.DataSec r) before self.new) }
+        ensures { (given : Given) (answers : List Answer) (id : ℕ) (r : Record) (before : Made) → HasNewName (pass_on btf.now given answers) id r name_offset before self.old
+            → gets_filler (pass_on btf.now given answers) id ≡ true → final_size (pass_on btf.now given answers) id r ≡ Some size
+            → Answers (λ new. unwrap_or new (BtfType.DataSec r)) result (Rules (pass_on btf.now given answers) id (BtfType.DataSec r) before self.new) }
     {
         let filler = self.filler(btf)?;
         record_fits(self.changes.type_len, ENTRY_LEN)?;
@@ -143,13 +152,14 @@ impl Made {
     /// The rule of a DATASEC; None where it stays. A kernel that takes none gets a STRUCT of its entries. For another, a DATASEC of size 0 gets
     /// the size of its section, and each entry the offset of its symbol; one that has no entries gets the filler for its
     /// entry, where its section has size 0, or where the kernel takes no DATASEC without entries. One that has a size keeps
-    /// it. Its name becomes one that the kernel takes.
+    /// it, and gets the filler only under a policy that fills such, where the kernel takes none without entries. Its name
+    /// becomes one that the kernel takes.
     ///
     /// The first cause of refusal is told. `InvalidStringOffset` where the name can't be read or strings have no room for the
     /// new one. As a STRUCT: `UnknownBtfType` of an entry's id that has no type, and `InvalidTypeInfo` where its offset in
     /// bits has more than 32 bits. Of a DATASEC of size 0: `UnknownSectionSize` where the size of its section isn't known or
-    /// has more than 32 bits; `InvalidStringOffset` and `InvalidTypeInfo` where strings or types have no room for the
-    /// filler. Of each of its entries in turn: `UnknownBtfType`, `InvalidDatasec` where it names no VAR,
+    /// has more than 32 bits. Of one that gets the filler: `InvalidStringOffset` and `InvalidTypeInfo` where strings or
+    /// types have no room for it. Of each entry of a DATASEC of size 0 in turn: `UnknownBtfType`, `InvalidDatasec` where it names no VAR,
     /// `InvalidStringOffset` where the name of that can't be read, and `SymbolOffsetNotFound` where the offset of its symbol
     /// isn't known or has more than 32 bits.
     pub fn rewrite_section<F: FnMut(BtfFeature) -> bool>(
@@ -158,6 +168,7 @@ impl Made {
         sections: &HashMap<String, (SectionIndex, u64)>,
         symbols: &HashMap<String, u64>,
         data_sec: &DataSec,
+        policy: FillPolicy,
         resolver: &mut BtfFeatureResolver<F>,
     ) -> Result<Option<BtfType>, BtfError>
         requires room { HasRoom btf.now self.old.changes }
@@ -165,11 +176,11 @@ impl Made {
         ensures callable { F.IsAlwaysCallable resolver.new.0 }
         ensures called { (first : F) → Called F.step first resolver.old.1 resolver.old.0 → Called F.step first resolver.new.1 resolver.new.0 }
         ensures further { IsFurther resolver.old.1 resolver.new.1 }
-        ensures asks { (layout : Layout) (id : ℕ) → layout.sections ≡ sizes_of sections.now → IsType btf.now id (BtfType.DataSec data_sec.now) → IsHere (pass_on btf.now layout (answers_of resolver.new.1)) id self.old → AreAnswersTo (asks_below (pass_on btf.now layout (answers_of resolver.old.1)) id) (answers_of resolver.old.1)
-            → (left : List Feature) × AsksUpTo (pass_on btf.now layout (answers_of resolver.old.1)) id (answers_of resolver.new.1) left }
-        ensures steps { (layout : Layout) (id : ℕ) → layout.sections ≡ sizes_of sections.now → layout.symbols ≡ offsets_of symbols.now → IsType btf.now id (BtfType.DataSec data_sec.now) → AreAnswersTo (asks_below (pass_on btf.now layout (answers_of resolver.old.1)) id) (answers_of resolver.old.1)
-            → IsHere (pass_on btf.now layout (answers_of resolver.new.1)) id self.old
-            → Answers (λ new. unwrap_or new (BtfType.DataSec data_sec.now)) result (Steps (pass_on btf.now layout (answers_of resolver.old.1)) id resolver.new.1 (BtfType.DataSec data_sec.now) self.old self.new) }
+        ensures asks { (given : Given) (id : ℕ) → given.policy ≡ policy_of policy → given.layout.sections ≡ sizes_of sections.now → IsType btf.now id (BtfType.DataSec data_sec.now) → IsHere (pass_on btf.now given (answers_of resolver.new.1)) id self.old → AreAnswersTo (asks_below (pass_on btf.now given (answers_of resolver.old.1)) id) (answers_of resolver.old.1)
+            → (left : List Feature) × AsksUpTo (pass_on btf.now given (answers_of resolver.old.1)) id (answers_of resolver.new.1) left }
+        ensures steps { (given : Given) (id : ℕ) → given.policy ≡ policy_of policy → given.layout.sections ≡ sizes_of sections.now → given.layout.symbols ≡ offsets_of symbols.now → IsType btf.now id (BtfType.DataSec data_sec.now) → AreAnswersTo (asks_below (pass_on btf.now given (answers_of resolver.old.1)) id) (answers_of resolver.old.1)
+            → IsHere (pass_on btf.now given (answers_of resolver.new.1)) id self.old
+            → Answers (λ new. unwrap_or new (BtfType.DataSec data_sec.now)) result (Steps (pass_on btf.now given (answers_of resolver.old.1)) id resolver.new.1 (BtfType.DataSec data_sec.now) self.old self.new) }
     {
         // The contract speaks of the kind in the info word, and of the words, which a use of them shows.
         let _ = data_sec.info();
@@ -179,12 +190,12 @@ impl Made {
         if !granted {
             return as_struct(btf, &self.names, data_sec, name_offset);
         }
+        let size = known_size(btf, sections, data_sec)?;
+        if wants_filler(data_sec, size, policy, resolver) {
+            return self.filled(btf, name_offset, size);
+        }
         if data_sec.size() != 0 {
             return renamed(data_sec, name_offset);
-        }
-        let size = known_size(btf, sections, data_sec)?;
-        if wants_filler(data_sec, size, resolver) {
-            return self.filled(btf, name_offset, size);
         }
         laid_out(btf, symbols, data_sec, name_offset, size)
     }

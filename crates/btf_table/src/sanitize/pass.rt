@@ -4,16 +4,16 @@ ghost use Rattle.std.specs.Prelude.{◌≡◌, ℕ, List, [], Some, true};
 ghost use Rattle.std.specs.Option.{unwrap_or};
 ghost use Rattle.btf_model.specs.Record.{kind_of};
 ghost use Rattle.btf_rewrite_model.specs.Feature.{Feature};
-ghost use Rattle.btf_rewrite_model.specs.Pass.{Layout, asks_below};
+ghost use Rattle.btf_rewrite_model.specs.Pass.{asks_below};
 ghost use Rattle.btf_model.specs.Table.{Table};
 ghost use Rattle.btf_rewrite_model.specs.Passing.{AreAnswersTo};
 ghost use Rattle.btf_plain.specs.Error.{Answers};
 ghost use Rattle.btf_records.specs.BtfType.{record_of};
 ghost use Rattle.btf_table.specs.Adding.{HasRoom};
-ghost use Rattle.btf_rules.specs.Features.{Called, IsFurther, answers_of};
+ghost use Rattle.btf_rules.specs.Features.{Called, IsFurther, answers_of, policy_of};
 ghost use Rattle.btf_rules.specs.Layout.{sizes_of, offsets_of, layout_of};
 ghost use Rattle.btf_rules.specs.SoleFeature as step;
-ghost use Rattle.btf_table.specs.PassStep.{pass_on, IsType, IsHere, AsksUpTo, Steps, Passes, BeginsAsked};
+ghost use Rattle.btf_table.specs.PassStep.{Given, pass_on, under, IsType, IsHere, AsksUpTo, Steps, Passes, BeginsAsked};
 ghost use Rattle.btf_rules.specs.SoleFeature.{asks_one, IsGranted};
 
 use crate::sanitize::functions::rewrite_func;
@@ -21,7 +21,7 @@ use crate::sanitize::made::Made;
 use crate::table::{Btf, Changes};
 use btf_plain::{BtfError, SectionIndex};
 use btf_records::BtfType;
-use btf_rules::{BtfFeature, BtfFeatureResolver, sole_feature};
+use btf_rules::{BtfFeature, BtfFeatureResolver, FillPolicy, sole_feature};
 use std::collections::HashMap;
 
 /// Whether the kernel has the one feature that a type asks for; true where it asks for none. The type is neither a FUNC nor
@@ -34,10 +34,10 @@ fn has_sole_feature<F: FnMut(BtfFeature) -> bool>(
     ensures callable { F.IsAlwaysCallable resolver.new.0 }
     ensures called { (first : F) → Called F.step first resolver.old.1 resolver.old.0 → Called F.step first resolver.new.1 resolver.new.0 }
     ensures further { IsFurther resolver.old.1 resolver.new.1 }
-    ensures asks { (t : Table) (layout : Layout) (id : ℕ) → IsType t id btf_type.now → asks_one (kind_of (record_of btf_type.now).info) ≡ true → AreAnswersTo (asks_below (pass_on t layout (answers_of resolver.old.1)) id) (answers_of resolver.old.1)
-        → AsksUpTo (pass_on t layout (answers_of resolver.old.1)) id (answers_of resolver.new.1) [] }
-    ensures granted { (t : Table) (layout : Layout) (id : ℕ) → AreAnswersTo (asks_below (pass_on t layout (answers_of resolver.old.1)) id) (answers_of resolver.old.1)
-        → IsGranted (pass_on t layout (answers_of resolver.new.1)) (step.sole_feature (kind_of (record_of btf_type.now).info) (record_of btf_type.now)) result }
+    ensures asks { (t : Table) (given : Given) (id : ℕ) → IsType t id btf_type.now → asks_one (kind_of (record_of btf_type.now).info) ≡ true → AreAnswersTo (asks_below (pass_on t given (answers_of resolver.old.1)) id) (answers_of resolver.old.1)
+        → AsksUpTo (pass_on t given (answers_of resolver.old.1)) id (answers_of resolver.new.1) [] }
+    ensures granted { (t : Table) (given : Given) (id : ℕ) → AreAnswersTo (asks_below (pass_on t given (answers_of resolver.old.1)) id) (answers_of resolver.old.1)
+        → IsGranted (pass_on t given (answers_of resolver.new.1)) (step.sole_feature (kind_of (record_of btf_type.now).info) (record_of btf_type.now)) result }
 {
     match sole_feature(btf_type) {
         Some(feature) => resolver.is_supported(feature),
@@ -57,6 +57,7 @@ impl Made {
         sections: &HashMap<String, (SectionIndex, u64)>,
         symbols: &HashMap<String, u64>,
         btf_type: &BtfType,
+        policy: FillPolicy,
         resolver: &mut BtfFeatureResolver<F>,
     ) -> Result<Option<BtfType>, BtfError>
         requires room { HasRoom btf.now self.old.changes }
@@ -64,18 +65,18 @@ impl Made {
         ensures callable { F.IsAlwaysCallable resolver.new.0 }
         ensures called { (first : F) → Called F.step first resolver.old.1 resolver.old.0 → Called F.step first resolver.new.1 resolver.new.0 }
         ensures further { IsFurther resolver.old.1 resolver.new.1 }
-        ensures asks { (layout : Layout) (id : ℕ) → layout.sections ≡ sizes_of sections.now → IsType btf.now id btf_type.now → IsHere (pass_on btf.now layout (answers_of resolver.new.1)) id self.old → AreAnswersTo (asks_below (pass_on btf.now layout (answers_of resolver.old.1)) id) (answers_of resolver.old.1)
-            → (left : List Feature) × AsksUpTo (pass_on btf.now layout (answers_of resolver.old.1)) id (answers_of resolver.new.1) left }
-        ensures steps { (layout : Layout) (id : ℕ) → layout.sections ≡ sizes_of sections.now → layout.symbols ≡ offsets_of symbols.now → IsType btf.now id btf_type.now → AreAnswersTo (asks_below (pass_on btf.now layout (answers_of resolver.old.1)) id) (answers_of resolver.old.1)
-            → IsHere (pass_on btf.now layout (answers_of resolver.new.1)) id self.old
-            → Answers (λ new. unwrap_or new btf_type.now) result (Steps (pass_on btf.now layout (answers_of resolver.old.1)) id resolver.new.1 btf_type.now self.old self.new) }
+        ensures asks { (given : Given) (id : ℕ) → given.policy ≡ policy_of policy → given.layout.sections ≡ sizes_of sections.now → IsType btf.now id btf_type.now → IsHere (pass_on btf.now given (answers_of resolver.new.1)) id self.old → AreAnswersTo (asks_below (pass_on btf.now given (answers_of resolver.old.1)) id) (answers_of resolver.old.1)
+            → (left : List Feature) × AsksUpTo (pass_on btf.now given (answers_of resolver.old.1)) id (answers_of resolver.new.1) left }
+        ensures steps { (given : Given) (id : ℕ) → given.policy ≡ policy_of policy → given.layout.sections ≡ sizes_of sections.now → given.layout.symbols ≡ offsets_of symbols.now → IsType btf.now id btf_type.now → AreAnswersTo (asks_below (pass_on btf.now given (answers_of resolver.old.1)) id) (answers_of resolver.old.1)
+            → IsHere (pass_on btf.now given (answers_of resolver.new.1)) id self.old
+            → Answers (λ new. unwrap_or new btf_type.now) result (Steps (pass_on btf.now given (answers_of resolver.old.1)) id resolver.new.1 btf_type.now self.old self.new) }
     {
         // The contract speaks of the kind in the info word, which a use of it shows.
         let _ = btf_type.info();
         match btf_type {
             BtfType::Func(func) => rewrite_func(btf, func, resolver),
             BtfType::DataSec(data_sec) => {
-                self.rewrite_section(btf, sections, symbols, data_sec, resolver)
+                self.rewrite_section(btf, sections, symbols, data_sec, policy, resolver)
             }
             _ => {
                 let granted = has_sole_feature(btf_type, resolver);
@@ -90,20 +91,21 @@ pub fn pass_changes<F: FnMut(BtfFeature) -> bool>(
     btf: &Btf,
     sections: &HashMap<String, (SectionIndex, u64)>,
     symbols: &HashMap<String, u64>,
+    policy: FillPolicy,
     resolver: &mut BtfFeatureResolver<F>,
 ) -> Result<Changes, BtfError>
     requires callable { F.IsAlwaysCallable resolver.old.0 }
     requires unasked { resolver.old.1 ≡ [] }
     ensures callable { F.IsAlwaysCallable resolver.new.0 }
     ensures called { Called F.step resolver.old.0 resolver.new.1 resolver.new.0 }
-    ensures asks { BeginsAsked (pass_on btf.now (layout_of sections.now symbols.now) (answers_of resolver.new.1)) }
-    ensures passes { Answers (λ c. c) result (Passes (pass_on btf.now (layout_of sections.now symbols.now) (answers_of resolver.new.1))) }
+    ensures asks { BeginsAsked (pass_on btf.now (under policy (layout_of sections.now symbols.now)) (answers_of resolver.new.1)) }
+    ensures passes { Answers (λ c. c) result (Passes (pass_on btf.now (under policy (layout_of sections.now symbols.now)) (answers_of resolver.new.1))) }
 {
     let types = btf.as_slice();
     let mut made = Made::new(btf)?;
     for id in 1..types.len() {
         let btf_type = &types[id];
-        let new_type = made.rewrite(btf, sections, symbols, btf_type, resolver)?;
+        let new_type = made.rewrite(btf, sections, symbols, btf_type, policy, resolver)?;
         made.keep(id as u32, btf_type, new_type)?;
     }
     Ok(made.changes)

@@ -12,7 +12,7 @@ ghost use Rattle.btf_records.specs.BtfType.{record_of, fallback_of};
 ghost use Rattle.btf_rules.specs.Features.{feature_of};
 ghost use Rattle.btf_table.specs.Adding.{HasRoom};
 ghost use Rattle.btf_rules.specs.SoleFeature as step;
-ghost use Rattle.btf_table.specs.PassStep.{IsHere, Rules};
+ghost use Rattle.btf_table.specs.PassStep.{Given, IsHere, Rules};
 ghost use Rattle.btf_rules.specs.SoleFeature.{IsGranted};
 
 use crate::sanitize::made::Made;
@@ -28,7 +28,6 @@ impl Made {
     ghost use Rattle.btf_model.specs.Record as kinds;
     ghost use Rattle.btf_rewrite_model.specs.Feature as features;
     ghost use Rattle.btf_rewrite_model.specs.Feature.{Answer, grants};
-    ghost use Rattle.btf_rewrite_model.specs.Pass.{Layout};
     ghost use Rattle.std.specs.Prelude.{false};
     ghost use Rattle.btf_table.specs.PassStep.{pass_on};
     ghost use Rattle.btf_rules.specs.SoleFeature.{asks_one};
@@ -42,8 +41,8 @@ impl Made {
         granted: bool,
     ) -> Result<BtfType, BtfError>
         requires { HasRoom btf.now self.old.changes }
-        ensures { (layout : Layout) (answers : List Answer) (id : ℕ) → IsType btf.now id (BtfType.FuncProto proto.now) → IsHere (pass_on btf.now layout answers) id self.old → grants answers features.Func ≡ granted
-            → Answers (λ new. new) result (Rules (pass_on btf.now layout answers) id (BtfType.FuncProto proto.now) self.old self.new) }
+        ensures { (given : Given) (answers : List Answer) (id : ℕ) → IsType btf.now id (BtfType.FuncProto proto.now) → IsHere (pass_on btf.now given answers) id self.old → grants answers features.Func ≡ granted
+            → Answers (λ new. new) result (Rules (pass_on btf.now given answers) id (BtfType.FuncProto proto.now) self.old self.new) }
     {
         // The contract speaks of the kind in the info word, which a use of it shows.
         let _ = proto.info();
@@ -59,8 +58,8 @@ impl Made {
     /// where strings or types have no room for the type of its members.
     fn rewrite_enum64(&mut self, btf: &Btf, enum64: &Enum64) -> Result<BtfType, BtfError>
         requires { HasRoom btf.now self.old.changes }
-        ensures { (layout : Layout) (answers : List Answer) (id : ℕ) → IsType btf.now id (BtfType.Enum64 enum64.now) → IsHere (pass_on btf.now layout answers) id self.old → grants answers features.Enum64 ≡ false
-            → Answers (λ new. new) result (Rules (pass_on btf.now layout answers) id (BtfType.Enum64 enum64.now) self.old self.new) }
+        ensures { (given : Given) (answers : List Answer) (id : ℕ) → IsType btf.now id (BtfType.Enum64 enum64.now) → IsHere (pass_on btf.now given answers) id self.old → grants answers features.Enum64 ≡ false
+            → Answers (λ new. new) result (Rules (pass_on btf.now given answers) id (BtfType.Enum64 enum64.now) self.old self.new) }
     {
         // The contract speaks of the kind in the info word, and of the words, which a use of them shows.
         let _ = enum64.info();
@@ -78,9 +77,9 @@ impl Made {
         granted: bool,
     ) -> Result<Option<BtfType>, BtfError>
         requires { HasRoom btf.now self.old.changes }
-        ensures { (layout : Layout) (answers : List Answer) (id : ℕ) → IsType btf.now id btf_type.now → IsHere (pass_on btf.now layout answers) id self.old → asks_one (kind_of (record_of btf_type.now).info) ≡ true
-            → IsGranted (pass_on btf.now layout answers) (step.sole_feature (kind_of (record_of btf_type.now).info) (record_of btf_type.now)) granted
-            → Answers (λ new. unwrap_or new btf_type.now) result (Rules (pass_on btf.now layout answers) id btf_type.now self.old self.new) }
+        ensures { (given : Given) (answers : List Answer) (id : ℕ) → IsType btf.now id btf_type.now → IsHere (pass_on btf.now given answers) id self.old → asks_one (kind_of (record_of btf_type.now).info) ≡ true
+            → IsGranted (pass_on btf.now given answers) (step.sole_feature (kind_of (record_of btf_type.now).info) (record_of btf_type.now)) granted
+            → Answers (λ new. unwrap_or new btf_type.now) result (Rules (pass_on btf.now given answers) id btf_type.now self.old self.new) }
     {
         // The contract speaks of the kind in the info word, which a use of it shows.
         let _ = btf_type.info();

@@ -10,18 +10,18 @@ pub returns-in-Some-clause-called : goal.returns-in-Some-clause-called
 returns-in-Some-clause-called g c = λ first called. asks_called (words g.row.F g.F.FnMut).step first c.in-Some.feature c.args.resolver.now c.is_supported.new.self c.is_supported.result c.is_supported.ensures.asks called
 
 pub returns-in-Some-clause-asks : goal.returns-in-Some-clause-asks
-returns-in-Some-clause-asks g c = λ t layout id there one below.
-    one_asked t layout id c.args.btf_type.now (answers_of c.args.resolver.now.1) below (answers_of c.is_supported.new.self.1) (feature_of c.in-Some.feature) c.is_supported.result
+returns-in-Some-clause-asks g c = λ t given id there one below.
+    one_asked t given id c.args.btf_type.now (answers_of c.args.resolver.now.1) below (answers_of c.is_supported.new.self.1) (feature_of c.in-Some.feature) c.is_supported.result
     (asks_next (words g.row.F g.F.FnMut).step c.in-Some.feature c.args.resolver.now c.is_supported.new.self c.is_supported.result c.is_supported.ensures.asks) (sym c.sole_feature.ensures ∙ ap (option_map feature_of) c.in-Some.is) there one
 
 pub returns-in-Some-clause-granted : goal.returns-in-Some-clause-granted
-returns-in-Some-clause-granted g c = λ t layout id below.
-    one_granted t layout id c.args.btf_type.now (answers_of c.args.resolver.now.1) below (answers_of c.is_supported.new.self.1) (feature_of c.in-Some.feature) c.is_supported.result
+returns-in-Some-clause-granted g c = λ t given id below.
+    one_granted t given id c.args.btf_type.now (answers_of c.args.resolver.now.1) below (answers_of c.is_supported.new.self.1) (feature_of c.in-Some.feature) c.is_supported.result
     (asks_next (words g.row.F g.F.FnMut).step c.in-Some.feature c.args.resolver.now c.is_supported.new.self c.is_supported.result c.is_supported.ensures.asks) (sym c.sole_feature.ensures ∙ ap (option_map feature_of) c.in-Some.is)
 
 pub returns-in-None-clause-asks : goal.returns-in-None-clause-asks
-returns-in-None-clause-asks g c = λ t layout id there one below.
-    none_asked t layout id c.args.btf_type.now (answers_of c.args.resolver.now.1) below (sym c.sole_feature.ensures ∙ ap (option_map feature_of) c.in-None.is) there one
+returns-in-None-clause-asks g c = λ t given id there one below.
+    none_asked t given id c.args.btf_type.now (answers_of c.args.resolver.now.1) below (sym c.sole_feature.ensures ∙ ap (option_map feature_of) c.in-None.is) there one
 
 pub returns-in-Some-clause-further : goal.returns-in-Some-clause-further
 returns-in-Some-clause-further g c = asks_further (words g.row.F g.F.FnMut).step c.in-Some.feature c.args.resolver.now c.is_supported.new.self c.is_supported.result c.is_supported.ensures.asks

@@ -9,7 +9,7 @@ use Rattle.btf_records.specs.BtfType.{record_of, fallback_of}
 use Rattle.btf_records.specs.declared.btf_type.BtfType.{BtfType}
 use Rattle.btf_rules.specs.Features.{answers_of, Called}
 use Rattle.btf_rules.specs.Layout.{layout_of}
-use Rattle.btf_table.specs.PassStep.{pass_on, IsType, IsHere, IsMade, Passes}
+use Rattle.btf_table.specs.PassStep.{pass_on, under, IsType, IsHere, IsMade, Passes}
 use Rattle.btf_records.specs.declared.btf_type.BtfType.TheVariants.{Unknown}
 use Rattle.btf_plain.proofs.Refused.{handed_on}
 use Rattle.btf_rules.specs.declared.features.FeatureAnswer.{FeatureAnswer}
@@ -19,13 +19,13 @@ use Rattle.btf_table.specs.contracts.sanitize.pass.pass_changes.F-FnMut.{words}
 use Rattle.btf_table.proofs.sanitize.pass.pass_changes.Goals as goal
 
 pub returns-in_err-made-clause-asks : goal.returns-in_err-made-clause-asks
-returns-in_err-made-clause-asks g c = begins_none (pass_on c.args.btf.now (layout_of c.args.sections.now c.args.symbols.now) (answers_of c.args.resolver.now.1)) (ap answers_of c.requires.unasked)
+returns-in_err-made-clause-asks g c = begins_none (pass_on c.args.btf.now (under c.args.policy (layout_of c.args.sections.now c.args.symbols.now)) (answers_of c.args.resolver.now.1)) (ap answers_of c.requires.unasked)
 
 pub loop-id-init : goal.loop-id-init
 loop-id-init g c =
     let t : Table = c.args.btf.now in
     let ts : List BtfType = c.as_slice-types.result.now in
-    let p : Pass = pass_on t (layout_of c.args.sections.now c.args.symbols.now) (answers_of c.args.resolver.now.1) in
+    let p : Pass = pass_on t (under c.args.policy (layout_of c.args.sections.now c.args.symbols.now)) (answers_of c.args.resolver.now.1) in
     let none : c.args.resolver.now.1 ≡ [] = c.requires.unasked in
     let first = c.as_slice-types.ensures.first in
     let some : 0 < length ts = omega (arith, ap length c.as_slice-types.ensures.records, ap length first.1, length-map ts record_of) in
@@ -51,7 +51,7 @@ pub returns-in_err-new_type-clause-asks : goal.returns-in_err-new_type-clause-as
 returns-in_err-new_type-clause-asks g c =
     let t : Table = c.args.btf.now in
     let ts : List BtfType = c.as_slice-types.result.now in
-    let p : Pass = pass_on t (layout_of c.args.sections.now c.args.symbols.now) (answers_of c.loop-id.resolver.1) in
+    let p : Pass = pass_on t (under c.args.policy (layout_of c.args.sections.now c.args.symbols.now)) (answers_of c.loop-id.resolver.1) in
     let id : ℕ = c.loop-id.id in
     let at : IsAt p id = c.loop-id.invariant.2 in
     let made : IsMade p id c.loop-id.made = c.loop-id.invariant.3 in
@@ -59,16 +59,16 @@ returns-in_err-new_type-clause-asks g c =
     let there : IsType t id b = type_there t ts c.as_slice-types.ensures.records c.as_slice-types.ensures.fallbacks id b c.loop-id-test.true c.index-types-id.is in
     let further = c.rewrite.ensures.further in
     let new : List FeatureAnswer = c.rewrite.new.resolver.1 in
-    let here : IsHere (pass_on t (layout_of c.args.sections.now c.args.symbols.now) (answers_of new)) id c.loop-id.made = here_of_made p id c.loop-id.made (answers_of new) (answers_of further.0) (further_answers c.loop-id.resolver.1 new further) at made in
+    let here : IsHere (pass_on t (under c.args.policy (layout_of c.args.sections.now c.args.symbols.now)) (answers_of new)) id c.loop-id.made = here_of_made p id c.loop-id.made (answers_of new) (answers_of further.0) (further_answers c.loop-id.resolver.1 new further) at made in
     let lt : id < length t.records = omega (arith, c.loop-id-test.true, ap length (sym c.as_slice-types.ensures.records), length-map ts record_of) in
-    let asks = c.rewrite.ensures.asks (layout_of c.args.sections.now c.args.symbols.now) id refl there here at.asked in
+    let asks = c.rewrite.ensures.asks (under c.args.policy (layout_of c.args.sections.now c.args.symbols.now)) id refl refl there here at.asked in
     begins_at p id (answers_of new) asks.0 at lt asks.1
 
 pub returns-in_err-new_type-clause-passes : goal.returns-in_err-new_type-clause-passes
 returns-in_err-new_type-clause-passes g c =
     let t : Table = c.args.btf.now in
     let ts : List BtfType = c.as_slice-types.result.now in
-    let p : Pass = pass_on t (layout_of c.args.sections.now c.args.symbols.now) (answers_of c.loop-id.resolver.1) in
+    let p : Pass = pass_on t (under c.args.policy (layout_of c.args.sections.now c.args.symbols.now)) (answers_of c.loop-id.resolver.1) in
     let id : ℕ = c.loop-id.id in
     let at : IsAt p id = c.loop-id.invariant.2 in
     let made : IsMade p id c.loop-id.made = c.loop-id.invariant.3 in
@@ -76,11 +76,11 @@ returns-in_err-new_type-clause-passes g c =
     let there : IsType t id b = type_there t ts c.as_slice-types.ensures.records c.as_slice-types.ensures.fallbacks id b c.loop-id-test.true c.index-types-id.is in
     let further = c.rewrite.ensures.further in
     let new : List FeatureAnswer = c.rewrite.new.resolver.1 in
-    let here : IsHere (pass_on t (layout_of c.args.sections.now c.args.symbols.now) (answers_of new)) id c.loop-id.made = here_of_made p id c.loop-id.made (answers_of new) (answers_of further.0) (further_answers c.loop-id.resolver.1 new further) at made in
+    let here : IsHere (pass_on t (under c.args.policy (layout_of c.args.sections.now c.args.symbols.now)) (answers_of new)) id c.loop-id.made = here_of_made p id c.loop-id.made (answers_of new) (answers_of further.0) (further_answers c.loop-id.resolver.1 new further) at made in
     let lt : id < length t.records = omega (arith, c.loop-id-test.true, ap length (sym c.as_slice-types.ensures.records), length-map ts record_of) in
-    let q : Pass = pass_on t (layout_of c.args.sections.now c.args.symbols.now) (answers_of new) in
+    let q : Pass = pass_on t (under c.args.policy (layout_of c.args.sections.now c.args.symbols.now)) (answers_of new) in
     handed_on (λ c. c) c.in_err-new_type.field-0.0 c.from_residual-in_err-new_type.result (Passes q) c.from_residual-in_err-new_type.ensures.1
-    (IfSome_then _ (c.in_err-new_type.ensures.steps (layout_of c.args.sections.now c.args.symbols.now) id refl refl there at.asked here) (λ refusal s. refused_at p id (answers_of new) refusal lt at s.0 s.1))
+    (IfSome_then _ (c.in_err-new_type.ensures.steps (under c.args.policy (layout_of c.args.sections.now c.args.symbols.now)) id refl refl refl there at.asked here) (λ refusal s. refused_at p id (answers_of new) refusal lt at s.0 s.1))
 
 pub returns-in_err-keep-clause-called : goal.returns-in_err-keep-clause-called
 returns-in_err-keep-clause-called g c = c.rewrite.ensures.called c.args.resolver.now.0 c.loop-id.invariant.1
@@ -89,7 +89,7 @@ pub returns-in_err-keep-clause-asks : goal.returns-in_err-keep-clause-asks
 returns-in_err-keep-clause-asks g c =
     let t : Table = c.args.btf.now in
     let ts : List BtfType = c.as_slice-types.result.now in
-    let p : Pass = pass_on t (layout_of c.args.sections.now c.args.symbols.now) (answers_of c.loop-id.resolver.1) in
+    let p : Pass = pass_on t (under c.args.policy (layout_of c.args.sections.now c.args.symbols.now)) (answers_of c.loop-id.resolver.1) in
     let id : ℕ = c.loop-id.id in
     let at : IsAt p id = c.loop-id.invariant.2 in
     let made : IsMade p id c.loop-id.made = c.loop-id.invariant.3 in
@@ -97,16 +97,16 @@ returns-in_err-keep-clause-asks g c =
     let there : IsType t id b = type_there t ts c.as_slice-types.ensures.records c.as_slice-types.ensures.fallbacks id b c.loop-id-test.true c.index-types-id.is in
     let further = c.rewrite.ensures.further in
     let new : List FeatureAnswer = c.rewrite.new.resolver.1 in
-    let here : IsHere (pass_on t (layout_of c.args.sections.now c.args.symbols.now) (answers_of new)) id c.loop-id.made = here_of_made p id c.loop-id.made (answers_of new) (answers_of further.0) (further_answers c.loop-id.resolver.1 new further) at made in
+    let here : IsHere (pass_on t (under c.args.policy (layout_of c.args.sections.now c.args.symbols.now)) (answers_of new)) id c.loop-id.made = here_of_made p id c.loop-id.made (answers_of new) (answers_of further.0) (further_answers c.loop-id.resolver.1 new further) at made in
     let lt : id < length t.records = omega (arith, c.loop-id-test.true, ap length (sym c.as_slice-types.ensures.records), length-map ts record_of) in
-    let asks = c.rewrite.ensures.asks (layout_of c.args.sections.now c.args.symbols.now) id refl there here at.asked in
+    let asks = c.rewrite.ensures.asks (under c.args.policy (layout_of c.args.sections.now c.args.symbols.now)) id refl refl there here at.asked in
     begins_at p id (answers_of new) asks.0 at lt asks.1
 
 pub loop-id-preserved : goal.loop-id-preserved
 loop-id-preserved g c =
     let t : Table = c.args.btf.now in
     let ts : List BtfType = c.as_slice-types.result.now in
-    let p : Pass = pass_on t (layout_of c.args.sections.now c.args.symbols.now) (answers_of c.loop-id.resolver.1) in
+    let p : Pass = pass_on t (under c.args.policy (layout_of c.args.sections.now c.args.symbols.now)) (answers_of c.loop-id.resolver.1) in
     let id : ℕ = c.loop-id.id in
     let at : IsAt p id = c.loop-id.invariant.2 in
     let made : IsMade p id c.loop-id.made = c.loop-id.invariant.3 in
@@ -114,12 +114,12 @@ loop-id-preserved g c =
     let there : IsType t id b = type_there t ts c.as_slice-types.ensures.records c.as_slice-types.ensures.fallbacks id b c.loop-id-test.true c.index-types-id.is in
     let further = c.rewrite.ensures.further in
     let new : List FeatureAnswer = c.rewrite.new.resolver.1 in
-    let here : IsHere (pass_on t (layout_of c.args.sections.now c.args.symbols.now) (answers_of new)) id c.loop-id.made = here_of_made p id c.loop-id.made (answers_of new) (answers_of further.0) (further_answers c.loop-id.resolver.1 new further) at made in
+    let here : IsHere (pass_on t (under c.args.policy (layout_of c.args.sections.now c.args.symbols.now)) (answers_of new)) id c.loop-id.made = here_of_made p id c.loop-id.made (answers_of new) (answers_of further.0) (further_answers c.loop-id.resolver.1 new further) at made in
     let lt : id < length t.records = omega (arith, c.loop-id-test.true, ap length (sym c.as_slice-types.ensures.records), length-map ts record_of) in
     let low : 0 < id = omega (arith, c.loop-id.auto.id) in
     let o : Option BtfType = c.in_ok-new_type.new_type in
     let next = steps_on p id new b (unwrap_or o b) o c.loop-id.made c.rewrite.new.self c.keep.new.self low at made there refl
-    (c.in_ok-new_type.ensures.steps (layout_of c.args.sections.now c.args.symbols.now) id refl refl there at.asked here)
+    (c.in_ok-new_type.ensures.steps (under c.args.policy (layout_of c.args.sections.now c.args.symbols.now)) id refl refl refl there at.asked here)
     (record {
       types = c.in_ok-keep.ensures.types;
       names = c.in_ok-keep.ensures.names;
@@ -129,7 +129,7 @@ loop-id-preserved g c =
       placeholder = c.keep.ensures.placeholder;
       filler = c.keep.ensures.filler;
     }) c.in_ok-keep.ensures.kind in
-    let q : Pass = pass_on t (layout_of c.args.sections.now c.args.symbols.now) (answers_of new) in
+    let q : Pass = pass_on t (under c.args.policy (layout_of c.args.sections.now c.args.symbols.now)) (answers_of new) in
     let one_on : suc id ≡ id + 1 = omega arith in
     (c.rewrite.ensures.callable, c.rewrite.ensures.called c.args.resolver.now.0 c.loop-id.invariant.1, subst (IsAt q) one_on next.0, subst (λ n. IsMade q n c.keep.new.self) one_on next.1)
 
@@ -137,7 +137,7 @@ pub returns-clause-asks : goal.returns-clause-asks
 returns-clause-asks g c =
     let t : Table = c.args.btf.now in
     let ts : List BtfType = c.as_slice-types.result.now in
-    let p : Pass = pass_on t (layout_of c.args.sections.now c.args.symbols.now) (answers_of c.loop-id.resolver.1) in
+    let p : Pass = pass_on t (under c.args.policy (layout_of c.args.sections.now c.args.symbols.now)) (answers_of c.loop-id.resolver.1) in
     let id : ℕ = c.loop-id.id in
     let at : IsAt p id = c.loop-id.invariant.2 in
     let made : IsMade p id c.loop-id.made = c.loop-id.invariant.3 in
@@ -148,7 +148,7 @@ pub returns-clause-passes : goal.returns-clause-passes
 returns-clause-passes g c =
     let t : Table = c.args.btf.now in
     let ts : List BtfType = c.as_slice-types.result.now in
-    let p : Pass = pass_on t (layout_of c.args.sections.now c.args.symbols.now) (answers_of c.loop-id.resolver.1) in
+    let p : Pass = pass_on t (under c.args.policy (layout_of c.args.sections.now c.args.symbols.now)) (answers_of c.loop-id.resolver.1) in
     let id : ℕ = c.loop-id.id in
     let at : IsAt p id = c.loop-id.invariant.2 in
     let made : IsMade p id c.loop-id.made = c.loop-id.invariant.3 in

@@ -20,8 +20,8 @@ use Rattle.btf_table.proofs.SectionRules.{filler_is, filler_fault, growth_fault,
 use Rattle.btf_table.proofs.sanitize.made.Made.filled.Goals as goal
 
 pub returns-in_err-filler : goal.returns-in_err-filler
-returns-in_err-filler c = λ layout answers id r before n fills known.
-    let p : Pass = pass_on c.args.btf.now layout answers in
+returns-in_err-filler c = λ given answers id r before n fills known.
+    let p : Pass = pass_on c.args.btf.now given answers in
     elim c.args.self.now.filler as (λ (o : Option ℕ). c.args.self.now.filler ≡ o → Answers (λ new. unwrap_or new (DataSec r)) c.from_residual.result (Rules p id (DataSec r) before c.filler.new.self)) [
       | None ↦ λ none.
           handed_on (λ new. unwrap_or new (DataSec r)) c.in_err-filler.field-0.0 c.from_residual.result (Rules p id (DataSec r) before c.filler.new.self) c.from_residual.ensures.1
@@ -30,8 +30,8 @@ returns-in_err-filler c = λ layout answers id r before n fills known.
     ] refl
 
 pub returns-in_err-record_fits : goal.returns-in_err-record_fits
-returns-in_err-record_fits c = λ layout answers id r before n fills known.
-    let p : Pass = pass_on c.args.btf.now layout answers in
+returns-in_err-record_fits c = λ given answers id r before n fills known.
+    let p : Pass = pass_on c.args.btf.now given answers in
     let number : ℕ = c.in_ok-filler.filler in
     let has = filler_is p id r c.args.name_offset before c.args.self.now n fills c.filler.new.self number
     (λ k some. (same_ok {E = BtfError} k number (sym (c.filler.ensures.there k some).0 ∙ c.in_ok-filler.was), (c.filler.ensures.there k some).1))
@@ -43,8 +43,8 @@ returns-in_err-record_fits c = λ layout answers id r before n fills known.
     (growth_fault p id r c.args.name_offset before c.args.self.now n fills c.args.size known c.filler.new.self number has told.0 (checked_err _ _ told.0 told.2)))
 
 pub returns : goal.returns
-returns c = λ layout answers id r before n fills known.
-    let p : Pass = pass_on c.args.btf.now layout answers in
+returns c = λ given answers id r before n fills known.
+    let p : Pass = pass_on c.args.btf.now given answers in
     let number : ℕ = c.in_ok-filler.filler in
     let has = filler_is p id r c.args.name_offset before c.args.self.now n fills c.filler.new.self number
     (λ k some. (same_ok {E = BtfError} k number (sym (c.filler.ensures.there k some).0 ∙ c.in_ok-filler.was), (c.filler.ensures.there k some).1))

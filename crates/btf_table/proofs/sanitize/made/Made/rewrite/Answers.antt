@@ -5,7 +5,7 @@ use Rattle.btf_plain.specs.Error.{Answers}
 use Rattle.btf_records.specs.BtfType.{record_of}
 use Rattle.btf_records.specs.declared.btf_type.BtfType.{BtfType}
 use Rattle.btf_rules.specs.Features.{answers_of}
-use Rattle.btf_table.specs.PassStep.{pass_on, IsType, AsksUpTo, Steps, Rules}
+use Rattle.btf_table.specs.PassStep.{Given, pass_on, IsType, AsksUpTo, Steps, Rules}
 use Rattle.btf_rules.specs.SoleFeature.{asks_one}
 use Rattle.btf_table.proofs.PassOne.{one_type}
 use Rattle.btf_plain.proofs.Refused.{with_fact}
@@ -13,10 +13,10 @@ use Rattle.btf_table.proofs.sanitize.made.Made.rewrite.Given.{Over}
 use Rattle.btf_table.proofs.sanitize.made.Made.rewrite.Goals as goal
 
 pub returns-in-Func-clause-steps : goal.returns-in-Func-clause-steps
-returns-in-Func-clause-steps g c = λ layout id sections symbols there below here.
+returns-in-Func-clause-steps g c = λ given id policy sections symbols there below here.
     subst (λ (b : BtfType). IsType c.args.btf.now id b
-    → Answers (λ new. unwrap_or new b) c.rewrite_func.result (Steps (pass_on c.args.btf.now layout (answers_of c.args.resolver.now.1)) id c.rewrite_func.new.resolver.1 b c.args.self.now c.args.self.now)) (sym c.in-Func.is)
-    (λ is. c.rewrite_func.ensures.steps layout id c.args.self.now is below here) there
+    → Answers (λ new. unwrap_or new b) c.rewrite_func.result (Steps (pass_on c.args.btf.now given (answers_of c.args.resolver.now.1)) id c.rewrite_func.new.resolver.1 b c.args.self.now c.args.self.now)) (sym c.in-Func.is)
+    (λ is. c.rewrite_func.ensures.steps given id c.args.self.now is below here) there
 
 one : (g : Over) (c : goal.After-rewrite_by g) → asks_one (kind_of (record_of c.args.btf_type.now).info) ≡ true
 one g c = ap (λ i. asks_one (kind_of i)) (sym c.info.ensures.value) ∙ ap asks_one c.info.ensures.kind ∙ one_type c.args.btf_type.now c.in_default.not-Func c.in_default.not-DataSec
@@ -26,10 +26,10 @@ returns-in_default g c = record {
   callable = c.has_sole_feature-granted.ensures.callable;
   called = c.has_sole_feature-granted.ensures.called;
   further = c.has_sole_feature-granted.ensures.further;
-  asks = λ layout id sections there here below. ([], c.has_sole_feature-granted.ensures.asks c.args.btf.now layout id there (one g c) below);
-  steps = λ layout id sections symbols there below here.
-      with_fact (λ new. unwrap_or new c.args.btf_type.now) c.rewrite_by.result (AsksUpTo (pass_on c.args.btf.now layout (answers_of c.args.resolver.now.1)) id (answers_of c.has_sole_feature-granted.new.resolver.1) [])
-      (Rules (pass_on c.args.btf.now layout (answers_of c.has_sole_feature-granted.new.resolver.1)) id c.args.btf_type.now c.args.self.now c.rewrite_by.new.self)
-      (c.has_sole_feature-granted.ensures.asks c.args.btf.now layout id there (one g c) below)
-      (c.rewrite_by.ensures layout (answers_of c.has_sole_feature-granted.new.resolver.1) id there here (one g c) (c.has_sole_feature-granted.ensures.granted c.args.btf.now layout id below));
+  asks = λ given id policy sections there here below. ([], c.has_sole_feature-granted.ensures.asks c.args.btf.now given id there (one g c) below);
+  steps = λ given id policy sections symbols there below here.
+      with_fact (λ new. unwrap_or new c.args.btf_type.now) c.rewrite_by.result (AsksUpTo (pass_on c.args.btf.now given (answers_of c.args.resolver.now.1)) id (answers_of c.has_sole_feature-granted.new.resolver.1) [])
+      (Rules (pass_on c.args.btf.now given (answers_of c.has_sole_feature-granted.new.resolver.1)) id c.args.btf_type.now c.args.self.now c.rewrite_by.new.self)
+      (c.has_sole_feature-granted.ensures.asks c.args.btf.now given id there (one g c) below)
+      (c.rewrite_by.ensures given (answers_of c.has_sole_feature-granted.new.resolver.1) id there here (one g c) (c.has_sole_feature-granted.ensures.granted c.args.btf.now given id below));
 }

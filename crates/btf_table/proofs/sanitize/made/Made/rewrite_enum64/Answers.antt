@@ -16,8 +16,8 @@ use Rattle.btf_table.proofs.PassRules.{HasPlaceholder, placeholder_there, placeh
 use Rattle.btf_table.proofs.sanitize.made.Made.rewrite_enum64.Goals as goal
 
 pub returns-in_err-member_type : goal.returns-in_err-member_type
-returns-in_err-member_type c = λ layout answers id there here denied.
-    let p : Pass = pass_on c.args.btf.now layout answers in
+returns-in_err-member_type c = λ given answers id there here denied.
+    let p : Pass = pass_on c.args.btf.now given answers in
     let kind = ap kind_of (sym c.info.ensures.value) ∙ c.info.ensures.kind in
     elim c.args.self.now.placeholder as (λ (o : Option ℕ). c.args.self.now.placeholder ≡ o → Answers (λ new. new) c.from_residual.result (Rules p id (Enum64 c.args.enum64.now) c.args.self.now c.placeholder.new.self)) [
       | None ↦ λ none.
@@ -27,8 +27,8 @@ returns-in_err-member_type c = λ layout answers id there here denied.
     ] refl
 
 pub returns : goal.returns
-returns c = λ layout answers id there here denied.
-    let p : Pass = pass_on c.args.btf.now layout answers in
+returns c = λ given answers id there here denied.
+    let p : Pass = pass_on c.args.btf.now given answers in
     let kind = ap kind_of (sym c.info.ensures.value) ∙ c.info.ensures.kind in
     let b : BtfType = Enum64 c.args.enum64.now in
     let wants = wants_one p id b there kind denied in

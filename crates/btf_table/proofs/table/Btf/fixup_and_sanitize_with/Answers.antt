@@ -1,0 +1,113 @@
+use Rattle.std.proofs.Common.{IfSome, ◌≡◌, Option, None, Some, Ok, Err, List, refl, sym, ap, subst, ◌∙◌}
+use Rattle.std.proofs.lemmas.Option.{IfSome_then}
+use Rattle.std.specs.Prelude.{OnOk}
+use Rattle.btf_model.specs.Table.{Table}
+use Rattle.btf_rewrite_model.specs.Ksyms as model
+use Rattle.btf_rewrite_model.specs.Ksyms.{ksyms_table, ksyms_fault}
+use Rattle.btf_rewrite_model.specs.Rewritten.{begun, pass_with}
+use Rattle.btf_plain.specs.Error.{refusal_of}
+use Rattle.btf_rules.specs.Features.{answers_of, policy_of}
+use Rattle.btf_table.specs.KsymsStep.{ksyms_ids}
+use Rattle.btf_rules.specs.Layout.{layout_of}
+use Rattle.btf_table.specs.PassStep.{Given, under}
+use Rattle.btf_table.specs.Rewrites.{ids_of, RewritesWith, NeedsAreGrantedWith, KeepsSizes, KeepsResolutions, AppendsAtMost}
+use Rattle.btf_table.specs.declared.sanitize.KsymsIds.{KsymsIds}
+use Rattle.btf_rules.specs.declared.features.FeatureAnswer.{FeatureAnswer}
+use Rattle.btf_table.proofs.PassAsking.{begins_none}
+use Rattle.btf_table.proofs.Rewriting.{stepped_by, rewrites_by, granted_of, sizes_of, resolutions_of, appended_of, on_ok}
+use Rattle.btf_table.proofs.table.Btf.fixup_and_sanitize_with.Goals as goal
+
+pub returns-in_default-clause-granted : goal.returns-in_default-clause-granted
+returns-in_default-clause-granted g c =
+    let old : Table = c.args.self.now in
+    let given : Given = under c.args.policy (layout_of c.args.sections.now c.args.symbols.now) in
+    let is : c.args.ksyms ≡ None = c.in_default.is in
+    let answers = answers_of c.sanitize.new.resolver.1 in
+    let rewrites = rewrites_by (λ a. a.items) c.sanitize.result old old c.sanitize.new.self None given answers refl refl c.sanitize.ensures.sanitizes in
+    subst (λ (k : Option KsymsIds). OnOk c.sanitize.result (NeedsAreGrantedWith given.policy old (ids_of k) answers c.sanitize.new.self)) (sym is) (on_ok (λ a. a.items) c.sanitize.result (RewritesWith given.policy old None given.layout answers c.sanitize.new.self) (NeedsAreGrantedWith given.policy old None answers c.sanitize.new.self) rewrites (λ y h. granted_of old c.sanitize.new.self None given answers y h))
+
+pub returns-in_default-clause-sizes : goal.returns-in_default-clause-sizes
+returns-in_default-clause-sizes g c =
+    let old : Table = c.args.self.now in
+    let given : Given = under c.args.policy (layout_of c.args.sections.now c.args.symbols.now) in
+    let is : c.args.ksyms ≡ None = c.in_default.is in
+    let answers = answers_of c.sanitize.new.resolver.1 in
+    let rewrites = rewrites_by (λ a. a.items) c.sanitize.result old old c.sanitize.new.self None given answers refl refl c.sanitize.ensures.sanitizes in
+    on_ok (λ a. a.items) c.sanitize.result (RewritesWith given.policy old None given.layout answers c.sanitize.new.self) (KeepsSizes old c.sanitize.new.self) rewrites (λ y h. sizes_of old c.sanitize.new.self None given answers y h)
+
+pub returns-in_default-clause-resolutions : goal.returns-in_default-clause-resolutions
+returns-in_default-clause-resolutions g c =
+    let old : Table = c.args.self.now in
+    let given : Given = under c.args.policy (layout_of c.args.sections.now c.args.symbols.now) in
+    let is : c.args.ksyms ≡ None = c.in_default.is in
+    let answers = answers_of c.sanitize.new.resolver.1 in
+    let rewrites = rewrites_by (λ a. a.items) c.sanitize.result old old c.sanitize.new.self None given answers refl refl c.sanitize.ensures.sanitizes in
+    on_ok (λ a. a.items) c.sanitize.result (RewritesWith given.policy old None given.layout answers c.sanitize.new.self) (KeepsResolutions old c.sanitize.new.self) rewrites (λ y h. resolutions_of old c.sanitize.new.self None given answers y h)
+
+pub returns-in_default-clause-appended : goal.returns-in_default-clause-appended
+returns-in_default-clause-appended g c =
+    let old : Table = c.args.self.now in
+    let given : Given = under c.args.policy (layout_of c.args.sections.now c.args.symbols.now) in
+    let answers = answers_of c.sanitize.new.resolver.1 in
+    let rewrites = rewrites_by (λ a. a.items) c.sanitize.result old old c.sanitize.new.self None given answers refl refl c.sanitize.ensures.sanitizes in
+    on_ok (λ a. a.items) c.sanitize.result (RewritesWith given.policy old None given.layout answers c.sanitize.new.self) (AppendsAtMost 4 old c.sanitize.new.self) rewrites (λ y h. appended_of old c.sanitize.new.self None given answers y h)
+
+pub returns-in_err-changes-clause-asked : goal.returns-in_err-changes-clause-asked
+returns-in_err-changes-clause-asked g c = begins_none (pass_with (policy_of c.args.policy) c.args.self.now (ids_of c.args.ksyms) (layout_of c.args.sections.now c.args.symbols.now) (answers_of c.args.resolver.now.1)) (ap answers_of c.requires.unasked)
+
+pub returns-in_err-undo-clause-asked : goal.returns-in_err-undo-clause-asked
+returns-in_err-undo-clause-asked g c = begins_none (pass_with (policy_of c.args.policy) c.args.self.now (ids_of c.args.ksyms) (layout_of c.args.sections.now c.args.symbols.now) (answers_of c.args.resolver.now.1)) (ap answers_of c.requires.unasked)
+
+pub returns-in-Ok-clause-granted : goal.returns-in-Ok-clause-granted
+returns-in-Ok-clause-granted g c =
+    let old : Table = c.args.self.now in
+    let given : Given = under c.args.policy (layout_of c.args.sections.now c.args.symbols.now) in
+    let ids : model.KsymsIds = ksyms_ids c.in-Some.ids.datasec_id c.in-Some.ids.placeholder_id in
+    let there : c.apply.new.self ≡ begun old (Some ids) = c.in_ok-undo.ensures.ok ∙ c.in_ok-changes.ensures.2 in
+    let answers = answers_of c.sanitize-2.new.resolver.1 in
+    let new : Table = c.sanitize-2.new.self in
+    let h = stepped_by old c.apply.new.self new (Some ids) given answers (Ok c.in-Ok.answers.items) c.in_ok-changes.ensures.0 there c.in-Ok.ensures.sanitizes in
+    subst (λ (k : Option KsymsIds). NeedsAreGrantedWith given.policy old (ids_of k) answers new) (sym c.in-Some.is) (granted_of old new (Some ids) given answers c.in-Ok.answers.items h)
+
+pub returns-in-Ok-clause-sizes : goal.returns-in-Ok-clause-sizes
+returns-in-Ok-clause-sizes g c =
+    let old : Table = c.args.self.now in
+    let given : Given = under c.args.policy (layout_of c.args.sections.now c.args.symbols.now) in
+    let ids : model.KsymsIds = ksyms_ids c.in-Some.ids.datasec_id c.in-Some.ids.placeholder_id in
+    let there : c.apply.new.self ≡ begun old (Some ids) = c.in_ok-undo.ensures.ok ∙ c.in_ok-changes.ensures.2 in
+    let answers = answers_of c.sanitize-2.new.resolver.1 in
+    let new : Table = c.sanitize-2.new.self in
+    let h = stepped_by old c.apply.new.self new (Some ids) given answers (Ok c.in-Ok.answers.items) c.in_ok-changes.ensures.0 there c.in-Ok.ensures.sanitizes in
+    sizes_of old new (Some ids) given answers c.in-Ok.answers.items h
+
+pub returns-in-Ok-clause-resolutions : goal.returns-in-Ok-clause-resolutions
+returns-in-Ok-clause-resolutions g c =
+    let old : Table = c.args.self.now in
+    let given : Given = under c.args.policy (layout_of c.args.sections.now c.args.symbols.now) in
+    let ids : model.KsymsIds = ksyms_ids c.in-Some.ids.datasec_id c.in-Some.ids.placeholder_id in
+    let there : c.apply.new.self ≡ begun old (Some ids) = c.in_ok-undo.ensures.ok ∙ c.in_ok-changes.ensures.2 in
+    let answers = answers_of c.sanitize-2.new.resolver.1 in
+    let new : Table = c.sanitize-2.new.self in
+    let h = stepped_by old c.apply.new.self new (Some ids) given answers (Ok c.in-Ok.answers.items) c.in_ok-changes.ensures.0 there c.in-Ok.ensures.sanitizes in
+    resolutions_of old new (Some ids) given answers c.in-Ok.answers.items h
+
+pub returns-in-Ok-clause-appended : goal.returns-in-Ok-clause-appended
+returns-in-Ok-clause-appended g c =
+    let old : Table = c.args.self.now in
+    let given : Given = under c.args.policy (layout_of c.args.sections.now c.args.symbols.now) in
+    let ids : model.KsymsIds = ksyms_ids c.in-Some.ids.datasec_id c.in-Some.ids.placeholder_id in
+    let there : c.apply.new.self ≡ begun old (Some ids) = c.in_ok-undo.ensures.ok ∙ c.in_ok-changes.ensures.2 in
+    let answers = answers_of c.sanitize-2.new.resolver.1 in
+    let new : Table = c.sanitize-2.new.self in
+    let h = stepped_by old c.apply.new.self new (Some ids) given answers (Ok c.in-Ok.answers.items) c.in_ok-changes.ensures.0 there c.in-Ok.ensures.sanitizes in
+    appended_of old new (Some ids) given answers c.in-Ok.answers.items h
+
+pub returns-in-Err-clause-rewrites : goal.returns-in-Err-clause-rewrites
+returns-in-Err-clause-rewrites g c =
+    let old : Table = c.args.self.now in
+    let given : Given = under c.args.policy (layout_of c.args.sections.now c.args.symbols.now) in
+    let ids : model.KsymsIds = ksyms_ids c.in-Some.ids.datasec_id c.in-Some.ids.placeholder_id in
+    let there : c.apply.new.self ≡ begun old (Some ids) = c.in_ok-undo.ensures.ok ∙ c.in_ok-changes.ensures.2 in
+    let answers = answers_of c.sanitize-2.new.resolver.1 in
+    subst (λ (k : Option KsymsIds). IfSome (refusal_of c.in-Err.error) (λ refusal. RewritesWith {X = List FeatureAnswer} given.policy old (ids_of k) given.layout answers c.undo.new.self (Err refusal))) (sym c.in-Some.is)
+    (IfSome_then _ c.in-Err.ensures.sanitizes (λ refusal s. stepped_by {X = List FeatureAnswer} old c.apply.new.self c.undo.new.self (Some ids) given answers (Err refusal) c.in_ok-changes.ensures.0 there s))
