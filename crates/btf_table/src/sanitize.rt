@@ -222,7 +222,9 @@ pub fn rewrite_bytes<F: FnMut(BtfFeature) -> bool>(
     ensures appended { IfOk result (λ r. OfTables (order_of endianness) «data».now r.0.items (AppendsAtMost 4)) }
 {
     let policy = FillPolicy::KeepSized;
-    rewrite_bytes_with(alloc, data, endianness, sections, symbols, ksyms, policy, resolver)
+    rewrite_bytes_with(
+        alloc, data, endianness, sections, symbols, ksyms, policy, resolver,
+    )
 }
 
 /// The bytes of a table that is parsed, rewritten by `fixup_and_sanitize_with`, and written in its own order, with what the

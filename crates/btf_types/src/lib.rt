@@ -7,5 +7,5 @@ pub use btf_ext::{
     BtfExt, FuncInfo, FuncSecInfo, LineInfo, LineSecInfo, SecInfo, SecInfoIter, bpf_func_info,
     bpf_line_info,
 };
-pub use btf_rules::{BtfFeature, BtfFeatureResolver, FeatureAnswer};
-pub use btf_table::{Btf, BtfStr, KsymsIds, rewrite_bytes};
+pub use btf_rules::{BtfFeature, BtfFeatureResolver, FeatureAnswer, FillPolicy};
+pub use btf_table::{Btf, BtfStr, KsymsIds, rewrite_bytes, rewrite_bytes_with};

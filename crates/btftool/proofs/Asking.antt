@@ -8,12 +8,12 @@ use Rattle.btf_rewrite_model.specs.Ksyms as model
 use Rattle.btf_model.specs.Refusal.{Refusal}
 use Rattle.btf_model.specs.Table.{Table}
 use Rattle.btf_model.specs.Blob.{IsTable, IsRefusal}
-use Rattle.btf_rewrite_model.specs.Rewritten.{Rewritten, IsRefused}
+use Rattle.btf_rewrite_model.specs.Rewritten.{RewrittenWith, IsRefusedWith}
 use Rattle.btf_plain.specs.Endianness.{order_of}
 use Rattle.btf_plain.specs.declared.words.Endianness.{Endianness}
 use Rattle.btf_plain.specs.declared.words.Endianness.TheVariants as orders
 use Rattle.btftool.specs.Saying.{Saying}
-use Rattle.btftool.specs.Sayings.{SayAll, SayIds, layout_said, kernel_said}
+use Rattle.btftool.specs.Sayings.{SayAll, SayIds, layout_said, kernel_said, policy_said}
 use Rattle.btftool.specs.Request.{request_words, request_ids, IsSaid, Requests}
 use Rattle.btftool.specs.declared.request.Request.{Request}
 use Rattle.btftool.specs.declared.line.Line.{Line}
@@ -102,9 +102,9 @@ said_alike a b said alike is = record {
 
 rewrites_alike : (a b : Request) (t : Table) (r : Result Table Refusal) → AreAlike a b → Rewrites a t r → Rewrites b t r
 rewrites_alike a b t (Ok new) alike is =
-    (is.0, said_alike a b is.0 alike is.1, subst (λ (ids : Option model.KsymsIds). Rewritten t ids (layout_said is.0) (kernel_said is.0) new) alike.ids is.2)
+    (is.0, said_alike a b is.0 alike is.1, subst (λ (ids : Option model.KsymsIds). RewrittenWith (policy_said is.0) t ids (layout_said is.0) (kernel_said is.0) new) alike.ids is.2)
 rewrites_alike a b t (Err refusal) alike is =
-    (is.0, said_alike a b is.0 alike is.1, subst (λ (ids : Option model.KsymsIds). IsRefused t ids (layout_said is.0) (kernel_said is.0) refusal) alike.ids is.2)
+    (is.0, said_alike a b is.0 alike is.1, subst (λ (ids : Option model.KsymsIds). IsRefusedWith (policy_said is.0) t ids (layout_said is.0) (kernel_said is.0) refusal) alike.ids is.2)
 
 -- ---- commands of the same words
 

@@ -6,16 +6,16 @@ use Rattle.std.specs.Str.{bytes_eq}
 use Rattle.std.proofs.lemmas.Bool.{false≢true}
 use Rattle.std.proofs.lemmas.Slice.Eq.{bytes_eq-Decides}
 use Rattle.btf_rewrite_model.specs.Feature as features
-use Rattle.btf_rewrite_model.specs.Feature.{Feature, Answer, grants, same_feature, number}
+use Rattle.btf_rewrite_model.specs.Feature.{Feature, Answer, FillPolicy, KeepSized, FillSized, grants, same_feature, number}
 use Rattle.btf_rewrite_model.specs.RewriteLaws.{IsAmong}
 use Rattle.btf_rewrite_model.proofs.Kernels.{AgreeWith}
 use Rattle.btf_rewrite_model.specs.Passing.{features_of}
 use Rattle.btf_types.specs.Features.{feature_of, answers_of, Called}
 use Rattle.btf_rules.specs.declared.features.BtfFeature.{BtfFeature}
 use Rattle.btf_rules.specs.declared.features.FeatureAnswer.{FeatureAnswer}
-use Rattle.btftool.specs.Saying.{Saying, Grants, SectionSize, SymbolOffset, KsymsId, PlaceholderId, Says, feature_word, texts}
-use Rattle.btftool.specs.Sayings.{SayAll, is_grant, kernel_said}
-use Rattle.btftool.specs.Request.{IsSaid, names}
+use Rattle.btftool.specs.Saying.{Saying, Grants, FillsSized, SectionSize, SymbolOffset, KsymsId, PlaceholderId, Says, feature_word, fill_word, texts}
+use Rattle.btftool.specs.Sayings.{SayAll, is_grant, kernel_said, is_fill, policy_said}
+use Rattle.btftool.specs.Request.{IsSaid, names, policy_named}
 use Rattle.btftool.specs.declared.request.Request.{Request}
 use Rattle.btftool.proofs.Told.{feature_told, feature_is}
 
@@ -62,6 +62,7 @@ words_alike f g =
 
 word_grants : (word : List ℕ) (saying : Saying) (f : Feature) → Says word saying → bytes_eq word (feature_word f) ≡ is_grant f saying
 word_grants word (Grants g) f says = ap (λ (w : List ℕ). bytes_eq w (feature_word f)) says ∙ words_alike g f
+word_grants word FillsSized f says = ap (λ (w : List ℕ). bytes_eq w (feature_word f)) says ∙ elim f as (λ (g : Feature). bytes_eq fill_word (feature_word g) ≡ false) [ features.Func ↦ refl | _ ↦ refl ]
 word_grants word (SectionSize name size) f says =
     ap (λ (w : List ℕ). bytes_eq w (feature_word f)) says.1 ∙ elim f as (λ (g : Feature). bytes_eq (codes "section:" ++ says.0) (feature_word g) ≡ false) [ features.Func ↦ refl | _ ↦ refl ]
 word_grants word (SymbolOffset name offset) f says =
@@ -81,6 +82,27 @@ words_grant [] (s ∷ said) f all = absurd all
 words_grant (w ∷ words) [] f all = absurd all
 words_grant (w ∷ words) (s ∷ said) f all =
     ap (λ (b : Bool). b || named_among words f) (word_grants (string_bytes w) s f all.0) ∙ ap (λ (b : Bool). is_grant f s || b) (words_grant words said f all.1)
+
+-- ---- the policy
+
+word_fills : (word : List ℕ) (saying : Saying) → Says word saying → bytes_eq word fill_word ≡ is_fill saying
+word_fills word (Grants g) says = ap (λ (w : List ℕ). bytes_eq w fill_word) says ∙ elim g as (λ (f : Feature). bytes_eq (feature_word f) fill_word ≡ false) [ features.Func ↦ refl | _ ↦ refl ]
+word_fills word FillsSized says = ap (λ (w : List ℕ). bytes_eq w fill_word) says
+word_fills word (SectionSize name size) says = ap (λ (w : List ℕ). bytes_eq w fill_word) says.1
+word_fills word (SymbolOffset name offset) says = ap (λ (w : List ℕ). bytes_eq w fill_word) says.1
+word_fills word (KsymsId id) says = ap (λ (w : List ℕ). bytes_eq w fill_word) says.1
+word_fills word (PlaceholderId id) says = ap (λ (w : List ℕ). bytes_eq w fill_word) says.1
+
+words_fill : (words : List (String Global)) (said : List Saying) → SayAll (texts words) said → list_any (λ (word : String Global). bytes_eq (string_bytes word) fill_word) words ≡ list_any is_fill said
+words_fill [] [] all = refl
+words_fill [] (s ∷ said) all = absurd all
+words_fill (w ∷ words) [] all = absurd all
+words_fill (w ∷ words) (s ∷ said) all =
+    ap (λ (b : Bool). b || list_any (λ (word : String Global). bytes_eq (string_bytes word) fill_word) words) (word_fills (string_bytes w) s all.0) ∙ ap (λ (b : Bool). is_fill s || b) (words_fill words said all.1)
+
+-- the policy of a request is the one that its words say
+pub policy_is : (request : Request) (said : List Saying) → IsSaid request said → policy_named request ≡ policy_said said
+policy_is request said is_said = ap (λ (b : Bool). if b then FillSized else KeepSized) (words_fill request.words.now said is_said.all)
 
 -- ---- the answers of the kernel
 

@@ -6,7 +6,7 @@ use Rattle.std.specs.Str.{bytes_eq}
 use Rattle.std.specs.Str.Parse.{digits_value}
 use Rattle.btf_rewrite_model.specs.Feature as features
 use Rattle.btf_rewrite_model.specs.Feature.{Feature}
-use Rattle.btftool.specs.Saying.{Saying, Grants, SectionSize, SymbolOffset, KsymsId, PlaceholderId, Says, feature_word, IsNamed}
+use Rattle.btftool.specs.Saying.{Saying, Grants, FillsSized, SectionSize, SymbolOffset, KsymsId, PlaceholderId, Says, feature_word, IsNamed}
 use Rattle.btftool.specs.Sayings.{SayAll}
 use Rattle.btftool.proofs.NameEnds.{cut_last, cut_named}
 
@@ -42,7 +42,8 @@ told word =
     if starts_with nat_eq word (codes "section:") then named_told SectionSize (cut_last (drop 8 word))
     else (if starts_with nat_eq word (codes "symbol:") then named_told SymbolOffset (cut_last (drop 7 word))
     else (if starts_with nat_eq word (codes "ksyms:") then KsymsId (digits_value 10 (drop 6 word))
-    else (if starts_with nat_eq word (codes "placeholder:") then PlaceholderId (digits_value 10 (drop 12 word)) else Grants (feature_told word))))
+    else (if starts_with nat_eq word (codes "placeholder:") then PlaceholderId (digits_value 10 (drop 12 word))
+    else (if bytes_eq word (codes "fill-sized") then FillsSized else Grants (feature_told word)))))
 
 feature_word_told : (f : Feature) → told (feature_word f) ≡ Grants (feature_told (feature_word f))
 feature_word_told features.Func = refl
@@ -60,6 +61,7 @@ told_named kind text name n named = ap (named_told kind) (cut_named text name n 
 -- a word tells what it says
 pub told_is : (word : List ℕ) (saying : Saying) → Says word saying → told word ≡ saying
 told_is word (Grants feature) says = ap told says ∙ feature_word_told feature ∙ ap (λ f. Grants f) (feature_is feature)
+told_is word FillsSized says = ap told says
 told_is word (SectionSize name size) says = ap told says.1 ∙ told_named SectionSize says.0 name size says.2
 told_is word (SymbolOffset name offset) says = ap told says.1 ∙ told_named SymbolOffset says.0 name offset says.2
 told_is word (KsymsId id) says = ap told says.1 ∙ ap (λ n. KsymsId n) says.2.1

@@ -7,12 +7,12 @@ use Rattle.btf_model.specs.Blob.{IsTable, IsRefusal, canon}
 use Rattle.btf_model.specs.Walk.{HasSize}
 use Rattle.btf_model.specs.Fields.{Pair}
 use Rattle.btf_model.specs.Compat.{Plain, firsts}
-use Rattle.btf_rewrite_model.specs.Rewritten.{Rewritten, IsRefused}
+use Rattle.btf_rewrite_model.specs.Rewritten.{RewrittenWith, IsRefusedWith}
 use Rattle.btf_types.specs.Pairs.{pair}
 use Rattle.btf_plain.specs.Endianness.{order_of}
 use Rattle.btf_plain.specs.declared.words.Endianness.{Endianness}
 use Rattle.btftool.specs.Saying.{Saying}
-use Rattle.btftool.specs.Sayings.{layout_said, kernel_said}
+use Rattle.btftool.specs.Sayings.{layout_said, kernel_said, policy_said}
 use Rattle.btftool.specs.Request.{request_ids, IsSaid}
 use Rattle.btftool.specs.declared.request.Request.{Request}
 use Rattle.btftool.specs.declared.line.Line.{Line}
@@ -26,10 +26,10 @@ abbrev pub Compares : Table → ℕ → ℕ → Result (Bool × ℕ) Refusal →
 Compares t id other (Ok found) = (starts : List Pair) × Plain t t [] (pair id other) (Ok found.0) starts × (found.1 ≡ length (firsts starts))
 Compares t id other (Err refusal) = (starts : List Pair) × Plain t t [] (pair id other) (Err refusal) starts
 
--- The table is rewritten as the words of a request say, for a kernel that has the features that they grant; or is refused.
+-- The table is rewritten as the words of a request say, for a kernel that has the features that they grant, under the policy that they choose; or is refused.
 abbrev pub Rewrites : Request → Table → Result Table Refusal → Type 0
-Rewrites request t (Ok new) = (said : List Saying) × IsSaid request said × Rewritten t (request_ids request) (layout_said said) (kernel_said said) new
-Rewrites request t (Err refusal) = (said : List Saying) × IsSaid request said × IsRefused t (request_ids request) (layout_said said) (kernel_said said) refusal
+Rewrites request t (Ok new) = (said : List Saying) × IsSaid request said × RewrittenWith (policy_said said) t (request_ids request) (layout_said said) (kernel_said said) new
+Rewrites request t (Err refusal) = (said : List Saying) × IsSaid request said × IsRefusedWith (policy_said said) t (request_ids request) (layout_said said) (kernel_said said) refusal
 
 -- what a command writes of a table
 abbrev pub Writes : Command → Table → List ℕ → Type 0

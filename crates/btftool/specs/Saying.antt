@@ -33,10 +33,16 @@ feature_word features.DeclTag = codes "DeclTag"
 feature_word features.TypeTag = codes "TypeTag"
 feature_word features.Enum64 = codes "Enum64"
 
+-- the word that has DATASECs filled that have a size
+abbrev pub fill_word : List ℕ
+fill_word = codes "fill-sized"
+
 -- what a word can say
 pub data Saying : Type 0 where
   -- the kernel has this feature
   Grants : (feature : Feature) → Saying
+  -- a DATASEC that has a size and no entries gets one, where the kernel takes none without
+  FillsSized : Saying
   -- the section of this name has this size
   SectionSize : (name : List ℕ) (size : ℕ) → Saying
   -- the symbol of this name has this offset
@@ -49,6 +55,7 @@ pub data Saying : Type 0 where
 -- The word says this.
 abbrev pub Says : List ℕ → Saying → Type 0
 Says word (Grants feature) = word ≡ feature_word feature
+Says word FillsSized = word ≡ fill_word
 Says word (SectionSize name size) = (text : List ℕ) × (word ≡ codes "section:" ++ text) × IsNamed text name size
 Says word (SymbolOffset name offset) = (text : List ℕ) × (word ≡ codes "symbol:" ++ text) × IsNamed text name offset
 Says word (KsymsId id) = (text : List ℕ) × (word ≡ codes "ksyms:" ++ text) × IsId text id

@@ -1,13 +1,13 @@
 -- What the words of a rewrite say together.
-use Rattle.std.specs.Prelude.{◌≡◌, ℕ, if◌then◌else◌, Bool, false, List, [], ◌∷◌, map, Option, Some, None}
+use Rattle.std.specs.Prelude.{◌≡◌, ℕ, if◌then◌else◌, Bool, true, false, List, [], ◌∷◌, map, Option, Some, None}
 use Rattle.std.specs.List.{AllZip, filter_map, list_any}
 use Rattle.std.specs.Option.{option_or, option_to_list}
 use Rattle.std.specs.Str.{bytes_eq}
 use Rattle.btf_rewrite_model.specs.Feature as features
-use Rattle.btf_rewrite_model.specs.Feature.{Feature, Answer, same_feature}
+use Rattle.btf_rewrite_model.specs.Feature.{Feature, Answer, FillPolicy, KeepSized, FillSized, same_feature}
 use Rattle.btf_rewrite_model.specs.Ksyms.{KsymsIds}
 use Rattle.btf_rewrite_model.specs.Pass.{Layout}
-use Rattle.btftool.specs.Saying.{Saying, Grants, SectionSize, SymbolOffset, KsymsId, PlaceholderId, Says}
+use Rattle.btftool.specs.Saying.{Saying, Grants, FillsSized, SectionSize, SymbolOffset, KsymsId, PlaceholderId, Says}
 
 -- each word says what stands at its place
 abbrev pub SayAll : List (List ℕ) → List Saying → Type 0
@@ -29,6 +29,16 @@ answer_said said f = record { feature = f; granted = list_any (is_grant f) said 
 
 abbrev pub kernel_said : List Saying → List Answer
 kernel_said said = map (answer_said said) all_features
+
+-- ---- the policy
+
+abbrev pub is_fill : Saying → Bool
+is_fill FillsSized = true
+is_fill saying = false
+
+-- DATASECs that have a size are filled if a word says so
+abbrev pub policy_said : List Saying → FillPolicy
+policy_said said = if list_any is_fill said then FillSized else KeepSized
 
 -- ---- the layout
 

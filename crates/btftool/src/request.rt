@@ -2,8 +2,8 @@
 
 ghost use Rattle.std.specs.Prelude.{◌≡◌, ◌↔◌, None, Some, IsSome, OnSome};
 
-use crate::word::{Word, feature_word};
-use btf_types::{BtfFeature, KsymsIds};
+use crate::word::{FILL_SIZED, Word, feature_word};
+use btf_types::{BtfFeature, FillPolicy, KsymsIds};
 
 /// The words of a rewrite, all of which can be read, and the ids of `.ksyms` that they say.
 #[derive(Clone, Copy)]
@@ -26,9 +26,9 @@ fn keep(place: &mut Option<u32>, id: u32) -> Option<()>
 
 impl<'a> Request<'a> {
     ghost use Rattle.std.specs.Prelude.{◌≡◌, IfSome, IfNone};
-    ghost use Rattle.btf_types.specs.Features.{feature_of};
+    ghost use Rattle.btf_types.specs.Features.{feature_of, policy_of};
     ghost use Rattle.btftool.specs.Saying.{texts};
-    ghost use Rattle.btftool.specs.Request.{names, Requests};
+    ghost use Rattle.btftool.specs.Request.{has_word, names, policy_named, Requests};
     ghost use Rattle.btftool.specs.declared.request.Request.{Request};
 
     /// The request that the words make, or None where they can't be read.
@@ -56,11 +56,28 @@ impl<'a> Request<'a> {
         Some(Request { words, ksyms })
     }
 
+    /// Whether one of the words is this.
+    fn has(&self, text: &str) -> bool
+        ensures { result ≡ has_word self.now text.now }
+    {
+        self.words.iter().any(|word| word.as_str() == text)
+    }
+
     /// Whether one of the words grants a feature.
     pub fn grants(&self, feature: BtfFeature) -> bool
         ensures { result ≡ names self.now (feature_of feature) }
     {
-        let granting = feature_word(feature);
-        self.words.iter().any(|word| word.as_str() == granting)
+        self.has(feature_word(feature))
+    }
+
+    /// What the words choose for DATASECs that have a size and no entries.
+    pub fn policy(&self) -> FillPolicy
+        ensures { policy_of result ≡ policy_named self.now }
+    {
+        if self.has(FILL_SIZED) {
+            FillPolicy::FillSized
+        } else {
+            FillPolicy::KeepSized
+        }
     }
 }

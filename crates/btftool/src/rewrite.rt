@@ -12,7 +12,7 @@ ghost use Rattle.btftool.specs.Sayings.{SayAll, last_said, size_said, offset_sai
 use crate::request::Request;
 use crate::word::Word;
 use btf_plain::{BtfError, Endianness, SectionIndex};
-use btf_types::{BtfFeature, BtfFeatureResolver, rewrite_bytes};
+use btf_types::{BtfFeature, BtfFeatureResolver, rewrite_bytes_with};
 use std::alloc::{AllocError, Global};
 use std::collections::HashMap;
 
@@ -89,13 +89,14 @@ pub fn rewritten(
         ensures { result ≡ names request.entry (feature_of feature) }
     { request.grants(feature) };
     let mut resolver = BtfFeatureResolver::new(is_granted);
-    let (bytes, _) = rewrite_bytes(
+    let (bytes, _) = rewrite_bytes_with(
         alloc,
         blob,
         endianness,
         &sections,
         &symbols,
         request.ksyms,
+        request.policy(),
         &mut resolver,
     )?;
     Ok(bytes)

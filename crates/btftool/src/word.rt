@@ -8,11 +8,16 @@ ghost use Rattle.btftool.specs.Saying.{feature_word as word_of, IsNamed};
 use crate::number::{read_id, read_number};
 use btf_types::BtfFeature;
 
+/// The word that has DATASECs filled that have a size.
+pub const FILL_SIZED: &str = "fill-sized";
+
 /// What a word of a rewrite says.
 #[derive(Clone, Copy)]
 pub enum Word<'a> {
     /// The kernel has a feature.
     Grant(BtfFeature),
+    /// DATASECs are filled that have a size and no entries.
+    FillSized,
     /// The size of the section of a name.
     Section { name: &'a str, size: u64 },
     /// The offset of the symbol of a name.
@@ -78,6 +83,9 @@ impl<'a> Word<'a> {
     {
         if let Some(feature) = read_feature(text) {
             return Some(Word::Grant(feature));
+        }
+        if text == FILL_SIZED {
+            return Some(Word::FillSized);
         }
         let (what, rest) = text.split_once(':')?;
         match what {

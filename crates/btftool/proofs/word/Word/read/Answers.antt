@@ -1,5 +1,8 @@
-use Rattle.std.proofs.Common.{◌++◌, ◌∷◌, List, ℕ, Some, ap, ◌∙◌, arith}
+use Rattle.std.proofs.Common.{◌++◌, ◌∷◌, List, ℕ, Some, sym, ap, ◌∙◌, arith}
+use Rattle.std.proofs.lemmas.Bool.{true≢false}
+use Rattle.std.proofs.lemmas.Slice.Eq.{bytes_eq-Decides}
 use Rattle.std.proofs.lemmas.Str.Pattern.{split_parts}
+use Rattle.btftool.specs.Saying.{fill_word}
 use Rattle.btftool.proofs.Colons.{IsCut, says_by, section_unsaid, symbol_unsaid}
 use Rattle.btftool.proofs.word.Word.read.Goals as goal
 
@@ -10,7 +13,7 @@ returns-in_err-name-in-section-clause-none c =
     rw c.from_residual-in_err-name-in-section.ensures
     (λ saying says.
     section_unsaid c.in_ok-what.what.now c.in_ok-what.rest.now c.in-section.is c.in_err-name-in-section.ensures.none saying
-    (says_by c.args.text.now c.in_ok-what.what.now c.in_ok-what.rest.now cut c.in_default.ensures.none saying says))
+    (says_by c.args.text.now c.in_ok-what.what.now c.in_ok-what.rest.now cut c.in_default.ensures.none (λ is. true≢false (sym (c.eq.ensures ∙ (bytes_eq-Decides c.args.text.now fill_word).1 is) ∙ c.if-eq.false)) saying says))
 
 pub returns-in_err-name-in-symbol-clause-none : goal.returns-in_err-name-in-symbol-clause-none
 returns-in_err-name-in-symbol-clause-none c =
@@ -19,7 +22,7 @@ returns-in_err-name-in-symbol-clause-none c =
     rw c.from_residual-in_err-name-in-symbol.ensures
     (λ saying says.
     symbol_unsaid c.in_ok-what.what.now c.in_ok-what.rest.now c.in-symbol.is c.in_err-name-in-symbol.ensures.none saying
-    (says_by c.args.text.now c.in_ok-what.what.now c.in_ok-what.rest.now cut c.in_default.ensures.none saying says))
+    (says_by c.args.text.now c.in_ok-what.what.now c.in_ok-what.rest.now cut c.in_default.ensures.none (λ is. true≢false (sym (c.eq.ensures ∙ (bytes_eq-Decides c.args.text.now fill_word).1 is) ∙ c.if-eq.false)) saying says))
 
 pub returns-in_ok-name-in-section-clause-some : goal.returns-in_ok-name-in-section-clause-some
 returns-in_ok-name-in-section-clause-some c =
