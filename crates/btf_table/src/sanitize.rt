@@ -1,15 +1,13 @@
 //! Rewriting a table for a kernel that lacks some features.
 
 mod data_sec;
-mod enums;
-mod functions;
+mod enumeration64;
+mod func;
+mod func_proto;
 mod ksyms;
 mod made;
 mod pass;
 mod plain;
-mod prototypes;
-mod section_names;
-mod sections;
 
 ghost use Rattle.std.specs.Prelude.{◌≡◌, ℕ, List, [], Option, Some, OnOk, OnErr, IfOk, slice_get};
 ghost use Rattle.btf_rewrite_model.specs.Feature.{Feature, needs};

@@ -1,5 +1,9 @@
 //! The rule of a DATASEC.
 
+mod entries;
+pub mod filler;
+mod name;
+
 ghost use Rattle.std.specs.Prelude.{◌≡◌, ◌==◌, ℕ, List, [], ◌∷◌, length, map, not, true, false, None, Some, Ok, IfOk};
 ghost use Rattle.std.specs.List.{flat_map};
 ghost use Rattle.std.specs.Option.{unwrap_or};
@@ -23,9 +27,9 @@ ghost use Rattle.btf_rules.specs.Layout.{sizes_of, offsets_of};
 ghost use Rattle.btf_table.specs.PassStep.{Given, pass_on, IsType, IsHere, AsksUpTo, Steps, Rules};
 ghost use Rattle.btf_table.specs.SectionStep.{HasNewName, final_size, is_fillable, asks_zero};
 
+use crate::sanitize::data_sec::entries::{members, placed_entries};
+use crate::sanitize::data_sec::name::new_name;
 use crate::sanitize::made::Made;
-use crate::sanitize::section_names::new_name;
-use crate::sanitize::sections::{members, placed_entries};
 use crate::table::{Btf, record_fits};
 use btf_plain::{BtfError, SectionIndex};
 use btf_records::{BtfType, DataSec, DataSecEntry, Struct};

@@ -16,7 +16,7 @@ ghost use Rattle.btf_rules.specs.SoleFeature as step;
 ghost use Rattle.btf_table.specs.PassStep.{Given, pass_on, under, IsType, IsHere, AsksUpTo, Steps, Passes, BeginsAsked};
 ghost use Rattle.btf_rules.specs.SoleFeature.{asks_one, IsGranted};
 
-use crate::sanitize::functions::rewrite_func;
+use crate::sanitize::func::rewrite_func;
 use crate::sanitize::made::Made;
 use crate::table::{Btf, Changes};
 use btf_plain::{BtfError, SectionIndex};

@@ -15,8 +15,8 @@ ghost use Rattle.btf_rules.specs.SoleFeature as step;
 ghost use Rattle.btf_table.specs.PassStep.{Given, IsHere, Rules};
 ghost use Rattle.btf_rules.specs.SoleFeature.{IsGranted};
 
+use crate::sanitize::func_proto::with_param_names;
 use crate::sanitize::made::Made;
-use crate::sanitize::prototypes::with_param_names;
 use crate::table::Btf;
 use btf_plain::{BtfError, Const, Int, IntEncoding, Ptr};
 use btf_records::{BtfType, Enum64, FuncProto, Struct};

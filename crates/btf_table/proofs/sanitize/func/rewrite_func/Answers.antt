@@ -13,8 +13,8 @@ use Rattle.btf_records.specs.declared.btf_type.BtfType.TheVariants.{Func, Typede
 use Rattle.btf_rules.specs.declared.features.BtfFeature.TheVariants as asked
 use Rattle.btf_table.proofs.PassAsking.{asks_called, asks_next, asks_further, further_then, further_none}
 use Rattle.btf_table.proofs.FuncRules.{func_denied, func_static, func_stays, none_asked, one_granted, one_asked, both_asked, linkage_global, linkage_other, and_first, and_second, and_third, not_if, changes_if, changes_else, stays_if}
-use Rattle.btf_table.specs.contracts.sanitize.functions.rewrite_func.F-FnMut.{words}
-use Rattle.btf_table.proofs.sanitize.functions.rewrite_func.Goals as goal
+use Rattle.btf_table.specs.contracts.sanitize.func.rewrite_func.F-FnMut.{words}
+use Rattle.btf_table.proofs.sanitize.func.rewrite_func.Goals as goal
 
 pub returns-in_err-name-clause-asks : goal.returns-in_err-name-clause-asks
 returns-in_err-name-clause-asks g c = λ given id there below. none_asked c.args.btf.now given id (answers_of c.args.resolver.now.1) below

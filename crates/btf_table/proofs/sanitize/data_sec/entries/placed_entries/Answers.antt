@@ -12,7 +12,7 @@ use Rattle.btf_table.specs.KsymsStep.{entry}
 use Rattle.btf_rules.proofs.Checks.{checked_err, checked_ok}
 use Rattle.btf_plain.proofs.Refused.{handed_on}
 use Rattle.btf_table.proofs.SectionItems.{one_more_passes, this_one_faults, one_more_maps, all_entries}
-use Rattle.btf_table.proofs.sanitize.sections.placed_entries.Goals as goal
+use Rattle.btf_table.proofs.sanitize.data_sec.entries.placed_entries.Goals as goal
 
 pub returns-in_err-placed_entry-clause-answer : goal.returns-in_err-placed_entry-clause-answer
 returns-in_err-placed_entry-clause-answer c = λ p same symbols.

@@ -1,4 +1,4 @@
-//! DATASECs in a rewrite: what becomes of their entries, and the entry that an empty one gets.
+//! What becomes of a DATASEC's entries.
 
 ghost use Rattle.std.specs.Prelude.{◌≡◌, ◌+◌, List, [], ◌∷◌, length, map, IfOk, OnOk, Some, Ok};
 ghost use Rattle.std.specs.List.{flat_map};
@@ -22,11 +22,6 @@ use btf_records::{BtfMember, BtfType, DataSec, DataSecEntry};
 use btf_rules::known_offset;
 use std::alloc::Global;
 use std::collections::HashMap;
-
-/// The names of the filler's INT and of its VAR.
-const FILLER_TYPE: &str = "__aya_datasec_filler_type";
-
-const FILLER: &str = "__aya_datasec_filler";
 
 /// The member that an entry becomes, of its type, at the bit of its offset. `names` are the string offsets of the names
 /// that all lower ids have by now; a later id has the name of the table.
@@ -65,26 +60,6 @@ pub fn members(btf: &Btf, names: &[u32], data_sec: &DataSec) -> Result<Vec<BtfMe
         members.push(member(btf, names, entry)?)?;
     }
     Ok(members)
-}
-
-/// Appends the filler, which a DATASEC without entries gets: an INT of one byte and a Static VAR of it, each with a text for
-/// its name. Answers the id of the VAR.
-///
-/// `InvalidStringOffset` and `InvalidTypeInfo` where strings or types have no room.
-pub fn append_filler(btf: &Btf, changes: &mut Changes) -> Result<u32, BtfError>
-    requires { HasRoom btf.now changes.old }
-    ensures answer { Gives (λ id. id) result (checked
-        (first_fault (has_room (strings_end btf.now changes.old) filler_type_text ∷ fits changes.old.type_len (record_len (byte_int 0))
-        ∷ has_room (strings_end btf.now changes.old + length filler_type_text + 1) filler_text ∷ fits (changes.old.type_len + record_len (byte_int 0)) (record_len (static_var 0 0)) ∷ []))
-        (next_id btf.now changes.old + 1)) }
-    ensures adds { OnOk result (Adds btf.now changes.old changes.new (filler_type_text ∷ filler_text ∷ []) (filler (strings_end btf.now changes.old) (next_id btf.now changes.old))) }
-{
-    let type_name = changes.append_text(btf, FILLER_TYPE)?;
-    let int = Int::new(type_name, 1, IntEncoding::None, 0);
-    let int_id = changes.append_type(btf, BtfType::Int(int))?;
-    let name = changes.append_text(btf, FILLER)?;
-    let var = Var::new(name, int_id, VarLinkage::Static);
-    changes.append_type(btf, BtfType::Var(var))
 }
 
 /// The entry of a variable, at the offset of its symbol; as it is, where the variable is Static.

@@ -13,7 +13,7 @@ use Rattle.btf_rules.specs.Checked.{checked}
 use Rattle.btf_rules.proofs.Checks.{checked_err, checked_ok}
 use Rattle.btf_plain.proofs.Refused.{handed_on}
 use Rattle.btf_table.proofs.SectionItems.{one_more_passes, this_one_faults, one_more_becomes, all_entries}
-use Rattle.btf_table.proofs.sanitize.sections.members.Goals as goal
+use Rattle.btf_table.proofs.sanitize.data_sec.entries.members.Goals as goal
 
 pub returns-in_err-member-clause-answer : goal.returns-in_err-member-clause-answer
 returns-in_err-member-clause-answer c = λ p lower same names.

@@ -15,7 +15,7 @@ use Rattle.btf_table.proofs.Adding.{adds_then}
 use Rattle.btf_rules.proofs.Checks.{checked_ok, checked_err}
 use Rattle.btf_table.proofs.Prototypes.{at, texts_to, end_after, room_next, room_fault, texts_next, named_next}
 use Rattle.btf_plain.proofs.Refused.{handed_on}
-use Rattle.btf_table.proofs.sanitize.prototypes.with_param_names.Goals as goal
+use Rattle.btf_table.proofs.sanitize.func_proto.with_param_names.Goals as goal
 
 pub returns-in_err-name_offset-clause-answer : goal.returns-in_err-name_offset-clause-answer
 returns-in_err-name_offset-clause-answer c =

@@ -7,7 +7,7 @@ use Rattle.btf_rewrite_model.specs.Rule.{entry_members}
 use Rattle.btf_rewrite_model.specs.Fault.{member_checks}
 use Rattle.btf_records.specs.Items.{member_words}
 use Rattle.btf_table.specs.KsymsStep.{entry}
-use Rattle.btf_table.proofs.sanitize.sections.members.Given as goal
+use Rattle.btf_table.proofs.sanitize.data_sec.entries.members.Given as goal
 
 abbrev pub invariant-loop-entry : goal.invariant-loop-entry
 invariant-loop-entry l =

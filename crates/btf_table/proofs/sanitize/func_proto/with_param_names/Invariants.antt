@@ -2,7 +2,7 @@ use Rattle.std.proofs.Common.{◌≡◌, [], None}
 use Rattle.btf_rewrite_model.specs.Checks.{first_fault, have_room}
 use Rattle.btf_table.specs.Adding.{strings_end, Adds}
 use Rattle.btf_table.proofs.Prototypes.{texts_to, named_to}
-use Rattle.btf_table.proofs.sanitize.prototypes.with_param_names.Given as goal
+use Rattle.btf_table.proofs.sanitize.func_proto.with_param_names.Given as goal
 
 abbrev pub invariant-loop-index : goal.invariant-loop-index
 invariant-loop-index l =

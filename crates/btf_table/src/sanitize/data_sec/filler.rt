@@ -1,0 +1,38 @@
+//! The entry that an empty DATASEC gets.
+
+ghost use Rattle.std.specs.Prelude.{◌≡◌, ◌+◌, [], ◌∷◌, length, OnOk};
+ghost use Rattle.btf_rewrite_model.specs.Made.{byte_int, static_var};
+ghost use Rattle.btf_rewrite_model.specs.Checks.{first_fault, has_room, fits, record_len};
+ghost use Rattle.btf_rewrite_model.specs.Pass.{filler_type_text, filler_text, filler};
+ghost use Rattle.btf_plain.specs.Error.{Gives};
+ghost use Rattle.btf_table.specs.Adding.{strings_end, next_id, HasRoom, Adds};
+ghost use Rattle.btf_rules.specs.Checked.{checked};
+
+use crate::table::{Btf, Changes};
+use btf_plain::{BtfError, Int, IntEncoding, Var, VarLinkage};
+use btf_records::BtfType;
+
+/// The names of the filler's INT and of its VAR.
+const FILLER_TYPE: &str = "__aya_datasec_filler_type";
+
+const FILLER: &str = "__aya_datasec_filler";
+
+/// Appends the filler, which a DATASEC without entries gets: an INT of one byte and a Static VAR of it, each with a text for
+/// its name. Answers the id of the VAR.
+///
+/// `InvalidStringOffset` and `InvalidTypeInfo` where strings or types have no room.
+pub fn append_filler(btf: &Btf, changes: &mut Changes) -> Result<u32, BtfError>
+    requires { HasRoom btf.now changes.old }
+    ensures answer { Gives (λ id. id) result (checked
+        (first_fault (has_room (strings_end btf.now changes.old) filler_type_text ∷ fits changes.old.type_len (record_len (byte_int 0))
+        ∷ has_room (strings_end btf.now changes.old + length filler_type_text + 1) filler_text ∷ fits (changes.old.type_len + record_len (byte_int 0)) (record_len (static_var 0 0)) ∷ []))
+        (next_id btf.now changes.old + 1)) }
+    ensures adds { OnOk result (Adds btf.now changes.old changes.new (filler_type_text ∷ filler_text ∷ []) (filler (strings_end btf.now changes.old) (next_id btf.now changes.old))) }
+{
+    let type_name = changes.append_text(btf, FILLER_TYPE)?;
+    let int = Int::new(type_name, 1, IntEncoding::None, 0);
+    let int_id = changes.append_type(btf, BtfType::Int(int))?;
+    let name = changes.append_text(btf, FILLER)?;
+    let var = Var::new(name, int_id, VarLinkage::Static);
+    changes.append_type(btf, BtfType::Var(var))
+}
