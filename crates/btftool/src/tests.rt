@@ -1,5 +1,6 @@
 //! Runs of the program: statuses, what is written, and the texts.
 
+mod filling;
 mod rewrite;
 mod rewrite_lines;
 

@@ -5,6 +5,8 @@
 #[cfg(test)]
 mod bytes;
 #[cfg(test)]
+mod filling;
+#[cfg(test)]
 mod kernel;
 #[cfg(test)]
 mod ksyms;

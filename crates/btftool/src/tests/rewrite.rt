@@ -35,7 +35,7 @@ const COMPLETED: &str =
     "little rewrite Func FuncGlobal DataSec section:license=4 symbol:_license=0";
 
 /// The status of a line over a blob, and what is written on standard output.
-fn written(alloc: Global, line: &str, blob: &[u8]) -> Result<(u8, Vec<u8>), Fail> {
+pub fn written(alloc: Global, line: &str, blob: &[u8]) -> Result<(u8, Vec<u8>), Fail> {
     let mut input = blob;
     let mut out = Vec::new(alloc);
     let mut err = Vec::new(alloc);

@@ -18,7 +18,7 @@ const READABLE: [&str; 10] = [
     "little rewrite section:größe=1 symbol:大小=2",
 ];
 
-const UNREADABLE: [&str; 42] = [
+const UNREADABLE: [&str; 46] = [
     "little rewrite ",
     "little rewrite  Func",
     "little rewrite func",
@@ -55,6 +55,10 @@ const UNREADABLE: [&str; 42] = [
     "little rewrite ksyms:4294967296",
     "little rewrite Ksyms:5",
     "little rewrite ksyms:5 ksyms:5",
+    "little rewrite fill-sized:",
+    "little rewrite fill-size",
+    "little rewrite Fill-sized",
+    "little rewrite fill-sized=1",
     "little rewrite placeholder:1",
     "little rewrite placeholder:1 Func",
     "little rewrite ksyms:5 placeholder:+1",
