@@ -8,9 +8,7 @@ use Rattle.btf_model.specs.Refusal.{Refusal}
 use Rattle.btf_model.specs.Blob.{slice, word_at}
 use Rattle.btf_model.specs.Ext.{Header, Range, Part, Section, Named, Ext, HasHeader, HasPart, IsSection, AreNamed, AreSections, IsExt, ext_of, records_named, relocation_section, sections_of}
 use Rattle.btf_ext.specs.SecInfo.{section_of}
-use Rattle.btf_ext.specs.NamedSection.{named}
 use Rattle.btf_ext.specs.declared.ext.sections.SecInfo.{SecInfo}
-use Rattle.btf_ext.specs.declared.ext.read.NamedSection.{NamedSection}
 
 -- the parts that the header names
 pub record HasParts (order : Order) (bytes : List ℕ) (h : Header) (func line core : Part) : Type 0 where
@@ -44,10 +42,6 @@ whole_ext order bytes strings h func line core funcs lines relocations e p a b c
     (h, p.header, (func, p.func_part, (line, p.line_part, (core, p.core_part, (funcs, a, (lines, b, (relocations, c, ap (λ (x : Ext). Ok x) (same_ext e (ext_of order func funcs line lines core relocations) q r s t u))))))))
 
 -- where there are sections, records have a byte
-pub some_named : (size : ℕ) (items : List NamedSection) → AllByRecursion (IsSection size) (sections_of (map named items)) → 0 < length items → 0 < size
-some_named size [] h lt = absurd (omega (arith, lt))
-some_named size (x ∷ xs) h lt = h.0.some_byte
-
 pub some_sections : (size : ℕ) (items : List SecInfo) → AllByRecursion (IsSection size) (map section_of items) → 0 < length items → 0 < size
 some_sections size [] h lt = absurd (omega (arith, lt))
 some_sections size (x ∷ xs) h lt = h.0.some_byte

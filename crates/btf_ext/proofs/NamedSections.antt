@@ -1,5 +1,5 @@
 -- Putting the sections of a program into a map under their names.
-use Rattle.std.proofs.Common.{◌≡◌, ℕ, zero, suc, ◌<◌, Bool, true, false, cond, List, [], ◌∷◌, ◌++◌, length, get_or, Option, Some, None, refl, sym, ap, subst, ◌∙◌, arith, Global}
+use Rattle.std.proofs.Common.{◌≡◌, ℕ, zero, suc, ◌<◌, Bool, true, false, cond, List, [], ◌∷◌, ◌++◌, length, get_or, Option, Some, None, Ok, refl, sym, ap, subst, ◌∙◌, arith, Global}
 use Rattle.std.specs.Prelude.{map, filter, option_map, string_bytes}
 use Rattle.std.specs.List.{AllByRecursion, last_or}
 use Rattle.std.specs.HashMap as hash
@@ -10,12 +10,14 @@ use Rattle.std.specs.declared.string.String.{String}
 use Rattle.std.proofs.lemmas.List.{append-nil, map-append}
 use Rattle.std.proofs.lemmas.List.Elements.{filter-append}
 use Rattle.std.proofs.lemmas.Map.Text.{hash_map_updates_text}
-use Rattle.btf_model.specs.Ext.{Section, Named, Records, IsSection, section_named, sections_of}
-use Rattle.btf_ext.specs.SecInfo.{section_of}
-use Rattle.btf_ext.specs.NamedSection.{named}
+use Rattle.btf_model.specs.Ext.{Section, SectionBytes, Part, Named, Records, IsSection, HaveNames, instruction_records, records_named, section_named, sections_of}
+use Rattle.btf_model.specs.Text.{text_at}
+use Rattle.btf_model.specs.Word.{Order}
+use Rattle.btf_ext.specs.Info.{AreByName}
+use Rattle.btf_ext.specs.SecInfo.{section_of, GivesSection}
 use Rattle.btf_ext.specs.declared.ext.sections.SecInfo.{SecInfo}
-use Rattle.btf_ext.specs.declared.ext.read.NamedSection.{NamedSection}
 use Rattle.btf_ext.proofs.Copies.{eq_flips}
+use Rattle.btf_ext.proofs.Parts.{CutSoFar, cut_one, cut_all}
 
 last_or-push : {A : Type 0} (o : Option A) (xs : List A) (x : A) → last_or o (xs ++ x ∷ []) ≡ Some x
 last_or-push o [] x = refl
@@ -35,22 +37,52 @@ put : {X : Type 0} (view : X → Records) (read : Section → Records) (b : Bool
 put view read true x old s before is h = ap (λ r. Some r) is
 put view read false x old s before is h = h
 
--- one more section under its name
-pub named_section_put : {X S : Type 0} (view : X → Records) (read : Section → Records) (old new : HashMap (String Global) X S) (items more : List NamedSection) (n : NamedSection) (k : String Global) (x : X)
-    → ((q : List ℕ) → option_map view (get_by_text old q) ≡ option_map read (section_named (map named items) q)) → string_bytes k ≡ string_bytes n.name → view x ≡ read (section_of n.section) → hash.Updates string_eq old new k (Some x) → more ≡ items ++ n ∷ []
-    → (q : List ℕ) → option_map view (get_by_text new q) ≡ option_map read (section_named (map named more) q)
-named_section_put view read old new items more n k x h same is updates more-is q =
-    ap (option_map view)
-    (hash_map_updates_text (string_bytes k) old new (Some x) updates q ∙ ap (λ (t : List ℕ). cond (bytes_eq t q) (Some x) (get_by_text old q)) same
-    ∙ ap (λ (b : Bool). cond b (Some x) (get_by_text old q)) (eq_flips (string_bytes n.name) q (bytes_eq (string_bytes n.name) q) (bytes_eq q (string_bytes n.name)) refl refl))
-    ∙ put view read (bytes_eq q (string_bytes n.name)) x (get_by_text old q) (section_of n.section) (section_named (map named items) q) is (h q)
-    ∙ ap (option_map read) (sym (section_named-push (map named items) (named n) q) ∙ ap (λ ns. section_named ns q) (sym (map-append named items (n ∷ []))) ∙ ap (λ (xs : List NamedSection). section_named (map named xs) q) (sym more-is))
+-- What was read of the named sections of a part: those that the bytes begin with, and the records under their names.
+pub record ReadSoFar (order : Order) (width : ℕ) (strings : List ℕ) (p : Part) (rest : SectionBytes) (found : List ℕ → Option Records) : Type 0 where
+  pub names : List Named
+  pub cut : CutSoFar order p.size p.bytes (sections_of names) rest
+  pub have : HaveNames strings names
+  pub by_name : (q : List ℕ) → found q ≡ records_named order width p names q
 
--- each is a section
-pub section_of_each : (size : ℕ) (items : List NamedSection) (i : ℕ) (n : NamedSection) → AllByRecursion (IsSection size) (sections_of (map named items)) → i < length items → n ≡ get_or items i n → IsSection size (section_of n.section)
-section_of_each size [] i n h lt is = absurd (omega arith)
-section_of_each size (x ∷ xs) zero n h lt is = subst (λ (y : NamedSection). IsSection size (section_of y.section)) (sym is) h.0
-section_of_each size (x ∷ xs) (suc i) n h lt is = section_of_each size xs i n h.1 (omega (arith, lt)) is
+-- before the first
+pub none_read : (order : Order) (width : ℕ) (strings : List ℕ) (p : Part) (rest : SectionBytes) (found : List ℕ → Option Records) → rest ≡ record { order = order; size = p.size; bytes = p.bytes } → ((q : List ℕ) → found q ≡ None) → ReadSoFar order width strings p rest found
+none_read order width strings p rest found is none = record {
+  names = [];
+  cut = record { order_is = ap (λ (r : SectionBytes). r.order) is; size_is = ap (λ (r : SectionBytes). r.size) is; begins = (tt, sym (ap (λ (r : SectionBytes). r.bytes) is)) };
+  have = tt;
+  by_name = none;
+}
+
+have_more : (strings : List ℕ) (ns : List Named) (n : Named) → HaveNames strings ns → text_at strings n.section.name ≡ Ok n.text → HaveNames strings (ns ++ n ∷ [])
+have_more strings [] n have is = (is, tt)
+have_more strings (m ∷ ns) n have is = (have.0, have_more strings ns n have.1 is)
+
+-- one more section under its name
+pub one_more : {X S : Type 0} (view : X → Records) (order : Order) (width : ℕ) (strings : List ℕ) (p : Part) (rest next : SectionBytes) (s : SecInfo) (old new : HashMap (String Global) X S) (k : String Global) (x : X)
+    → ReadSoFar order width strings p rest (λ q. option_map view (get_by_text old q)) → GivesSection rest (Some (Ok s)) next → text_at strings s.name_offset ≡ Ok (string_bytes k) → view x ≡ instruction_records order p.size width (section_of s)
+    → hash.Updates string_eq old new k (Some x) → ReadSoFar order width strings p next (λ q. option_map view (get_by_text new q))
+one_more view order width strings p rest next s old new k x h gives text is updates =
+    let n : Named = record { text = string_bytes k; section = section_of s } in
+    let text_of : List ℕ = string_bytes k in
+    record {
+      names = h.names ++ n ∷ [];
+      cut = subst (λ (ss : List Section). CutSoFar order p.size p.bytes ss next) (sym (map-append (λ (m : Named). m.section) h.names (n ∷ []))) (cut_one order p.size p.bytes (sections_of h.names) rest next s h.cut gives);
+      have = have_more strings h.names n h.have text;
+      by_name = λ q.
+          ap (option_map view)
+          (hash_map_updates_text text_of old new (Some x) updates q
+          ∙ ap (λ (b : Bool). cond b (Some x) (get_by_text old q)) (eq_flips text_of q (bytes_eq text_of q) (bytes_eq q text_of) refl refl))
+          ∙ put view (instruction_records order p.size width) (bytes_eq q text_of) x (get_by_text old q) (section_of s) (section_named h.names q) is (h.by_name q)
+          ∙ ap (option_map (instruction_records order p.size width)) (sym (section_named-push h.names n q));
+    }
+
+-- all are read
+pub all_read : (order : Order) (width : ℕ) (strings : List ℕ) (p : Part) (rest : SectionBytes) (found : List ℕ → Option Records) → ReadSoFar order width strings p rest found → rest.bytes ≡ [] → AreByName order width strings p (Ok found)
+all_read order width strings p rest found h done = (h.names, (cut_all order p.size p.bytes (sections_of h.names) rest h.cut done, h.have), h.by_name)
+
+-- a section that was read is one, and its records have a byte
+pub section_read : (order : Order) (width : ℕ) (strings : List ℕ) (p : Part) (rest next : SectionBytes) (found : List ℕ → Option Records) (s : SecInfo) → ReadSoFar order width strings p rest found → GivesSection rest (Some (Ok s)) next → IsSection p.size (section_of s)
+section_read order width strings p rest next found s h gives = subst (λ (n : ℕ). IsSection n (section_of s)) h.cut.size_is gives.0
 
 pub each_section : (size : ℕ) (items : List SecInfo) (i : ℕ) (d : SecInfo) → AllByRecursion (IsSection size) (map section_of items) → i < length items → IsSection size (section_of (get_or items i d))
 each_section size [] i d h lt = absurd (omega arith)

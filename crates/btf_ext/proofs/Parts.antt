@@ -10,9 +10,7 @@ use Rattle.btf_model.proofs.Sections.{begins_push, sections_from_none}
 use Rattle.btf_plain.specs.declared.error.BtfError.{BtfError}
 use Rattle.btf_plain.specs.Error.{refusal_of}
 use Rattle.btf_ext.specs.SecInfo.{section_of, GivesSection}
-use Rattle.btf_ext.specs.NamedSection.{named}
 use Rattle.btf_ext.specs.declared.ext.sections.SecInfo.{SecInfo}
-use Rattle.btf_ext.specs.declared.ext.read.NamedSection.{NamedSection}
 use Rattle.btf_plain.proofs.Refused.{known_refusal}
 
 -- the bytes up to the rest are these sections
@@ -63,16 +61,3 @@ pub unnamed_refused : (order : Order) (size : ℕ) (strings bytes : List ℕ) (n
     → IfSome (refusal_of e) (λ f. AreNamed order size strings bytes (Err f))
 unnamed_refused order size strings bytes names rest next s e h have g is =
     IfSome_then (refusal_of e) is (λ f at. (names, have, inl (section_of s, next.bytes, (cut_one order size bytes (sections_of names) rest next s h g).begins, sym at)))
-
--- one more named section
-pub named_one : (order : Order) (size : ℕ) (strings bytes : List ℕ) (items more : List NamedSection) (n : NamedSection) (rest next : SectionBytes) → CutSoFar order size bytes (sections_of (map named items)) rest → GivesSection rest (Some (Ok n.section)) next → more ≡ items ++ n ∷ [] → CutSoFar order size bytes (sections_of (map named more)) next
-named_one order size strings bytes items more n rest next h g is =
-    let mapped : sections_of (map named items) ++ section_of n.section ∷ [] ≡ sections_of (map named more) = sym (ap (λ (xs : List NamedSection). sections_of (map named xs)) is ∙ ap sections_of (map-append named items (n ∷ [])) ∙ map-append (λ (x : Named). x.section) (map named items) (named n ∷ [])) in
-    subst (λ (ss : List Section). CutSoFar order size bytes ss next) mapped (cut_one order size bytes (sections_of (map named items)) rest next n.section h g)
-
-pub names_one : (strings : List ℕ) (items more : List NamedSection) (n : NamedSection) → HaveNames strings (map named items) → text_at strings n.section.name_offset ≡ Ok (string_bytes n.name) → more ≡ items ++ n ∷ [] → HaveNames strings (map named more)
-names_one strings items more n h is more-is = subst (λ (xs : List NamedSection). HaveNames strings (map named xs)) (sym more-is) (push items h)
-  where
-    push : (xs : List NamedSection) → HaveNames strings (map named xs) → HaveNames strings (map named (xs ++ n ∷ []))
-    push [] p = (is, tt)
-    push (x ∷ xs) p = (p.0, push xs p.1)

@@ -2,7 +2,7 @@
 use Rattle.std.specs.Prelude.{map}
 use Rattle.btf_model.specs.Ext.{Ext}
 use Rattle.btf_ext.specs.Info.{funcs_by_name, lines_by_name}
-use Rattle.btf_ext.specs.NamedSection.{relocation}
+use Rattle.btf_ext.specs.Relocation.{relocation}
 use Rattle.btf_ext.specs.declared.ext.BtfExt.{BtfExt}
 
 abbrev pub ext : BtfExt → Ext

@@ -1,7 +1,9 @@
 -- Function and line records as the definitions have them.
-use Rattle.std.specs.Prelude.{ℕ, List, [], ◌∷◌, map, option_map, Option}
+use Rattle.std.specs.Prelude.{◌≡◌, ℕ, List, [], ◌∷◌, map, option_map, Option, Result, Ok, Err}
 use Rattle.std.specs.HashMap.{get_by_text}
-use Rattle.btf_model.specs.Ext.{Records}
+use Rattle.btf_model.specs.Ext.{Part, Named, Records, AreNamed, records_named}
+use Rattle.btf_model.specs.Refusal.{Refusal}
+use Rattle.btf_model.specs.Word.{Order}
 use Rattle.btf_ext.specs.declared.info.func.bpf_func_info.{bpf_func_info}
 use Rattle.btf_ext.specs.declared.info.func.FuncSecInfo.{FuncSecInfo}
 use Rattle.btf_ext.specs.declared.info.func.FuncInfo.{FuncInfo}
@@ -27,3 +29,9 @@ line_records s = record { count = s.num_info; words = map line_words s.line_info
 
 abbrev pub lines_by_name : LineInfo → List ℕ → Option Records
 lines_by_name f name = option_map line_records (get_by_text f.sections name)
+
+-- What reading the named sections of a part answers: the records under each name, of so many words each, or why the sections are refused.
+abbrev pub AreByName : Order → ℕ → List ℕ → Part → Result (List ℕ → Option Records) Refusal → Type 0
+AreByName order width strings p (Ok found) =
+    (sections : List Named) × AreNamed order p.size strings p.bytes (Ok sections) × ((name : List ℕ) → found name ≡ records_named order width p sections name)
+AreByName order width strings p (Err refusal) = AreNamed order p.size strings p.bytes (Err refusal)

@@ -1,7 +1,7 @@
 pub mod SecInfo
 pub mod Info
 pub mod ExtHeader
-pub mod NamedSection
+pub mod Relocation
 pub mod BtfExt
 pub use Rattle.btf_model.specs.Ext
 pub use Rattle.btf_plain.specs.Error

@@ -1,6 +1,6 @@
 //! The `.BTF.ext` section: function, line and relocation records of the sections of a program.
 
-mod header;
+pub mod header;
 pub mod read;
 mod sections;
 
@@ -9,10 +9,10 @@ ghost use Rattle.btf_model.specs.Ext.{IsExt};
 ghost use Rattle.btf_plain.specs.Error.{Answers, Gives};
 ghost use Rattle.btf_plain.specs.Endianness.{order_of};
 ghost use Rattle.btf_ext.specs.Info.{funcs_by_name, lines_by_name};
-ghost use Rattle.btf_ext.specs.NamedSection.{relocation};
+ghost use Rattle.btf_ext.specs.Relocation.{relocation};
 
 use crate::ext::header::Header;
-use crate::ext::read::{clone_relocations, read_named, read_relocations, read_sections};
+use crate::ext::read::{clone_relocations, read_relocations, read_sections};
 pub use crate::ext::sections::{SecInfo, SecInfoIter};
 use crate::info::{FuncInfo, LineInfo};
 use btf_plain::{BtfError, Endianness};
@@ -49,14 +49,14 @@ impl BtfExt {
         let func = header.func.read(data, endianness)?;
         let line = header.line.read(data, endianness)?;
         let core = header.core.read(data, endianness)?;
-        let funcs = read_named(alloc, &func, endianness, btf)?;
-        let lines = read_named(alloc, &line, endianness, btf)?;
+        let func_info = FuncInfo::read(alloc, &func, endianness, btf)?;
+        let line_info = LineInfo::read(alloc, &line, endianness, btf)?;
         let relocations = read_sections(alloc, &core, endianness)?;
         Ok(BtfExt {
             func_info_rec_size: func.rec_size,
-            func_info: FuncInfo::read(alloc, &funcs, func.rec_size, endianness)?,
+            func_info,
             line_info_rec_size: line.rec_size,
-            line_info: LineInfo::read(alloc, &lines, line.rec_size, endianness)?,
+            line_info,
             relocations: read_relocations(alloc, &relocations, core.rec_size, endianness)?,
         })
     }

@@ -1,13 +1,13 @@
-//! All sections of a part, with the texts of their names or without.
+//! Names of sections, and the sections of relocation records.
 
 ghost use Rattle.std.specs.Prelude.{◌≡◌, ◌<◌, ◌≤◌, length, map, string_bytes, IfOk};
 ghost use Rattle.std.specs.List.{AllByRecursion};
-ghost use Rattle.btf_model.specs.Ext.{AreNamed, AreSections, IsSection, relocation_section};
+ghost use Rattle.btf_model.specs.Ext.{AreSections, IsSection, relocation_section};
 ghost use Rattle.btf_model.specs.Text.{text_at};
 ghost use Rattle.btf_plain.specs.Error.{Answers, Gives};
 ghost use Rattle.btf_plain.specs.Endianness.{order_of};
 ghost use Rattle.btf_ext.specs.SecInfo.{section_of};
-ghost use Rattle.btf_ext.specs.NamedSection.{named, relocation};
+ghost use Rattle.btf_ext.specs.Relocation.{relocation};
 
 use crate::ext::header::Part;
 use crate::ext::sections::{SecInfo, SecInfoIter};
@@ -16,39 +16,14 @@ use btf_plain::{BtfError, Endianness};
 use btf_table::{Btf, BtfStr};
 use std::alloc::{AllocError, Global};
 
-/// A section and the text of its name.
-#[derive(Drop)]
-pub struct NamedSection<'a> {
-    pub name: String,
-    pub section: SecInfo<'a>,
-}
-
-/// The text at a string offset, in memory of its own.
-fn name_at(alloc: Global, btf: &Btf, offset: u32) -> Result<String, BtfError>
+/// The text at a string offset, in memory of its own. `InvalidStringOffset` where it can't be read.
+pub fn name_at(alloc: Global, btf: &Btf, offset: u32) -> Result<String, BtfError>
     ensures { Gives string_bytes result (text_at btf.now.strings offset) }
 {
     match btf.string_at(offset)? {
         BtfStr::Borrowed(text) => Ok(text.to_string(alloc)?),
         BtfStr::Owned(text) => Ok(text),
     }
-}
-
-/// The sections of a part, in order, each with its name, which is read as its section is met.
-pub fn read_named<'a>(
-    alloc: Global,
-    part: &Part<'a>,
-    endianness: Endianness,
-    btf: &Btf,
-) -> Result<Vec<NamedSection<'a>>, BtfError>
-    ensures { Answers (λ v. map named v.items) result (AreNamed (order_of endianness) part.now.rec_size btf.now.strings part.now.sections.now) }
-{
-    let mut named = Vec::new(alloc);
-    for section in SecInfoIter::new(part.sections, part.rec_size, endianness) {
-        let section = section?;
-        let name = name_at(alloc, btf, section.name_offset)?;
-        named.push(NamedSection { name, section })?;
-    }
-    Ok(named)
 }
 
 /// The sections of a part, in order.

@@ -3,17 +3,19 @@
 ghost use Rattle.std.specs.Prelude.{◌≡◌, ℕ, ◌<◌, ◌≤◌, List, length, map, option_map, None, Ok, IfOk, unwrap_or};
 ghost use Rattle.std.specs.List.{AllByRecursion};
 ghost use Rattle.btf_model.specs.Ext.{IsSection, instruction_records, little_bytes, no_records, section_named, sections_of};
-ghost use Rattle.btf_plain.specs.Error.{Gives};
+ghost use Rattle.btf_plain.specs.Error.{Answers, Gives};
 ghost use Rattle.btf_plain.specs.Endianness.{order_of};
 ghost use Rattle.btf_ext.specs.SecInfo.{section_of};
-ghost use Rattle.btf_ext.specs.NamedSection.{named};
-ghost use Rattle.btf_ext.specs.Info.{func_words, func_records, funcs_by_name};
+ghost use Rattle.btf_ext.specs.ExtHeader.{part as part_of};
+ghost use Rattle.btf_ext.specs.Info.{func_words, func_records, funcs_by_name, AreByName};
 
-use crate::ext::SecInfo;
-use crate::ext::read::NamedSection;
+use crate::ext::header::Part;
+use crate::ext::read::name_at;
+use crate::ext::{SecInfo, SecInfoIter};
 use crate::info::records::{INSTRUCTION_LEN, Record, read_records};
 use crate::words::{push_little, split_word};
 use btf_plain::{BtfError, Endianness};
+use btf_table::Btf;
 use std::alloc::{AllocError, Global};
 use std::collections::HashMap;
 
@@ -133,22 +135,26 @@ impl FuncInfo {
         }
     }
 
-    /// The records of sections, of so many bytes each, under the names of the sections. Of a name the last section
-    /// counts.
+    /// The records of a part's sections, each put under the name of its section as that is met. Of a name the last
+    /// section counts.
+    ///
+    /// Of each section in turn: `InvalidInfo` as `SecInfoIter` has it, and `InvalidStringOffset` where its name can't be
+    /// read.
     pub(crate) fn read(
         alloc: Global,
-        sections: &[NamedSection<'_>],
-        rec_size: usize,
+        part: &Part<'_>,
         endianness: Endianness,
-    ) -> Result<Self, AllocError>
-        requires whole { AllByRecursion (IsSection rec_size) (sections_of (map named sections.now)) }
-        requires wide { 0 < length sections.now → 8 ≤ rec_size }
-        ensures { IfOk result (λ f. (name : List ℕ) → funcs_by_name f name ≡ option_map (instruction_records (order_of endianness) rec_size 2) (section_named (map named sections.now) name)) }
+        btf: &Btf,
+    ) -> Result<Self, BtfError>
+        requires { 0 < part.now.rec_size → 8 ≤ part.now.rec_size }
+        ensures { Answers funcs_by_name result (AreByName (order_of endianness) 2 btf.now.strings (part_of part.now)) }
     {
         let mut info = Self::new(alloc);
-        for named in sections {
-            let section = FuncSecInfo::read(alloc, &named.section, rec_size, endianness)?;
-            info.sections.insert(named.name.clone()?, section)?;
+        for section in SecInfoIter::new(part.sections, part.rec_size, endianness) {
+            let section = section?;
+            let name = name_at(alloc, btf, section.name_offset)?;
+            let records = FuncSecInfo::read(alloc, &section, part.rec_size, endianness)?;
+            info.sections.insert(name, records)?;
         }
         Ok(info)
     }

@@ -7,11 +7,9 @@ use Rattle.btf_plain.specs.Error.{refusal_of}
 use Rattle.btf_ext.specs.BtfExt.{ext}
 use Rattle.btf_ext.specs.ExtHeader.{header, range, part}
 use Rattle.btf_ext.specs.Info.{funcs_by_name, lines_by_name}
-use Rattle.btf_ext.specs.NamedSection.{named}
 use Rattle.btf_ext.specs.SecInfo.{section_of}
 use Rattle.btf_ext.specs.declared.ext.sections.SecInfo.{SecInfo}
-use Rattle.btf_ext.specs.declared.ext.read.NamedSection.{NamedSection}
-use Rattle.btf_ext.proofs.Exts.{HasParts, line_refused, core_refused, funcs_refused, lines_refused, relocations_refused, whole_ext, some_named, some_sections, wide_part}
+use Rattle.btf_ext.proofs.Exts.{HasParts, line_refused, core_refused, funcs_refused, lines_refused, relocations_refused, whole_ext, some_sections, wide_part}
 use Rattle.btf_plain.proofs.Refused.{handed_on, known_refusal}
 use Rattle.btf_ext.proofs.ext.BtfExt.parse.Goals as goal
 
@@ -27,54 +25,52 @@ returns-in_err-core c =
     (known_refusal c.in_err-core.field-0.0 c.in_err-core.ensures.0 (λ f. IsExt (order_of c.args.endianness) c.args.data.now c.args.btf.now.strings (Err f)) c.in_err-core.ensures.1
     (core_refused (order_of c.args.endianness) c.args.data.now c.args.btf.now.strings (header c.in_ok-header.header) (part c.in_ok-func.func) (part c.in_ok-line.line) c.in_err-core.ensures.0 c.in_ok-header.ensures c.in_ok-func.ensures c.in_ok-line.ensures c.in_err-core.ensures.2))
 
-pub returns-in_err-funcs : goal.returns-in_err-funcs
-returns-in_err-funcs c =
+pub returns-in_err-func_info : goal.returns-in_err-func_info
+returns-in_err-func_info c =
     let parts : HasParts (order_of c.args.endianness) c.args.data.now (header c.in_ok-header.header) (part c.in_ok-func.func) (part c.in_ok-line.line) (part c.in_ok-core.core) = record { header = c.in_ok-header.ensures; func_part = c.in_ok-func.ensures; line_part = c.in_ok-line.ensures; core_part = c.in_ok-core.ensures } in
-    handed_on ext c.in_err-funcs.field-0.0 c.from_residual-in_err-funcs.result (IsExt (order_of c.args.endianness) c.args.data.now c.args.btf.now.strings) c.from_residual-in_err-funcs.ensures.1
-    (IfSome_then (refusal_of c.in_err-funcs.field-0.0) c.in_err-funcs.ensures (λ f e.
+    handed_on ext c.in_err-func_info.field-0.0 c.from_residual-in_err-func_info.result (IsExt (order_of c.args.endianness) c.args.data.now c.args.btf.now.strings) c.from_residual-in_err-func_info.ensures.1
+    (IfSome_then (refusal_of c.in_err-func_info.field-0.0) c.in_err-func_info.ensures (λ f e.
     funcs_refused (order_of c.args.endianness) c.args.data.now c.args.btf.now.strings (header c.in_ok-header.header) (part c.in_ok-func.func) (part c.in_ok-line.line) (part c.in_ok-core.core) f parts e))
 
-pub returns-in_err-lines : goal.returns-in_err-lines
-returns-in_err-lines c =
+pub returns-in_err-line_info : goal.returns-in_err-line_info
+returns-in_err-line_info c =
     let parts : HasParts (order_of c.args.endianness) c.args.data.now (header c.in_ok-header.header) (part c.in_ok-func.func) (part c.in_ok-line.line) (part c.in_ok-core.core) = record { header = c.in_ok-header.ensures; func_part = c.in_ok-func.ensures; line_part = c.in_ok-line.ensures; core_part = c.in_ok-core.ensures } in
-    handed_on ext c.in_err-lines.field-0.0 c.from_residual-in_err-lines.result (IsExt (order_of c.args.endianness) c.args.data.now c.args.btf.now.strings) c.from_residual-in_err-lines.ensures.1
-    (IfSome_then (refusal_of c.in_err-lines.field-0.0) c.in_err-lines.ensures (λ f e.
-    lines_refused (order_of c.args.endianness) c.args.data.now c.args.btf.now.strings (header c.in_ok-header.header) (part c.in_ok-func.func) (part c.in_ok-line.line) (part c.in_ok-core.core) (map named c.in_ok-funcs.funcs.items) f parts c.in_ok-funcs.ensures e))
+    handed_on ext c.in_err-line_info.field-0.0 c.from_residual-in_err-line_info.result (IsExt (order_of c.args.endianness) c.args.data.now c.args.btf.now.strings) c.from_residual-in_err-line_info.ensures.1
+    (IfSome_then (refusal_of c.in_err-line_info.field-0.0) c.in_err-line_info.ensures (λ f e.
+    lines_refused (order_of c.args.endianness) c.args.data.now c.args.btf.now.strings (header c.in_ok-header.header) (part c.in_ok-func.func) (part c.in_ok-line.line) (part c.in_ok-core.core) c.in_ok-func_info.ensures.0 f parts c.in_ok-func_info.ensures.1 e))
 
 pub returns-in_err-relocations : goal.returns-in_err-relocations
 returns-in_err-relocations c =
     let parts : HasParts (order_of c.args.endianness) c.args.data.now (header c.in_ok-header.header) (part c.in_ok-func.func) (part c.in_ok-line.line) (part c.in_ok-core.core) = record { header = c.in_ok-header.ensures; func_part = c.in_ok-func.ensures; line_part = c.in_ok-line.ensures; core_part = c.in_ok-core.ensures } in
     handed_on ext c.in_err-relocations.field-0.0 c.from_residual-in_err-relocations.result (IsExt (order_of c.args.endianness) c.args.data.now c.args.btf.now.strings) c.from_residual-in_err-relocations.ensures.1
     (IfSome_then (refusal_of c.in_err-relocations.field-0.0) c.in_err-relocations.ensures (λ f e.
-    relocations_refused (order_of c.args.endianness) c.args.data.now c.args.btf.now.strings (header c.in_ok-header.header) (part c.in_ok-func.func) (part c.in_ok-line.line) (part c.in_ok-core.core) (map named c.in_ok-funcs.funcs.items) (map named c.in_ok-lines.lines.items) f parts c.in_ok-funcs.ensures c.in_ok-lines.ensures e))
+    relocations_refused (order_of c.args.endianness) c.args.data.now c.args.btf.now.strings (header c.in_ok-header.header) (part c.in_ok-func.func) (part c.in_ok-line.line) (part c.in_ok-core.core) c.in_ok-func_info.ensures.0 c.in_ok-line_info.ensures.0 f parts c.in_ok-func_info.ensures.1 c.in_ok-line_info.ensures.1 e))
 
-pub read-requires-5-clause-wide : goal.read-requires-5-clause-wide
-read-requires-5-clause-wide c = λ lt.
+pub read-requires-5 : goal.read-requires-5
+read-requires-5 c = λ some.
     let least : (range c.in_ok-header.header.func).least ≡ 8 = ap (λ h. h.func.least) c.in_ok-header.ensures.2 in
-    let wide = wide_part (order_of c.args.endianness) c.args.data.now (range c.in_ok-header.header.func) (part c.in_ok-func.func) c.in_ok-func.ensures (some_named c.in_ok-func.func.rec_size c.in_ok-funcs.funcs.items c.in_ok-funcs.ensures.0.0 (omega (arith, lt, ap length c.deref.ensures.value))) in
+    let wide = wide_part (order_of c.args.endianness) c.args.data.now (range c.in_ok-header.header.func) (part c.in_ok-func.func) c.in_ok-func.ensures some in
     omega (arith, wide, least)
 
-pub read-requires-6-clause-wide : goal.read-requires-6-clause-wide
-read-requires-6-clause-wide c = λ lt.
+pub read-requires-6 : goal.read-requires-6
+read-requires-6 c = λ some.
     let least : (range c.in_ok-header.header.line).least ≡ 16 = ap (λ h. h.line.least) c.in_ok-header.ensures.2 in
-    let wide = wide_part (order_of c.args.endianness) c.args.data.now (range c.in_ok-header.header.line) (part c.in_ok-line.line) c.in_ok-line.ensures (some_named c.in_ok-line.line.rec_size c.in_ok-lines.lines.items c.in_ok-lines.ensures.0.0 (omega (arith, lt, ap length c.deref-2.ensures.value))) in
+    let wide = wide_part (order_of c.args.endianness) c.args.data.now (range c.in_ok-header.header.line) (part c.in_ok-line.line) c.in_ok-line.ensures some in
     omega (arith, wide, least)
 
 pub read_relocations-requires-clause-wide : goal.read_relocations-requires-clause-wide
 read_relocations-requires-clause-wide c = λ lt.
     let least : (range c.in_ok-header.header.core).least ≡ 16 = ap (λ h. h.core.least) c.in_ok-header.ensures.2 in
-    let wide = wide_part (order_of c.args.endianness) c.args.data.now (range c.in_ok-header.header.core) (part c.in_ok-core.core) c.in_ok-core.ensures (some_sections c.in_ok-core.core.rec_size c.in_ok-relocations.relocations.items c.in_ok-relocations.ensures.0 (omega (arith, lt, ap length c.deref-3.ensures.value))) in
+    let wide = wide_part (order_of c.args.endianness) c.args.data.now (range c.in_ok-header.header.core) (part c.in_ok-core.core) c.in_ok-core.ensures (some_sections c.in_ok-core.core.rec_size c.in_ok-relocations.relocations.items c.in_ok-relocations.ensures.0 (omega (arith, lt, ap length c.deref.ensures.value))) in
     omega (arith, wide, least)
 
 pub returns : goal.returns
 returns c =
     let parts : HasParts (order_of c.args.endianness) c.args.data.now (header c.in_ok-header.header) (part c.in_ok-func.func) (part c.in_ok-line.line) (part c.in_ok-core.core) = record { header = c.in_ok-header.ensures; func_part = c.in_ok-func.ensures; line_part = c.in_ok-line.ensures; core_part = c.in_ok-core.ensures } in
     let order = order_of c.args.endianness in
-    let func : (name : List ℕ) → funcs_by_name c.in_ok-read.field-0 name ≡ option_map (instruction_records order c.in_ok-func.func.rec_size 2) (section_named (map named c.in_ok-funcs.funcs.items) name) = λ name.
-    subst (λ (xs : List NamedSection). funcs_by_name c.in_ok-read.field-0 name ≡ option_map (instruction_records order c.in_ok-func.func.rec_size 2) (section_named (map named xs) name)) c.deref.ensures.value (c.in_ok-read.ensures name) in
-    let line : (name : List ℕ) → lines_by_name c.in_ok-read-2.field-0 name ≡ option_map (instruction_records order c.in_ok-line.line.rec_size 4) (section_named (map named c.in_ok-lines.lines.items) name) = λ name.
-    subst (λ (xs : List NamedSection). lines_by_name c.in_ok-read-2.field-0 name ≡ option_map (instruction_records order c.in_ok-line.line.rec_size 4) (section_named (map named xs) name)) c.deref-2.ensures.value (c.in_ok-read-2.ensures name) in
-    whole_ext order c.args.data.now c.args.btf.now.strings (header c.in_ok-header.header) (part c.in_ok-func.func) (part c.in_ok-line.line) (part c.in_ok-core.core) (map named c.in_ok-funcs.funcs.items) (map named c.in_ok-lines.lines.items) (map section_of c.in_ok-relocations.relocations.items)
-    (ext (record { func_info_rec_size = c.in_ok-func.func.rec_size; func_info = c.in_ok-read.field-0; line_info_rec_size = c.in_ok-line.line.rec_size; line_info = c.in_ok-read-2.field-0; relocations = c.in_ok-read_relocations.field-0 }))
-    parts c.in_ok-funcs.ensures c.in_ok-lines.ensures c.in_ok-relocations.ensures refl func refl line
-    (c.in_ok-read_relocations.ensures ∙ ap (λ (xs : List SecInfo). map (relocation_section order c.in_ok-core.core.rec_size) (map section_of xs)) c.deref-3.ensures.value)
+    let funcs = c.in_ok-func_info.ensures in
+    let lines = c.in_ok-line_info.ensures in
+    whole_ext order c.args.data.now c.args.btf.now.strings (header c.in_ok-header.header) (part c.in_ok-func.func) (part c.in_ok-line.line) (part c.in_ok-core.core) funcs.0 lines.0 (map section_of c.in_ok-relocations.relocations.items)
+    (ext (record { func_info_rec_size = c.in_ok-func.func.rec_size; func_info = c.in_ok-func_info.func_info; line_info_rec_size = c.in_ok-line.line.rec_size; line_info = c.in_ok-line_info.line_info; relocations = c.in_ok-read_relocations.field-0 }))
+    parts funcs.1 lines.1 c.in_ok-relocations.ensures refl funcs.2 refl lines.2
+    (c.in_ok-read_relocations.ensures ∙ ap (λ (xs : List SecInfo). map (relocation_section order c.in_ok-core.core.rec_size) (map section_of xs)) c.deref.ensures.value)

@@ -1,5 +1,5 @@
 use Rattle.std.proofs.Common.{◌≡◌, take, map}
-use Rattle.btf_ext.specs.NamedSection.{relocation}
+use Rattle.btf_ext.specs.Relocation.{relocation}
 use Rattle.btf_ext.proofs.ext.read.clone_relocations.Given as goal
 
 abbrev pub invariant-loop-name_offset : goal.invariant-loop-name_offset

@@ -1,24 +1,49 @@
-use Rattle.std.proofs.Common.{◌≡◌, ◌+◌, ◌∙◌, List, ◌∷◌, [], ◌++◌, take, map, ap, sym, subst, arith}
-use Rattle.std.specs.Prelude.{option_map}
-use Rattle.std.proofs.lemmas.List.{take_more, take_all}
-use Rattle.btf_model.specs.Ext.{instruction_records, section_named}
+use Rattle.std.proofs.Common.{Some, subst, sym, ◌∙◌, refl}
 use Rattle.btf_plain.specs.Endianness.{order_of}
-use Rattle.btf_ext.specs.Info.{line_records, lines_by_name}
-use Rattle.btf_ext.specs.NamedSection.{named}
-use Rattle.btf_ext.specs.declared.ext.read.NamedSection.{NamedSection}
-use Rattle.btf_ext.proofs.NamedSections.{named_section_put, section_of_each}
+use Rattle.btf_ext.specs.ExtHeader.{part}
+use Rattle.btf_ext.specs.Info.{lines_by_name, line_records, AreByName}
+use Rattle.btf_ext.specs.SecInfo.{GivesSection}
+use Rattle.btf_ext.proofs.NamedSections.{none_read, one_more, all_read, section_read}
+use Rattle.btf_ext.proofs.Parts.{named_refused, unnamed_refused}
+use Rattle.btf_plain.proofs.Refused.{handed_on}
 use Rattle.btf_ext.proofs.info.line.LineInfo.read.Goals as goal
 
-pub read-requires-clause-whole : goal.read-requires-clause-whole
-read-requires-clause-whole c = section_of_each c.args.rec_size c.args.sections.now c.loop-named.named-index c.named-item.result c.requires.whole c.loop-named-test.true c.named-item.is
+pub loop-section-init : goal.loop-section-init
+loop-section-init c = none_read (order_of c.args.endianness) 4 c.args.btf.now.strings (part c.args.part.now) c.into_iter-section-iterator.result (lines_by_name c.new-info.result) (c.into_iter-section-iterator.ensures.into_iter_gives ∙ c.new-section-items.ensures) c.new-info.ensures
 
-pub loop-named-preserved : goal.loop-named-preserved
-loop-named-preserved c =
-    let index = c.loop-named.named-index in
-    let more : take (index + 1) c.args.sections.now ≡ take index c.args.sections.now ++ c.named-item.result ∷ [] = take_more c.args.sections.now index c.named-item.result c.loop-named-test.true ∙ ap (λ n. take index c.args.sections.now ++ n ∷ []) (sym c.named-item.is) in
-    named_section_put line_records (instruction_records (order_of c.args.endianness) c.args.rec_size 4) c.loop-named.info.sections c.insert.new.self (take index c.args.sections.now) (take (index + 1) c.args.sections.now) c.named-item.result c.in_ok-clone.field-0 c.in_ok-section.section c.loop-named.invariant c.in_ok-clone.ensures.cases c.in_ok-section.ensures c.in_ok-insert.ensures.updates more
+pub returns-in_err-section : goal.returns-in_err-section
+returns-in_err-section c =
+    let h = c.loop-section.invariant in
+    handed_on lines_by_name c.in_err-section.field-0.0 c.from_residual.result (AreByName (order_of c.args.endianness) 4 c.args.btf.now.strings (part c.args.part.now)) c.from_residual.ensures.1
+    (named_refused (order_of c.args.endianness) c.args.part.now.rec_size c.args.btf.now.strings c.args.part.now.sections.now h.names c.loop-section.section-iterator c.next.new.self c.in_err-section.field-0.0 h.cut h.have
+    (subst (λ r. GivesSection c.loop-section.section-iterator (Some r) c.next.new.self) c.in_err-section.was c.in-Some.ensures.steps))
+
+pub returns-in_err-name : goal.returns-in_err-name
+returns-in_err-name c =
+    let h = c.loop-section.invariant in
+    handed_on lines_by_name c.in_err-name.field-0.0 c.from_residual-in_err-name.result (AreByName (order_of c.args.endianness) 4 c.args.btf.now.strings (part c.args.part.now)) c.from_residual-in_err-name.ensures.1
+    (unnamed_refused (order_of c.args.endianness) c.args.part.now.rec_size c.args.btf.now.strings c.args.part.now.sections.now h.names c.loop-section.section-iterator c.next.new.self c.in_ok-section.section c.in_err-name.field-0.0 h.cut h.have
+    (subst (λ r. GivesSection c.loop-section.section-iterator (Some r) c.next.new.self) c.in_ok-section.was c.in-Some.ensures.steps) c.in_err-name.ensures)
+
+pub read-requires-clause-whole : goal.read-requires-clause-whole
+read-requires-clause-whole c =
+    section_read (order_of c.args.endianness) 4 c.args.btf.now.strings (part c.args.part.now) c.loop-section.section-iterator c.next.new.self (lines_by_name c.loop-section.info) c.in_ok-section.section c.loop-section.invariant
+    (subst (λ r. GivesSection c.loop-section.section-iterator (Some r) c.next.new.self) c.in_ok-section.was c.in-Some.ensures.steps)
+
+pub read-requires-clause-wide : goal.read-requires-clause-wide
+read-requires-clause-wide c =
+    c.requires (section_read (order_of c.args.endianness) 4 c.args.btf.now.strings (part c.args.part.now) c.loop-section.section-iterator c.next.new.self (lines_by_name c.loop-section.info) c.in_ok-section.section c.loop-section.invariant
+    (subst (λ r. GivesSection c.loop-section.section-iterator (Some r) c.next.new.self) c.in_ok-section.was c.in-Some.ensures.steps)).some_byte
+
+pub loop-section-preserved-in_ok-insert : goal.loop-section-preserved-in_ok-insert
+loop-section-preserved-in_ok-insert c =
+    one_more line_records (order_of c.args.endianness) 4 c.args.btf.now.strings (part c.args.part.now) c.loop-section.section-iterator c.next.new.self c.in_ok-section.section c.loop-section.info.sections c.insert.new.self c.in_ok-name.name c.in_ok-records.records
+    c.loop-section.invariant (subst (λ r. GivesSection c.loop-section.section-iterator (Some r) c.next.new.self) c.in_ok-section.was c.in-Some.ensures.steps) (sym c.in_ok-name.ensures) c.in_ok-records.ensures c.in_ok-insert.ensures.updates
+
+pub loop-section-preserved : goal.loop-section-preserved
+loop-section-preserved c =
+    one_more line_records (order_of c.args.endianness) 4 c.args.btf.now.strings (part c.args.part.now) c.loop-section.section-iterator c.next.new.self c.in_ok-section.section c.loop-section.info.sections c.insert.new.self c.in_ok-name.name c.in_ok-records.records
+    c.loop-section.invariant (subst (λ r. GivesSection c.loop-section.section-iterator (Some r) c.next.new.self) c.in_ok-section.was c.in-Some.ensures.steps) (sym c.in_ok-name.ensures) c.in_ok-records.ensures c.in_ok-insert.ensures.updates
 
 pub returns : goal.returns
-returns c = λ name.
-    let all : take c.loop-named.named-index c.args.sections.now ≡ c.args.sections.now = take_all c.loop-named.named-index c.args.sections.now (omega (arith, c.loop-named-test.false)) in
-    subst (λ (xs : List NamedSection). lines_by_name c.loop-named.info name ≡ option_map (instruction_records (order_of c.args.endianness) c.args.rec_size 4) (section_named (map named xs) name)) all (c.loop-named.invariant name)
+returns c = all_read (order_of c.args.endianness) 4 c.args.btf.now.strings (part c.args.part.now) c.loop-section.section-iterator (lines_by_name c.loop-section.info) c.loop-section.invariant c.in-None.ensures.steps.0

@@ -1,0 +1,6 @@
+-- What a section of relocation records is as the definitions have it.
+use Rattle.std.specs.Prelude.{ℕ, List, Vec}
+
+-- the records of a section, with the string offset of its name
+abbrev pub relocation : {A : Type 0} → ℕ × Vec (List ℕ) A → ℕ × List (List ℕ)
+relocation r = (r.0, r.1.items)
