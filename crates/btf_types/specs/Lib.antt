@@ -18,7 +18,7 @@ pub use Rattle.btf_compare.specs.Compared
 pub use Rattle.btf_ext.specs.SecInfo
 pub use Rattle.btf_ext.specs.Info
 pub use Rattle.btf_ext.specs.ExtHeader
-pub use Rattle.btf_ext.specs.NamedSection
+pub use Rattle.btf_ext.specs.Relocation
 pub use Rattle.btf_ext.specs.BtfExt
 pub use Rattle.btf_rewrite_model.specs.Feature
 pub use Rattle.btf_rewrite_model.specs.Ksyms
