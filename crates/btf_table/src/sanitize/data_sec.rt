@@ -153,19 +153,19 @@ impl Made {
         Ok(Some(BtfType::DataSec(DataSec::new(name_offset, entries, size))))
     }
 
-    /// The rule of a DATASEC; None where it stays. A kernel that takes none gets a STRUCT of its entries. For another, a DATASEC of size 0 gets
-    /// the size of its section, and each entry the offset of its symbol; one that has no entries gets the filler for its
-    /// entry, where its section has size 0, or where the kernel takes no DATASEC without entries. One that has a size keeps
-    /// it, and gets the filler only under a policy that fills such, where the kernel takes none without entries. Its name
-    /// becomes one that the kernel takes.
+    /// The rule of a DATASEC; None where it stays. A kernel that takes none gets a STRUCT of its entries. For
+    /// another, a DATASEC of size 0 gets the size of its section, and each entry the offset of its symbol; one that
+    /// has no entries gets the filler for its entry, where its section has size 0, or where the kernel takes no
+    /// DATASEC without entries. One that has a size keeps it, and gets the filler only under a policy that fills
+    /// such, where the kernel takes none without entries. Its name becomes one that the kernel takes.
     ///
-    /// The first cause of refusal is told. `InvalidStringOffset` where the name can't be read or strings have no room for the
-    /// new one. As a STRUCT: `UnknownBtfType` of an entry's id that has no type, and `InvalidTypeInfo` where its offset in
-    /// bits has more than 32 bits. Of a DATASEC of size 0: `UnknownSectionSize` where the size of its section isn't known or
-    /// has more than 32 bits. Of one that gets the filler: `InvalidStringOffset` and `InvalidTypeInfo` where strings or
-    /// types have no room for it. Of each entry of a DATASEC of size 0 in turn: `UnknownBtfType`, `InvalidDatasec` where it names no VAR,
-    /// `InvalidStringOffset` where the name of that can't be read, and `SymbolOffsetNotFound` where the offset of its symbol
-    /// isn't known or has more than 32 bits.
+    /// The first cause of refusal is told. `InvalidStringOffset` where the name can't be read or strings have no room
+    /// for the new one. As a STRUCT: `UnknownBtfType` of an entry's id that has no type, and `InvalidTypeInfo` where
+    /// its offset in bits has more than 32 bits. Of a DATASEC of size 0: `UnknownSectionSize` where the size of its
+    /// section isn't known or has more than 32 bits. Of one that gets the filler: `InvalidStringOffset` and
+    /// `InvalidTypeInfo` where strings or types have no room for it. Of each entry of a DATASEC of size 0 in turn:
+    /// `UnknownBtfType`, `InvalidDatasec` where it names no VAR, `InvalidStringOffset` where the name of that can't
+    /// be read, and `SymbolOffsetNotFound` where the offset of its symbol isn't known or has more than 32 bits.
     pub fn rewrite_section<F: FnMut(BtfFeature) -> bool>(
         &mut self,
         btf: &Btf,
