@@ -6,7 +6,7 @@ use Rattle.std.proofs.lemmas.Bool.{true≢false}
 use Rattle.btf_model.specs.Word.{Order}
 use Rattle.btf_model.specs.Refusal.{Refusal}
 use Rattle.btf_model.specs.Blob.{slice, word_at}
-use Rattle.btf_model.specs.Ext.{Header, Range, Part, Section, Named, Ext, HasHeader, HasPart, IsSection, AreNamed, AreSections, IsExt, ext_of, records_named, relocation_section, sections_of}
+use Rattle.btf_model.specs.Ext.{Header, Range, Part, Section, Named, Ext, HasHeader, HasPart, IsSection, AreNamed, AreSections, IsExt, ext_of, records_named, relocation_section}
 use Rattle.btf_ext.specs.SecInfo.{section_of}
 use Rattle.btf_ext.specs.declared.ext.sections.SecInfo.{SecInfo}
 

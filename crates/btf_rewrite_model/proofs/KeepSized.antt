@@ -1,5 +1,5 @@
 -- What a policy that keeps DATASECs which have a size leaves as it is.
-use Rattle.std.proofs.Common.{◌≡◌, ◌≢◌, ℕ, ◌+◌, Bool, true, false, ◌&&◌, ◌||◌, not, List, [], ◌∷◌, ◌++◌, Option, Some, None, refl, ap, ◌∙◌}
+use Rattle.std.proofs.Common.{◌≡◌, ◌≢◌, ℕ, ◌+◌, Bool, true, false, ◌&&◌, ◌||◌, not, List, [], ◌∷◌, ◌++◌, Option, Some, refl, ap, ◌∙◌}
 use Rattle.std.specs.Prelude.{◌==◌, if◌then◌else◌}
 use Rattle.std.specs.Option.{is_none, unwrap_or}
 use Rattle.std.specs.List.{flat_map, sum_by}
@@ -11,7 +11,7 @@ use Rattle.btf_rewrite_model.specs.Feature as features
 use Rattle.btf_rewrite_model.specs.Feature.{Feature, FillPolicy, KeepSized, fills_sized, is_sized_and_empty, has_no_entries}
 use Rattle.btf_rewrite_model.specs.Made.{record_at, kind_at, entries, struct}
 use Rattle.btf_rewrite_model.specs.Checks.{Check, first_fault, fits, record_len}
-use Rattle.btf_rewrite_model.specs.Pass.{Pass, has, name_checks, fills_unsized, gets_filler, makes_filler, is_unsized, is_zero_or, section_size, least, added, type_len_at, sized_asks_zero, unsized_asks_zero, data_sec_asks}
+use Rattle.btf_rewrite_model.specs.Pass.{Pass, has, name_checks, fills_unsized, gets_filler, is_unsized, is_zero_or, section_size, least, added, type_len_at, unsized_asks_zero, data_sec_asks}
 use Rattle.btf_rewrite_model.specs.Rule.{becomes, becomes_by, ruled_below, completed, sized, filled, new_name, entry_members}
 use Rattle.btf_rewrite_model.specs.Fault.{fault, checks_by, completing_checks, filling_checks, filler_checks, growth_checks, member_checks}
 use Rattle.btf_rewrite_model.specs.RewriteLaws.{SizedSectionsAreKept}

@@ -16,7 +16,7 @@ use Rattle.btf_rewrite_model.specs.Feature.{FillPolicy, Answer, is_global, is_si
 use Rattle.btf_rewrite_model.specs.Made.{entries, variants, record_at, kind_at, ids_of, byte_int, const, struct, union, enum, data_sec, unsigned, c_int}
 use Rattle.btf_rewrite_model.specs.Ksyms.{KsymsIds, stepped, each_stepped, appends_int}
 use Rattle.btf_rewrite_model.specs.Pass.{Pass, Layout, has, gets_filler, section_size, offset_at}
-use Rattle.btf_rewrite_model.specs.Rule.{becomes, becomes_by, ruled_below, completed, sized, filled, new_name, filler_id, placed, named_params, variant_members, entry_members, placeholder_id}
+use Rattle.btf_rewrite_model.specs.Rule.{becomes, becomes_by, ruled_below, completed, sized, filled, new_name, placed, named_params, variant_members, entry_members, placeholder_id}
 use Rattle.btf_rewrite_model.specs.Rewritten.{begun, pass_with, RewrittenWith}
 use Rattle.btf_rewrite_model.specs.RewriteLaws.{keeps_size, FindsKept}
 use Rattle.btf_model.proofs.Blobs.{slice_get-append_left}

@@ -14,7 +14,7 @@ use Rattle.btf_rewrite_model.specs.Feature as features
 use Rattle.btf_rewrite_model.specs.Feature.{is_global, is_signed, has_no_entries, is_sized_and_empty}
 use Rattle.btf_rewrite_model.specs.Made.{Entry, entries, entry_words, variants, record_at, kind_at, wants_name, byte_int, const, typedef, struct, union, enum, data_sec, with_linkage, unsigned}
 use Rattle.btf_rewrite_model.specs.Checks.{record_len}
-use Rattle.btf_rewrite_model.specs.Pass.{Pass, has, name_of, is_builtin, gets_filler, fills_sized_one, fills_unsized, section_size, is_unsized, is_zero_or, param_text, offset_at}
+use Rattle.btf_rewrite_model.specs.Pass.{Pass, has, name_of, is_builtin, gets_filler, section_size, is_unsized, is_zero_or, param_text, offset_at}
 use Rattle.btf_rewrite_model.specs.Rule as rule
 use Rattle.btf_rewrite_model.specs.Rule.{becomes, becomes_by, ruled_below, known_func, completed, sized, new_name, filler_id, placed, named_params, variant_members, entry_members, member_name, placeholder_id}
 

@@ -19,7 +19,7 @@ use Rattle.btf_rewrite_model.specs.Feature.{is_global, is_signed}
 use Rattle.btf_rewrite_model.specs.Made.{record_at, kind_at, entries, variants, const, typedef, wants_name, byte_int, struct, union, enum, data_sec, with_linkage, unsigned}
 use Rattle.btf_rewrite_model.specs.Checks.{first_fault, is_read}
 use Rattle.btf_rewrite_model.specs.Pass.{Pass, has, name_of, name_checks, replaced, slash, dot, section_name, renaming, gets_filler, makes_filler, filler_type_text, filler_text, section_size, is_builtin, texts, texts_by, texts_below, offset_at, param_text}
-use Rattle.btf_rewrite_model.specs.Rule.{becomes, becomes_by, ruled_below, known_func, new_name, name_or, completed, sized, filled, named_params, filler_id, placed, entry_members, variant_members, placeholder_id}
+use Rattle.btf_rewrite_model.specs.Rule.{becomes, becomes_by, ruled_below, known_func, new_name, name_or, completed, sized, filled, named_params, placed, entry_members, variant_members, placeholder_id}
 use Rattle.btf_rewrite_model.specs.Fault.{fault, checks_by}
 use Rattle.btf_rewrite_model.specs.Rewritten.{ended}
 use Rattle.btf_rewrite_model.proofs.Granted.{kind_made, vlen_small, passed_head, passed_left, static_vlen, static_number, unsigned_number}

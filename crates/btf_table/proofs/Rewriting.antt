@@ -5,7 +5,7 @@ use Rattle.btf_model.specs.Refusal.{Refusal}
 use Rattle.btf_model.specs.Word.{Order}
 use Rattle.btf_model.specs.Table.{Table, strip, with_string, with_type}
 use Rattle.btf_model.specs.Blob.{IsTable}
-use Rattle.btf_rewrite_model.specs.Feature.{Answer, FillPolicy}
+use Rattle.btf_rewrite_model.specs.Feature.{Answer}
 use Rattle.btf_rewrite_model.specs.Ksyms.{KsymsIds, appends_int, each_stepped, int_text}
 use Rattle.btf_rewrite_model.specs.Made.{c_int}
 use Rattle.btf_rewrite_model.specs.Rewritten.{begun, pass_with, step_fault, RewrittenWith}

@@ -1,12 +1,10 @@
-use Rattle.std.proofs.Common.{◌≡◌, ◌∙◌, ℕ, List, Err, length, map, refl, ap, subst, arith}
-use Rattle.std.specs.Prelude.{option_map}
+use Rattle.std.proofs.Common.{◌≡◌, ◌∙◌, List, Err, length, map, refl, ap, arith}
 use Rattle.std.proofs.lemmas.Option.{IfSome_then}
-use Rattle.btf_model.specs.Ext.{IsExt, instruction_records, section_named, relocation_section}
+use Rattle.btf_model.specs.Ext.{IsExt, relocation_section}
 use Rattle.btf_plain.specs.Endianness.{order_of}
 use Rattle.btf_plain.specs.Error.{refusal_of}
 use Rattle.btf_ext.specs.BtfExt.{ext}
 use Rattle.btf_ext.specs.ExtHeader.{header, range, part}
-use Rattle.btf_ext.specs.Info.{funcs_by_name, lines_by_name}
 use Rattle.btf_ext.specs.SecInfo.{section_of}
 use Rattle.btf_ext.specs.declared.ext.sections.SecInfo.{SecInfo}
 use Rattle.btf_ext.proofs.Exts.{HasParts, line_refused, core_refused, funcs_refused, lines_refused, relocations_refused, whole_ext, some_sections, wide_part}

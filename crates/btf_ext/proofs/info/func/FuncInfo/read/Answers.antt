@@ -1,4 +1,4 @@
-use Rattle.std.proofs.Common.{Some, subst, sym, ◌∙◌, refl}
+use Rattle.std.proofs.Common.{Some, subst, sym, ◌∙◌}
 use Rattle.btf_plain.specs.Endianness.{order_of}
 use Rattle.btf_ext.specs.ExtHeader.{part}
 use Rattle.btf_ext.specs.Info.{funcs_by_name, func_records, AreByName}

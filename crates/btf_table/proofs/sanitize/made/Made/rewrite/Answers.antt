@@ -5,7 +5,7 @@ use Rattle.btf_plain.specs.Error.{Answers}
 use Rattle.btf_records.specs.BtfType.{record_of}
 use Rattle.btf_records.specs.declared.btf_type.BtfType.{BtfType}
 use Rattle.btf_rules.specs.Features.{answers_of}
-use Rattle.btf_table.specs.PassStep.{Given, pass_on, IsType, AsksUpTo, Steps, Rules}
+use Rattle.btf_table.specs.PassStep.{pass_on, IsType, AsksUpTo, Steps, Rules}
 use Rattle.btf_rules.specs.SoleFeature.{asks_one}
 use Rattle.btf_table.proofs.PassOne.{one_type}
 use Rattle.btf_plain.proofs.Refused.{with_fact}
