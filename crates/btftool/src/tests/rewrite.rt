@@ -103,6 +103,7 @@ fn symbols_of_the_kernel_are_placed(rt: HostRuntime) -> Result<(), Fail> {
     let lines = [
         "little rewrite Func FuncGlobal DataSec ksyms:5 placeholder:4",
         "little rewrite placeholder:0004 DataSec Func ksyms:05 FuncGlobal",
+        "little rewrite Func ksyms:5 FuncGlobal fill-sized placeholder:4 DataSec",
     ];
     for line in lines {
         let (status, out) = written(alloc, line, &blob)?;
