@@ -12,10 +12,10 @@ use Rattle.btf_model.specs.Fields.{Pair}
 use Rattle.btf_model.specs.Compat as model
 use Rattle.btf_model.specs.Compat.{Told, On, Owes, Finds, PositionFound, parameter_types, pairs, prototypes, ResolvesPair}
 use Rattle.btf_model.proofs.Comparisons.{same_pair}
-use Rattle.btf_plain.specs.Error.{Tells}
-use Rattle.btf_plain.specs.declared.error.BtfError.{BtfError}
-use Rattle.btf_records.specs.Items.{param_words}
-use Rattle.btf_records.specs.declared.records.items.BtfParam.{BtfParam}
+use Rattle.btf_words.specs.Error.{Tells}
+use Rattle.btf_words.specs.declared.error.BtfError.{BtfError}
+use Rattle.btf_items.specs.Items.{param_words}
+use Rattle.btf_items.specs.declared.items.BtfParam.{BtfParam}
 use Rattle.btf_compare.specs.declared.position.Position.{Position}
 use Rattle.btf_compare.specs.declared.position.Position.TheVariants as positions
 use Rattle.btf_compare.specs.Compared.{PositionIs, types_of}

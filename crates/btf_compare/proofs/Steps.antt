@@ -9,8 +9,8 @@ use Rattle.btf_model.specs.Fields.{Pair}
 use Rattle.btf_model.specs.Compat.{Told, On, Owes, Finds, ResolvesPair}
 use Rattle.btf_model.specs.Run as runs
 use Rattle.btf_model.specs.Run.{IsNext}
-use Rattle.btf_plain.specs.Error.{Tells}
-use Rattle.btf_plain.specs.declared.error.BtfError.{BtfError}
+use Rattle.btf_words.specs.Error.{Tells}
+use Rattle.btf_words.specs.declared.error.BtfError.{BtfError}
 use Rattle.btf_compare.specs.declared.step.Frame.{Frame}
 use Rattle.btf_compare.specs.declared.step.Step.{Step}
 use Rattle.btf_compare.specs.declared.step.Step.TheVariants as steps

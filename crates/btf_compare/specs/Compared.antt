@@ -14,10 +14,10 @@ use Rattle.btf_model.specs.Laws.{AreIds}
 use Rattle.btf_model.specs.Run as runs
 use Rattle.btf_model.specs.Run.{new_frame, IsNext}
 use Rattle.btf_model.specs.Run.{Begins}
-use Rattle.btf_plain.specs.Error.{Tells}
-use Rattle.btf_plain.specs.declared.error.BtfError.{BtfError}
-use Rattle.btf_plain.specs.declared.error.BtfError.TheVariants as errors
-use Rattle.btf_records.specs.declared.records.items.BtfParam.{BtfParam}
+use Rattle.btf_words.specs.Error.{Tells}
+use Rattle.btf_words.specs.declared.error.BtfError.{BtfError}
+use Rattle.btf_words.specs.declared.error.BtfError.TheVariants as errors
+use Rattle.btf_items.specs.declared.items.BtfParam.{BtfParam}
 use Rattle.btf_compare.specs.declared.position.Position.{Position}
 use Rattle.btf_compare.specs.declared.position.Position.TheVariants as positions
 use Rattle.btf_compare.specs.declared.step.Frame.{Frame}

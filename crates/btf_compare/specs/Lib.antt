@@ -2,7 +2,7 @@ pub mod Pairs
 pub mod FieldStep
 pub mod Compared
 pub use Rattle.btf_model.specs.Text
-pub use Rattle.btf_plain.specs.Error
+pub use Rattle.btf_words.specs.Error
 pub use Rattle.btf_records.specs.BtfType
 pub use Rattle.btf_model.specs.Record
 pub use Rattle.btf_model.specs.Compat

@@ -1,6 +1,6 @@
 //! Types that the comparisons look at, behind modifiers.
 
-ghost use Rattle.btf_plain.specs.Error.{Tells};
+ghost use Rattle.btf_words.specs.Error.{Tells};
 ghost use Rattle.btf_records.specs.BtfType.{record_of, type_kind};
 ghost use Rattle.btf_compare.specs.Pairs.{IsResolved};
 

@@ -1,8 +1,8 @@
 -- The section that a `SecInfo` is, and what the next of a `SecInfoIter` is.
 use Rattle.std.specs.Prelude.{◌≡◌, ◌≢◌, [], ◌++◌, Option, Some, None, Result, Ok, Err}
 use Rattle.btf_model.specs.Ext.{Section, SectionBytes, IsSection, BeginsNoSection, section_bytes, cut_refusal}
-use Rattle.btf_plain.specs.declared.error.BtfError.{BtfError}
-use Rattle.btf_plain.specs.Error.{refusal_of}
+use Rattle.btf_words.specs.declared.error.BtfError.{BtfError}
+use Rattle.btf_words.specs.Error.{refusal_of}
 use Rattle.btf_ext.specs.declared.ext.sections.SecInfo.{SecInfo}
 
 abbrev pub section_of : SecInfo → Section

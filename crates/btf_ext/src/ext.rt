@@ -6,8 +6,8 @@ mod sections;
 
 ghost use Rattle.std.specs.Prelude.{◌≡◌, map, Ok};
 ghost use Rattle.btf_model.specs.Ext.{IsExt};
-ghost use Rattle.btf_plain.specs.Error.{Answers, Gives};
-ghost use Rattle.btf_plain.specs.Endianness.{order_of};
+ghost use Rattle.btf_words.specs.Error.{Answers, Gives};
+ghost use Rattle.btf_words.specs.Endianness.{order_of};
 ghost use Rattle.btf_ext.specs.Info.{funcs_by_name, lines_by_name};
 ghost use Rattle.btf_ext.specs.Relocation.{relocation};
 

@@ -4,7 +4,7 @@ ghost use Rattle.std.specs.Prelude.{◌≡◌, ◌+◌, ◌≤◌, ◌++◌, len
 ghost use Rattle.std.specs.List.{flat_map};
 ghost use Rattle.btf_model.specs.Word.{Little, word, word_of, words_at};
 ghost use Rattle.btf_model.specs.Blob as blob;
-ghost use Rattle.btf_plain.specs.Endianness.{order_of};
+ghost use Rattle.btf_words.specs.Endianness.{order_of};
 
 use btf_plain::Endianness;
 use std::alloc::AllocError;

@@ -1,8 +1,8 @@
 -- The data word of an INT, put together from its three parts.
 use Rattle.std.proofs.Common.{◌≡◌, ℕ, ◌+◌, ◌*◌, ◌%◌, ◌^◌, ◌<◌, ap, ◌∙◌, arith, bit_and, bit_or}
 use Rattle.std.proofs.lemmas.Nat.{and_mask, or_shifted, shl_whole}
-use Rattle.btf_plain.specs.declared.records.encoding.IntEncoding.{IntEncoding}
-use Rattle.btf_plain.specs.declared.records.encoding.IntEncoding.TheVariants as encodings
+use Rattle.btf_plain.specs.declared.encoding.IntEncoding.{IntEncoding}
+use Rattle.btf_plain.specs.declared.encoding.IntEncoding.TheVariants as encodings
 use Rattle.btf_plain.specs.Encoding.{int_data, encoding_number}
 
 pub data_of_parts : (encoding offset bits : ℕ) → encoding < 2 ^ 8 → bit_or (bit_or (encoding * 2 ^ 24 % 2 ^ 32) (bit_and offset 255 * 2 ^ 16 % 2 ^ 32)) (bit_and bits 255) ≡ int_data encoding (offset % 2 ^ 8) (bits % 2 ^ 8)

@@ -2,8 +2,8 @@
 use Rattle.std.proofs.Common.{◌≡◌, ℕ, ◌+◌, ◌*◌, ◌%◌, ◌^◌, ◌<◌, ◌∙◌, arith, bit_and, bit_or, refl, ◌/◌}
 use Rattle.std.proofs.lemmas.Nat.{and_comm, and_mask, and-not, or_shifted}
 use Rattle.btf_model.specs.Record.{kind_number, kind_of}
-use Rattle.btf_plain.specs.declared.records.linkage.FuncLinkage.{FuncLinkage}
-use Rattle.btf_plain.specs.declared.records.linkage.FuncLinkage.TheVariants as func
+use Rattle.btf_plain.specs.declared.linkage.FuncLinkage.{FuncLinkage}
+use Rattle.btf_plain.specs.declared.linkage.FuncLinkage.TheVariants as func
 use Rattle.btf_plain.specs.Linkage.{func_linkage_number}
 use Rattle.btf_model.specs.Info.{with_vlen}
 

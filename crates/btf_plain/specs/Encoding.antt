@@ -1,8 +1,8 @@
 -- The data word of an INT.
 -- Source: the kernel's BTF documentation, "BTF_KIND_INT".
 use Rattle.std.specs.Prelude.{ℕ, ◌+◌, ◌*◌, ◌/◌, ◌%◌, ◌^◌, ◌==◌, if◌then◌else◌}
-use Rattle.btf_plain.specs.declared.records.encoding.IntEncoding.{IntEncoding}
-use Rattle.btf_plain.specs.declared.records.encoding.IntEncoding.TheVariants.{None, Signed, Char, Bool, Unknown}
+use Rattle.btf_plain.specs.declared.encoding.IntEncoding.{IntEncoding}
+use Rattle.btf_plain.specs.declared.encoding.IntEncoding.TheVariants.{None, Signed, Char, Bool, Unknown}
 
 -- the number of an encoding
 abbrev pub encoding_number : IntEncoding → ℕ

@@ -1,10 +1,10 @@
 -- The linkages of functions and of variables, and their numbers.
 -- Source: the kernel's BTF documentation, "BTF_KIND_FUNC" and "BTF_KIND_VAR".
 use Rattle.std.specs.Prelude.{ℕ, ◌==◌, if◌then◌else◌}
-use Rattle.btf_plain.specs.declared.records.linkage.FuncLinkage.{FuncLinkage}
-use Rattle.btf_plain.specs.declared.records.linkage.FuncLinkage.TheVariants as func
-use Rattle.btf_plain.specs.declared.records.linkage.VarLinkage.{VarLinkage}
-use Rattle.btf_plain.specs.declared.records.linkage.VarLinkage.TheVariants as var
+use Rattle.btf_plain.specs.declared.linkage.FuncLinkage.{FuncLinkage}
+use Rattle.btf_plain.specs.declared.linkage.FuncLinkage.TheVariants as func
+use Rattle.btf_plain.specs.declared.linkage.VarLinkage.{VarLinkage}
+use Rattle.btf_plain.specs.declared.linkage.VarLinkage.TheVariants as var
 
 -- the number of a function's linkage
 abbrev pub func_linkage_number : FuncLinkage → ℕ

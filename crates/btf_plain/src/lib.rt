@@ -1,13 +1,29 @@
-//! Errors, words, and the records of BTF that have no list.
+//! The records of BTF that have no list, each a struct of its words; and what the crates below have, passed on.
 #![tactic(auto)]
 
-mod error;
-mod records;
-mod words;
+mod array;
+mod btf_array;
+mod decl_tag;
+mod encoding;
+mod float;
+mod func;
+mod fwd;
+mod int;
+mod linkage;
+mod var;
 
-pub use error::BtfError;
-pub use records::{
-    Array, BtfArray, BtfKind, Const, DeclTag, Float, Func, FuncLinkage, Fwd, Int, IntEncoding,
-    MAX_VLEN, Ptr, Restrict, TypeTag, Typedef, Var, VarLinkage, Volatile,
-};
-pub use words::{Endianness, SectionIndex};
+pub use array::Array;
+pub use btf_array::BtfArray;
+pub use btf_refs::{Const, Ptr, Restrict, TypeTag, Typedef, Volatile};
+pub use btf_words::{BtfError, BtfKind, Endianness, SectionIndex};
+pub use decl_tag::DeclTag;
+pub use encoding::IntEncoding;
+pub use float::Float;
+pub use func::Func;
+pub use fwd::Fwd;
+pub use int::Int;
+pub use linkage::{FuncLinkage, VarLinkage};
+pub use var::Var;
+
+/// The largest number of items in one record: vlen has 16 bits.
+pub const MAX_VLEN: usize = 65535;

@@ -12,14 +12,14 @@ use Rattle.btf_model.specs.Spelling.{kept, IsWhole}
 use Rattle.btf_model.specs.Blob.{ReadsFront}
 use Rattle.btf_model.proofs.Words.{IsBytes}
 use Rattle.btf_model.proofs.Reading.{reads, reads_other_kind, reads_cut, record_at}
-use Rattle.btf_plain.specs.declared.error.BtfError.{BtfError}
-use Rattle.btf_plain.specs.declared.error.BtfError.TheVariants.{InvalidTypeKind}
-use Rattle.btf_plain.specs.declared.records.kind.BtfKind.{BtfKind}
-use Rattle.btf_plain.specs.Kind.{kind}
-use Rattle.btf_plain.specs.declared.records.linkage.VarLinkage.{VarLinkage}
-use Rattle.btf_plain.specs.declared.records.linkage.VarLinkage.TheVariants as linkages
+use Rattle.btf_words.specs.declared.error.BtfError.{BtfError}
+use Rattle.btf_words.specs.declared.error.BtfError.TheVariants.{InvalidTypeKind}
+use Rattle.btf_words.specs.declared.kind.BtfKind.{BtfKind}
+use Rattle.btf_words.specs.Kind.{kind}
+use Rattle.btf_plain.specs.declared.linkage.VarLinkage.{VarLinkage}
+use Rattle.btf_plain.specs.declared.linkage.VarLinkage.TheVariants as linkages
 use Rattle.btf_plain.specs.Linkage.{var_linkage_number}
-use Rattle.btf_plain.specs.Error.{Answers, refusal_of}
+use Rattle.btf_words.specs.Error.{Answers, refusal_of}
 use Rattle.btf_records.specs.declared.btf_type.BtfType.{BtfType}
 use Rattle.btf_records.specs.BtfType.{record_of}
 use Rattle.btf_records.specs.declared.codec.Head.{Head}

@@ -1,4 +1,3 @@
-pub mod Lists
 pub mod Infos
 pub mod Params
 pub mod Heads

@@ -1,6 +1,3 @@
-pub mod Items
-pub mod Fallback
-pub mod ReadItems
 pub mod BtfType
 pub mod Head
 pub use Rattle.btf_model.specs.Word
@@ -8,7 +5,7 @@ pub use Rattle.btf_model.specs.Record
 pub use Rattle.btf_model.specs.Spelling
 pub use Rattle.btf_model.specs.Table
 pub use Rattle.btf_model.specs.Blob
-pub use Rattle.btf_plain.specs.Error
-pub use Rattle.btf_plain.specs.Endianness
+pub use Rattle.btf_words.specs.Error
+pub use Rattle.btf_words.specs.Endianness
 pub use Rattle.btf_model.specs.Info
-pub use Rattle.btf_plain.specs.Kind
+pub use Rattle.btf_words.specs.Kind

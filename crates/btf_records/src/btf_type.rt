@@ -2,9 +2,10 @@
 
 ghost use Rattle.std.specs.Prelude.{◌≡◌};
 ghost use Rattle.btf_model.specs.Record.{compared_kind};
-ghost use Rattle.btf_plain.specs.Kind as kinds;
+ghost use Rattle.btf_words.specs.Kind as kinds;
 
-use crate::records::{BtfMember, DataSec, Enum, Enum64, FuncProto, Struct, Union};
+use crate::records::{DataSec, Enum, Enum64, FuncProto, Struct, Union};
+use btf_items::BtfMember;
 use btf_plain::{
     Array, BtfError, BtfKind, Const, DeclTag, Float, Func, Fwd, Int, Ptr, Restrict, TypeTag,
     Typedef, Var, Volatile,
@@ -63,11 +64,11 @@ impl BtfType {
     ghost use Rattle.std.specs.Option.{option_map};
     ghost use Rattle.std.specs.List.{flat_map};
     ghost use Rattle.std.specs.Slice.Iter.{iter_rest};
-    ghost use Rattle.btf_records.specs.Items.{member_words};
+    ghost use Rattle.btf_items.specs.Items.{member_words};
     ghost use Rattle.btf_model.specs.Record.{kind_of, compared_kind, record_size, record_target, member_bit_offset, member_bit_field_size};
     ghost use Rattle.btf_model.specs.Record as model;
-    ghost use Rattle.btf_plain.specs.Error.{Gives};
-    ghost use Rattle.btf_plain.specs.Kind as kinds;
+    ghost use Rattle.btf_words.specs.Error.{Gives};
+    ghost use Rattle.btf_words.specs.Kind as kinds;
     ghost use Rattle.btf_records.specs.BtfType.{record_of, fallback_of, type_kind};
 
     /// The kind of the record.

@@ -5,15 +5,14 @@ ghost use Rattle.btf_model.specs.Record as model;
 ghost use Rattle.btf_model.specs.Record.{kind_number, kind_of};
 ghost use Rattle.btf_model.specs.Spelling.{spell, IsRecord, IsWhole};
 ghost use Rattle.btf_model.specs.Blob.{ReadsFront};
-ghost use Rattle.btf_plain.specs.Error.{Answers, Gives};
-ghost use Rattle.btf_plain.specs.Endianness.{order_of};
+ghost use Rattle.btf_words.specs.Error.{Answers, Gives};
+ghost use Rattle.btf_words.specs.Endianness.{order_of};
 ghost use Rattle.btf_records.specs.BtfType.{record_of, fallback_of};
 ghost use Rattle.btf_records.specs.Head.{IsHead, ReadsTail};
 
 use crate::btf_type::BtfType;
-use crate::items::read_items;
 use crate::records::{DataSec, Enum, Enum64, FuncProto, Struct, Union};
-use crate::words::{push, split_word};
+use btf_items::{push, read_items, split_word};
 use btf_plain::{
     Array, BtfError, BtfKind, Const, DeclTag, Endianness, Float, Func, FuncLinkage, Fwd, Int,
     IntEncoding, Ptr, Restrict, TypeTag, Typedef, Var, VarLinkage, Volatile,

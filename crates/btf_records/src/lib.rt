@@ -3,12 +3,10 @@
 
 mod btf_type;
 mod codec;
-mod items;
 mod records;
-mod words;
 
-pub use btf_type::BtfType;
-pub use records::{
-    BtfEnum, BtfEnum64, BtfMember, BtfParam, DataSec, DataSecEntry, Enum, Enum64, Enum64Fallback,
-    Enum64VariantFallback, FuncProto, Struct, Union,
+pub use btf_items::{
+    BtfEnum, BtfEnum64, BtfMember, BtfParam, DataSecEntry, Enum64Fallback, Enum64VariantFallback,
 };
+pub use btf_type::BtfType;
+pub use records::{DataSec, Enum, Enum64, FuncProto, Struct, Union};

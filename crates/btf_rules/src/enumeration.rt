@@ -2,7 +2,7 @@
 
 ghost use Rattle.std.specs.Prelude.{◌≡◌, Ok};
 ghost use Rattle.btf_rewrite_model.specs.Made.{unsigned};
-ghost use Rattle.btf_plain.specs.Error.{Gives};
+ghost use Rattle.btf_words.specs.Error.{Gives};
 
 use btf_plain::BtfError;
 use btf_records::Enum;

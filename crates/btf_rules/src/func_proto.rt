@@ -6,8 +6,8 @@ ghost use Rattle.btf_model.specs.Record.{vlen};
 ghost use Rattle.btf_rewrite_model.specs.Ksyms.{named};
 ghost use Rattle.btf_rewrite_model.specs.Made.{enum, wants_name};
 ghost use Rattle.btf_rewrite_model.specs.Pass as model;
-ghost use Rattle.btf_plain.specs.Error.{Gives};
-ghost use Rattle.btf_records.specs.Items.{enum_words, param_words};
+ghost use Rattle.btf_words.specs.Error.{Gives};
+ghost use Rattle.btf_items.specs.Items.{enum_words, param_words};
 
 use btf_plain::BtfError;
 use btf_records::{BtfEnum, BtfParam, Enum, FuncProto};

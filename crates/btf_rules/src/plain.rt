@@ -7,7 +7,7 @@ ghost use Rattle.btf_rewrite_model.specs.Made as model;
 ghost use Rattle.btf_rewrite_model.specs.Pass.{Pass};
 ghost use Rattle.btf_rewrite_model.specs.Rule.{becomes_by};
 ghost use Rattle.btf_rewrite_model.specs.Passing.{is_quiet};
-ghost use Rattle.btf_plain.specs.Error.{Gives};
+ghost use Rattle.btf_words.specs.Error.{Gives};
 ghost use Rattle.btf_records.specs.BtfType.{record_of, fallback_of};
 ghost use Rattle.btf_rules.specs.Features.{feature_of};
 ghost use Rattle.btf_rules.specs.SoleFeature.{IsGranted};

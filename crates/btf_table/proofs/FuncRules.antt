@@ -10,8 +10,8 @@ use Rattle.btf_rewrite_model.specs.Feature.{Feature, Answer, grants, is_global}
 use Rattle.btf_model.specs.Table.{Table}
 use Rattle.btf_rewrite_model.specs.Passing.{AreAnswersTo}
 use Rattle.btf_rewrite_model.proofs.Passing.{NextAnswers}
-use Rattle.btf_plain.specs.declared.records.linkage.FuncLinkage.TheVariants as linkage
-use Rattle.btf_plain.specs.declared.records.linkage.FuncLinkage.{FuncLinkage}
+use Rattle.btf_plain.specs.declared.linkage.FuncLinkage.TheVariants as linkage
+use Rattle.btf_plain.specs.declared.linkage.FuncLinkage.{FuncLinkage}
 use Rattle.btf_table.proofs.PassAsking.{asked_none, asked_more, asked_kept}
 use Rattle.btf_rewrite_model.specs.Made.{record_at, typedef, with_linkage}
 use Rattle.btf_rewrite_model.specs.Checks.{first_fault, is_read}

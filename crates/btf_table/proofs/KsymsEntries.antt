@@ -11,8 +11,8 @@ use Rattle.btf_model.specs.Table.{Table}
 use Rattle.btf_rewrite_model.specs.Made.{Entry, entries, record_at, kind_at}
 use Rattle.btf_rewrite_model.specs.Checks.{Check, first_fault}
 use Rattle.btf_rewrite_model.specs.Ksyms.{is_func, entry_checks}
-use Rattle.btf_records.specs.Items.{entry_words}
-use Rattle.btf_records.specs.declared.records.items.DataSecEntry.{DataSecEntry}
+use Rattle.btf_items.specs.Items.{entry_words}
+use Rattle.btf_items.specs.declared.items.DataSecEntry.{DataSecEntry}
 use Rattle.btf_table.specs.KsymsStep.{entry, has, is_this, prototype_of, HasSymbols, FindsSymbols}
 use Rattle.btf_table.specs.declared.sanitize.ksyms.Symbols.{Symbols}
 use Rattle.btf_rules.proofs.Checks.{fault_behind, fault_before}

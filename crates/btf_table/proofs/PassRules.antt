@@ -25,13 +25,13 @@ use Rattle.std.specs.Prelude.{IfOk, IfSome}
 use Rattle.std.specs.Result.{result_ok}
 use Rattle.std.proofs.lemmas.Option.{none-some}
 use Rattle.btf_model.proofs.Comparisons.{same_ok}
-use Rattle.btf_plain.specs.Error.{Answers, Gives, refusal_of}
-use Rattle.btf_plain.specs.declared.error.BtfError.{BtfError}
+use Rattle.btf_words.specs.Error.{Answers, Gives, refusal_of}
+use Rattle.btf_words.specs.declared.error.BtfError.{BtfError}
 use Rattle.btf_records.specs.BtfType.{record_of, fallback_of, type_kind}
 use Rattle.btf_records.specs.declared.btf_type.BtfType.TheVariants as types
 use Rattle.btf_records.specs.declared.btf_type.BtfType.{BtfType}
-use Rattle.btf_records.specs.Items.{enum64_words}
-use Rattle.btf_records.specs.declared.records.items.BtfEnum64.{BtfEnum64}
+use Rattle.btf_items.specs.Items.{enum64_words}
+use Rattle.btf_items.specs.declared.items.BtfEnum64.{BtfEnum64}
 use Rattle.btf_table.specs.Adding.{strings_end, next_id, Adds}
 use Rattle.btf_table.proofs.Adding.{adds_none}
 use Rattle.btf_table.specs.PassStep.{IsType, IsHere, IsGrown, IsRuled, Rules, growth}

@@ -13,8 +13,8 @@ use Rattle.btf_rewrite_model.proofs.GrantedAll.{suffice}
 use Rattle.btf_rewrite_model.proofs.FewAdded.{few_in_a_rewrite}
 use Rattle.btf_rewrite_model.proofs.Kept as kept
 use Rattle.btf_model.proofs.Blobs.{same_table}
-use Rattle.btf_plain.specs.declared.error.BtfError.{BtfError}
-use Rattle.btf_plain.specs.Error.{Answers, refusal_of}
+use Rattle.btf_words.specs.declared.error.BtfError.{BtfError}
+use Rattle.btf_words.specs.Error.{Answers, refusal_of}
 use Rattle.btf_table.specs.PassStep.{Given, pass_on}
 use Rattle.btf_table.specs.Rewrites.{RewritesWith, Sanitizes, NeedsAreGrantedWith, KeepsSizes, KeepsResolutions, AppendsAtMost, OfTables}
 

@@ -27,8 +27,8 @@ use Rattle.btf_rewrite_model.specs.Passing.{MadeBelow}
 use Rattle.btf_rewrite_model.proofs.FirstMade.{makes_first, made_first, makes_no_second, made_next, made_is}
 use Rattle.btf_rewrite_model.specs.Passing.{AreAnswersTo}
 use Rattle.btf_rewrite_model.proofs.Passing.{NextAnswers}
-use Rattle.btf_plain.specs.Error.{Answers, Gives, refusal_of}
-use Rattle.btf_plain.specs.declared.error.BtfError.{BtfError}
+use Rattle.btf_words.specs.Error.{Answers, Gives, refusal_of}
+use Rattle.btf_words.specs.declared.error.BtfError.{BtfError}
 use Rattle.btf_records.specs.BtfType.{record_of, fallback_of}
 use Rattle.btf_records.specs.declared.btf_type.BtfType.{BtfType}
 use Rattle.btf_records.specs.declared.btf_type.BtfType.TheVariants.{DataSec}
@@ -40,10 +40,10 @@ use Rattle.btf_table.specs.declared.sanitize.made.Made.{Made}
 use Rattle.btf_table.proofs.Adding.{adds_none, adds_then}
 use Rattle.btf_rules.proofs.Checks.{fault_behind, fault_before, fault_third, checked_ok, checked_err}
 use Rattle.btf_table.proofs.Prototypes.{end_after}
-use Rattle.btf_plain.proofs.Refused.{handed_on}
+use Rattle.btf_words.proofs.Refused.{handed_on}
 use Rattle.btf_table.proofs.SectionItems.{id_stays}
-use Rattle.btf_records.specs.Items.{entry_words}
-use Rattle.btf_records.specs.declared.records.items.DataSecEntry.{DataSecEntry}
+use Rattle.btf_items.specs.Items.{entry_words}
+use Rattle.btf_items.specs.declared.items.DataSecEntry.{DataSecEntry}
 use Rattle.btf_rules.specs.Features.{Asks, Called, IsFurther}
 use Rattle.btf_rules.specs.declared.features.BtfFeature.{BtfFeature}
 use Rattle.btf_rules.specs.declared.features.BtfFeature.TheVariants as asked_features

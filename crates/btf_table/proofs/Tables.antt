@@ -16,9 +16,9 @@ use Rattle.btf_model.specs.Blob.{header_of, slice, AreRecords, IsTable, IsRefusa
 use Rattle.btf_model.proofs.Words.{IsBytes, IsBytes-take, IsBytes-drop, half_of_below, word_of_below}
 use Rattle.btf_model.proofs.Records.{length-spell, length-records, records_are_long}
 use Rattle.btf_model.proofs.Blobs.{same_table, same_refusal, table_not_refused}
-use Rattle.btf_plain.specs.declared.error.BtfError.{BtfError}
-use Rattle.btf_plain.specs.Endianness.{order_of}
-use Rattle.btf_plain.specs.Error.{Answers, Gives, refusal_of}
+use Rattle.btf_words.specs.declared.error.BtfError.{BtfError}
+use Rattle.btf_words.specs.Endianness.{order_of}
+use Rattle.btf_words.specs.Error.{Answers, Gives, refusal_of}
 use Rattle.btf_records.specs.BtfType.{record_of, fallback_of}
 use Rattle.btf_records.specs.declared.btf_type.BtfType.{BtfType}
 use Rattle.btf_table.specs.declared.table.Btf.{Btf}

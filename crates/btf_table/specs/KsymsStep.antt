@@ -10,7 +10,7 @@ use Rattle.btf_model.specs.Table.{Table}
 use Rattle.btf_rewrite_model.specs.Checks.{first_fault}
 use Rattle.btf_rewrite_model.specs.Made.{Entry, entries, entry_words, record_at, kind_at}
 use Rattle.btf_rewrite_model.specs.Ksyms.{KsymsIds, is_func, symbol_type, appends_int, entry_checks, laid_out, symbols, stepped, ksyms_fault, ksyms_table}
-use Rattle.btf_records.specs.declared.records.items.DataSecEntry.{DataSecEntry}
+use Rattle.btf_items.specs.declared.items.DataSecEntry.{DataSecEntry}
 use Rattle.btf_records.specs.BtfType.{record_of, fallback_of}
 use Rattle.btf_records.specs.declared.btf_type.BtfType.{BtfType}
 use Rattle.btf_table.specs.Changes.{put_all, each, AreInside, AreOf, changed}

@@ -9,9 +9,9 @@ use Rattle.btf_model.specs.Refusal.{Refusal}
 use Rattle.btf_model.specs.Table.{Table}
 use Rattle.btf_model.specs.Blob.{IsTable, IsRefusal}
 use Rattle.btf_rewrite_model.specs.Rewritten.{RewrittenWith, IsRefusedWith}
-use Rattle.btf_plain.specs.Endianness.{order_of}
-use Rattle.btf_plain.specs.declared.words.Endianness.{Endianness}
-use Rattle.btf_plain.specs.declared.words.Endianness.TheVariants as orders
+use Rattle.btf_words.specs.Endianness.{order_of}
+use Rattle.btf_words.specs.declared.words.Endianness.{Endianness}
+use Rattle.btf_words.specs.declared.words.Endianness.TheVariants as orders
 use Rattle.btftool.specs.Saying.{Saying}
 use Rattle.btftool.specs.Sayings.{SayAll, SayIds, layout_said, kernel_said, policy_said}
 use Rattle.btftool.specs.Request.{request_words, request_ids, IsSaid, Requests}

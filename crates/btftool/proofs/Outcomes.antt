@@ -15,9 +15,9 @@ use Rattle.btf_model.proofs.Blobs.{same_table, table_not_refused}
 use Rattle.btf_rewrite_model.proofs.Kernels.{rewritten_not_refused}
 use Rattle.btf_model.proofs.OnePlain.{one_plain}
 use Rattle.btf_model.proofs.Walks.{one_answer, by_one}
-use Rattle.btf_plain.specs.Endianness.{order_of}
-use Rattle.btf_plain.specs.Error.{refusal_of}
-use Rattle.btf_plain.specs.declared.error.BtfError.{BtfError}
+use Rattle.btf_words.specs.Endianness.{order_of}
+use Rattle.btf_words.specs.Error.{refusal_of}
+use Rattle.btf_words.specs.declared.error.BtfError.{BtfError}
 use Rattle.btf_types.specs.Pairs.{pair}
 use Rattle.btftool.specs.Saying.{Saying}
 use Rattle.btftool.specs.Sayings.{layout_said, kernel_said, policy_said}

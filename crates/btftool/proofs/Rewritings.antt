@@ -9,10 +9,10 @@ use Rattle.btf_rewrite_model.specs.Feature.{Answer, FillPolicy}
 use Rattle.btf_rewrite_model.specs.Pass.{Layout, Asked}
 use Rattle.btf_rewrite_model.specs.Rewritten.{pass_with, RewrittenWith}
 use Rattle.btf_rewrite_model.proofs.Kernels.{AgreeWith, rewritten_alike, refused_alike}
-use Rattle.btf_plain.specs.Endianness.{order_of}
-use Rattle.btf_plain.specs.Error.{refusal_of}
-use Rattle.btf_plain.specs.declared.error.BtfError.{BtfError}
-use Rattle.btf_plain.specs.declared.words.Endianness.{Endianness}
+use Rattle.btf_words.specs.Endianness.{order_of}
+use Rattle.btf_words.specs.Error.{refusal_of}
+use Rattle.btf_words.specs.declared.error.BtfError.{BtfError}
+use Rattle.btf_words.specs.declared.words.Endianness.{Endianness}
 use Rattle.btf_types.specs.Rewrites.{features_asked, Refuses, RewritesBytesWith}
 use Rattle.btf_rules.specs.declared.features.FeatureAnswer.{FeatureAnswer}
 use Rattle.btftool.specs.Saying.{Saying}

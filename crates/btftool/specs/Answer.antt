@@ -9,8 +9,8 @@ use Rattle.btf_model.specs.Fields.{Pair}
 use Rattle.btf_model.specs.Compat.{Plain, firsts}
 use Rattle.btf_rewrite_model.specs.Rewritten.{RewrittenWith, IsRefusedWith}
 use Rattle.btf_types.specs.Pairs.{pair}
-use Rattle.btf_plain.specs.Endianness.{order_of}
-use Rattle.btf_plain.specs.declared.words.Endianness.{Endianness}
+use Rattle.btf_words.specs.Endianness.{order_of}
+use Rattle.btf_words.specs.declared.words.Endianness.{Endianness}
 use Rattle.btftool.specs.Saying.{Saying}
 use Rattle.btftool.specs.Sayings.{layout_said, kernel_said, policy_said}
 use Rattle.btftool.specs.Request.{request_ids, IsSaid}

@@ -1,7 +1,7 @@
 -- What a fault of the program stands for.
 use Rattle.std.specs.Prelude.{Option, None}
 use Rattle.btf_model.specs.Refusal.{Refusal}
-use Rattle.btf_plain.specs.Error.{refusal_of}
+use Rattle.btf_words.specs.Error.{refusal_of}
 use Rattle.btftool.specs.declared.fault.Fault.{Fault}
 use Rattle.btftool.specs.declared.fault.Fault.TheVariants.{Read, Write, Btf}
 

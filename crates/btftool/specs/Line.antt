@@ -3,7 +3,7 @@ use Rattle.std.specs.Prelude.{◌≡◌, List, [], ◌∷◌, ℕ, codes}
 use Rattle.std.specs.Prelude.{String}
 use Rattle.std.specs.declared.alloc.Global.{Global}
 use Rattle.btf_model.specs.Word.{Order, Little, Big}
-use Rattle.btf_plain.specs.Endianness.{order_of}
+use Rattle.btf_words.specs.Endianness.{order_of}
 use Rattle.btftool.specs.Saying.{texts, IsId}
 use Rattle.btftool.specs.Request.{Requests}
 use Rattle.btftool.specs.declared.line.Line.{Line}

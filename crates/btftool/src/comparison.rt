@@ -1,6 +1,6 @@
 //! The comparison of two types of one table.
 
-ghost use Rattle.btf_plain.specs.Error.{Answers};
+ghost use Rattle.btf_words.specs.Error.{Answers};
 ghost use Rattle.btftool.specs.Answer.{Compares};
 
 use btf_plain::BtfError;

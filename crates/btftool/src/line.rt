@@ -2,7 +2,7 @@
 
 ghost use Rattle.std.specs.Prelude.{◌≡◌, ◌≢◌, IfSome, IfNone};
 ghost use Rattle.btf_model.specs.Word.{Order};
-ghost use Rattle.btf_plain.specs.Endianness.{order_of};
+ghost use Rattle.btf_words.specs.Endianness.{order_of};
 ghost use Rattle.btftool.specs.Line.{order_word};
 
 use crate::number::read_id;

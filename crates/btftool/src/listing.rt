@@ -2,7 +2,7 @@
 
 ghost use Rattle.std.specs.Prelude.{◌≡◌, ◌++◌, map, Ok, OnOk, string_bytes};
 ghost use Rattle.btf_model.specs.Text.{text_at};
-ghost use Rattle.btf_plain.specs.Error.{Gives};
+ghost use Rattle.btf_words.specs.Error.{Gives};
 ghost use Rattle.btf_records.specs.BtfType.{record_of};
 ghost use Rattle.btftool.specs.Listing.{name_part, type_line, lines_from};
 ghost use Rattle.btftool.specs.Listing as spec;

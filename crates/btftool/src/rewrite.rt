@@ -1,7 +1,7 @@
 //! The rewrite of a table that a request asks for.
 
 ghost use Rattle.std.specs.Prelude.{◌≡◌, ℕ, List, IfOk, IfErr, IfSome, IfNone};
-ghost use Rattle.btf_plain.specs.Error.{refusal_of};
+ghost use Rattle.btf_words.specs.Error.{refusal_of};
 ghost use Rattle.btf_types.specs.Features.{feature_of};
 ghost use Rattle.btf_types.specs.Layout.{sizes_of, offsets_of};
 ghost use Rattle.btftool.specs.Answer.{rewriting, IsAnswer, IsDeclined};

@@ -3,8 +3,8 @@
 ghost use Rattle.std.specs.Prelude.{◌≡◌, ◌<◌, ◌≤◌, ◌++◌, length, drop, Some, MatchOption, MatchResult};
 ghost use Rattle.btf_model.specs.Blob.{word_at};
 ghost use Rattle.btf_model.specs.Ext.{IsSection, BeginsNoSection, section_bytes, cut_refusal};
-ghost use Rattle.btf_plain.specs.Error.{refusal_of};
-ghost use Rattle.btf_plain.specs.Endianness.{order_of};
+ghost use Rattle.btf_words.specs.Error.{refusal_of};
+ghost use Rattle.btf_words.specs.Endianness.{order_of};
 ghost use Rattle.btf_ext.specs.SecInfo.{section_of};
 
 use btf_plain::{BtfError, Endianness};
@@ -40,7 +40,7 @@ impl<'a> Model for SecInfoIter<'a> {
 
     ghost Value = { SectionBytes };
 
-    ghost use Rattle.btf_plain.specs.Endianness.{order_of};
+    ghost use Rattle.btf_words.specs.Endianness.{order_of};
 
     ghost view = { λ i. record { order = order_of i.endianness; size = i.rec_size; bytes = i.bytes.now } };
 }

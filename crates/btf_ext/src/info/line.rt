@@ -3,8 +3,8 @@
 ghost use Rattle.std.specs.Prelude.{◌≡◌, ℕ, ◌<◌, ◌≤◌, List, length, map, option_map, None, Ok, IfOk, unwrap_or};
 ghost use Rattle.std.specs.List.{AllByRecursion};
 ghost use Rattle.btf_model.specs.Ext.{IsSection, instruction_records, little_bytes, no_records, section_named, sections_of};
-ghost use Rattle.btf_plain.specs.Error.{Answers, Gives};
-ghost use Rattle.btf_plain.specs.Endianness.{order_of};
+ghost use Rattle.btf_words.specs.Error.{Answers, Gives};
+ghost use Rattle.btf_words.specs.Endianness.{order_of};
 ghost use Rattle.btf_ext.specs.SecInfo.{section_of};
 ghost use Rattle.btf_ext.specs.ExtHeader.{part as part_of};
 ghost use Rattle.btf_ext.specs.Info.{line_words, line_records, lines_by_name, AreByName};

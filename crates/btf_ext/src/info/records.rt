@@ -3,7 +3,7 @@
 ghost use Rattle.std.specs.Prelude.{◌≡◌, ℕ, ◌*◌, ◌≤◌, List, length, map, IfOk};
 ghost use Rattle.btf_model.specs.Word.{words_at};
 ghost use Rattle.btf_model.specs.Ext.{IsSection, record_words};
-ghost use Rattle.btf_plain.specs.Endianness.{order_of};
+ghost use Rattle.btf_words.specs.Endianness.{order_of};
 ghost use Rattle.btf_ext.specs.SecInfo.{section_of};
 
 use crate::ext::SecInfo;

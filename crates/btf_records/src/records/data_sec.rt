@@ -6,13 +6,11 @@ ghost use Rattle.btf_model.specs.Word.{word};
 ghost use Rattle.btf_model.specs.Record as model;
 ghost use Rattle.btf_model.specs.Record.{kind_of, vlen};
 ghost use Rattle.btf_model.specs.Spelling.{spell, IsWhole};
-ghost use Rattle.btf_plain.specs.Endianness.{order_of};
-ghost use Rattle.btf_plain.specs.Error.{Gives};
-ghost use Rattle.btf_records.specs.Items.{entry_words};
+ghost use Rattle.btf_words.specs.Endianness.{order_of};
+ghost use Rattle.btf_words.specs.Error.{Gives};
+ghost use Rattle.btf_items.specs.Items.{entry_words};
 
-use crate::items::{clone_items, push_items};
-use crate::records::DataSecEntry;
-use crate::words::push;
+use btf_items::{DataSecEntry, clone_items, push, push_items};
 use btf_plain::{BtfError, BtfKind, Endianness, MAX_VLEN};
 use std::alloc::AllocError;
 use std::marker::Model;
@@ -30,7 +28,7 @@ impl Model for DataSec {
     ghost use Rattle.std.specs.Prelude.{◌≡◌, length, Some};
     ghost use Rattle.std.specs.List.{flat_map};
     ghost use Rattle.btf_model.specs.Record.{Record, kind_of, vlen, DataSec as DataSecKind};
-    ghost use Rattle.btf_records.specs.Items.{entry_words};
+    ghost use Rattle.btf_items.specs.Items.{entry_words};
 
     ghost Value = { Record };
 

@@ -6,15 +6,13 @@ ghost use Rattle.btf_model.specs.Word.{word};
 ghost use Rattle.btf_model.specs.Record as model;
 ghost use Rattle.btf_model.specs.Record.{kind_of, vlen, kind_flag};
 ghost use Rattle.btf_model.specs.Spelling.{spell, IsWhole};
-ghost use Rattle.btf_plain.specs.Endianness.{order_of};
-ghost use Rattle.btf_plain.specs.Error.{Gives};
+ghost use Rattle.btf_words.specs.Endianness.{order_of};
+ghost use Rattle.btf_words.specs.Error.{Gives};
 ghost use Rattle.btf_model.specs.Info.{flag_bit, with_flag};
-ghost use Rattle.btf_records.specs.Items.{enum_words};
+ghost use Rattle.btf_items.specs.Items.{enum_words};
 
-use crate::items::{clone_items, push_items};
-use crate::records::BtfEnum;
 use crate::records::flag::sign_bit;
-use crate::words::push;
+use btf_items::{BtfEnum, clone_items, push, push_items};
 use btf_plain::{BtfError, BtfKind, Endianness, MAX_VLEN};
 use std::alloc::AllocError;
 use std::marker::Model;
@@ -32,7 +30,7 @@ impl Model for Enum {
     ghost use Rattle.std.specs.Prelude.{◌≡◌, length, Some};
     ghost use Rattle.std.specs.List.{flat_map};
     ghost use Rattle.btf_model.specs.Record.{Record, kind_of, vlen, Enum as EnumKind};
-    ghost use Rattle.btf_records.specs.Items.{enum_words};
+    ghost use Rattle.btf_items.specs.Items.{enum_words};
 
     ghost Value = { Record };
 

@@ -6,13 +6,11 @@ ghost use Rattle.btf_model.specs.Word.{word};
 ghost use Rattle.btf_model.specs.Record as model;
 ghost use Rattle.btf_model.specs.Record.{kind_of, vlen};
 ghost use Rattle.btf_model.specs.Spelling.{spell, IsWhole};
-ghost use Rattle.btf_plain.specs.Endianness.{order_of};
-ghost use Rattle.btf_plain.specs.Error.{Gives};
-ghost use Rattle.btf_records.specs.Items.{param_words};
+ghost use Rattle.btf_words.specs.Endianness.{order_of};
+ghost use Rattle.btf_words.specs.Error.{Gives};
+ghost use Rattle.btf_items.specs.Items.{param_words};
 
-use crate::items::{clone_items, push_items};
-use crate::records::BtfParam;
-use crate::words::push;
+use btf_items::{BtfParam, clone_items, push, push_items};
 use btf_plain::{BtfError, BtfKind, Endianness, MAX_VLEN};
 use std::alloc::AllocError;
 use std::marker::Model;
@@ -30,7 +28,7 @@ impl Model for FuncProto {
     ghost use Rattle.std.specs.Prelude.{◌≡◌, length, Some};
     ghost use Rattle.std.specs.List.{flat_map};
     ghost use Rattle.btf_model.specs.Record.{Record, kind_of, vlen, FuncProto as FuncProtoKind};
-    ghost use Rattle.btf_records.specs.Items.{param_words};
+    ghost use Rattle.btf_items.specs.Items.{param_words};
 
     ghost Value = { Record };
 

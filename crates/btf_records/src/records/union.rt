@@ -7,15 +7,12 @@ ghost use Rattle.btf_model.specs.Word.{word};
 ghost use Rattle.btf_model.specs.Record as model;
 ghost use Rattle.btf_model.specs.Record.{kind_of, vlen, member_bit_offset, member_bit_field_size};
 ghost use Rattle.btf_model.specs.Spelling.{spell, IsWhole};
-ghost use Rattle.btf_plain.specs.Endianness.{order_of};
-ghost use Rattle.btf_plain.specs.Error.{Gives};
-ghost use Rattle.btf_records.specs.Fallback.{fallback_of_option};
-ghost use Rattle.btf_records.specs.Items.{member_words};
+ghost use Rattle.btf_words.specs.Endianness.{order_of};
+ghost use Rattle.btf_words.specs.Error.{Gives};
+ghost use Rattle.btf_items.specs.Fallback.{fallback_of_option};
+ghost use Rattle.btf_items.specs.Items.{member_words};
 
-use crate::items::{clone_items, push_items};
-use crate::records::fallback::clone_fallback;
-use crate::records::{BtfMember, Enum64Fallback};
-use crate::words::push;
+use btf_items::{BtfMember, Enum64Fallback, clone_fallback, clone_items, push, push_items};
 use btf_plain::{BtfError, BtfKind, Endianness, MAX_VLEN};
 use std::alloc::AllocError;
 use std::marker::Model;
@@ -36,8 +33,8 @@ impl Model for Union {
     ghost use Rattle.std.specs.List.{flat_map};
     ghost use Rattle.btf_model.specs.Record.{Record, kind_of, vlen, Union as UnionKind};
     ghost use Rattle.btf_model.specs.Table.{UnionRecord};
-    ghost use Rattle.btf_records.specs.Items.{member_words};
-    ghost use Rattle.btf_records.specs.Fallback.{fallback_of_option};
+    ghost use Rattle.btf_items.specs.Items.{member_words};
+    ghost use Rattle.btf_items.specs.Fallback.{fallback_of_option};
 
     ghost Value = { UnionRecord };
 

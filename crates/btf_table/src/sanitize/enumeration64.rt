@@ -9,9 +9,9 @@ ghost use Rattle.btf_rewrite_model.specs.Checks.{first_fault, have_room};
 ghost use Rattle.btf_rewrite_model.specs.Fault.{all_fit};
 ghost use Rattle.btf_rewrite_model.specs.Pass.{placeholder_text};
 ghost use Rattle.btf_rewrite_model.specs.Rule.{variant_members};
-ghost use Rattle.btf_plain.specs.Error.{Gives};
-ghost use Rattle.btf_records.specs.Fallback.{variant_of, fallback_value};
-ghost use Rattle.btf_records.specs.Items.{enum64_words, member_words};
+ghost use Rattle.btf_words.specs.Error.{Gives};
+ghost use Rattle.btf_items.specs.Fallback.{variant_of, fallback_value};
+ghost use Rattle.btf_items.specs.Items.{enum64_words, member_words};
 ghost use Rattle.btf_table.specs.Adding.{strings_end, next_id, HasRoom, Adds};
 ghost use Rattle.btf_rules.specs.Checked.{checked};
 

@@ -7,7 +7,7 @@ ghost use Rattle.btf_rewrite_model.specs.Made.{with_linkage};
 ghost use Rattle.btf_rewrite_model.specs.Pass as model;
 ghost use Rattle.btf_rewrite_model.specs.Pass.{asks_below};
 ghost use Rattle.btf_rewrite_model.specs.Passing.{AreAnswersTo};
-ghost use Rattle.btf_plain.specs.Error.{Answers};
+ghost use Rattle.btf_words.specs.Error.{Answers};
 ghost use Rattle.btf_rules.specs.Features.{Called, IsFurther, answers_of};
 ghost use Rattle.btf_table.specs.PassStep.{Given, pass_on, IsType, IsHere, AsksUpTo, Steps};
 ghost use Rattle.btf_table.specs.declared.sanitize.made.Made as made;

@@ -8,8 +8,8 @@ ghost use Rattle.btf_rewrite_model.specs.Checks.{first_fault, have_room};
 ghost use Rattle.btf_rewrite_model.specs.Pass as model;
 ghost use Rattle.btf_rewrite_model.specs.Pass.{param_texts};
 ghost use Rattle.btf_rewrite_model.specs.Rule.{named_params};
-ghost use Rattle.btf_plain.specs.Error.{Gives};
-ghost use Rattle.btf_records.specs.Items.{enum_words, param_words};
+ghost use Rattle.btf_words.specs.Error.{Gives};
+ghost use Rattle.btf_items.specs.Items.{enum_words, param_words};
 ghost use Rattle.btf_table.specs.Adding.{strings_end, HasRoom, Adds};
 ghost use Rattle.btf_rules.specs.Checked.{checked};
 

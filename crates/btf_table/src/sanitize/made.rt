@@ -7,7 +7,7 @@ ghost use Rattle.btf_rewrite_model.specs.Checks.{first_fault, have_room, has_roo
 ghost use Rattle.btf_rewrite_model.specs.Fault.{all_fit};
 ghost use Rattle.btf_rewrite_model.specs.Pass.{placeholder_text, filler_type_text, filler_text, filler};
 ghost use Rattle.btf_model.specs.Table.{type_bytes};
-ghost use Rattle.btf_plain.specs.Error.{Gives};
+ghost use Rattle.btf_words.specs.Error.{Gives};
 ghost use Rattle.btf_records.specs.BtfType.{record_of};
 ghost use Rattle.btf_table.specs.Adding.{strings_end, next_id, HasRoom, Adds};
 ghost use Rattle.btf_rules.specs.Checked.{checked};

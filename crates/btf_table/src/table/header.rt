@@ -2,7 +2,7 @@
 
 ghost use Rattle.std.specs.Prelude.{◌≡◌, ◌+◌, ◌<◌, ◌≤◌, ◌++◌, length, take, drop, MatchResult, MatchOption, OnOk};
 ghost use Rattle.btf_model.specs.Blob.{header_len, header_of, header_bytes, slice};
-ghost use Rattle.btf_plain.specs.Endianness.{order_of};
+ghost use Rattle.btf_words.specs.Endianness.{order_of};
 ghost use Rattle.btf_table.specs.Header.{header};
 
 use btf_plain::{BtfError, Endianness};

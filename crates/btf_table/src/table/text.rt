@@ -6,8 +6,8 @@ ghost use Rattle.std.specs.Str.{IsUtf8};
 ghost use Rattle.btf_model.specs.Record.{kind_of};
 ghost use Rattle.btf_model.specs.Text as model;
 ghost use Rattle.btf_model.specs.Text.{FindsName};
-ghost use Rattle.btf_plain.specs.Error.{Answers, Gives, Tells};
-ghost use Rattle.btf_plain.specs.Kind as kinds;
+ghost use Rattle.btf_words.specs.Error.{Answers, Gives, Tells};
+ghost use Rattle.btf_words.specs.Kind as kinds;
 ghost use Rattle.btf_records.specs.BtfType.{record_of};
 ghost use Rattle.btf_table.specs.BtfStr.{text_bytes, IsNamed};
 

@@ -4,9 +4,9 @@ use Rattle.btf_model.proofs.Known.{known_pairs}
 use Rattle.btf_model.specs.Run as runs
 use Rattle.btf_model.specs.Run.{IsNext}
 use Rattle.btf_model.proofs.RunLengths.{widest, less_on, less_paid, less_settled}
-use Rattle.btf_plain.specs.declared.error.BtfError.{BtfError}
-use Rattle.btf_plain.specs.declared.error.BtfError.TheVariants.{OutOfMemory}
-use Rattle.btf_plain.specs.Error.{Tells}
+use Rattle.btf_words.specs.declared.error.BtfError.{BtfError}
+use Rattle.btf_words.specs.declared.error.BtfError.TheVariants.{OutOfMemory}
+use Rattle.btf_words.specs.Error.{Tells}
 use Rattle.btf_compare.specs.declared.step.Frame.{Frame}
 use Rattle.btf_compare.specs.Compared.{frame_of, IsStarted}
 use Rattle.btf_compare.specs.Pairs.{pair_of}

@@ -1,6 +1,6 @@
 use Rattle.std.proofs.Common.{◌≡◌, take, length}
 use Rattle.std.specs.List.{flat_map}
-use Rattle.btf_records.specs.Items.{enum_words, param_words}
+use Rattle.btf_items.specs.Items.{enum_words, param_words}
 use Rattle.btf_rules.proofs.func_proto.param_variants.Given as goal
 
 abbrev pub invariant-loop-param : goal.invariant-loop-param

@@ -1,7 +1,7 @@
 use Rattle.btf_model.specs.Refusal.{Refusal}
 use Rattle.btf_model.specs.Table.{Table}
 use Rattle.btf_model.proofs.Comparisons.{same_ok}
-use Rattle.btf_plain.specs.Endianness.{order_of}
+use Rattle.btf_words.specs.Endianness.{order_of}
 use Rattle.btf_rules.specs.Features.{answers_of, policy_of}
 use Rattle.btf_rules.specs.Layout.{layout_of}
 use Rattle.btf_table.specs.PassStep.{under}

@@ -1,5 +1,5 @@
 use Rattle.std.proofs.Common.{◌∙◌, sym, ap, arith, length}
-use Rattle.btf_plain.specs.Endianness.{order_of}
+use Rattle.btf_words.specs.Endianness.{order_of}
 use Rattle.btf_table.proofs.KnownKinds.{section_has_kinds}
 use Rattle.btf_table.proofs.Tables.{read_len, read_header_fits, length-slice}
 use Rattle.btf_table.proofs.table.read_table.Goals as goal

@@ -9,8 +9,8 @@ ghost use Rattle.btf_rewrite_model.specs.Checks.{first_fault, has_room, fits, re
 ghost use Rattle.btf_rewrite_model.specs.Pass.{Pass, filler_type_text, filler_text, filler};
 ghost use Rattle.btf_rewrite_model.specs.Rule.{entry_members, placed};
 ghost use Rattle.btf_rewrite_model.specs.Fault.{member_checks, entry_checks, is_sized};
-ghost use Rattle.btf_plain.specs.Error.{Gives};
-ghost use Rattle.btf_records.specs.Items.{member_words};
+ghost use Rattle.btf_words.specs.Error.{Gives};
+ghost use Rattle.btf_items.specs.Items.{member_words};
 ghost use Rattle.btf_table.specs.Adding.{strings_end, next_id, HasRoom, Adds};
 ghost use Rattle.btf_rules.specs.Checked.{checked};
 ghost use Rattle.btf_table.specs.KsymsStep.{entry as entry_of};

@@ -4,7 +4,7 @@ ghost use Rattle.std.specs.Prelude.{◌≡◌, ◌+◌, [], ◌∷◌, length, O
 ghost use Rattle.btf_rewrite_model.specs.Made.{byte_int, static_var};
 ghost use Rattle.btf_rewrite_model.specs.Checks.{first_fault, has_room, fits, record_len};
 ghost use Rattle.btf_rewrite_model.specs.Pass.{filler_type_text, filler_text, filler};
-ghost use Rattle.btf_plain.specs.Error.{Gives};
+ghost use Rattle.btf_words.specs.Error.{Gives};
 ghost use Rattle.btf_table.specs.Adding.{strings_end, next_id, HasRoom, Adds};
 ghost use Rattle.btf_rules.specs.Checked.{checked};
 

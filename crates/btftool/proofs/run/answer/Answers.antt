@@ -1,6 +1,6 @@
 use Rattle.std.proofs.Common.{sym, subst}
 use Rattle.std.specs.Prelude.{IfOk, IfErr, IfSome}
-use Rattle.btf_plain.specs.Error.{refusal_of}
+use Rattle.btf_words.specs.Error.{refusal_of}
 use Rattle.btftool.specs.declared.line.Line.{Line}
 use Rattle.btftool.specs.declared.line.Command.TheVariants.{Rewrite}
 use Rattle.btftool.specs.Answer.{IsAnswer, IsDeclined}

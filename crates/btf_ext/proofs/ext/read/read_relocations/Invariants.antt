@@ -1,6 +1,6 @@
 use Rattle.std.proofs.Common.{◌≡◌, take, map}
 use Rattle.btf_model.specs.Ext.{relocation_section}
-use Rattle.btf_plain.specs.Endianness.{order_of}
+use Rattle.btf_words.specs.Endianness.{order_of}
 use Rattle.btf_ext.specs.SecInfo.{section_of}
 use Rattle.btf_ext.specs.Relocation.{relocation}
 use Rattle.btf_ext.proofs.ext.read.read_relocations.Given as goal

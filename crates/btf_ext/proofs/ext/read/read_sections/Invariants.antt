@@ -1,5 +1,5 @@
 use Rattle.std.proofs.Common.{map}
-use Rattle.btf_plain.specs.Endianness.{order_of}
+use Rattle.btf_words.specs.Endianness.{order_of}
 use Rattle.btf_ext.specs.SecInfo.{section_of}
 use Rattle.btf_ext.proofs.Parts.{CutSoFar}
 use Rattle.btf_ext.proofs.ext.read.read_sections.Given as goal

@@ -1,5 +1,5 @@
 use Rattle.std.proofs.Common.{◌≡◌, ◌<◌, ◌⊎◌, length, arith, inl, inr, refl}
-use Rattle.btf_plain.specs.Endianness.{order_of}
+use Rattle.btf_words.specs.Endianness.{order_of}
 use Rattle.btf_ext.specs.SecInfo.{section_of}
 use Rattle.btf_ext.proofs.SecInfos.{IsHead, cut_section, whole_section}
 use Rattle.btf_ext.proofs.ext.sections.split_section.Goals as goal

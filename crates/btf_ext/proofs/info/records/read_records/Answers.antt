@@ -1,4 +1,4 @@
-use Rattle.btf_plain.specs.Endianness.{order_of}
+use Rattle.btf_words.specs.Endianness.{order_of}
 use Rattle.btf_ext.proofs.Infos.{one_more_record}
 use Rattle.btf_ext.proofs.info.records.read_records.Goals as goal
 

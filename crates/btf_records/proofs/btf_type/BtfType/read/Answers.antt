@@ -1,8 +1,8 @@
 use Rattle.std.proofs.Common.{◌∙◌, ap, arith, refl}
 use Rattle.btf_model.specs.Record as model
 use Rattle.btf_model.specs.Record.{Record}
-use Rattle.btf_plain.specs.Endianness.{order_of}
-use Rattle.btf_plain.specs.declared.records.kind.BtfKind.TheVariants as kinds
+use Rattle.btf_words.specs.Endianness.{order_of}
+use Rattle.btf_words.specs.declared.kind.BtfKind.TheVariants as kinds
 use Rattle.btf_records.proofs.Heads.{tail_read, tail_refused, kind_refused, kind_at}
 use Rattle.btf_records.proofs.btf_type.BtfType.read.Goals as goal
 

@@ -11,7 +11,7 @@ use Rattle.btf_rules.specs.Features.{answers_of, Called}
 use Rattle.btf_rules.specs.Layout.{layout_of}
 use Rattle.btf_table.specs.PassStep.{pass_on, under, IsType, IsHere, IsMade, Passes}
 use Rattle.btf_records.specs.declared.btf_type.BtfType.TheVariants.{Unknown}
-use Rattle.btf_plain.proofs.Refused.{handed_on}
+use Rattle.btf_words.proofs.Refused.{handed_on}
 use Rattle.btf_rules.specs.declared.features.FeatureAnswer.{FeatureAnswer}
 use Rattle.btf_table.proofs.PassAsking.{begins_at, begins_all, begins_none, further_answers}
 use Rattle.btf_table.proofs.PassStates.{here_of_made, steps_on, refused_at, passes_whole, made_at_start, type_there}

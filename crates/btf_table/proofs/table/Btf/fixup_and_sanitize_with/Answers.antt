@@ -5,7 +5,7 @@ use Rattle.btf_model.specs.Table.{Table}
 use Rattle.btf_rewrite_model.specs.Ksyms as model
 use Rattle.btf_rewrite_model.specs.Ksyms.{ksyms_table, ksyms_fault}
 use Rattle.btf_rewrite_model.specs.Rewritten.{begun, pass_with}
-use Rattle.btf_plain.specs.Error.{refusal_of}
+use Rattle.btf_words.specs.Error.{refusal_of}
 use Rattle.btf_rules.specs.Features.{answers_of, policy_of}
 use Rattle.btf_table.specs.KsymsStep.{ksyms_ids}
 use Rattle.btf_rules.specs.Layout.{layout_of}

@@ -1,4 +1,4 @@
-use Rattle.btf_plain.specs.Endianness.{order_of}
+use Rattle.btf_words.specs.Endianness.{order_of}
 use Rattle.btf_table.proofs.Tables.{gives_table, gives_refusal}
 use Rattle.btf_table.proofs.table.Btf.parse.Goals as goal
 

@@ -1,7 +1,7 @@
 use Rattle.std.specs.Prelude.{List, Err}
 use Rattle.std.proofs.lemmas.Option.{IfSome_then}
 use Rattle.btf_rewrite_model.specs.Pass.{Pass}
-use Rattle.btf_plain.proofs.Refused.{handed_on}
+use Rattle.btf_words.proofs.Refused.{handed_on}
 use Rattle.btf_rules.specs.Features.{answers_of}
 use Rattle.btf_rules.specs.Layout.{layout_of}
 use Rattle.btf_rules.specs.declared.features.FeatureAnswer.{FeatureAnswer}

@@ -1,7 +1,7 @@
 use Rattle.std.proofs.Common.{inl, refl, sym, ap, ◌∙◌, List, ℕ, Ok}
 use Rattle.std.proofs.lemmas.Bool.{true≢false}
 use Rattle.btf_model.specs.Text.{text_at}
-use Rattle.btf_plain.specs.Kind as kinds
+use Rattle.btf_words.specs.Kind as kinds
 use Rattle.btf_records.specs.BtfType.{record_of}
 use Rattle.btf_table.proofs.Names.{named}
 use Rattle.btf_table.proofs.table.text.is_named.Goals as goal

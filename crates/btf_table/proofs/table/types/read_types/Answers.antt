@@ -1,6 +1,6 @@
 use Rattle.std.proofs.Common.{◌≡◌, ℕ, true, nat_eq, List, [], length, ap, refl}
 use Rattle.std.specs.Prelude.{◌≢◌}
-use Rattle.btf_plain.specs.Endianness.{order_of}
+use Rattle.btf_words.specs.Endianness.{order_of}
 use Rattle.btf_records.specs.BtfType.{record_of}
 use Rattle.btf_table.proofs.Sections.{record_within, cut_begins, cut_goes_on, cut_ends}
 use Rattle.btf_table.proofs.table.types.read_types.Goals as goal

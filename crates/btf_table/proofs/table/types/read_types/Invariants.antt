@@ -1,5 +1,5 @@
 use Rattle.std.proofs.Common.{length}
-use Rattle.btf_plain.specs.Endianness.{order_of}
+use Rattle.btf_words.specs.Endianness.{order_of}
 use Rattle.btf_table.proofs.Sections.{CutInto}
 use Rattle.btf_table.proofs.table.types.read_types.Given as goal
 

@@ -1,7 +1,7 @@
 use Rattle.std.proofs.Common.{◌≢◌, ◌+◌, ◌∙◌, ℕ, length, ap, arith, sym}
 use Rattle.std.specs.Prelude.{slice_range, ◌==◌}
 use Rattle.std.proofs.lemmas.Bool.{true≢false}
-use Rattle.btf_plain.specs.Endianness.{order_of}
+use Rattle.btf_words.specs.Endianness.{order_of}
 use Rattle.btf_ext.specs.ExtHeader.{range}
 use Rattle.btf_ext.proofs.ExtHeaders.{full_range}
 use Rattle.btf_ext.proofs.ext.header.Range.find.Goals as goal

@@ -1,11 +1,11 @@
 use Rattle.std.proofs.Common.{Some, subst, sym, ◌∙◌}
-use Rattle.btf_plain.specs.Endianness.{order_of}
+use Rattle.btf_words.specs.Endianness.{order_of}
 use Rattle.btf_ext.specs.ExtHeader.{part}
 use Rattle.btf_ext.specs.Info.{funcs_by_name, func_records, AreByName}
 use Rattle.btf_ext.specs.SecInfo.{GivesSection}
 use Rattle.btf_ext.proofs.NamedSections.{none_read, one_more, all_read, section_read}
 use Rattle.btf_ext.proofs.Parts.{named_refused, unnamed_refused}
-use Rattle.btf_plain.proofs.Refused.{handed_on}
+use Rattle.btf_words.proofs.Refused.{handed_on}
 use Rattle.btf_ext.proofs.info.func.FuncInfo.read.Goals as goal
 
 pub loop-section-init : goal.loop-section-init

@@ -1,4 +1,4 @@
-use Rattle.btf_plain.specs.Endianness.{order_of}
+use Rattle.btf_words.specs.Endianness.{order_of}
 use Rattle.btf_ext.specs.ExtHeader.{part}
 use Rattle.btf_ext.specs.Info.{funcs_by_name}
 use Rattle.btf_ext.proofs.NamedSections.{ReadSoFar}

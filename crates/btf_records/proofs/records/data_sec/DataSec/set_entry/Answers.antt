@@ -1,8 +1,8 @@
 use Rattle.std.proofs.Common.{◌≡◌, ℕ, suc, ◌+◌, ◌*◌, ◌<◌, List, ◌++◌, take, drop, length, ap, ◌∙◌, arith, refl}
 use Rattle.std.specs.List.{flat_map}
 use Rattle.btf_model.specs.Record.{Record, vlen}
-use Rattle.btf_records.specs.Items.{entry_words}
-use Rattle.btf_records.proofs.Lists.{words_of_set}
+use Rattle.btf_items.specs.Items.{entry_words}
+use Rattle.btf_items.proofs.Lists.{words_of_set}
 use Rattle.btf_records.proofs.records.data_sec.DataSec.set_entry.Goals as goal
 
 pub returns : goal.returns

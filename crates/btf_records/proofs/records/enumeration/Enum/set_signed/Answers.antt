@@ -3,7 +3,7 @@ use Rattle.std.specs.Prelude.{slice_get}
 use Rattle.btf_model.specs.Record.{Record, kinds, kind_of, vlen}
 use Rattle.std.specs.List.{flat_map}
 use Rattle.btf_model.specs.Info.{with_flag}
-use Rattle.btf_records.specs.Items.{enum_words}
+use Rattle.btf_items.specs.Items.{enum_words}
 use Rattle.btf_records.proofs.Infos.{new_flag, same_kind, same_vlen}
 use Rattle.btf_records.proofs.records.enumeration.Enum.set_signed.Goals as goal
 

@@ -2,7 +2,7 @@ use Rattle.std.proofs.Common.{ℕ, ◌<◌, ◌^◌, ap, ◌∙◌, arith}
 use Rattle.std.specs.Prelude.{slice_get}
 use Rattle.std.specs.List.{flat_map}
 use Rattle.btf_model.specs.Record.{kinds, kind_of, vlen}
-use Rattle.btf_records.specs.Items.{enum64_words}
+use Rattle.btf_items.specs.Items.{enum64_words}
 use Rattle.btf_records.proofs.Infos.{new_info, new_kind, new_vlen}
 use Rattle.btf_records.proofs.records.enumeration64.Enum64.new.Goals as goal
 

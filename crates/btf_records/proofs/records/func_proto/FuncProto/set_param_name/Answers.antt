@@ -1,5 +1,5 @@
 use Rattle.std.proofs.Common.{ℕ, ◌+◌, ◌*◌, ◌<◌, List, ◌∷◌, ◌++◌, take, drop, length, ap, ◌∙◌, arith}
-use Rattle.btf_records.specs.declared.records.items.BtfParam.{BtfParam}
+use Rattle.btf_items.specs.declared.items.BtfParam.{BtfParam}
 use Rattle.btf_model.specs.Record.{Record, vlen}
 use Rattle.std.proofs.lemmas.List.{get_or_read}
 use Rattle.btf_records.proofs.Params.{param_named}

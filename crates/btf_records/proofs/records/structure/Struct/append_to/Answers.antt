@@ -4,8 +4,8 @@ use Rattle.std.proofs.lemmas.Result.{on_ok_weaker}
 use Rattle.btf_model.specs.Record as model
 use Rattle.btf_model.specs.Record.{Record}
 use Rattle.btf_model.specs.Spelling.{IsWhole}
-use Rattle.btf_records.specs.Items.{member_words}
-use Rattle.btf_records.proofs.Lists.{length-items, list_is_whole}
+use Rattle.btf_items.specs.Items.{member_words}
+use Rattle.btf_items.proofs.Lists.{length-items, list_is_whole}
 use Rattle.btf_records.proofs.records.structure.Struct.append_to.Goals as goal
 
 pub returns-clause-whole : goal.returns-clause-whole

@@ -1,7 +1,7 @@
 use Rattle.std.proofs.Common.{length, ap, arith, refl}
 use Rattle.btf_model.specs.Record.{Record}
-use Rattle.btf_records.specs.Items.{member_words}
-use Rattle.btf_records.proofs.Lists.{length-items}
+use Rattle.btf_items.specs.Items.{member_words}
+use Rattle.btf_items.proofs.Lists.{length-items}
 use Rattle.btf_records.proofs.records.structure.Struct.type_info_size.Goals as goal
 
 pub returns : goal.returns

@@ -1,14 +1,14 @@
 use Rattle.std.proofs.Common.{◌≡◌, true, [], sym, ap, subst, ◌∙◌}
 use Rattle.std.specs.Option.{unwrap_or}
 use Rattle.btf_model.specs.Record.{kind_of}
-use Rattle.btf_plain.specs.Error.{Answers}
+use Rattle.btf_words.specs.Error.{Answers}
 use Rattle.btf_records.specs.BtfType.{record_of}
 use Rattle.btf_records.specs.declared.btf_type.BtfType.{BtfType}
 use Rattle.btf_rules.specs.Features.{answers_of}
 use Rattle.btf_table.specs.PassStep.{pass_on, IsType, AsksUpTo, Steps, Rules}
 use Rattle.btf_rules.specs.SoleFeature.{asks_one}
 use Rattle.btf_table.proofs.PassOne.{one_type}
-use Rattle.btf_plain.proofs.Refused.{with_fact}
+use Rattle.btf_words.proofs.Refused.{with_fact}
 use Rattle.btf_table.proofs.sanitize.made.Made.rewrite.Given.{Over}
 use Rattle.btf_table.proofs.sanitize.made.Made.rewrite.Goals as goal
 

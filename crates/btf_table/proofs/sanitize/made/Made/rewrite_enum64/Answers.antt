@@ -5,13 +5,13 @@ use Rattle.btf_model.specs.Record.{kind_of}
 use Rattle.btf_model.specs.Refusal.{Refusal}
 use Rattle.btf_rewrite_model.specs.Pass.{Pass}
 use Rattle.btf_model.proofs.Comparisons.{same_ok}
-use Rattle.btf_plain.specs.Error.{Answers}
-use Rattle.btf_plain.specs.declared.error.BtfError.{BtfError}
+use Rattle.btf_words.specs.Error.{Answers}
+use Rattle.btf_words.specs.declared.error.BtfError.{BtfError}
 use Rattle.btf_records.specs.declared.btf_type.BtfType.{BtfType}
 use Rattle.btf_records.specs.declared.btf_type.BtfType.TheVariants.{Enum64, Union}
 use Rattle.btf_table.specs.PassStep.{pass_on, Rules}
 use Rattle.btf_rules.proofs.Checks.{checked_ok, checked_err}
-use Rattle.btf_plain.proofs.Refused.{handed_on}
+use Rattle.btf_words.proofs.Refused.{handed_on}
 use Rattle.btf_table.proofs.PassRules.{HasPlaceholder, placeholder_there, placeholder_new, wants_one, enum64_as_union, enum64_fault, three_words}
 use Rattle.btf_table.proofs.sanitize.made.Made.rewrite_enum64.Goals as goal
 

@@ -1,0 +1,15 @@
+-- The fallback of a UNION as the definitions have it.
+use Rattle.std.specs.Prelude.{map, Option}
+use Rattle.std.specs.Option.{option_map}
+use Rattle.btf_model.specs.Table as model
+use Rattle.btf_items.specs.declared.fallback.Enum64Fallback.{Enum64Fallback}
+use Rattle.btf_items.specs.declared.fallback.Enum64VariantFallback.{Enum64VariantFallback}
+
+abbrev pub variant_of : Enum64VariantFallback → model.Variant
+variant_of v = record { name = v.name_offset; value = v.value }
+
+abbrev pub fallback_value : Enum64Fallback → model.Fallback
+fallback_value f = record { signed = f.signed; variants = map variant_of f.variants.items }
+
+abbrev pub fallback_of_option : Option Enum64Fallback → Option model.Fallback
+fallback_of_option o = option_map fallback_value o

@@ -1,0 +1,23 @@
+-- The items of the kinds that have a list, as words.
+-- Source: the kernel's BTF documentation, `struct btf_member`, `btf_enum`, `btf_enum64`, `btf_param`, `btf_var_secinfo`.
+use Rattle.std.specs.Prelude.{ℕ, List, [], ◌∷◌}
+use Rattle.btf_items.specs.declared.items.BtfEnum.{BtfEnum}
+use Rattle.btf_items.specs.declared.items.BtfEnum64.{BtfEnum64}
+use Rattle.btf_items.specs.declared.items.BtfMember.{BtfMember}
+use Rattle.btf_items.specs.declared.items.BtfParam.{BtfParam}
+use Rattle.btf_items.specs.declared.items.DataSecEntry.{DataSecEntry}
+
+abbrev pub enum_words : BtfEnum → List ℕ
+enum_words v = v.name_offset ∷ v.value ∷ []
+
+abbrev pub enum64_words : BtfEnum64 → List ℕ
+enum64_words v = v.name_offset ∷ v.value_low ∷ v.value_high ∷ []
+
+abbrev pub member_words : BtfMember → List ℕ
+member_words m = m.name_offset ∷ m.btf_type ∷ m.offset ∷ []
+
+abbrev pub param_words : BtfParam → List ℕ
+param_words p = p.name_offset ∷ p.btf_type ∷ []
+
+abbrev pub entry_words : DataSecEntry → List ℕ
+entry_words e = e.btf_type ∷ e.offset ∷ e.size ∷ []

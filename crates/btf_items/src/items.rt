@@ -1,0 +1,242 @@
+//! The items of the records that have a list.
+
+ghost use Rattle.std.specs.Prelude.{◌≡◌, ◌/◌, ◌%◌, ◌^◌};
+ghost use Rattle.btf_items.specs.Items.{enum_words, enum64_words, member_words, param_words, entry_words};
+
+use crate::list::Item;
+use crate::words::{push, split_word};
+use btf_words::{BtfError, Endianness};
+use std::alloc::AllocError;
+
+/// A variant of an ENUM (the kernel's documentation, "BTF_KIND_ENUM").
+#[derive(Clone, Debug, Drop)]
+pub struct BtfEnum {
+    /// The string offset of the name.
+    pub name_offset: u32,
+    /// The value, as two's complement where the ENUM is signed.
+    pub value: u32,
+}
+
+impl BtfEnum {
+    /// A variant of this name and value.
+    pub fn new(name_offset: u32, value: u32) -> Self
+        ensures { result ≡ record { name_offset = name_offset; value = value } }
+    {
+        Self { name_offset, value }
+    }
+}
+
+/// A variant of an ENUM64 (the kernel's documentation, "BTF_KIND_ENUM64").
+#[derive(Copy, Clone, Debug)]
+pub struct BtfEnum64 {
+    /// The string offset of the name.
+    pub name_offset: u32,
+    /// The low 32 bits of the value.
+    pub value_low: u32,
+    /// The high 32 bits of the value.
+    pub value_high: u32,
+}
+
+impl BtfEnum64 {
+    /// A variant of this name and value.
+    pub fn new(name_offset: u32, value: u64) -> Self
+        ensures { result ≡ record {
+          name_offset = name_offset;
+          value_low = value % 2 ^ 32;
+          value_high = value / 2 ^ 32;
+        } }
+    {
+        Self {
+            name_offset,
+            value_low: (value & 0xffff_ffff) as u32,
+            value_high: (value >> 32) as u32,
+        }
+    }
+}
+
+/// A member of a STRUCT or a UNION (the kernel's documentation, "BTF_KIND_STRUCT").
+#[derive(Clone, Debug, Drop)]
+pub struct BtfMember {
+    /// The string offset of the name.
+    pub name_offset: u32,
+    /// The id of the type.
+    pub btf_type: u32,
+    /// The bit offset; where the record's kind flag is set, the size of a bit-field stands in its high 8 bits.
+    pub offset: u32,
+}
+
+/// A parameter of a FUNC_PROTO (the kernel's documentation, "BTF_KIND_FUNC_PROTO").
+#[derive(Clone, Debug, Drop)]
+pub struct BtfParam {
+    /// The string offset of the name.
+    pub name_offset: u32,
+    /// The id of the type; 0 stands for further arguments of any type.
+    pub btf_type: u32,
+}
+
+/// An entry of a DATASEC (the kernel's documentation, "BTF_KIND_DATASEC").
+#[derive(Clone, Debug, Drop)]
+pub struct DataSecEntry {
+    /// The id of the VAR.
+    pub btf_type: u32,
+    /// Where the variable lies in the section, in bytes.
+    pub offset: u32,
+    /// Its size in bytes.
+    pub size: u32,
+}
+
+impl Item for BtfEnum {
+    ghost width = { 2 };
+
+    ghost item_words = { enum_words };
+
+    fn read(bytes: &[u8], endianness: Endianness) -> Result<(Self, &[u8]), BtfError> {
+        let (name_offset, rest) = split_word(bytes, endianness)?;
+        let (value, rest) = split_word(rest, endianness)?;
+        Ok((Self { name_offset, value }, rest))
+    }
+
+    fn append_to(&self, out: &mut Vec<u8>, endianness: Endianness) -> Result<(), AllocError> {
+        push(out, endianness, &[self.name_offset, self.value])
+    }
+
+    fn copy(&self) -> Self {
+        Self {
+            name_offset: self.name_offset,
+            value: self.value,
+        }
+    }
+}
+
+impl Item for BtfEnum64 {
+    ghost width = { 3 };
+
+    ghost item_words = { enum64_words };
+
+    fn read(bytes: &[u8], endianness: Endianness) -> Result<(Self, &[u8]), BtfError> {
+        let (name_offset, rest) = split_word(bytes, endianness)?;
+        let (value_low, rest) = split_word(rest, endianness)?;
+        let (value_high, rest) = split_word(rest, endianness)?;
+        Ok((
+            Self {
+                name_offset,
+                value_low,
+                value_high,
+            },
+            rest,
+        ))
+    }
+
+    fn append_to(&self, out: &mut Vec<u8>, endianness: Endianness) -> Result<(), AllocError> {
+        push(
+            out,
+            endianness,
+            &[self.name_offset, self.value_low, self.value_high],
+        )
+    }
+
+    fn copy(&self) -> Self {
+        Self {
+            name_offset: self.name_offset,
+            value_low: self.value_low,
+            value_high: self.value_high,
+        }
+    }
+}
+
+impl Item for BtfMember {
+    ghost width = { 3 };
+
+    ghost item_words = { member_words };
+
+    fn read(bytes: &[u8], endianness: Endianness) -> Result<(Self, &[u8]), BtfError> {
+        let (name_offset, rest) = split_word(bytes, endianness)?;
+        let (btf_type, rest) = split_word(rest, endianness)?;
+        let (offset, rest) = split_word(rest, endianness)?;
+        Ok((
+            Self {
+                name_offset,
+                btf_type,
+                offset,
+            },
+            rest,
+        ))
+    }
+
+    fn append_to(&self, out: &mut Vec<u8>, endianness: Endianness) -> Result<(), AllocError> {
+        push(
+            out,
+            endianness,
+            &[self.name_offset, self.btf_type, self.offset],
+        )
+    }
+
+    fn copy(&self) -> Self {
+        Self {
+            name_offset: self.name_offset,
+            btf_type: self.btf_type,
+            offset: self.offset,
+        }
+    }
+}
+
+impl Item for BtfParam {
+    ghost width = { 2 };
+
+    ghost item_words = { param_words };
+
+    fn read(bytes: &[u8], endianness: Endianness) -> Result<(Self, &[u8]), BtfError> {
+        let (name_offset, rest) = split_word(bytes, endianness)?;
+        let (btf_type, rest) = split_word(rest, endianness)?;
+        Ok((
+            Self {
+                name_offset,
+                btf_type,
+            },
+            rest,
+        ))
+    }
+
+    fn append_to(&self, out: &mut Vec<u8>, endianness: Endianness) -> Result<(), AllocError> {
+        push(out, endianness, &[self.name_offset, self.btf_type])
+    }
+
+    fn copy(&self) -> Self {
+        Self {
+            name_offset: self.name_offset,
+            btf_type: self.btf_type,
+        }
+    }
+}
+
+impl Item for DataSecEntry {
+    ghost width = { 3 };
+
+    ghost item_words = { entry_words };
+
+    fn read(bytes: &[u8], endianness: Endianness) -> Result<(Self, &[u8]), BtfError> {
+        let (btf_type, rest) = split_word(bytes, endianness)?;
+        let (offset, rest) = split_word(rest, endianness)?;
+        let (size, rest) = split_word(rest, endianness)?;
+        Ok((
+            Self {
+                btf_type,
+                offset,
+                size,
+            },
+            rest,
+        ))
+    }
+
+    fn append_to(&self, out: &mut Vec<u8>, endianness: Endianness) -> Result<(), AllocError> {
+        push(out, endianness, &[self.btf_type, self.offset, self.size])
+    }
+
+    fn copy(&self) -> Self {
+        Self {
+            btf_type: self.btf_type,
+            offset: self.offset,
+            size: self.size,
+        }
+    }
+}

@@ -1,0 +1,12 @@
+//! The items of records that have a list, how a list is read, written and copied, and what a UNION keeps of an ENUM64.
+#![tactic(auto)]
+
+mod fallback;
+mod items;
+mod list;
+mod words;
+
+pub use fallback::{Enum64Fallback, Enum64VariantFallback, clone_fallback};
+pub use items::{BtfEnum, BtfEnum64, BtfMember, BtfParam, DataSecEntry};
+pub use list::{Item, clone_items, push_items, read_items};
+pub use words::{push, split_word};

@@ -1,0 +1,82 @@
+//! Lists of items: what is said once of all kinds that have a list.
+
+ghost use Rattle.std.specs.Prelude.{◌≡◌, ℕ, ◌*◌, ◌<◌, ◌≤◌, ◌^◌, ◌++◌, List, length, drop, vec_len, Ok, IfOk, OnOk, MatchResult};
+ghost use Rattle.std.specs.List.{flat_map, AllByRecursion};
+ghost use Rattle.btf_model.specs.Word.{word, words_at};
+ghost use Rattle.btf_words.specs.Error.{Answers};
+ghost use Rattle.btf_words.specs.Endianness.{order_of};
+ghost use Rattle.btf_items.specs.ReadItems.{ReadsItems};
+
+use crate::words::{push, split_word};
+use btf_words::{BtfError, Endianness};
+use std::alloc::{AllocError, Global};
+
+/// An item of a list: so many words.
+pub trait Item: Sized + Drop {
+    /// How many words an item has.
+    ghost width: { ℕ };
+
+    /// The words of an item.
+    ghost item_words: { Self → List ℕ };
+
+    /// The item at the front of bytes, and what follows it.
+    fn read(bytes: &[u8], endianness: Endianness) -> Result<(Self, &[u8]), BtfError>
+        ensures { MatchResult result
+            (λ x. (4 * width ≤ length bytes.now) × (item_words x.0 ≡ words_at (order_of endianness) width bytes.now) × (x.1.now ≡ drop (4 * width) bytes.now))
+            (λ e. (length bytes.now < 4 * width) × (e ≡ BtfError.InvalidTypeInfo)) };
+
+    /// Writes the item at the end of bytes.
+    fn append_to(&self, out: &mut Vec<u8>, endianness: Endianness) -> Result<(), AllocError>
+        ensures written { OnOk result (out.new.items ≡ out.old.items ++ flat_map (word (order_of endianness)) (item_words self.now)) }
+        ensures words_fit { AllByRecursion (λ w. w < 2 ^ 32) (item_words self.now) };
+
+    /// An equal item.
+    fn copy(&self) -> Self
+        ensures { item_words result ≡ item_words self.now };
+}
+
+/// Writes items at the end of bytes.
+pub fn push_items<T: Item>(
+    out: &mut Vec<u8>,
+    endianness: Endianness,
+    items: &[T],
+) -> Result<(), AllocError>
+    ensures written { OnOk result (out.new.items ≡ out.old.items ++ flat_map (word (order_of endianness)) (flat_map T.item_words items.now)) }
+    ensures words_fit { OnOk result (AllByRecursion (λ w. w < 2 ^ 32) (flat_map T.item_words items.now)) }
+{
+    for item in items {
+        item.append_to(out, endianness)?;
+    }
+    Ok(())
+}
+
+/// Equal items, in a vector of just their number.
+pub fn clone_items<T: Item>(items: &Vec<T>) -> Result<Vec<T>, AllocError>
+    ensures { IfOk result (λ v. (flat_map T.item_words v.items ≡ flat_map T.item_words items.now.items) × (length v.items ≡ length items.now.items)) }
+{
+    let mut copies = Vec::with_capacity(*items.allocator(), items.len())?;
+    for item in items.as_slice() {
+        copies.push(item.copy())?;
+    }
+    Ok(copies)
+}
+
+/// So many items from the front of bytes, in a vector of just their number. `InvalidTypeInfo` where the bytes
+/// end before them.
+pub fn read_items<T: Item>(
+    alloc: Global,
+    bytes: &[u8],
+    endianness: Endianness,
+    count: usize,
+) -> Result<Vec<T>, BtfError>
+    ensures { Answers (λ v. v.items) result (ReadsItems T.width T.item_words (order_of endianness) bytes.now count) }
+{
+    let mut items = Vec::with_capacity(alloc, count)?;
+    let mut rest = bytes;
+    for _ in 0..count {
+        let (item, behind) = T::read(rest, endianness)?;
+        items.push(item)?;
+        rest = behind;
+    }
+    Ok(items)
+}

@@ -1,0 +1,97 @@
+//! CONST: a constant type.
+
+ghost use Rattle.std.specs.Prelude.{◌≡◌, ◌+◌, ◌*◌, ◌^◌, [], length, Some};
+ghost use Rattle.btf_model.specs.Record as model;
+ghost use Rattle.btf_model.specs.Record.{kind_of};
+
+use btf_words::BtfKind;
+use std::marker::Model;
+
+/// A constant type (the kernel's documentation, "BTF_KIND_CONST"). Contracts see it as the record of its words.
+#[derive(Clone, Debug, Drop)]
+pub struct Const {
+    name_offset: u32,
+    info: u32,
+    btf_type: u32,
+}
+
+impl Model for Const {
+    ghost use Rattle.std.specs.Prelude.{◌≡◌, [], Some};
+    ghost use Rattle.btf_model.specs.Record.{Record, kind_of, Const as ConstKind};
+
+    ghost Value = { Record };
+
+    ghost view = { λ a. record { name = a.name_offset; info = a.info; third = a.btf_type; tail = [] } };
+
+    ghost invariant = { λ a. kind_of a.info ≡ Some ConstKind };
+}
+
+impl Const {
+    /// The type of id `btf_type`, constant. It has no name.
+    pub fn new(btf_type: u32) -> Self
+        ensures { result ≡ record { name = 0; info = 10 * 2 ^ 24; third = btf_type; tail = [] } }
+    {
+        Self {
+            name_offset: 0,
+            info: (BtfKind::Const as u32) << 24,
+            btf_type,
+        }
+    }
+
+    /// The same record with this info, whose kind is CONST.
+    pub fn with_info(self, info: u32) -> Self
+        requires { kind_of info ≡ Some model.Const }
+        ensures { result ≡ record self { info = info } }
+    {
+        Self { info, ..self }
+    }
+
+    /// The same record with this string offset of the name.
+    pub fn with_name_offset(self, name_offset: u32) -> Self
+        ensures { result ≡ record self { name = name_offset } }
+    {
+        Self {
+            name_offset,
+            ..self
+        }
+    }
+
+    /// The kind of the record.
+    pub fn kind(&self) -> BtfKind
+        ensures { result ≡ BtfKind.Const }
+    {
+        BtfKind::Const
+    }
+
+    /// The string offset of the name.
+    pub fn name_offset(&self) -> u32
+        ensures { result ≡ self.now.name }
+    {
+        self.name_offset
+    }
+
+    /// The info word, whose kind is CONST.
+    pub fn info(&self) -> u32
+        ensures value { result ≡ self.now.info }
+        ensures kind { kind_of result ≡ Some model.Const }
+        ensures no_tail { self.now.tail ≡ [] }
+    {
+        self.info
+    }
+
+    /// The id of the type that is constant.
+    pub fn btf_type(&self) -> u32
+        ensures { result ≡ self.now.third }
+    {
+        self.btf_type
+    }
+
+    /// The length of the record in bytes.
+    pub fn type_info_size(&self) -> usize
+        ensures { result ≡ 12 + 4 * length self.now.tail }
+    {
+        // The contract speaks of the words, which a use of a field shows.
+        let _ = &self.info;
+        12
+    }
+}
