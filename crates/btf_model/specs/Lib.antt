@@ -10,6 +10,8 @@ pub mod Fields
 pub mod Compat
 pub mod CompatExamples
 pub mod Ext
+pub mod Value
+pub mod Words
 pub mod ExtExamples
 pub mod Info
 pub mod Laws
