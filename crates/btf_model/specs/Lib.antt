@@ -13,6 +13,7 @@ pub mod Ext
 pub mod Value
 pub mod Words
 pub mod ExtExamples
+pub mod AboveExamples
 pub mod Info
 pub mod Laws
 pub mod Examples
