@@ -86,17 +86,17 @@ told_of t id name vs r has finds utf8 = told_among t id name vs r has (finds (ut
 pub known : (t : Table) (id end : ℕ) → Resolves t.records id (Ok end) → end < length t.records
 known t id end resolves = let there = resolved_is_known t.records id end resolves in slice_get_within t.records end there.0 there.1
 
-pub value_behind : (t : Table) (id end : ℕ) (name : List ℕ) (r : Result (Option ℕ) BtfError) → Resolves t.records id (Ok end) → Answers (λ v. v) r (Then (HasVariants t end) (FindsVariant t.strings name)) → Answers (λ v. v) r (Value t id name)
-value_behind t id end name (Ok found) resolves finds = (end, resolves, finds)
-value_behind t id end name (Err e) resolves finds = IfSome_then (refusal_of e) finds (λ refusal refused. inr (end, resolves, refused))
+pub value_after : (t : Table) (id end : ℕ) (name : List ℕ) (r : Result (Option ℕ) BtfError) → Resolves t.records id (Ok end) → Answers (λ v. v) r (Then (HasVariants t end) (FindsVariant t.strings name)) → Answers (λ v. v) r (Value t id name)
+value_after t id end name (Ok found) resolves finds = (end, resolves, finds)
+value_after t id end name (Err e) resolves finds = IfSome_then (refusal_of e) finds (λ refusal refused. inr (end, resolves, refused))
 
-told_behind : (t : Table) (id end : ℕ) (name : List ℕ) (r : Result (Option ℕ) BtfError) → Resolves t.records id (Ok end) → Tells (λ v. v) r (Then (HasVariants t end) (FindsVariant t.strings name)) → Tells (λ v. v) r (Value t id name)
-told_behind t id end name (Ok found) resolves finds = (end, resolves, finds)
-told_behind t id end name (Err e) resolves finds = (finds.0, finds.1, inr (end, resolves, finds.2))
+told_after : (t : Table) (id end : ℕ) (name : List ℕ) (r : Result (Option ℕ) BtfError) → Resolves t.records id (Ok end) → Tells (λ v. v) r (Then (HasVariants t end) (FindsVariant t.strings name)) → Tells (λ v. v) r (Value t id name)
+told_after t id end name (Ok found) resolves finds = (end, resolves, finds)
+told_after t id end name (Err e) resolves finds = (finds.0, finds.1, inr (end, resolves, finds.2))
 
 pub value_told : (t : Table) (id end : ℕ) (name : List ℕ) (r : Result (Option ℕ) BtfError) → Resolves t.records id (Ok end) → (TypeHasUtf8Names t end → Tells (λ v. v) r (Then (HasVariants t end) (FindsVariant t.strings name))) → NamesAreUtf8 t id
     → Tells (λ v. v) r (Value t id name)
-value_told t id end name r resolves finds utf8 = told_behind t id end name r resolves (finds (utf8 end resolves))
+value_told t id end name r resolves finds utf8 = told_after t id end name r resolves (finds (utf8 end resolves))
 
 -- a refusal of resolving
 pub unresolved : (t : Table) (id : ℕ) (name : List ℕ) (e : BtfError) (r : Result (Option ℕ) BtfError) → r ≡ Err e → (refusal : Refusal) × (refusal_of e ≡ Some refusal) × Resolves t.records id (Err refusal) → Tells (λ v. v) r (Value t id name)

@@ -18,7 +18,7 @@ use Rattle.btf_model.proofs.Walks.{one_answer, by_one}
 
 -- ---- the variant of a name
 
--- what the search answers at a variant, and what behind it
+-- what the search answers at a variant, where this is what it answers among those after it
 looked_at : List ℕ → Variant → Result (List ℕ) Refusal → Result (Option ℕ) Refusal → Result (Option ℕ) Refusal
 looked_at name v (Ok text) rest = if bytes_eq text name then Ok (Some v.value) else rest
 looked_at name v (Err refusal) rest = Err refusal
@@ -32,13 +32,13 @@ others_looked : (strings name : List ℕ) (vs rest : List Variant) → HaveOther
 unfolding looked looked_at
 others_looked strings name [] rest others = refl
 others_looked strings name (v ∷ vs) rest others =
-    let behind : Result (Option ℕ) Refusal = looked strings name (vs ++ rest) in
+    let rest_of : Result (Option ℕ) Refusal = looked strings name (vs ++ rest) in
     let differs : bytes_eq others.0.0 name ≡ false =
     elim (bytes_eq others.0.0 name) as (λ (b : Bool). bytes_eq others.0.0 name ≡ b → b ≡ false) [
       | true ↦ λ same. absurd (others.0.2 ((bytes_eq-Decides others.0.0 name).0 same))
       | false ↦ λ _. refl
     ] refl in
-    ap (λ (text : Result (List ℕ) Refusal). looked_at name v text behind) others.0.1 ∙ ap (λ (b : Bool). if b then Ok (Some v.value) else behind) differs ∙ others_looked strings name vs rest others.1
+    ap (λ (text : Result (List ℕ) Refusal). looked_at name v text rest_of) others.0.1 ∙ ap (λ (b : Bool). if b then Ok (Some v.value) else rest_of) differs ∙ others_looked strings name vs rest others.1
 
 found_looked : (strings name : List ℕ) (vs : List Variant) (a : Result (Option ℕ) Refusal) → FindsVariant strings name vs a → a ≡ looked strings name vs
 unfolding looked looked_at
@@ -56,26 +56,26 @@ found_looked strings name vs (Err refusal) finds =
 one_found : (strings name : List ℕ) (vs : List Variant) (a b : Result (Option ℕ) Refusal) → FindsVariant strings name vs a → FindsVariant strings name vs b → a ≡ b
 one_found strings name vs a b p q = found_looked strings name vs a p ∙ sym (found_looked strings name vs b q)
 
--- ---- one thing behind another
+-- ---- one thing after another
 
 ok_is_no_err : {A : Type 0} (a : A) (refusal : Refusal) → Ok a ≡ Err refusal → ⊥
 ok_is_no_err a refusal is = false≢true (sym (ap is_ok is))
 
-module _ {A B : Type 0} (first : Result A Refusal → Type 0) (second : A → Result B Refusal → Type 0) (one : (a b : Result A Refusal) → first a → first b → a ≡ b) (behind : (x : A) (a b : Result B Refusal) → second x a → second x b → a ≡ b) where
-  -- the answers behind what was read first
-  same_behind : (x y : A) (a b : Result B Refusal) → first (Ok x) → first (Ok y) → second x a → second y b → a ≡ b
-  same_behind x y a b p q h k = behind y a b (subst (λ (z : A). second z a) (same_Some x y (ap result_ok (one (Ok x) (Ok y) p q))) h) k
+module _ {A B : Type 0} (first : Result A Refusal → Type 0) (second : A → Result B Refusal → Type 0) (one : (a b : Result A Refusal) → first a → first b → a ≡ b) (then : (x : A) (a b : Result B Refusal) → second x a → second x b → a ≡ b) where
+  -- the answers after what was read first
+  same_after : (x y : A) (a b : Result B Refusal) → first (Ok x) → first (Ok y) → second x a → second y b → a ≡ b
+  same_after x y a b p q h k = then y a b (subst (λ (z : A). second z a) (same_Some x y (ap result_ok (one (Ok x) (Ok y) p q))) h) k
 
-  pub one_behind : (a b : Result B Refusal) → Then first second a → Then first second b → a ≡ b
-  one_behind (Ok a) (Ok b) p q = same_behind p.0 q.0 (Ok a) (Ok b) p.1 q.1 p.2 q.2
-  one_behind (Ok a) (Err g) p (inl q) = absurd (ok_is_no_err p.0 g (one (Ok p.0) (Err g) p.1 q))
-  one_behind (Ok a) (Err g) p (inr q) = same_behind p.0 q.0 (Ok a) (Err g) p.1 q.1 p.2 q.2
-  one_behind (Err f) (Ok b) (inl p) q = absurd (ok_is_no_err q.0 f (one (Ok q.0) (Err f) q.1 p))
-  one_behind (Err f) (Ok b) (inr p) q = same_behind p.0 q.0 (Err f) (Ok b) p.1 q.1 p.2 q.2
-  one_behind (Err f) (Err g) (inl p) (inl q) = ap (λ (r : Refusal). Err r) (same_Some f g (ap result_err (one (Err f) (Err g) p q)))
-  one_behind (Err f) (Err g) (inl p) (inr q) = absurd (ok_is_no_err q.0 f (one (Ok q.0) (Err f) q.1 p))
-  one_behind (Err f) (Err g) (inr p) (inl q) = absurd (ok_is_no_err p.0 g (one (Ok p.0) (Err g) p.1 q))
-  one_behind (Err f) (Err g) (inr p) (inr q) = same_behind p.0 q.0 (Err f) (Err g) p.1 q.1 p.2 q.2
+  pub one_after : (a b : Result B Refusal) → Then first second a → Then first second b → a ≡ b
+  one_after (Ok a) (Ok b) p q = same_after p.0 q.0 (Ok a) (Ok b) p.1 q.1 p.2 q.2
+  one_after (Ok a) (Err g) p (inl q) = absurd (ok_is_no_err p.0 g (one (Ok p.0) (Err g) p.1 q))
+  one_after (Ok a) (Err g) p (inr q) = same_after p.0 q.0 (Ok a) (Err g) p.1 q.1 p.2 q.2
+  one_after (Err f) (Ok b) (inl p) q = absurd (ok_is_no_err q.0 f (one (Ok q.0) (Err f) q.1 p))
+  one_after (Err f) (Ok b) (inr p) q = same_after p.0 q.0 (Err f) (Ok b) p.1 q.1 p.2 q.2
+  one_after (Err f) (Err g) (inl p) (inl q) = ap (λ (r : Refusal). Err r) (same_Some f g (ap result_err (one (Err f) (Err g) p q)))
+  one_after (Err f) (Err g) (inl p) (inr q) = absurd (ok_is_no_err q.0 f (one (Ok q.0) (Err f) q.1 p))
+  one_after (Err f) (Err g) (inr p) (inl q) = absurd (ok_is_no_err p.0 g (one (Ok p.0) (Err g) p.1 q))
+  one_after (Err f) (Err g) (inr p) (inr q) = same_after p.0 q.0 (Err f) (Err g) p.1 q.1 p.2 q.2
 
 -- ---- the value of a variant
 
@@ -87,7 +87,7 @@ one_of_variants t id a b p q =
 
 pub one_value : (t : Table) (id : ℕ) (name : List ℕ) (a b : Result (Option ℕ) Refusal) → Value t id name a → Value t id name b → a ≡ b
 one_value t id name a b p q =
-    one_behind (Resolves t.records id) (λ end. Then (HasVariants t end) (FindsVariant t.strings name))
+    one_after (Resolves t.records id) (λ end. Then (HasVariants t end) (FindsVariant t.strings name))
     (one_answer (By (λ at. unmodified_in at (slice_get t.records at))) (by_one (λ at. unmodified_in at (slice_get t.records at))) id (λ _. MaximumTypeDepthReached id))
-    (λ end. one_behind (HasVariants t end) (FindsVariant t.strings name) (one_of_variants t end) (one_found t.strings name))
+    (λ end. one_after (HasVariants t end) (FindsVariant t.strings name) (one_of_variants t end) (one_found t.strings name))
     a b p q

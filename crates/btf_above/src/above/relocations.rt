@@ -30,7 +30,9 @@ pub fn relocations_of(
     btf: &Btf,
     name: &str,
 ) -> Result<Vec<[u32; 4]>, BtfError>
-    ensures words { Answers (λ v. v.items) result (Words btf.now.strings (said ext.now).relocations name.now) }
+    // The records of the sections of this name, or the first name that cannot be read.
+    ensures words { Answers (λ v. v.items) result
+        (Words btf.now.strings (said ext.now).relocations name.now) }
 {
     let mut found = Vec::new(alloc);
     for (offset, records) in ext.relocations() {

@@ -41,7 +41,8 @@ pub fn variant_value(btf: &Btf, type_id: u32, name: &str) -> Result<Option<u64>,
     ensures only { (answer : Result (Option ℕ) Refusal) → Value btf.now type_id name.now answer
         → Gives (λ v. v) result answer }
     // Where the names of the type's variants are UTF-8, no memory is taken.
-    ensures no_memory { NamesAreUtf8 btf.now type_id → Tells (λ v. v) result (Value btf.now type_id name.now) }
+    ensures no_memory { NamesAreUtf8 btf.now type_id
+        → Tells (λ v. v) result (Value btf.now type_id name.now) }
 {
     let id = btf.resolve_type(type_id)?;
     value_at(btf, id, name)
@@ -54,7 +55,8 @@ fn value_at(btf: &Btf, type_id: u32, name: &str) -> Result<Option<u64>, BtfError
     ensures value { Answers (λ v. v) result
         (Then (HasVariants btf.now type_id) (FindsVariant btf.now.strings name.now)) }
     ensures no_memory { TypeHasUtf8Names btf.now type_id
-        → Tells (λ v. v) result (Then (HasVariants btf.now type_id) (FindsVariant btf.now.strings name.now)) }
+        → Tells (λ v. v) result
+            (Then (HasVariants btf.now type_id) (FindsVariant btf.now.strings name.now)) }
 {
     match btf.type_by_id(type_id)? {
         BtfType::Enum(t) => find_value(btf, t.variants(), name),

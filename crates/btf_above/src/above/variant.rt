@@ -71,7 +71,9 @@ pub fn find_value<V: Variant>(
     variants: &[V],
     name: &str,
 ) -> Result<Option<u64>, BtfError>
-    ensures found { Answers (λ v. v) result (FindsVariant btf.now.strings name.now (map V.variant variants.now)) }
+    ensures found { Answers (λ v. v) result
+        (FindsVariant btf.now.strings name.now (map V.variant variants.now)) }
+    // Memory is taken only for names that are not UTF-8.
     ensures no_memory { HaveUtf8Names btf.now.strings (map V.variant variants.now)
         → Tells (λ v. v) result (FindsVariant btf.now.strings name.now (map V.variant variants.now)) }
 {
