@@ -61,10 +61,10 @@ one_found strings name vs a b p q = found_looked strings name vs a p ∙ sym (fo
 ok_is_no_err : {A : Type 0} (a : A) (refusal : Refusal) → Ok a ≡ Err refusal → ⊥
 ok_is_no_err a refusal is = false≢true (sym (ap is_ok is))
 
-module _ {A B : Type 0} (first : Result A Refusal → Type 0) (second : A → Result B Refusal → Type 0) (one : (a b : Result A Refusal) → first a → first b → a ≡ b) (then : (x : A) (a b : Result B Refusal) → second x a → second x b → a ≡ b) where
+module _ {A B : Type 0} (first : Result A Refusal → Type 0) (second : A → Result B Refusal → Type 0) (one : (a b : Result A Refusal) → first a → first b → a ≡ b) (next : (x : A) (a b : Result B Refusal) → second x a → second x b → a ≡ b) where
   -- the answers after what was read first
   same_after : (x y : A) (a b : Result B Refusal) → first (Ok x) → first (Ok y) → second x a → second y b → a ≡ b
-  same_after x y a b p q h k = then y a b (subst (λ (z : A). second z a) (same_Some x y (ap result_ok (one (Ok x) (Ok y) p q))) h) k
+  same_after x y a b p q h k = next y a b (subst (λ (z : A). second z a) (same_Some x y (ap result_ok (one (Ok x) (Ok y) p q))) h) k
 
   pub one_after : (a b : Result B Refusal) → Then first second a → Then first second b → a ≡ b
   one_after (Ok a) (Ok b) p q = same_after p.0 q.0 (Ok a) (Ok b) p.1 q.1 p.2 q.2

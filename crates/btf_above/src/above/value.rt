@@ -56,7 +56,7 @@ fn value_at(btf: &Btf, type_id: u32, name: &str) -> Result<Option<u64>, BtfError
         (Then (HasVariants btf.now type_id) (FindsVariant btf.now.strings name.now)) }
     ensures no_memory { TypeHasUtf8Names btf.now type_id
         → Tells (λ v. v) result
-            (Then (HasVariants btf.now type_id) (FindsVariant btf.now.strings name.now)) }
+        (Then (HasVariants btf.now type_id) (FindsVariant btf.now.strings name.now)) }
 {
     match btf.type_by_id(type_id)? {
         BtfType::Enum(t) => find_value(btf, t.variants(), name),
