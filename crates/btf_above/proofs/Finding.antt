@@ -17,7 +17,8 @@ use Rattle.btf_model.specs.Table.{Variant}
 use Rattle.btf_model.specs.Text.{bytes_at, text_at}
 use Rattle.btf_model.specs.Words.{RelocationSection, HaveNames, is_name, words_named, Words}
 use Rattle.btf_model.specs.Value.{HaveOtherNames, IsAfterOthers, FindsVariant}
-use Rattle.btf_plain.specs.Error.{Answers, Tells, refusal_of}
+use Rattle.btf_model.proofs.Values.{one_words}
+use Rattle.btf_plain.specs.Error.{Answers, Gives, Tells, refusal_of}
 use Rattle.btf_plain.specs.declared.error.BtfError.{BtfError}
 use Rattle.btf_above.specs.Named.{IsNamed}
 use Rattle.btf_above.specs.Variants.{HaveUtf8Names}
@@ -156,3 +157,8 @@ pub words_passed : (strings name : List ℕ) (ss : List RelocationSection) (i : 
 unfolding words_or
 words_passed strings name ss i s same at is other =
     sym (words_more strings name ss i s same at is ∙ ap (λ (b : Bool). words_named strings name (take i ss) ++ words_or b s.1) other ∙ append-nil (words_named strings name (take i ss)))
+
+-- there is one answer
+pub only_words : {X : Type 0} (view : X → List (List ℕ)) (strings name : List ℕ) (ss : List RelocationSection) (r : Result X BtfError) → Answers view r (Words strings ss name) → (answer : Result (List (List ℕ)) Refusal) → Words strings ss name answer → Gives view r answer
+only_words view strings name ss (Ok found) words answer is = one_words strings ss name (Ok (view found)) answer words is
+only_words view strings name ss (Err e) words answer is = IfSome_then (refusal_of e) words (λ refusal refused. one_words strings ss name (Err refusal) answer refused is)

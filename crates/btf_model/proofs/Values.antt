@@ -1,11 +1,11 @@
--- The search for a name among variants: it has one answer.
+-- The search for a name, among variants and among sections: it has one answer.
 use Rattle.std.proofs.Common.{◌≡◌, ℕ, Bool, true, false, List, [], ◌∷◌, ◌++◌, Option, None, Some, Result, Ok, Err, refl, sym, ap, subst, ◌∙◌, inl, inr}
 use Rattle.std.specs.Prelude.{if◌then◌else◌, slice_get}
 use Rattle.std.specs.Result.{is_ok, result_ok, result_err}
 use Rattle.std.specs.Str.{bytes_eq}
 use Rattle.std.proofs.lemmas.Bool.{false≢true}
 use Rattle.std.proofs.lemmas.List.{append-nil}
-use Rattle.std.proofs.lemmas.Option.{same_Some}
+use Rattle.std.proofs.lemmas.Option.{same_Some, none-some}
 use Rattle.std.proofs.lemmas.Slice.Eq.{bytes_eq-Decides}
 use Rattle.btf_model.specs.Record.{Record, kind_of}
 use Rattle.btf_model.specs.Refusal.{Refusal, MaximumTypeDepthReached}
@@ -13,6 +13,7 @@ use Rattle.btf_model.specs.Table.{Table, Variant}
 use Rattle.btf_model.specs.Text.{text_at}
 use Rattle.btf_model.specs.Walk.{By, unmodified_in, Resolves}
 use Rattle.btf_model.specs.Ext.{Then}
+use Rattle.btf_model.specs.Words.{RelocationSection, HaveNames, Words}
 use Rattle.btf_model.specs.Value.{variants_by, HasVariants, HaveOtherNames, FindsVariant, Value}
 use Rattle.btf_model.proofs.Walks.{one_answer, by_one}
 
@@ -91,3 +92,36 @@ one_value t id name a b p q =
     (one_answer (By (λ at. unmodified_in at (slice_get t.records at))) (by_one (λ at. unmodified_in at (slice_get t.records at))) id (λ _. MaximumTypeDepthReached id))
     (λ end. one_after (HasVariants t end) (FindsVariant t.strings name) (one_of_variants t end) (one_found t.strings name))
     a b p q
+
+-- ---- the records of a section
+
+-- the first of two that is there
+first_of_two : Option Refusal → Option Refusal → Option Refusal
+first_of_two (Some refusal) other = Some refusal
+first_of_two None other = other
+
+-- the first name that cannot be read
+unread : List ℕ → List RelocationSection → Option Refusal
+unread strings [] = None
+unread strings (s ∷ ss) = first_of_two (result_err (text_at strings s.0)) (unread strings ss)
+
+-- sections whose names can be read are passed
+names_unread : (strings : List ℕ) (ss rest : List RelocationSection) → HaveNames strings ss → unread strings (ss ++ rest) ≡ unread strings rest
+unfolding unread first_of_two
+names_unread strings [] rest names = refl
+names_unread strings (s ∷ ss) rest names = ap (λ (text : Result (List ℕ) Refusal). first_of_two (result_err text) (unread strings (ss ++ rest))) names.0.1 ∙ names_unread strings ss rest names.1
+
+none_unread : (strings : List ℕ) (ss : List RelocationSection) → HaveNames strings ss → unread strings ss ≡ None
+unfolding unread
+none_unread strings ss names = ap (unread strings) (sym (append-nil ss)) ∙ names_unread strings ss [] names
+
+first_unread : (strings name : List ℕ) (ss : List RelocationSection) (refusal : Refusal) → Words strings ss name (Err refusal) → unread strings ss ≡ Some refusal
+unfolding unread first_of_two
+first_unread strings name ss refusal is =
+    ap (unread strings) is.3 ∙ names_unread strings is.0 (is.2 ∷ is.1) is.4 ∙ ap (λ (text : Result (List ℕ) Refusal). first_of_two (result_err text) (unread strings is.1)) is.5
+
+pub one_words : (strings : List ℕ) (ss : List RelocationSection) (name : List ℕ) (a b : Result (List (List ℕ)) Refusal) → Words strings ss name a → Words strings ss name b → a ≡ b
+one_words strings ss name (Ok x) (Ok y) p q = ap (λ (ws : List (List ℕ)). Ok ws) (p.1 ∙ sym q.1)
+one_words strings ss name (Ok x) (Err g) p q = absurd (none-some g (sym (none_unread strings ss p.0) ∙ first_unread strings name ss g q))
+one_words strings ss name (Err f) (Ok y) p q = absurd (none-some f (sym (none_unread strings ss q.0) ∙ first_unread strings name ss f p))
+one_words strings ss name (Err f) (Err g) p q = ap (λ (r : Refusal). Err r) (same_Some f g (sym (first_unread strings name ss f p) ∙ first_unread strings name ss g q))

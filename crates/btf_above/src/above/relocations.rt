@@ -1,7 +1,9 @@
 //! The relocations of a section, by its name.
 
+ghost use Rattle.std.specs.Prelude.{ℕ, List, Result};
+ghost use Rattle.btf_model.specs.Refusal.{Refusal};
 ghost use Rattle.btf_model.specs.Words.{Words};
-ghost use Rattle.btf_plain.specs.Error.{Answers};
+ghost use Rattle.btf_plain.specs.Error.{Answers, Gives};
 ghost use Rattle.btf_ext.specs.BtfExt.{ext as said};
 
 use crate::above::name::is_named;
@@ -33,6 +35,10 @@ pub fn relocations_of(
     // The records of the sections of this name, or the first name that cannot be read.
     ensures words { Answers (λ v. v.items) result
         (Words btf.now.strings (said ext.now).relocations name.now) }
+    // No other records, and no other cause.
+    ensures only { (answer : Result (List (List ℕ)) Refusal)
+        → Words btf.now.strings (said ext.now).relocations name.now answer
+        → Gives (λ v. v.items) result answer }
 {
     let mut found = Vec::new(alloc);
     for (offset, records) in ext.relocations() {
