@@ -6,6 +6,7 @@ pub mod Usual
 pub mod Texts
 pub mod Flavors
 pub mod Walks
+pub mod Values
 pub mod SameKinds
 pub mod Comparisons
 pub mod Known

@@ -9,6 +9,8 @@ use Rattle.btf_model.specs.Refusal.{Refusal}
 use Rattle.btf_model.specs.Table.{Table, Fallback, strip, with_string, with_type}
 use Rattle.btf_model.specs.Text.{text_at, FindsName}
 use Rattle.btf_model.specs.Walk.{Resolves, HasSize}
+use Rattle.btf_model.specs.Value.{Value}
+use Rattle.btf_model.specs.Words.{RelocationSection, Words}
 use Rattle.btf_model.specs.Fields.{Pair, HaveKinds, Fields}
 use Rattle.btf_model.specs.Compat.{Plain, pair_eq, firsts}
 use Rattle.btf_model.specs.Ext.{Section, Sections}
@@ -79,6 +81,14 @@ pub record WalksAreDetermined : Type 0 where
 -- What an id resolves to resolves to itself.
 abbrev pub ResolvingTwiceIsOnce : Type 0
 ResolvingTwiceIsOnce = (records : List Record) (id end : ℕ) → Resolves records id (Ok end) → Resolves records end (Ok end)
+
+-- A name stands for one value among the variants of a type, or for none, or is refused for one cause.
+abbrev pub VariantValuesAreDetermined : Type 0
+VariantValuesAreDetermined = (t : Table) (id : ℕ) (name : List ℕ) (a b : Result (Option ℕ) Refusal) → Value t id name a → Value t id name b → a ≡ b
+
+-- The relocation records under a name are one list, or are refused for one cause.
+abbrev pub RelocationWordsAreDetermined : Type 0
+RelocationWordsAreDetermined = (strings : List ℕ) (sections : List RelocationSection) (name : List ℕ) (a b : Result (List (List ℕ)) Refusal) → Words strings sections name a → Words strings sections name b → a ≡ b
 
 -- The sections that bytes begin with, and the rest behind them, are determined.
 abbrev pub SectionsAreDetermined : Type 0

@@ -10,7 +10,10 @@ pub mod Fields
 pub mod Compat
 pub mod CompatExamples
 pub mod Ext
+pub mod Value
+pub mod Words
 pub mod ExtExamples
+pub mod AboveExamples
 pub mod Info
 pub mod Laws
 pub mod Examples

@@ -3,7 +3,7 @@
 //! The definitions lie in `specs/`. Each law is the contract of a function here that does nothing.
 #![tactic(auto)]
 
-ghost use Rattle.btf_model.specs.Laws.{NoSpellingBeginsAnother, BlobIsDetermined, WrittenParsesBack, ParsedWritesBack, AddedStringReadsBack, NameFindsOne, AddedTypeIsFound, WalksAreDetermined, ResolvingTwiceIsOnce, SectionsAreDetermined, ComparisonsAreDetermined, ComparisonsHaveAnswers, ComparisonsAreSymmetric, StartsAreFew};
+ghost use Rattle.btf_model.specs.Laws.{NoSpellingBeginsAnother, BlobIsDetermined, WrittenParsesBack, ParsedWritesBack, AddedStringReadsBack, NameFindsOne, AddedTypeIsFound, WalksAreDetermined, ResolvingTwiceIsOnce, VariantValuesAreDetermined, RelocationWordsAreDetermined, SectionsAreDetermined, ComparisonsAreDetermined, ComparisonsHaveAnswers, ComparisonsAreSymmetric, StartsAreFew};
 
 /// No record's spelling is a proper beginning of another's, and bytes spell one record: so a row of
 /// spellings is cut in one way.
@@ -51,6 +51,16 @@ pub fn walks_are_determined()
 /// What an id resolves to resolves to itself.
 pub fn resolving_twice_is_once()
     ensures { ResolvingTwiceIsOnce }
+{}
+
+/// A name stands for one value among the variants of a type, or for none, or is refused for one cause.
+pub fn variant_values_are_determined()
+    ensures { VariantValuesAreDetermined }
+{}
+
+/// The relocation records under a name are one list, or are refused for one cause.
+pub fn relocation_words_are_determined()
+    ensures { RelocationWordsAreDetermined }
 {}
 
 /// The sections of `.BTF.ext` that bytes begin with, and the rest behind them, are determined.

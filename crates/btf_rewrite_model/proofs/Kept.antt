@@ -27,7 +27,7 @@ use Rattle.btf_model.proofs.Walks.{ends_there, not_both, same_answer, same_next}
 
 -- ---- what a rule keeps
 
-unsigned_kind : (r : Record) → kind_of r.info ≡ Some kinds.Enum → kind_of (unsigned r).info ≡ Some kinds.Enum
+pub unsigned_kind : (r : Record) → kind_of r.info ≡ Some kinds.Enum → kind_of (unsigned r).info ≡ Some kinds.Enum
 unsigned_kind r kind =
     let same : kind_number (unsigned r).info ≡ kind_number r.info = omega arith in
     ap (λ (m : ℕ). slice_get kinds.kinds m) same ∙ kind
@@ -116,11 +116,11 @@ step_same t ids id (Some kinds.DataSec) r keeps = absurd (false≢true keeps)
 step_same t ids id k r keeps = refl
 
 -- the record that an id has as the pass begins
-begun_record : Table → Option KsymsIds → ℕ → Record → Record
+pub begun_record : Table → Option KsymsIds → ℕ → Record → Record
 begun_record t (Some ids) id r = stepped t ids id (kind_of r.info) r
 begun_record t None id r = r
 
-by_table : (P : Table → Type 0) (b : Bool) (x y : Table) → P x → P y → P (if b then x else y)
+pub by_table : (P : Table → Type 0) (b : Bool) (x y : Table) → P x → P y → P (if b then x else y)
 by_table P true x y px py = px
 by_table P false x y px py = py
 
@@ -132,7 +132,7 @@ each_at t ids id r at =
     slice_get-get_or (map f (ids_of t)) id unknown (omega (arith, lt, len)) ∙ ap (λ (q : Record). Some q) (get_or-map-range_with_len f 0 (length t.records) id id unknown lt (omega arith))
     ∙ ap (λ (o : Option Record). Some (stepped t ids id (kind_of (unwrap_or o unknown).info) (unwrap_or o unknown))) at
 
-begun_at : (t : Table) (ids : Option KsymsIds) (id : ℕ) (r : Record) → slice_get t.records id ≡ Some r → slice_get (begun t ids).records id ≡ Some (begun_record t ids id r)
+pub begun_at : (t : Table) (ids : Option KsymsIds) (id : ℕ) (r : Record) → slice_get t.records id ≡ Some r → slice_get (begun t ids).records id ≡ Some (begun_record t ids id r)
 unfolding begun_record
 begun_at t None id r at = at
 begun_at t (Some ids) id r at =
@@ -141,7 +141,7 @@ begun_at t (Some ids) id r at =
     by_table (λ u. slice_get u.records id ≡ Some (stepped t ids id (kind_of r.info) r)) (appends_int t ids.placeholder) _ (each_stepped t ids)
     (slice_get-append_left (each_stepped t ids).records (c_int (length t.strings) ∷ []) id within ∙ here) here
 
-begun_same : (t : Table) (ids : Option KsymsIds) (id : ℕ) (r : Record) → keeps_size (kind_of r.info) ≡ true → begun_record t ids id r ≡ r
+pub begun_same : (t : Table) (ids : Option KsymsIds) (id : ℕ) (r : Record) → keeps_size (kind_of r.info) ≡ true → begun_record t ids id r ≡ r
 unfolding begun_record
 begun_same t None id r keeps = refl
 begun_same t (Some ids) id r keeps = step_same t ids id (kind_of r.info) r keeps

@@ -5,6 +5,7 @@ pub mod GrantedOnce
 pub mod GrantedAll
 pub mod Lengths
 pub mod Kept
+pub mod Values
 pub mod Agreeing
 pub mod Seconds
 pub mod SecondPass

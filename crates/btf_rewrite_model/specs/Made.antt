@@ -4,7 +4,8 @@ use Rattle.std.specs.Prelude.{ℕ, ◌+◌, ◌*◌, ◌^◌, ◌==◌, ◌&&◌
 use Rattle.std.specs.List.{flat_map, range_with_len}
 use Rattle.btf_model.specs.Record.{Kind, Record, unknown, kind_of}
 use Rattle.btf_model.specs.Info.{with_vlen, with_flag}
-use Rattle.btf_model.specs.Table.{Table, Variant, Fallback}
+use Rattle.btf_model.specs.Table.{Table, Fallback}
+pub use Rattle.btf_model.specs.Value.{enum64_variants as variants}
 use Rattle.btf_rewrite_model.specs.Feature.{is_signed}
 
 -- the record of an id: Unknown, where it has none
@@ -41,11 +42,6 @@ is_static r = slice_index r.tail 0 == 0
 -- a parameter that has a type and no name: all that have none but the `...` of a variadic function
 abbrev pub wants_name : ℕ → ℕ → Bool
 wants_name name type = name == 0 && not (type == 0)
-
--- the variants that the words of an ENUM64 are: a name, and the two halves of a value
-abbrev pub variants : List ℕ → List Variant
-variants (name ∷ low ∷ high ∷ words) = record { name = name; value = high * 2 ^ 32 + low } ∷ variants words
-variants words = []
 
 -- ---- records
 

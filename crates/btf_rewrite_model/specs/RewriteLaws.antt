@@ -7,6 +7,7 @@ use Rattle.btf_model.specs.Refusal.{MaximumTypeDepthReached}
 use Rattle.btf_model.specs.Spelling.{HasKind}
 use Rattle.btf_model.specs.Table.{Table}
 use Rattle.btf_model.specs.Walk.{Finding, WalkAnswers, Elements, size_in, Resolves, HasSize}
+use Rattle.btf_model.specs.Value.{Value}
 use Rattle.btf_rewrite_model.specs.Feature as features
 use Rattle.btf_rewrite_model.specs.Feature.{Feature, Answer, FillPolicy, KeepSized, same_feature, grants, needs, needs_by, is_sized_and_empty}
 use Rattle.btf_rewrite_model.specs.Made.{record_at, kind_at, fallback_of}
@@ -72,6 +73,12 @@ abbrev pub ResolutionsStay : Type 0
 ResolutionsStay =
     (policy : FillPolicy) (old new : Table) (ids : Option KsymsIds) (layout : Layout) (answers : List Answer) → RewrittenWith policy old ids layout answers new
     → (id end : ℕ) → Resolves old.records id (Ok end) → kind_at old end ≢ Some kinds.Func → Resolves new.records id (Ok end)
+
+-- The value of a variant that is found by a name, or that none has the name, is found in the new table.
+abbrev pub VariantValueStays : Type 0
+VariantValueStays =
+    (policy : FillPolicy) (old new : Table) (ids : Option KsymsIds) (layout : Layout) (answers : List Answer) → RewrittenWith policy old ids layout answers new
+    → (id : ℕ) (name : List ℕ) (found : Option ℕ) → Value old id name (Ok found) → Value new id name (Ok found)
 
 -- A pass appends three types at most: that of the members of UNIONs which were ENUM64s, and the two of the filler. The step of `.ksyms`
 -- appends one at most, so a rewrite four. None is taken away.

@@ -3,7 +3,7 @@
 //! The definitions lie in `specs/`. Each law is the contract of a function here that does nothing.
 #![tactic(auto)]
 
-ghost use Rattle.btf_rewrite_model.specs.RewriteLaws.{AskedOnlyIfNeeded, GrantedFeaturesSuffice, Enum64KeepsItsValues, RecordLengthsStay, FewTypesAreAppended, SizesStay, ResolutionsStay, OtherAnswersChangeNothing, SecondRewriteChangesNothing, SizedSectionsAreKept};
+ghost use Rattle.btf_rewrite_model.specs.RewriteLaws.{AskedOnlyIfNeeded, GrantedFeaturesSuffice, Enum64KeepsItsValues, RecordLengthsStay, FewTypesAreAppended, SizesStay, ResolutionsStay, VariantValueStays, OtherAnswersChangeNothing, SecondRewriteChangesNothing, SizedSectionsAreKept};
 
 /// A rewrite asks for a feature only where the kernel needs it for a record of the table.
 pub fn asked_only_if_needed()
@@ -41,6 +41,11 @@ pub fn sizes_stay()
 /// An id resolves to the same type in the rewritten table, unless that is a FUNC.
 pub fn resolutions_stay()
     ensures { ResolutionsStay }
+{}
+
+/// The value of a variant that is found by its name is found in the rewritten table, and so is that there is none.
+pub fn variant_value_stays()
+    ensures { VariantValueStays }
 {}
 
 /// What ids ask for, append and become, and why they are refused, depends on the answers to what they and lower ids

@@ -12,11 +12,12 @@ use Rattle.btf_rewrite_model.specs.Rewritten.{begun, pass_with, step_fault, Rewr
 use Rattle.btf_rewrite_model.proofs.GrantedAll.{suffice}
 use Rattle.btf_rewrite_model.proofs.FewAdded.{few_in_a_rewrite}
 use Rattle.btf_rewrite_model.proofs.Kept as kept
+use Rattle.btf_rewrite_model.proofs.Values.{value_stays}
 use Rattle.btf_model.proofs.Blobs.{same_table}
 use Rattle.btf_words.specs.declared.error.BtfError.{BtfError}
 use Rattle.btf_words.specs.Error.{Answers, refusal_of}
 use Rattle.btf_table.specs.PassStep.{Given, pass_on}
-use Rattle.btf_table.specs.Rewrites.{RewritesWith, Sanitizes, NeedsAreGrantedWith, KeepsSizes, KeepsResolutions, AppendsAtMost, OfTables}
+use Rattle.btf_table.specs.Rewrites.{RewritesWith, Sanitizes, NeedsAreGrantedWith, KeepsSizes, KeepsResolutions, KeepsValues, AppendsAtMost, OfTables}
 
 -- a pass over the table as it begins, behind the step
 sanitized : {X : Type 0} (old new : Table) (k : Option KsymsIds) (given : Given) (answers : List Answer) (r : Result X Refusal) → step_fault old k ≡ None → Sanitizes (pass_with given.policy old k given.layout answers) new r → RewritesWith given.policy old k given.layout answers new r
@@ -46,6 +47,9 @@ sizes_of old new k given answers x h = kept.sizes_stay given.policy old new k gi
 
 pub resolutions_of : {X : Type 0} (old new : Table) (k : Option KsymsIds) (given : Given) (answers : List Answer) (x : X) → RewritesWith given.policy old k given.layout answers new (Ok x) → KeepsResolutions old new
 resolutions_of old new k given answers x h = kept.resolutions_stay given.policy old new k given.layout answers h.0
+
+pub values_of : {X : Type 0} (old new : Table) (k : Option KsymsIds) (given : Given) (answers : List Answer) (x : X) → RewritesWith given.policy old k given.layout answers new (Ok x) → KeepsValues old new
+values_of old new k given answers x h = value_stays given.policy old new k given.layout answers h.0
 
 pub appended_of : {X : Type 0} (old new : Table) (k : Option KsymsIds) (given : Given) (answers : List Answer) (x : X) → RewritesWith given.policy old k given.layout answers new (Ok x) → AppendsAtMost 4 old new
 appended_of old new k given answers x h = few_in_a_rewrite given.policy old new k given.layout answers h.0

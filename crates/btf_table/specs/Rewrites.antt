@@ -6,6 +6,7 @@ use Rattle.btf_model.specs.Record.{Record}
 use Rattle.btf_model.specs.Refusal.{Refusal, MaximumTypeDepthReached}
 use Rattle.btf_rewrite_model.specs.Made.{record_at, kind_at}
 use Rattle.btf_model.specs.Walk.{WalkAnswers, Resolves, HasSize}
+use Rattle.btf_model.specs.Value.{Value}
 use Rattle.btf_rewrite_model.specs.RewriteLaws.{FindsKept, IsAmong, IsGrantedOnce}
 use Rattle.btf_model.specs.Word.{Order}
 use Rattle.btf_model.specs.Table.{Table, strip}
@@ -71,6 +72,10 @@ KeepsSizes old new = (id size : ℕ) → WalkAnswers (FindsKept old) (record { c
 -- What ids stand for, but for a FUNC, is what they stood for.
 abbrev pub KeepsResolutions : Table → Table → Type 0
 KeepsResolutions old new = (id end : ℕ) → Resolves old.records id (Ok end) → kind_at old end ≢ Some kinds.Func → Resolves new.records id (Ok end)
+
+-- The value of a variant that is found by a name, or that none has the name, is what it was.
+abbrev pub KeepsValues : Table → Table → Type 0
+KeepsValues old new = (id : ℕ) (name : List ℕ) (found : Option ℕ) → Value old id name (Ok found) → Value new id name (Ok found)
 
 -- No type is taken away, and at most so many are appended.
 abbrev pub AppendsAtMost : ℕ → Table → Table → Type 0

@@ -23,7 +23,7 @@ ghost use Rattle.btf_rules.specs.Features.{Called, answers_of, policy_of};
 ghost use Rattle.btf_table.specs.KsymsStep.{ksyms_ids};
 ghost use Rattle.btf_rules.specs.Layout.{layout_of};
 ghost use Rattle.btf_table.specs.PassStep.{pass_on, under, BeginsAsked};
-ghost use Rattle.btf_table.specs.Rewrites.{ids_of, Rewrites, RewritesWith, RewritesBytes, RewritesBytesWith, Sanitizes, NeedsAreGranted, NeedsAreGrantedWith, KeepsSizes, KeepsResolutions, AppendsAtMost, BeginsAskedOf, BeginsAskedOfWith, OfTables};
+ghost use Rattle.btf_table.specs.Rewrites.{ids_of, Rewrites, RewritesWith, RewritesBytes, RewritesBytesWith, Sanitizes, NeedsAreGranted, NeedsAreGrantedWith, KeepsSizes, KeepsResolutions, KeepsValues, AppendsAtMost, BeginsAskedOf, BeginsAskedOfWith, OfTables};
 
 use crate::sanitize::ksyms::ksyms_changes;
 use crate::sanitize::pass::pass_changes;
@@ -131,6 +131,8 @@ impl Btf {
         ensures sizes { OnOk result (KeepsSizes self.old self.new) }
         // What an id stands for, but for a FUNC, it stands for still.
         ensures resolutions { OnOk result (KeepsResolutions self.old self.new) }
+        // The value that a name stands for in an ENUM or ENUM64 it stands for still, in a UNION that took its place too.
+        ensures values { OnOk result (KeepsValues self.old self.new) }
         // No type is taken away, and at most four are appended.
         ensures appended { OnOk result (AppendsAtMost 4 self.old self.new) }
     {
@@ -169,6 +171,8 @@ impl Btf {
         ensures sizes { OnOk result (KeepsSizes self.old self.new) }
         // What an id stands for, but for a FUNC, it stands for still.
         ensures resolutions { OnOk result (KeepsResolutions self.old self.new) }
+        // The value that a name stands for in an ENUM or ENUM64 it stands for still, in a UNION that took its place too.
+        ensures values { OnOk result (KeepsValues self.old self.new) }
         // No type is taken away, and at most four are appended.
         ensures appended { OnOk result (AppendsAtMost 4 self.old self.new) }
     {

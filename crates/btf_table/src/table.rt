@@ -9,7 +9,7 @@ mod walk;
 
 ghost use Rattle.std.specs.Prelude.{◌≡◌, List, ◌+◌, ◌*◌, ◌≤◌, ◌↔◌, [], ◌∷◌, map, IsTrue, IfOk, OnOk, OnErr, MatchResult, Ok, Err, Some, slice_get, length, ◌<◌, ◌^◌};
 ghost use Rattle.std.specs.Slice.Iter.{iter_rest};
-ghost use Rattle.btf_model.specs.Record.{Record, unknown};
+ghost use Rattle.btf_model.specs.Record.{Record, unknown, kind_of};
 ghost use Rattle.btf_model.specs.Refusal.{Refusal};
 ghost use Rattle.btf_model.specs.Table.{Table, empty_table, strip, type_bytes, with_string, with_type, string_place, type_place};
 ghost use Rattle.btf_model.specs.Fields.{HaveKinds};
@@ -20,7 +20,7 @@ ghost use Rattle.btf_model.specs.Walk.{Resolves, HasSize};
 ghost use Rattle.btf_words.specs.Error.{Answers, Gives, Tells};
 ghost use Rattle.btf_words.specs.Endianness.{order_of};
 ghost use Rattle.btf_words.specs.Kind as kinds;
-ghost use Rattle.btf_records.specs.BtfType.{record_of, fallback_of};
+ghost use Rattle.btf_records.specs.BtfType.{record_of, fallback_of, type_kind};
 ghost use Rattle.btf_table.specs.BtfStr.{text_bytes};
 ghost use Rattle.std.specs.Prelude.{IfSome, string_bytes};
 ghost use Rattle.std.specs.Option.{option_map};
@@ -221,15 +221,20 @@ impl Btf {
         )
     }
 
-    /// The type of an id, or `UnknownBtfType` of the id where there is none.
+    /// The type of an id, whose kind is the one in its info word; or `UnknownBtfType` of the id where there is none.
     pub fn type_by_id(&self, type_id: u32) -> Result<&BtfType, BtfError>
         ensures { MatchResult result
-            (λ t. (slice_get self.now.records type_id ≡ Some (record_of t.now)) × (slice_get self.now.fallbacks type_id ≡ Some (fallback_of t.now)))
+            (λ t. (slice_get self.now.records type_id ≡ Some (record_of t.now))
+            × (slice_get self.now.fallbacks type_id ≡ Some (fallback_of t.now))
+            × (kind_of (record_of t.now).info ≡ Some (type_kind t.now)))
             (λ e. (length self.now.records ≤ type_id) × (e ≡ BtfError.UnknownBtfType type_id)) }
     {
-        self.types
-            .get(type_id as usize)
-            .ok_or(BtfError::UnknownBtfType { type_id })
+        let Some(btf_type) = self.types.get(type_id as usize) else {
+            return Err(BtfError::UnknownBtfType { type_id });
+        };
+        // The contract speaks of the kind in the info word, which a use of it shows.
+        let _ = btf_type.info();
+        Ok(btf_type)
     }
 
     /// The types in the order of their ids, id 0 first.

@@ -10,11 +10,11 @@ use Rattle.btf_rules.specs.Features.{answers_of, policy_of}
 use Rattle.btf_table.specs.KsymsStep.{ksyms_ids}
 use Rattle.btf_rules.specs.Layout.{layout_of}
 use Rattle.btf_table.specs.PassStep.{Given, under}
-use Rattle.btf_table.specs.Rewrites.{ids_of, RewritesWith, NeedsAreGrantedWith, KeepsSizes, KeepsResolutions, AppendsAtMost}
+use Rattle.btf_table.specs.Rewrites.{ids_of, RewritesWith, NeedsAreGrantedWith, KeepsSizes, KeepsResolutions, KeepsValues, AppendsAtMost}
 use Rattle.btf_table.specs.declared.sanitize.KsymsIds.{KsymsIds}
 use Rattle.btf_rules.specs.declared.features.FeatureAnswer.{FeatureAnswer}
 use Rattle.btf_table.proofs.PassAsking.{begins_none}
-use Rattle.btf_table.proofs.Rewriting.{stepped_by, rewrites_by, granted_of, sizes_of, resolutions_of, appended_of, on_ok}
+use Rattle.btf_table.proofs.Rewriting.{stepped_by, rewrites_by, granted_of, sizes_of, resolutions_of, values_of, appended_of, on_ok}
 use Rattle.btf_table.proofs.table.Btf.fixup_and_sanitize_with.Goals as goal
 
 pub returns-in_default-clause-granted : goal.returns-in_default-clause-granted
@@ -43,6 +43,15 @@ returns-in_default-clause-resolutions g c =
     let answers = answers_of c.sanitize.new.resolver.1 in
     let rewrites = rewrites_by (λ a. a.items) c.sanitize.result old old c.sanitize.new.self None given answers refl refl c.sanitize.ensures.sanitizes in
     on_ok (λ a. a.items) c.sanitize.result (RewritesWith given.policy old None given.layout answers c.sanitize.new.self) (KeepsResolutions old c.sanitize.new.self) rewrites (λ y h. resolutions_of old c.sanitize.new.self None given answers y h)
+
+pub returns-in_default-clause-values : goal.returns-in_default-clause-values
+returns-in_default-clause-values g c =
+    let old : Table = c.args.self.now in
+    let given : Given = under c.args.policy (layout_of c.args.sections.now c.args.symbols.now) in
+    let is : c.args.ksyms ≡ None = c.in_default.is in
+    let answers = answers_of c.sanitize.new.resolver.1 in
+    let rewrites = rewrites_by (λ a. a.items) c.sanitize.result old old c.sanitize.new.self None given answers refl refl c.sanitize.ensures.sanitizes in
+    on_ok (λ a. a.items) c.sanitize.result (RewritesWith given.policy old None given.layout answers c.sanitize.new.self) (KeepsValues old c.sanitize.new.self) rewrites (λ y h. values_of old c.sanitize.new.self None given answers y h)
 
 pub returns-in_default-clause-appended : goal.returns-in_default-clause-appended
 returns-in_default-clause-appended g c =
@@ -90,6 +99,17 @@ returns-in-Ok-clause-resolutions g c =
     let new : Table = c.sanitize-2.new.self in
     let h = stepped_by old c.apply.new.self new (Some ids) given answers (Ok c.in-Ok.answers.items) c.in_ok-changes.ensures.0 there c.in-Ok.ensures.sanitizes in
     resolutions_of old new (Some ids) given answers c.in-Ok.answers.items h
+
+pub returns-in-Ok-clause-values : goal.returns-in-Ok-clause-values
+returns-in-Ok-clause-values g c =
+    let old : Table = c.args.self.now in
+    let given : Given = under c.args.policy (layout_of c.args.sections.now c.args.symbols.now) in
+    let ids : model.KsymsIds = ksyms_ids c.in-Some.ids.datasec_id c.in-Some.ids.placeholder_id in
+    let there : c.apply.new.self ≡ begun old (Some ids) = c.in_ok-undo.ensures.ok ∙ c.in_ok-changes.ensures.2 in
+    let answers = answers_of c.sanitize-2.new.resolver.1 in
+    let new : Table = c.sanitize-2.new.self in
+    let h = stepped_by old c.apply.new.self new (Some ids) given answers (Ok c.in-Ok.answers.items) c.in_ok-changes.ensures.0 there c.in-Ok.ensures.sanitizes in
+    values_of old new (Some ids) given answers c.in-Ok.answers.items h
 
 pub returns-in-Ok-clause-appended : goal.returns-in-Ok-clause-appended
 returns-in-Ok-clause-appended g c =

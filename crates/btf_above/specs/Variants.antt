@@ -1,0 +1,28 @@
+-- Variants as the definitions have them, and the names of a type's variants.
+use Rattle.std.specs.Prelude.{ℕ, ◌+◌, ◌*◌, ◌^◌, List, Ok, IfSome}
+use Rattle.std.specs.List.{AllByRecursion}
+use Rattle.std.specs.Str.{IsUtf8}
+use Rattle.btf_model.specs.Table.{Table, Variant}
+use Rattle.btf_model.specs.Text.{bytes_at}
+use Rattle.btf_model.specs.Walk.{Resolves}
+use Rattle.btf_model.specs.Value.{HasVariants}
+use Rattle.btf_items.specs.declared.items.BtfEnum.{BtfEnum}
+use Rattle.btf_items.specs.declared.items.BtfEnum64.{BtfEnum64}
+
+abbrev pub enum_variant : BtfEnum → Variant
+enum_variant v = record { name = v.name_offset; value = v.value }
+
+abbrev pub enum64_variant : BtfEnum64 → Variant
+enum64_variant v = record { name = v.name_offset; value = v.value_high * 2 ^ 32 + v.value_low }
+
+-- The names of these variants are UTF-8, where they can be read.
+abbrev pub HaveUtf8Names : List ℕ → List Variant → Type 0
+HaveUtf8Names strings vs = AllByRecursion (λ v. IfSome (bytes_at strings v.name) IsUtf8) vs
+
+-- So are those of the type of an id, if it has variants.
+abbrev pub TypeHasUtf8Names : Table → ℕ → Type 0
+TypeHasUtf8Names t id = (vs : List Variant) → HasVariants t id (Ok vs) → HaveUtf8Names t.strings vs
+
+-- So are those of the type that an id resolves to.
+abbrev pub NamesAreUtf8 : Table → ℕ → Type 0
+NamesAreUtf8 t id = (end : ℕ) → Resolves t.records id (Ok end) → TypeHasUtf8Names t end

@@ -1,0 +1,86 @@
+//! Variants of the three kinds of enumeration, and the first one of a name.
+
+ghost use Rattle.std.specs.Prelude.{◌≡◌, IfSome, map};
+ghost use Rattle.std.specs.List.{AllByRecursion};
+ghost use Rattle.std.specs.Str.{IsUtf8};
+ghost use Rattle.btf_model.specs.Table as model;
+ghost use Rattle.btf_model.specs.Text.{bytes_at};
+ghost use Rattle.btf_model.specs.Value.{FindsVariant};
+ghost use Rattle.btf_words.specs.Error.{Answers, Tells};
+ghost use Rattle.btf_items.specs.Fallback.{variant_of};
+ghost use Rattle.btf_above.specs.Variants.{enum_variant, enum64_variant, HaveUtf8Names};
+
+use crate::above::name::is_named;
+use btf_plain::BtfError;
+use btf_records::{BtfEnum, BtfEnum64, Enum64VariantFallback};
+use btf_table::Btf;
+
+/// A variant of an enumeration.
+pub trait Variant {
+    /// The variant as the definitions have it.
+    ghost variant: { Self → model.Variant };
+
+    /// The string offset of the name.
+    fn name_offset(&self) -> u32
+        ensures { result ≡ (variant self.now).name };
+
+    /// The value in 64 bits, with zeros above one of 32.
+    fn value(&self) -> u64
+        ensures { result ≡ (variant self.now).value };
+}
+
+impl Variant for BtfEnum {
+    ghost variant = { enum_variant };
+
+    fn name_offset(&self) -> u32 {
+        self.name_offset
+    }
+
+    fn value(&self) -> u64 {
+        u64::from(self.value)
+    }
+}
+
+impl Variant for BtfEnum64 {
+    ghost variant = { enum64_variant };
+
+    fn name_offset(&self) -> u32 {
+        self.name_offset
+    }
+
+    fn value(&self) -> u64 {
+        (self.value_high as u64) << 32 | self.value_low as u64
+    }
+}
+
+impl Variant for Enum64VariantFallback {
+    ghost variant = { variant_of };
+
+    fn name_offset(&self) -> u32 {
+        self.name_offset
+    }
+
+    fn value(&self) -> u64 {
+        self.value
+    }
+}
+
+/// The value of the first variant of this name; `InvalidStringOffset` of a name before it that cannot be read.
+pub fn find_value<V: Variant>(
+    btf: &Btf,
+    variants: &[V],
+    name: &str,
+) -> Result<Option<u64>, BtfError>
+    ensures found { Answers (λ v. v) result
+        (FindsVariant btf.now.strings name.now (map V.variant variants.now)) }
+    // Memory is taken only for names that are not UTF-8.
+    ensures no_memory { HaveUtf8Names btf.now.strings (map V.variant variants.now)
+        → Tells (λ v. v) result (FindsVariant btf.now.strings name.now (map V.variant variants.now)) }
+{
+    for variant in variants {
+        if is_named(btf, variant.name_offset(), name)? {
+            return Ok(Some(variant.value()));
+        }
+    }
+    Ok(None)
+}

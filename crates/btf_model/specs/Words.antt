@@ -1,0 +1,31 @@
+-- The relocation records of a section of a program, by the section's name.
+-- Source: the kernel's BTF documentation, ".BTF.ext section", `struct bpf_core_relo`, whose sections name a section of
+-- the program each; that sections of one name are joined, and that every name is read, are this project's profile.
+use Rattle.std.specs.Prelude.{◌≡◌, ℕ, Bool, false, List, ◌∷◌, ◌++◌, filter, Result, Ok, Err}
+use Rattle.std.specs.List.{flat_map, AllByRecursion}
+use Rattle.std.specs.Str.{bytes_eq}
+use Rattle.btf_model.specs.Refusal.{Refusal}
+use Rattle.btf_model.specs.Text.{text_at}
+
+-- a relocation section: the string offset of its name, and the words of each record
+abbrev pub RelocationSection : Type 0
+RelocationSection = ℕ × List (List ℕ)
+
+-- The names of these sections can be read.
+abbrev pub HaveNames : List ℕ → List RelocationSection → Type 0
+HaveNames strings sections = AllByRecursion (λ s. (text : List ℕ) × (text_at strings s.0 ≡ Ok text)) sections
+
+-- a text that was read is this name
+abbrev pub is_name : List ℕ → Result (List ℕ) Refusal → Bool
+is_name name (Ok text) = bytes_eq name text
+is_name name (Err refusal) = false
+
+-- the records of all sections of this name, one section after another
+abbrev pub words_named : List ℕ → List ℕ → List RelocationSection → List (List ℕ)
+words_named strings name sections = flat_map (λ s. s.1) (filter (λ s. is_name name (text_at strings s.0)) sections)
+
+-- The records under a name, where the names of all sections can be read; or the first name that cannot be read.
+abbrev pub Words : List ℕ → List RelocationSection → List ℕ → Result (List (List ℕ)) Refusal → Type 0
+Words strings sections name (Ok words) = HaveNames strings sections × (words ≡ words_named strings name sections)
+Words strings sections name (Err refusal) =
+    (before after : List RelocationSection) × (s : RelocationSection) × (sections ≡ before ++ s ∷ after) × HaveNames strings before × (text_at strings s.0 ≡ Err refusal)
