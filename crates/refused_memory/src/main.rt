@@ -1,0 +1,74 @@
+//! Calls of the library, one of whose requests for memory is refused: `refused_memory WORK TABLE ORDER BEFORE AFTER`.
+//!
+//! The program asks for memory BEFORE times, makes one call, asks for memory AFTER times, and writes what came out: a
+//! refused call is made again. Which request is refused is up to who runs it: `scripts/refusals` has the toolchain
+//! refuse one of the process, puts each of the call's in that place in turn, and compares.
+#![tactic(auto)]
+
+mod comparison;
+mod ext;
+mod probe;
+mod records;
+mod report;
+mod rewrite;
+mod table;
+mod tables;
+
+use crate::probe::Probe;
+use crate::report::Report;
+use crate::tables::bytes_of;
+use btf_plain::Endianness;
+use std::alloc::Global;
+use std::io::Write;
+use std::test::Fail;
+use std::{env, io};
+
+/// The words after the program's name.
+fn words(rt: &HostRuntime, alloc: Global) -> io::Result<Vec<String>> {
+    let mut words = Vec::new(alloc);
+    for word in env::args(rt)?.skip(1) {
+        words.push(word)?;
+    }
+    Ok(words)
+}
+
+fn order_of(word: &str) -> Endianness {
+    if word == "big" {
+        Endianness::Big
+    } else {
+        Endianness::Little
+    }
+}
+
+/// Does the work, and writes down what came out.
+fn done(work: &str, probe: &Probe, blob: &[u8], report: &mut Report) -> Result<(), Fail> {
+    match work {
+        "parse" | "clone" | "to_bytes" | "new" => table::made(work, probe, blob, report),
+        "add_string" | "add_type" => table::added(work, probe, blob, report),
+        "string_at" | "type_name" | "err_type_name" | "id_by_name" => {
+            table::named(work, probe, blob, report)
+        }
+        "read_type" | "type_to_bytes" | "clone_type" => records::all(work, probe, blob, report),
+        "fields" | "types" | "traced" => comparison::compared(work, probe, blob, report),
+        "ksyms" => rewrite::step(probe, blob, report),
+        "rewrite_bytes" => rewrite::bytes(probe, blob, report),
+        "rewrite" | "rewrite_ksyms" | "rewrite_again" | "rewrite_granted" => {
+            rewrite::whole(work, probe, blob, report)
+        }
+        _ => ext::done(work, probe, blob, report),
+    }
+}
+
+fn main(rt: HostRuntime) -> Result<(), Fail> {
+    let alloc = rt.alloc();
+    let words = words(&rt, alloc)?;
+    let [work, table, order, before, after] = words.as_slice() else {
+        return Ok(());
+    };
+    let probe = Probe::new(alloc, order_of(order), before.parse()?, after.parse()?);
+    let blob = bytes_of(alloc, table, probe.order)?;
+    let mut report = Report::new(alloc)?;
+    done(work, &probe, &blob, &mut report)?;
+    rt.stdout().write_all(report.as_bytes())?;
+    Ok(())
+}

@@ -1,0 +1,48 @@
+//! Requests for memory before a call and after it.
+
+use crate::report::Report;
+use btf_plain::Endianness;
+use std::alloc::Global;
+use std::test::Fail;
+
+/// How a call is made: with which allocator, in which byte order, and after and before how many other requests.
+#[derive(Clone, Copy)]
+pub struct Probe {
+    pub alloc: Global,
+    pub order: Endianness,
+    before: usize,
+    after: usize,
+}
+
+/// How many requests in a row are granted, of so many.
+fn granted(alloc: Global, count: usize) -> usize {
+    for done in 0..count {
+        if Vec::<u8>::with_capacity(alloc, 1).is_err() {
+            return done;
+        }
+    }
+    count
+}
+
+impl Probe {
+    pub fn new(alloc: Global, order: Endianness, before: usize, after: usize) -> Self {
+        Probe {
+            alloc,
+            order,
+            before,
+            after,
+        }
+    }
+
+    /// Makes the requests that come before the call.
+    pub fn begin(&self, report: &mut Report) -> Result<(), Fail> {
+        let granted = granted(self.alloc, self.before);
+        report.count("before", granted)
+    }
+
+    /// Makes the requests that come after the call.
+    pub fn end(&self, report: &mut Report) -> Result<(), Fail> {
+        let granted = granted(self.alloc, self.after);
+        report.count("after", granted)
+    }
+}

@@ -1,0 +1,155 @@
+//! What a work writes down, a line for each name.
+
+use btf_items::Enum64VariantFallback;
+use btf_plain::BtfError;
+use btf_records::BtfType;
+use btf_types::Btf;
+use std::alloc::{AllocError, Global};
+use std::fmt::Write;
+use std::test::Fail;
+
+/// The lines, in memory that is there before the call.
+#[derive(Drop)]
+pub struct Report {
+    text: String,
+}
+
+/// What a report can have a line of.
+pub trait Show {
+    fn show(&self, out: &mut String) -> Result<(), Fail>;
+}
+
+impl Show for () {
+    fn show(&self, out: &mut String) -> Result<(), Fail> {
+        out.push_str("done")?;
+        Ok(())
+    }
+}
+
+impl Show for bool {
+    fn show(&self, out: &mut String) -> Result<(), Fail> {
+        write!(out, "{self}")?;
+        Ok(())
+    }
+}
+
+impl Show for u32 {
+    fn show(&self, out: &mut String) -> Result<(), Fail> {
+        write!(out, "{self}")?;
+        Ok(())
+    }
+}
+
+impl Show for Vec<u8> {
+    fn show(&self, out: &mut String) -> Result<(), Fail> {
+        for byte in self {
+            write!(out, "{byte:02x}")?;
+        }
+        Ok(())
+    }
+}
+
+impl Show for String {
+    fn show(&self, out: &mut String) -> Result<(), Fail> {
+        out.push_str(self)?;
+        Ok(())
+    }
+}
+
+/// Writes down a kept variant.
+fn show_variant(variant: &Enum64VariantFallback, out: &mut String) -> Result<(), Fail> {
+    write!(out, " {}={}", variant.name_offset, variant.value)?;
+    Ok(())
+}
+
+/// Writes down what a UNION keeps of an ENUM64, if it does.
+fn show_fallback(record: &BtfType, out: &mut String) -> Result<(), Fail> {
+    let BtfType::Union(union) = record else {
+        return Ok(());
+    };
+    let Some(fallback) = union.enum64_fallback() else {
+        return Ok(());
+    };
+    write!(out, " {}", fallback.signed)?;
+    for variant in &fallback.variants {
+        show_variant(variant, out)?;
+    }
+    Ok(())
+}
+
+/// Writes down what the calls that take no memory say of an id.
+fn show_walks(btf: &Btf, id: u32, out: &mut String) -> Result<(), Fail> {
+    let resolved = btf.resolve_type(id).unwrap_or(u32::MAX);
+    let size = btf.type_size(id).unwrap_or(usize::MAX);
+    write!(out, " {resolved}:{size}")?;
+    Ok(())
+}
+
+/// Writes down the fallbacks of a table, and what walks say of its types.
+fn show_types(btf: &Btf, out: &mut String) -> Result<(), Fail> {
+    let mut id = 0u32;
+    for record in btf.types() {
+        show_fallback(record, out)?;
+        show_walks(btf, id, out)?;
+        id = id.wrapping_add(1);
+    }
+    Ok(())
+}
+
+impl Show for Btf {
+    fn show(&self, out: &mut String) -> Result<(), Fail> {
+        self.to_bytes()?.show(out)?;
+        show_types(self, out)
+    }
+}
+
+impl Report {
+    /// An empty report, with room for all that the works write.
+    pub fn new(alloc: Global) -> Result<Self, AllocError> {
+        let text = String::with_capacity(alloc, 1 << 18)?;
+        Ok(Report { text })
+    }
+
+    pub fn as_bytes(&self) -> &[u8] {
+        self.text.as_bytes()
+    }
+
+    /// A line of a number.
+    pub fn count(&mut self, name: &str, count: usize) -> Result<(), Fail> {
+        writeln!(self.text, "{name}: {count}")?;
+        Ok(())
+    }
+
+    /// A line of a value.
+    pub fn value<T: Show>(&mut self, name: &str, value: &T) -> Result<(), Fail> {
+        write!(self.text, "{name}: ")?;
+        value.show(&mut self.text)?;
+        self.text.push_str("\n")?;
+        Ok(())
+    }
+
+    /// A line of what a call returned.
+    pub fn result<T: Show>(
+        &mut self,
+        name: &str,
+        outcome: &Result<T, BtfError>,
+    ) -> Result<(), Fail> {
+        match outcome {
+            Ok(value) => self.value(name, value),
+            Err(error) => {
+                writeln!(self.text, "{name}: {error}")?;
+                Ok(())
+            }
+        }
+    }
+
+    /// A line of pairs of ids.
+    pub fn pairs(&mut self, name: &str, pairs: &[(u32, u32)]) -> Result<(), Fail> {
+        write!(self.text, "{name}:")?;
+        for pair in pairs {
+            write!(self.text, " {}-{}", pair.0, pair.1)?;
+        }
+        self.text.push_str("\n")?;
+        Ok(())
+    }
+}

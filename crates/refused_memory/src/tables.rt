@@ -1,0 +1,103 @@
+//! The tables that the works are done on, by name.
+
+use btf_plain::Endianness;
+use btf_samples::blobs::blob;
+use btf_samples::program::{TYPE_LEN, program};
+use btf_samples::spelled::spelled_text;
+use btf_types::Btf;
+use std::alloc::Global;
+use std::test::Fail;
+
+/// A table: its name, the words of its records, and its strings.
+struct Table(&'static str, &'static str, &'static [u8]);
+
+const TABLES: [Table; 15] = [
+    Table("empty", "", b"\0"),
+    // A name that is not UTF-8.
+    Table("lossy", "1 01000000 4 20", b"\0\xffA\0"),
+    // All kinds.
+    Table("kinds", KINDS, b"\0a\0b\0"),
+    // A prototype with itself behind a pointer, which ends in no answer.
+    Table(
+        "endless",
+        "0 01000000 4 20  0 02000000 3  0 0d000001 2 0 1  0 0d000001 2 0 1",
+        b"\0",
+    ),
+    // Prototypes with two parameters of the next one each.
+    Table("nested", NESTED, b"\0"),
+    Table(
+        "records",
+        "0 04000001 4 0 3 0  0 05000001 4 0 3 0  0 04000000 4",
+        b"\0",
+    ),
+    // Names that are not UTF-8, of two ENUMs.
+    Table("lossy_enums", "1 06000000 4  1 06000000 4", b"\0\xffA\0"),
+    // A DATASEC with an entry, and one without.
+    Table(
+        "section",
+        "1 1000000 4 1000020  5 e000000 1 1  9 f000001 0 2 0 4  9 f000000 0",
+        b"\0int\0foo\0.data/foo\0",
+    ),
+    Table(
+        "empty_sections",
+        "1 f000000 0  4 f000000 9",
+        b"\0.d\0.maps\0",
+    ),
+    Table("enum64", "0 13000002 8 0 1 0 0 5 1", b"\0"),
+    Table(
+        "unnamed",
+        "1 1000000 4 1000020  0 d000002 0 0 1 0 1",
+        b"\0int\0",
+    ),
+    // The size of a section is not known, after names were made for a prototype.
+    Table(
+        "unknown_section",
+        "1 1000000 4 1000020  0 d000001 0 0 1  5 f000000 0",
+        b"\0int\0.x\0",
+    ),
+    // The name of a FUNC can't be read.
+    Table(
+        "unreadable",
+        "0 1000000 4 1000020  0 d000001 0 0 1  1 c000000 2",
+        b"\0",
+    ),
+    // The kernel's symbols: a variable, a function, and a placeholder of functions.
+    Table(
+        "symbols",
+        "1 e000000 0 2  1 d000001 0 0 0  b c000002 2  d e000000 1 1  f f000002 0 1 0 0 3 0 0",
+        b"\0init_task\0f\0p\0.ksyms\0",
+    ),
+    // The same without a function of the kernel, and with a FUNC whose name can't be read.
+    Table(
+        "symbols_refused",
+        "1 e000000 0 2  1 d000001 0 0 0  63 c000000 2  d e000000 1 1  f f000001 0 1 0 0",
+        b"\0init_task\0f\0p\0.ksyms\0",
+    ),
+];
+
+/// A record of each kind, of kinds 1 to 19.
+const KINDS: &str =
+    "1 1000000 4 1000020  0 2000000 1  0 3000000 0 1 1 4  1 4000001 4 3 1 0  1 5000001 4 3 1 0 \
+    1 6000001 4 3 7  1 7000000 0  1 8000000 1  0 9000000 1  0 a000000 1  0 b000000 2  1 c000001 d  0 d000001 1 3 1 \
+    1 e000000 1 1  3 f000001 4 e 0 4  1 10000000 8  1 11000000 1 0  1 12000000 1  1 13000001 8 3 7 1";
+
+/// Prototypes 1 to 4, and the first one again.
+const NESTED: &str =
+    "0 d000002 0 0 2 0 2  0 d000002 0 0 3 0 3  0 d000002 0 0 4 0 4  0 1000000 4 20  0 d000002 0 0 2 0 2 \
+    0 d000002 0 0 2 0 2";
+
+/// The id of a table's last type.
+pub fn last_id(btf: &Btf) -> u32 {
+    u32::try_from(btf.types().len().saturating_sub(1)).unwrap_or(0)
+}
+
+/// The bytes of a table in an order.
+pub fn bytes_of(alloc: Global, name: &str, order: Endianness) -> Result<Vec<u8>, Fail> {
+    for table in &TABLES {
+        if table.0 == name {
+            let types = spelled_text(alloc, table.1, order)?;
+            return blob(alloc, &types, table.2, order);
+        }
+    }
+    program(alloc, order, TYPE_LEN)
+}
