@@ -15,6 +15,7 @@ mod word;
 
 pub use run::run;
 use std::alloc::Global;
+use std::io::{ErrorKind, Write};
 use std::process::ExitCode;
 use std::{env, io};
 
@@ -27,9 +28,20 @@ fn words(rt: &HostRuntime, alloc: Global) -> io::Result<Vec<String>> {
     Ok(words)
 }
 
+/// Reports that there is no memory for the words.
+fn refused(rt: &HostRuntime) -> ExitCode {
+    // A fault in reporting changes nothing.
+    let _ = rt.stderr().write_all(b"out of memory\n");
+    ExitCode::FAILURE
+}
+
 fn main(rt: HostRuntime) -> ExitCode {
-    // Words that are no text are words that can't be read, as none are.
-    let words = words(&rt, rt.alloc()).unwrap_or(Vec::new(rt.alloc()));
+    let words = match words(&rt, rt.alloc()) {
+        Ok(words) => words,
+        Err(e) if e.kind() == ErrorKind::OutOfMemory => return refused(&rt),
+        // Words that are no text are words that can't be read, as none are.
+        Err(_) => Vec::new(rt.alloc()),
+    };
     let status = run(
         rt.alloc(),
         &words,

@@ -3,6 +3,7 @@
 mod filling;
 mod rewrite;
 mod rewrite_lines;
+mod streams;
 
 use crate::run;
 use std::alloc::{AllocError, Global};
