@@ -1,11 +1,11 @@
 -- The search for a name, among variants and among sections.
-use Rattle.std.proofs.Common.{◌≡◌, ◌≢◌, ℕ, suc, ◌+◌, ◌<◌, Bool, true, false, List, [], ◌∷◌, ◌++◌, length, take, drop, Option, Some, Result, Ok, Err, refl, sym, ap, subst, ◌∙◌}
+use Rattle.std.proofs.Common.{◌≡◌, ◌≢◌, ℕ, suc, ◌+◌, ◌<◌, ◌≤◌, Bool, true, false, List, [], ◌∷◌, ◌++◌, length, take, drop, Option, Some, Result, Ok, Err, refl, sym, ap, subst, ◌∙◌}
 use Rattle.std.specs.Prelude.{slice_get, filter, IfSome, if◌then◌else◌}
 use Rattle.std.specs.List.{flat_map, AllByRecursion}
 use Rattle.std.specs.Result.{IsErrAnd}
 use Rattle.std.specs.Str.{IsUtf8, bytes_eq}
 use Rattle.std.proofs.lemmas.Bool.{true≢false}
-use Rattle.std.proofs.lemmas.List.{append-nil, take-append-drop, take_more}
+use Rattle.std.proofs.lemmas.List.{append-nil, take_all, take-append-drop, take_more}
 use Rattle.std.proofs.lemmas.List.Concat.{flat_map-append}
 use Rattle.std.proofs.lemmas.List.Elements.{filter-append}
 use Rattle.std.proofs.lemmas.Option.{slice_get_within, get_or_from_slice_get, IfSome_then}
@@ -162,3 +162,7 @@ words_passed strings name ss i s same at is other =
 pub only_words : {X : Type 0} (view : X → List (List ℕ)) (strings name : List ℕ) (ss : List RelocationSection) (r : Result X BtfError) → Answers view r (Words strings ss name) → (answer : Result (List (List ℕ)) Refusal) → Words strings ss name answer → Gives view r answer
 only_words view strings name ss (Ok found) words answer is = one_words strings ss name (Ok (view found)) answer words is
 only_words view strings name ss (Err e) words answer is = IfSome_then (refusal_of e) words (λ refusal refused. one_words strings ss name (Err refusal) answer refused is)
+
+-- after the last section, all names are read
+pub all_read : (strings name : List ℕ) (ss : List RelocationSection) (i : ℕ) (found : List (List ℕ)) → length ss ≤ i → HaveNames strings (take i ss) → found ≡ words_named strings name (take i ss) → Words strings ss name (Ok found)
+all_read strings name ss i found end names words = (subst (HaveNames strings) (take_all i ss end) names, words ∙ ap (words_named strings name) (take_all i ss end))

@@ -1,9 +1,11 @@
-use Rattle.std.proofs.Common.{List, ℕ, map, length, ◌++◌, refl, ap, ◌∙◌}
+use Rattle.std.proofs.Common.{Ok, ◌≤◌, arith, List, ℕ, map, length, ◌++◌, refl, ap, ◌∙◌}
 use Rattle.std.specs.Option.{option_map}
 use Rattle.std.proofs.lemmas.Option.{slice_get-map, slice_get_read}
-use Rattle.btf_model.specs.Words.{RelocationSection}
+use Rattle.std.proofs.lemmas.List.{length-map}
+use Rattle.btf_model.specs.Words.{RelocationSection, Words}
+use Rattle.btf_plain.specs.Error.{Answers}
 use Rattle.btf_ext.specs.Relocation.{relocation}
-use Rattle.btf_above.proofs.Finding.{handed, section_error, names_more, words_joined, words_passed}
+use Rattle.btf_above.proofs.Finding.{handed, section_error, only_words, all_read, names_more, words_joined, words_passed}
 use Rattle.btf_above.proofs.above.relocations.relocations_of.Goals as goal
 use Rattle.btf_above.proofs.above.relocations.relocations_of.Goals.{then-branch+in_ok-extend_from_slice, else-branch}
 
@@ -12,12 +14,18 @@ returns-in_err-is_named c =
     let ss : _ = c.relocations-offset-items.result.now in
     let i : ℕ = c.loop-offset.offset-index in
     let e : _ = c.in_err-is_named.field-0.0 in
-    record {
-      words = rw (← c.relocations-offset-items.ensures)
-          (section_error (λ v. v.items) c.args.btf.now.strings c.args.name.now (map relocation ss) i (relocation c.loop-offset-item.result) e c.from_residual.result (handed c.from_residual.result e c.from_residual.ensures.1)
-          (slice_get-map relocation ss i ∙ ap (option_map relocation) (slice_get_read ss (length ss) i c.loop-offset-item.result refl c.loop-offset-test.true c.loop-offset-item.is))
-          c.loop-offset.invariant.names c.in_err-is_named.ensures.named);
-    }
+    let words : Answers (λ v. v.items) c.from_residual.result (Words c.args.btf.now.strings (map relocation ss) c.args.name.now) =
+    section_error (λ v. v.items) c.args.btf.now.strings c.args.name.now (map relocation ss) i (relocation c.loop-offset-item.result) e c.from_residual.result (handed c.from_residual.result e c.from_residual.ensures.1)
+    (slice_get-map relocation ss i ∙ ap (option_map relocation) (slice_get_read ss (length ss) i c.loop-offset-item.result refl c.loop-offset-test.true c.loop-offset-item.is))
+    c.loop-offset.invariant.names c.in_err-is_named.ensures.named in
+    rw (← c.relocations-offset-items.ensures) (record { words = words; only = only_words (λ v. v.items) c.args.btf.now.strings c.args.name.now (map relocation ss) c.from_residual.result words })
+
+pub returns-clause-only : goal.returns-clause-only
+returns-clause-only c =
+    let ss : _ = c.relocations-offset-items.result.now in
+    let end : length (map relocation ss) ≤ c.loop-offset.offset-index = omega (arith, length-map ss relocation, c.loop-offset-test.false) in
+    rw (← c.relocations-offset-items.ensures) (only_words (λ v. v.items) c.args.btf.now.strings c.args.name.now (map relocation ss) (Ok c.loop-offset.found)
+    (all_read c.args.btf.now.strings c.args.name.now (map relocation ss) c.loop-offset.offset-index c.loop-offset.found.items end c.loop-offset.invariant.names c.loop-offset.invariant.words))
 
 pub loop-offset-preserved : goal.loop-offset-preserved
 loop-offset-preserved c =
