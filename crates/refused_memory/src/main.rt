@@ -5,6 +5,7 @@
 //! refuse one of the process, puts each of the call's in that place in turn, and compares.
 #![tactic(auto)]
 
+mod above;
 mod comparison;
 mod ext;
 mod probe;
@@ -43,13 +44,17 @@ fn order_of(word: &str) -> Endianness {
 /// Does the work, and writes down what came out.
 fn done(work: &str, probe: &Probe, blob: &[u8], report: &mut Report) -> Result<(), Fail> {
     match work {
-        "parse" | "clone" | "to_bytes" | "new" => table::made(work, probe, blob, report),
+        "parse" | "clone" | "clone_kept" | "to_bytes" | "new" => table::made(
+            work, probe, blob, report,
+        ),
         "add_string" | "add_type" => table::added(work, probe, blob, report),
         "string_at" | "type_name" | "err_type_name" | "id_by_name" => {
             table::named(work, probe, blob, report)
         }
         "read_type" | "type_to_bytes" | "clone_type" => records::all(work, probe, blob, report),
         "fields" | "types" | "traced" => comparison::compared(work, probe, blob, report),
+        "variant_value" => above::value(probe, blob, report),
+        "relocations_of" => above::relocations(probe, blob, report),
         "ksyms" => rewrite::step(probe, blob, report),
         "rewrite_bytes" => rewrite::bytes(probe, blob, report),
         "rewrite" | "rewrite_ksyms" | "rewrite_again" | "rewrite_granted" => {

@@ -33,6 +33,22 @@ impl Show for bool {
     }
 }
 
+impl Show for u64 {
+    fn show(&self, out: &mut String) -> Result<(), Fail> {
+        write!(out, "{self}")?;
+        Ok(())
+    }
+}
+
+impl Show for Option<u64> {
+    fn show(&self, out: &mut String) -> Result<(), Fail> {
+        match self {
+            Some(value) => value.show(out),
+            None => Ok(out.push_str("none")?),
+        }
+    }
+}
+
 impl Show for u32 {
     fn show(&self, out: &mut String) -> Result<(), Fail> {
         write!(out, "{self}")?;

@@ -72,6 +72,13 @@ fn rewrite(work: &str, program: &Program, btf: &mut Btf) -> (Result<(), BtfError
     (answers.map(|_| ()), calls)
 }
 
+/// Rewrites a table for a kernel that has none of the features.
+pub fn deny_all(alloc: Global, btf: &mut Btf) -> Result<(), Fail> {
+    let program = known(alloc)?;
+    rewrite("rewrite", &program, btf).0?;
+    Ok(())
+}
+
 pub fn whole(work: &str, probe: &Probe, blob: &[u8], report: &mut Report) -> Result<(), Fail> {
     let program = known(probe.alloc)?;
     let mut btf = Btf::parse(probe.alloc, blob, probe.order)?;

@@ -2,6 +2,7 @@
 
 use crate::probe::Probe;
 use crate::report::Report;
+use crate::rewrite::deny_all;
 use crate::tables::last_id;
 use btf_plain::{BtfError, BtfKind, Int, IntEncoding};
 use btf_records::BtfType;
@@ -12,13 +13,17 @@ use std::test::Fail;
 fn make(work: &str, probe: &Probe, blob: &[u8], btf: &Btf) -> Result<Btf, BtfError> {
     match work {
         "new" => Btf::new(probe.alloc),
-        "clone" => btf.try_clone(),
+        "clone" | "clone_kept" => btf.try_clone(),
         _ => Btf::parse(probe.alloc, blob, probe.order),
     }
 }
 
 pub fn made(work: &str, probe: &Probe, blob: &[u8], report: &mut Report) -> Result<(), Fail> {
-    let btf = Btf::parse(probe.alloc, blob, probe.order)?;
+    let mut btf = Btf::parse(probe.alloc, blob, probe.order)?;
+    if work == "clone_kept" {
+        // A UNION keeps the variants of the ENUM64 that it stands in for.
+        deny_all(probe.alloc, &mut btf)?;
+    }
     if work == "to_bytes" {
         return written(probe, &btf, report);
     }

@@ -11,7 +11,7 @@ use std::test::Fail;
 /// A table: its name, the words of its records, and its strings.
 struct Table(&'static str, &'static str, &'static [u8]);
 
-const TABLES: [Table; 15] = [
+const TABLES: [Table; 16] = [
     Table("empty", "", b"\0"),
     // A name that is not UTF-8.
     Table("lossy", "1 01000000 4 20", b"\0\xffA\0"),
@@ -30,6 +30,8 @@ const TABLES: [Table; 15] = [
         "0 04000001 4 0 3 0  0 05000001 4 0 3 0  0 04000000 4",
         b"\0",
     ),
+    // An ENUM whose variants have names that are not UTF-8, but for the last one.
+    Table("lossy_variants", "0 06000002 4  1 1 4 2", b"\0\xffA\0B\0"),
     // Names that are not UTF-8, of two ENUMs.
     Table("lossy_enums", "1 06000000 4  1 06000000 4", b"\0\xffA\0"),
     // A DATASEC with an entry, and one without.

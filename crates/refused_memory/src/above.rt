@@ -1,0 +1,41 @@
+//! Look-ups by name: the value of a variant, and the relocations of a section.
+
+use crate::probe::Probe;
+use crate::report::Report;
+use btf_above::{relocations_of, variant_value};
+use btf_plain::BtfError;
+use btf_samples::blobs::front;
+use btf_samples::spelled::spelled_decimals;
+use btf_types::{Btf, BtfExt};
+use std::test::Fail;
+
+/// A `.BTF.ext` section of two relocation sections, whose names stand at 1.
+const RELOCATIONS: &str = "32 0 0 0 0 0 52  16  1 1 1 2 3 4  1 1 5 6 7 8";
+
+/// The value of the variant "B" of the last type.
+pub fn value(probe: &Probe, blob: &[u8], report: &mut Report) -> Result<(), Fail> {
+    let btf = Btf::parse(probe.alloc, blob, probe.order)?;
+    probe.begin(report)?;
+    let first = variant_value(&btf, 1, "B");
+    probe.end(report)?;
+    report.result("first", &first)?;
+    report.result("again", &variant_value(&btf, 1, "B"))
+}
+
+/// The number of relocations of the sections named "\u{fffd}A".
+fn count(probe: &Probe, ext: &BtfExt, btf: &Btf) -> Result<u64, BtfError> {
+    let found = relocations_of(probe.alloc, ext, btf, "\u{fffd}A")?;
+    Ok(found.len() as u64)
+}
+
+pub fn relocations(probe: &Probe, blob: &[u8], report: &mut Report) -> Result<(), Fail> {
+    let btf = Btf::parse(probe.alloc, blob, probe.order)?;
+    let mut data = Vec::from_slice(probe.alloc, &front(probe.order))?;
+    data.extend_from_slice(&spelled_decimals(probe.alloc, RELOCATIONS, probe.order)?)?;
+    let ext = BtfExt::parse(&data, probe.order, &btf)?;
+    probe.begin(report)?;
+    let first = count(probe, &ext, &btf);
+    probe.end(report)?;
+    report.result("first", &first)?;
+    report.result("again", &count(probe, &ext, &btf))
+}
