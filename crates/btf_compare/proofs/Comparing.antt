@@ -1,9 +1,12 @@
 -- The loop of the comparison of types, as a run of the definitions.
-use Rattle.std.proofs.Common.{◌≡◌, ℕ, ◌+◌, ◌-◌, ◌<◌, ◌≤◌, List, [], ◌∷◌, ◌++◌, length, map, reverse, refl, sym, ap, subst, ◌∙◌, inl, inr, Bool, true, false, Some, None, Ok, Err, Result, Contains, BuildHasherDefault, FoldHasher, arith, append_assoc}
+use Rattle.std.proofs.Common.{◌≡◌, ℕ, ◌+◌, ◌-◌, ◌<◌, ◌≤◌, List, [], ◌∷◌, ◌++◌, length, map, reverse, refl, sym, ap, subst, ◌∙◌, inl, inr, Bool, true, false, Some, None, Ok, Err, Result, Contains, arith, append_assoc}
 use Rattle.std.specs.List.{list_any}
 use Rattle.std.specs.Prelude.{◌⊎◌, ◌==◌, ◌&&◌, cond, IsErrAnd}
-use Rattle.std.specs.HashSet as hash
-use Rattle.std.specs.HashSet.{HashSet}
+use Rattle.std.specs.BTreeSet as ordered
+use Rattle.std.specs.BTreeSet.{BTreeSet}
+use Rattle.std.specs.BTreeMap.{is_at}
+use Rattle.std.specs.Ordering.{is_eq, nat_cmp}
+use Rattle.std.specs.Cmp.{both_tied, unsigned_ties}
 use Rattle.std.specs.Result.{result_ok}
 use Rattle.std.proofs.lemmas.Bool.{false≢true}
 use Rattle.std.proofs.lemmas.List.{reverse-append, map-append, length-append, length-map}
@@ -26,7 +29,7 @@ use Rattle.btf_words.specs.Error.{Answers, Tells, refusal_of}
 use Rattle.btf_words.specs.declared.error.BtfError.{BtfError}
 use Rattle.btf_words.specs.declared.error.BtfError.TheVariants as errors
 use Rattle.btf_compare.specs.declared.step.Frame.{Frame}
-use Rattle.btf_compare.specs.Compared.{frame_of, has, Changes, IsStarted, IsRefused, Traces}
+use Rattle.btf_compare.specs.Compared.{frame_of, ids_cmp, has, Changes, IsStarted, IsRefused, Traces}
 use Rattle.btf_compare.specs.Pairs.{pair_of, ids_of}
 use Rattle.btf_words.proofs.Refused.{known_refusal}
 
@@ -72,7 +75,7 @@ stack_push frames more f is = ap stack_of is ∙ ap reverse (map-append frame_of
 
 -- a set of pairs of ids
 abbrev pub PairSet : Type 0
-PairSet = HashSet (ℕ × ℕ) (BuildHasherDefault FoldHasher)
+PairSet = BTreeSet (ℕ × ℕ)
 
 abbrev pub IsIn : PairSet → Pair → Type 0
 IsIn set p = has set p ≡ true
@@ -86,8 +89,16 @@ pub record IsRunning (local target : Table) (root : Pair) (opened settled : Pair
   pub has_all : (q : Pair) → Among (top.pair ∷ open_pairs below) q → IsIn opened q
 
 -- a set in which nothing is has nothing
-pub nothing_in : (set : PairSet) → hash.IsEmpty set → (q : Pair) → has set q ≡ false
-nothing_in set is q = ap (list_any (λ x. (q.local == x.0) && (q.target == x.1))) is
+pub nothing_in : (set : PairSet) → ordered.IsEmpty set → (q : Pair) → has set q ≡ false
+nothing_in set is q = ap (list_any (is_at (ids_cmp (ids_of q)))) is
+
+-- pairs that the order does not tell apart are one
+same_ids : (p q : Pair) → is_eq (ids_cmp (ids_of p) (ids_of q)) ≡ pair_eq p q
+same_ids p q = sym (both_tied (p.local == q.local) (p.target == q.target) (nat_cmp p.local q.local) (nat_cmp p.target q.target) (unsigned_ties p.local q.local) (unsigned_ties p.target q.target))
+
+-- what a change of the set says of each pair of ids
+pub changes : (old new : PairSet) (p : Pair) (b : Bool) → ((ids : ℕ × ℕ) → ordered.contains ids_cmp new ids ≡ cond (is_at (ids_cmp (ids_of p)) ids) b (ordered.contains ids_cmp old ids)) → Changes old new p b
+changes old new p b given q = given (ids_of q) ∙ ap (λ (x : Bool). cond x b (has old q)) (same_ids p q)
 
 -- what is in a set behind a change
 behind_cond : (b : Bool) (x : Bool) → cond b true x ≡ true → (b ≡ true) ⊎ (x ≡ true)
@@ -129,7 +140,7 @@ module _ (local target : Table) (root : ℕ × ℕ) where
   pub root_differs : (old new : List (ℕ × ℕ)) → IsStarted local target (pair_of root) None → new ≡ old ++ root ∷ [] → Compares local target (pair_of root) (Ok false) old new
   root_differs old new h added = answered local target none (pair_of root) (Ok false) (pair_of root ∷ []) (Ok false) old new (pair_of root ∷ [], Plain.kinds_differ [] (pair_of root) h.0 h.1 none_open h.2 h.3, refl) refl added
 
-  pub root_started : (top : Frame) (begun opened settled : PairSet) (items : List Frame) (old new : List (ℕ × ℕ)) → IsStarted local target (pair_of root) (Some top) → items ≡ [] → hash.IsEmpty begun → hash.IsEmpty settled → Changes begun opened (pair_of root) true → new ≡ old ++ root ∷ []
+  pub root_started : (top : Frame) (begun opened settled : PairSet) (items : List Frame) (old new : List (ℕ × ℕ)) → IsStarted local target (pair_of root) (Some top) → items ≡ [] → ordered.IsEmpty begun → ordered.IsEmpty settled → Changes begun opened (pair_of root) true → new ≡ old ++ root ∷ []
       → IsRunning local target (pair_of root) opened settled (frame_of top) (stack_of items) old new
   root_started top begun opened settled items old new h below empty none_settled changes added =
       subst (λ (x : runs.Frame). IsRunning local target (pair_of root) opened settled x (stack_of items) old new) (sym h.1)

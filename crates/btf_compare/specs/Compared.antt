@@ -1,8 +1,10 @@
 -- What the parts of the comparison of types stand for.
-use Rattle.std.specs.Prelude.{◌≡◌, ◌≢◌, ◌⊎◌, ◌≤◌, ℕ, ◌+◌, ◌-◌, ◌*◌, length, All, nat_eq, ◌&&◌, cond, Bool, List, ◌++◌, map, slice_get, Option, Some, None, Result, Ok, Err}
+use Rattle.std.specs.Prelude.{◌≡◌, ◌≢◌, ◌⊎◌, ◌≤◌, ℕ, ◌+◌, ◌-◌, ◌*◌, length, All, cond, Bool, List, ◌++◌, map, slice_get, Option, Some, None, Result, Ok, Err}
 use Rattle.std.specs.List.{IsDistinct}
-use Rattle.std.specs.HashSet as hash
-use Rattle.std.specs.HashSet.{HashSet}
+use Rattle.std.specs.BTreeSet as ordered
+use Rattle.std.specs.BTreeSet.{BTreeSet}
+use Rattle.std.specs.declared.cmp.Ordering.{Ordering}
+use Rattle.std.specs.Ordering.{nat_cmp, ordering_then}
 use Rattle.btf_model.specs.Record.{Record, Kind, compared_kind}
 use Rattle.btf_model.specs.Refusal.{Refusal}
 use Rattle.btf_model.specs.Table.{Table}
@@ -51,12 +53,16 @@ ParameterStepIs local target f at (steps.Ends answer) = Tells (λ b. b) answer (
 ParameterStepIs local target f at (steps.GoesOn g) = ⊥
 ParameterStepIs local target f at (steps.Waits ids g) = ResolvesPair local target at (Ok (pair_of ids)) × (g ≡ record f { parameter = f.parameter + 1 })
 
+-- the order of two pairs of ids: by the local ids, and then by the target ids
+abbrev pub ids_cmp : ℕ × ℕ → ℕ × ℕ → Ordering
+ids_cmp x y = ordering_then (nat_cmp x.0 y.0) (nat_cmp x.1 y.1)
+
 -- whether the set has the pair
-abbrev pub has : {S : Type 0} → HashSet (ℕ × ℕ) S → Pair → Bool
-has set p = hash.contains (λ x y. nat_eq x.0 y.0 && nat_eq x.1 y.1) set (ids_of p)
+abbrev pub has : BTreeSet (ℕ × ℕ) → Pair → Bool
+has set p = ordered.contains ids_cmp set (ids_of p)
 
 -- the set has p if b is true, and otherwise what it had
-abbrev pub Changes : {S : Type 0} → HashSet (ℕ × ℕ) S → HashSet (ℕ × ℕ) S → Pair → Bool → Type 0
+abbrev pub Changes : BTreeSet (ℕ × ℕ) → BTreeSet (ℕ × ℕ) → Pair → Bool → Type 0
 Changes old new p b = (q : Pair) → has new q ≡ cond (pair_eq p q) b (has old q)
 
 -- A pair that is started is known: its walk begins, or the kinds differ.

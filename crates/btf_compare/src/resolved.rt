@@ -14,7 +14,5 @@ pub fn resolved(table: &Btf, type_id: u32) -> Result<(u32, &BtfType), BtfError>
 {
     let id = table.resolve_type(type_id)?;
     let btf_type = table.type_by_id(id)?;
-    // The contract speaks of the kind in the info word, which a use of it shows.
-    let _ = btf_type.info();
     Ok((id, btf_type))
 }

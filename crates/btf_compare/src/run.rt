@@ -1,7 +1,7 @@
 //! The run of the comparison of types: open pairs on a stack of its own, and pairs that came out true.
 
 ghost use Rattle.std.specs.Prelude.{◌≡◌, [], ◌∷◌, ◌++◌, map, true, false, List, Bool, Result, IfOk, OnOk, IfErr, OnErr, MatchOption};
-ghost use Rattle.std.specs.HashSet.{IsEmpty};
+ghost use Rattle.std.specs.BTreeSet.{IsEmpty};
 ghost use Rattle.btf_model.specs.Fields.{Pair};
 ghost use Rattle.btf_model.specs.Refusal.{Refusal};
 ghost use Rattle.btf_model.specs.Compat.{Plain, firsts};
@@ -12,7 +12,7 @@ use crate::step::{Frame, Step};
 use btf_plain::BtfError;
 use btf_table::{Btf, allocator_of};
 use std::alloc::Global;
-use std::collections::HashSet;
+use std::collections::BTreeSet;
 
 /// What a run remembers.
 #[derive(Drop)]
@@ -20,9 +20,9 @@ struct Run {
     /// The open pairs that wait for the one above them, the root first.
     below: Vec<Frame>,
     /// All open pairs.
-    opened: HashSet<(u32, u32)>,
+    opened: BTreeSet<(u32, u32)>,
     /// The pairs that came out true.
-    settled: HashSet<(u32, u32)>,
+    settled: BTreeSet<(u32, u32)>,
 }
 
 impl Run {
@@ -34,8 +34,8 @@ impl Run {
     {
         Run {
             below: Vec::new(alloc),
-            opened: HashSet::new(alloc),
-            settled: HashSet::new(alloc),
+            opened: BTreeSet::new(alloc),
+            settled: BTreeSet::new(alloc),
         }
     }
 
@@ -60,9 +60,6 @@ impl Run {
     {
         let local_type = local.type_by_id(pair.0)?;
         let target_type = target.type_by_id(pair.1)?;
-        // The contract speaks of the kinds in the info words, which a use of them shows.
-        let _ = local_type.info();
-        let _ = target_type.info();
         self.opened.insert(pair)?;
         starts.push(pair)?;
         if local_type.is_compatible(target_type) {
