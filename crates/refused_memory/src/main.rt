@@ -55,9 +55,9 @@ fn done(work: &str, probe: &Probe, blob: &[u8], report: &mut Report) -> Result<(
         "fields" | "types" | "traced" => comparison::compared(work, probe, blob, report),
         "variant_value" => above::value(probe, blob, report),
         "relocations_of" => above::relocations(probe, blob, report),
-        "ksyms" => rewrite::step(probe, blob, report),
+        "ksyms" | "ksyms_alone" => rewrite::step(work, probe, blob, report),
         "rewrite_bytes" => rewrite::bytes(probe, blob, report),
-        "rewrite" | "rewrite_ksyms" | "rewrite_again" | "rewrite_granted" => {
+        "rewrite" | "rewrite_ksyms" | "rewrite_again" | "rewrite_granted" | "rewrite_sections" => {
             rewrite::whole(work, probe, blob, report)
         }
         _ => ext::done(work, probe, blob, report),

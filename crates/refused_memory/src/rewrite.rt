@@ -1,17 +1,17 @@
-//! Rewrites of a table, for a kernel that has all of the eight features or none.
+//! Rewrites of a table, for a kernel that has all of the eight features, data sections alone, or none.
 
 use crate::probe::Probe;
 use crate::report::Report;
 use crate::tables::last_id;
 use btf_plain::{BtfError, SectionIndex};
-use btf_types::{Btf, BtfFeatureResolver, FillPolicy, KsymsIds, rewrite_bytes_with};
+use btf_types::{Btf, BtfFeature, BtfFeatureResolver, FillPolicy, KsymsIds, rewrite_bytes_with};
 use std::alloc::{AllocError, Global};
 use std::collections::HashMap;
 use std::test::Fail;
 
-const SECTIONS: [(&str, u64); 4] = [(".d", 8), (".data/foo", 32), (".maps", 8), ("license", 4)];
+const SECTIONS: [(&str, u64); 4] = [(".a", 0), (".b", 5), (".data/foo", 32), ("license", 4)];
 
-const SYMBOLS: [(&str, u64); 3] = [("foo", 64), ("chosen", 0), ("_license", 0)];
+const SYMBOLS: [(&str, u64); 2] = [("foo", 64), ("_license", 0)];
 
 /// The sizes of sections and the offsets of symbols, by name.
 #[derive(Drop)]
@@ -56,11 +56,12 @@ fn ksyms_of(work: &str, btf: &Btf) -> Option<KsymsIds> {
 /// Rewrites a table, and returns how often the predicate was called.
 fn rewrite(work: &str, program: &Program, btf: &mut Btf) -> (Result<(), BtfError>, u32) {
     let ksyms = ksyms_of(work, btf);
-    let is_granted = work == "rewrite_granted";
+    let has_all = work == "rewrite_granted";
+    let has_sections = work == "rewrite_sections";
     let mut calls = 0u32;
-    let mut resolver = BtfFeatureResolver::new(|_| {
+    let mut resolver = BtfFeatureResolver::new(|feature| {
         calls = calls.wrapping_add(1);
-        is_granted
+        has_all || has_sections && feature == BtfFeature::DataSec
     });
     let answers = btf.fixup_and_sanitize_with(
         &program.sections,
@@ -101,22 +102,23 @@ pub fn whole(work: &str, probe: &Probe, blob: &[u8], report: &mut Report) -> Res
     Ok(())
 }
 
-/// The step of the kernel's symbols alone.
-fn fixup(btf: &mut Btf) -> Result<(), BtfError> {
+/// The step of the kernel's symbols alone, with a placeholder of functions or without.
+fn fixup(work: &str, btf: &mut Btf) -> Result<(), BtfError> {
     let last = last_id(btf);
-    btf.fixup_ksyms_datasec(last, Some(last.wrapping_sub(1)))
+    let placeholder_id = (work == "ksyms").then(|| last.wrapping_sub(1));
+    btf.fixup_ksyms_datasec(last, placeholder_id)
 }
 
-pub fn step(probe: &Probe, blob: &[u8], report: &mut Report) -> Result<(), Fail> {
+pub fn step(work: &str, probe: &Probe, blob: &[u8], report: &mut Report) -> Result<(), Fail> {
     let mut btf = Btf::parse(probe.alloc, blob, probe.order)?;
     report.value("table", &btf)?;
     probe.begin(report)?;
-    let first = fixup(&mut btf);
+    let first = fixup(work, &mut btf);
     probe.end(report)?;
     report.result("first", &first)?;
     report.value("then", &btf)?;
     if first.is_err() {
-        report.result("again", &fixup(&mut btf))?;
+        report.result("again", &fixup(work, &mut btf))?;
         report.value("last", &btf)?;
     }
     Ok(())

@@ -11,19 +11,21 @@ use std::test::Fail;
 /// A table: its name, the words of its records, and its strings.
 struct Table(&'static str, &'static str, &'static [u8]);
 
-const TABLES: [Table; 16] = [
+const TABLES: [Table; 20] = [
     Table("empty", "", b"\0"),
     // A name that is not UTF-8.
     Table("lossy", "1 01000000 4 20", b"\0\xffA\0"),
     // All kinds.
     Table("kinds", KINDS, b"\0a\0b\0"),
-    // A prototype with itself behind a pointer, which ends in no answer.
+    // A pointer to a prototype that takes it.
+    Table("ring", "0 02000000 2  0 0d000001 0 0 1", b"\0"),
+    // A prototype that returns a pointer to itself.
     Table(
         "endless",
-        "0 01000000 4 20  0 02000000 3  0 0d000001 2 0 1  0 0d000001 2 0 1",
+        "0 0d000001 3 0 2  0 01000000 4 20  0 02000000 1",
         b"\0",
     ),
-    // Prototypes with two parameters of the next one each.
+    // Prototypes with two parameters of the next one each, and an INT.
     Table("nested", NESTED, b"\0"),
     Table(
         "records",
@@ -34,17 +36,15 @@ const TABLES: [Table; 16] = [
     Table("lossy_variants", "0 06000002 4  1 1 4 2", b"\0\xffA\0B\0"),
     // Names that are not UTF-8, of two ENUMs.
     Table("lossy_enums", "1 06000000 4  1 06000000 4", b"\0\xffA\0"),
-    // A DATASEC with an entry, and one without.
+    // A DATASEC that names a variable.
     Table(
         "section",
-        "1 1000000 4 1000020  5 e000000 1 1  9 f000001 0 2 0 4  9 f000000 0",
+        "1 1000000 4 1000020  5 e000000 1 1  9 f000001 0 2 0 4",
         b"\0int\0foo\0.data/foo\0",
     ),
-    Table(
-        "empty_sections",
-        "1 f000000 0  4 f000000 9",
-        b"\0.d\0.maps\0",
-    ),
+    // Two DATASECs without entries, and one that has a size.
+    Table("empty_sections", "1 f000000 0  4 f000000 0", b"\0.a\0.b\0"),
+    Table("sized_section", "1 f000000 9", b"\0.a\0"),
     Table("enum64", "0 13000002 8 0 1 0 0 5 1", b"\0"),
     Table(
         "unnamed",
@@ -63,7 +63,17 @@ const TABLES: [Table; 16] = [
         "0 1000000 4 1000020  0 d000001 0 0 1  1 c000000 2",
         b"\0",
     ),
-    // The kernel's symbols: a variable, a function, and a placeholder of functions.
+    // The kernel's symbols: a variable alone, a function with a placeholder, and both.
+    Table(
+        "variable",
+        "1 e000000 0 2  b f000001 0 1 0 0",
+        b"\0init_task\0.ksyms\0",
+    ),
+    Table(
+        "function",
+        "d 1000000 4 1000020  0 d000001 1 0 1  1 c000002 2  3 e000000 1 1  6 f000001 0 3 0 0",
+        b"\0f\0ph\0.ksyms\0int\0",
+    ),
     Table(
         "symbols",
         "1 e000000 0 2  1 d000001 0 0 0  b c000002 2  d e000000 1 1  f f000002 0 1 0 0 3 0 0",
@@ -83,10 +93,14 @@ const KINDS: &str =
     1 6000001 4 3 7  1 7000000 0  1 8000000 1  0 9000000 1  0 a000000 1  0 b000000 2  1 c000001 d  0 d000001 1 3 1 \
     1 e000000 1 1  3 f000001 4 e 0 4  1 10000000 8  1 11000000 1 0  1 12000000 1  1 13000001 8 3 7 1";
 
-/// Prototypes 1 to 4, and the first one again.
+/// Prototypes 1 to 20, and an INT.
 const NESTED: &str =
-    "0 d000002 0 0 2 0 2  0 d000002 0 0 3 0 3  0 d000002 0 0 4 0 4  0 1000000 4 20  0 d000002 0 0 2 0 2 \
-    0 d000002 0 0 2 0 2";
+    "0 d000002 0 0 2 0 2  0 d000002 0 0 3 0 3  0 d000002 0 0 4 0 4  0 d000002 0 0 5 0 5 \
+    0 d000002 0 0 6 0 6  0 d000002 0 0 7 0 7  0 d000002 0 0 8 0 8  0 d000002 0 0 9 0 9 \
+    0 d000002 0 0 a 0 a  0 d000002 0 0 b 0 b  0 d000002 0 0 c 0 c  0 d000002 0 0 d 0 d \
+    0 d000002 0 0 e 0 e  0 d000002 0 0 f 0 f  0 d000002 0 0 10 0 10  0 d000002 0 0 11 0 11 \
+    0 d000002 0 0 12 0 12  0 d000002 0 0 13 0 13  0 d000002 0 0 14 0 14  0 d000002 0 0 15 0 15 \
+    0 1000000 4 20";
 
 /// The id of a table's last type.
 pub fn last_id(btf: &Btf) -> u32 {
