@@ -1,0 +1,223 @@
+//! The works that are timed.
+
+use btf_plain::{BtfError, BtfKind, Endianness};
+use btf_types::{Btf, BtfFeatureResolver, FillPolicy, rewrite_bytes_with, types_are_compatible};
+use std::alloc::Global;
+use std::collections::HashMap;
+use std::test::Fail;
+use std::time::Instant;
+
+/// The names of the works, in the order in which they are timed.
+pub const NAMES: [&str; 12] = [
+    "parse",
+    "to_bytes",
+    "clone",
+    "rewrite_none",
+    "rewrite_all",
+    "bytes_none",
+    "compat_self",
+    "compat_next",
+    "lookup_func",
+    "resolve",
+    "size",
+    "name",
+];
+
+/// What the works are done on: the bytes of a table, the table, the ids of its prototypes, and its last FUNC's name.
+#[derive(Drop)]
+pub struct Bench<'a> {
+    alloc: Global,
+    blob: &'a [u8],
+    btf: &'a Btf,
+    prototypes: Vec<u32>,
+    func: String,
+}
+
+/// The nanoseconds since a time.
+fn since(rt: &HostRuntime, start: Instant) -> Result<u64, Fail> {
+    Ok(u64::try_from(start.elapsed(rt)?.as_nanos())?)
+}
+
+/// The ids of the types of a kind.
+fn ids_of(alloc: Global, btf: &Btf, kind: BtfKind) -> Result<Vec<u32>, Fail> {
+    let mut ids = Vec::new(alloc);
+    let mut id = 0u32;
+    for record in btf.types() {
+        if record.kind() == kind {
+            ids.push(id)?;
+        }
+        id = id.wrapping_add(1);
+    }
+    Ok(ids)
+}
+
+/// The name of a type; empty where it cannot be read.
+fn name_of(alloc: Global, btf: &Btf, id: u32) -> Result<String, BtfError> {
+    let name = btf.err_type_name(btf.type_by_id(id)?)?;
+    Ok(name.unwrap_or(String::new(alloc)))
+}
+
+/// Rewrites a table for a kernel that has all features, or none.
+fn rewrite(alloc: Global, btf: &mut Btf, granted: bool) -> Result<(), BtfError> {
+    let sections = HashMap::new(alloc);
+    let symbols = HashMap::new(alloc);
+    let mut resolver = BtfFeatureResolver::new(|_| granted);
+    let policy = FillPolicy::KeepSized;
+    btf.fixup_and_sanitize_with(&sections, &symbols, None, policy, &mut resolver)?;
+    Ok(())
+}
+
+impl<'a> Bench<'a> {
+    pub fn new(alloc: Global, blob: &'a [u8], btf: &'a Btf) -> Result<Self, Fail> {
+        let functions = ids_of(alloc, btf, BtfKind::Func)?;
+        let last = functions.last().copied().unwrap_or(0);
+        let func = name_of(alloc, btf, last)?;
+        let prototypes = ids_of(alloc, btf, BtfKind::FuncProto)?;
+        Ok(Bench {
+            alloc,
+            blob,
+            btf,
+            prototypes,
+            func,
+        })
+    }
+
+    /// The number of types, id 0 among them.
+    pub fn records(&self) -> u64 {
+        self.btf.types().len() as u64
+    }
+
+    /// The nanoseconds that one run of a work takes.
+    pub fn nanoseconds(&self, rt: &HostRuntime, name: &str) -> Result<u64, Fail> {
+        match name {
+            "parse" => self.parse(rt),
+            "to_bytes" => self.to_bytes(rt),
+            "clone" => self.clone_table(rt),
+            "rewrite_none" => self.rewrite(rt, false),
+            "rewrite_all" => self.rewrite(rt, true),
+            "bytes_none" => self.rewrite_bytes(rt),
+            "compat_self" => self.compare(rt, 0),
+            "compat_next" => self.compare(rt, 1),
+            "lookup_func" => self.look_up(rt),
+            _ => self.walk(rt, name),
+        }
+    }
+
+    fn parse(&self, rt: &HostRuntime) -> Result<u64, Fail> {
+        let start = Instant::now(rt)?;
+        let table = Btf::parse(self.alloc, self.blob, Endianness::Little)?;
+        let took = since(rt, start);
+        drop(table);
+        took
+    }
+
+    fn to_bytes(&self, rt: &HostRuntime) -> Result<u64, Fail> {
+        let start = Instant::now(rt)?;
+        let bytes = self.btf.to_bytes()?;
+        let took = since(rt, start);
+        drop(bytes);
+        took
+    }
+
+    fn clone_table(&self, rt: &HostRuntime) -> Result<u64, Fail> {
+        let start = Instant::now(rt)?;
+        let table = self.btf.try_clone()?;
+        let took = since(rt, start);
+        drop(table);
+        took
+    }
+
+    fn rewrite(&self, rt: &HostRuntime, granted: bool) -> Result<u64, Fail> {
+        let mut table = self.btf.try_clone()?;
+        let start = Instant::now(rt)?;
+        // A table whose sections are not known is refused, which takes its time too.
+        let rewritten = rewrite(self.alloc, &mut table, granted);
+        let took = since(rt, start);
+        drop(rewritten);
+        drop(table);
+        took
+    }
+
+    /// From bytes to bytes, for a kernel that has none of the features.
+    fn rewrite_bytes(&self, rt: &HostRuntime) -> Result<u64, Fail> {
+        let sections = HashMap::new(self.alloc);
+        let symbols = HashMap::new(self.alloc);
+        let mut resolver = BtfFeatureResolver::new(|_| false);
+        let start = Instant::now(rt)?;
+        let (bytes, _) = rewrite_bytes_with(
+            self.alloc,
+            self.blob,
+            Endianness::Little,
+            &sections,
+            &symbols,
+            None,
+            FillPolicy::KeepSized,
+            &mut resolver,
+        )?;
+        let took = since(rt, start);
+        drop(bytes);
+        took
+    }
+
+    /// How many prototypes are compatible with the one so many places after them.
+    fn compatible(&self, distance: usize) -> u32 {
+        let mut count = 0u32;
+        for (id, other) in self
+            .prototypes
+            .iter()
+            .zip(self.prototypes.iter().skip(distance))
+        {
+            let found = types_are_compatible(self.btf, *id, self.btf, *other);
+            count = count.wrapping_add(u32::from(found.unwrap_or(false)));
+        }
+        count
+    }
+
+    fn compare(&self, rt: &HostRuntime, distance: usize) -> Result<u64, Fail> {
+        let start = Instant::now(rt)?;
+        let count = self.compatible(distance);
+        let took = since(rt, start)?;
+        // What was found is used, so that the loop is not left out.
+        Ok(if count == u32::MAX { 0 } else { took })
+    }
+
+    fn look_up(&self, rt: &HostRuntime) -> Result<u64, Fail> {
+        let start = Instant::now(rt)?;
+        let found = self
+            .btf
+            .id_by_type_name_kind(self.func.as_str(), BtfKind::Func)
+            .is_ok();
+        let took = since(rt, start)?;
+        Ok(if found { took } else { 0 })
+    }
+
+    /// A walk from an id, or the length of its name.
+    fn step(&self, name: &str, id: u32) -> Result<u64, BtfError> {
+        match name {
+            "resolve" => Ok(u64::from(self.btf.resolve_type(id)?)),
+            "size" => Ok(self.btf.type_size(id)? as u64),
+            _ => {
+                let record = self.btf.type_by_id(id)?;
+                Ok(self.btf.type_name(record)?.as_str().len() as u64)
+            }
+        }
+    }
+
+    /// What the steps from all ids come to together.
+    fn steps(&self, name: &str) -> u64 {
+        let mut all = 0u64;
+        let mut id = 0u32;
+        for _ in self.btf.types() {
+            all = all.wrapping_add(self.step(name, id).unwrap_or(1));
+            id = id.wrapping_add(1);
+        }
+        all
+    }
+
+    fn walk(&self, rt: &HostRuntime, name: &str) -> Result<u64, Fail> {
+        let start = Instant::now(rt)?;
+        let all = self.steps(name);
+        let took = since(rt, start)?;
+        Ok(if all == u64::MAX { 0 } else { took })
+    }
+}
