@@ -33,6 +33,8 @@ use Rattle.btf_records.specs.declared.btf_type.BtfType.{BtfType}
 use Rattle.btf_items.specs.Items.{enum64_words}
 use Rattle.btf_items.specs.declared.items.BtfEnum64.{BtfEnum64}
 use Rattle.btf_table.specs.Adding.{strings_end, next_id, Adds}
+use Rattle.btf_table.specs.Params.{lack_a_name}
+use Rattle.btf_table.proofs.Prototypes.{no_texts, names_stay}
 use Rattle.btf_table.proofs.Adding.{adds_none}
 use Rattle.btf_table.specs.PassStep.{IsType, IsHere, IsGrown, IsRuled, Rules, growth}
 use Rattle.btf_rules.specs.SoleFeature.{asks_one}
@@ -175,6 +177,17 @@ proto_named p id b new before after there kind here granted passed is none fallb
       grown = grown_by p id before after (param_texts 0 (record_of b).tail) [] adds (proto_names p id b there kind granted) (added_there p id b (Some kinds.FuncProto) there kind) unfilled names
           (subst (MadeBelow (wants_placeholder p) (free_id p) (suc id)) (sym placeholder) (made_on (wants_placeholder p) (free_id p) id before.placeholder here.placeholder wants)) here.filler filler;
     }
+
+-- one whose parameters all have names stays
+pub proto_stays : (p : Pass) (id : ℕ) (b : BtfType) (before : Made) → IsType p.table id b → kind_of (record_of b).info ≡ Some kinds.FuncProto → IsHere p id before → has p features.Func ≡ true
+    → lack_a_name (record_of b).tail ≡ false → fallback_of b ≡ None → IsRuled p id b before before b
+proto_stays p id b before there kind here granted named none =
+    let texts_are : param_texts 0 (record_of b).tail ≡ [] = no_texts 0 (record_of b).tail named in
+    proto_named p id b b before before there kind here granted
+    (ap (λ ts. first_fault (have_room (strings_end p.table before.changes) ts)) texts_are)
+    (ap (λ (tail : List ℕ). record (record_of b) { tail = tail }) (sym (names_stay 0 (strings_end p.table before.changes) (record_of b).tail named)))
+    none none
+    (subst (λ ts. Adds p.table before.changes before.changes ts []) (sym texts_are) (adds_none p.table before.changes here.room)) refl refl refl
 
 pub proto_as_enum : (p : Pass) (id : ℕ) (b new : BtfType) (before : Made) → IsType p.table id b → kind_of (record_of b).info ≡ Some kinds.FuncProto → IsHere p id before → has p features.Func ≡ false
     → record_of new ≡ model.enum (record_of b).name (vlen (record_of b).info) (record_of b).tail → fallback_of b ≡ None → fallback_of new ≡ None → IsRuled p id b before before new

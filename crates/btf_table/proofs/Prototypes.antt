@@ -1,9 +1,10 @@
 -- Parameters that get names of their own, and those that become variants, one after another.
-use Rattle.std.proofs.Common.{◌≡◌, ℕ, suc, ◌+◌, ◌*◌, ◌<◌, Bool, true, false, List, [], ◌∷◌, ◌++◌, length, get_or, take, drop, None, Some, refl, sym, ap, ◌∙◌, arith}
+use Rattle.std.proofs.Common.{◌≡◌, ℕ, suc, ◌+◌, ◌*◌, ◌<◌, Bool, true, false, ◌||◌, List, [], ◌∷◌, ◌++◌, length, get_or, take, drop, None, Some, refl, sym, ap, ◌∙◌, arith}
 use Rattle.std.specs.Prelude.{if◌then◌else◌}
-use Rattle.std.specs.List.{flat_map}
+use Rattle.std.specs.List.{flat_map, list_any}
 use Rattle.std.proofs.lemmas.List.{length-append, length-take, append_assoc, take-append-drop}
 use Rattle.std.proofs.lemmas.List.Sums.{sum_by-cons}
+use Rattle.std.proofs.lemmas.Bool.{true≢false}
 use Rattle.std.proofs.Math.Seq.{take-suc, drop-cons}
 use Rattle.btf_model.specs.Refusal.{Refusal}
 use Rattle.btf_model.specs.Record.{Record}
@@ -18,6 +19,7 @@ use Rattle.btf_items.specs.Items.{param_words}
 use Rattle.btf_items.specs.declared.items.BtfParam.{BtfParam}
 use Rattle.btf_table.specs.declared.table.changes.Changes.{Changes}
 use Rattle.btf_table.specs.Adding.{strings_end, Adds}
+use Rattle.btf_table.specs.Params.{lack_a_name}
 use Rattle.btf_rules.proofs.Checks.{fault_behind, fault_before}
 use Rattle.btf_rules.proofs.NamedParams.{put_at}
 
@@ -159,3 +161,31 @@ named_next offset ps i new lt is =
 -- the offset of the next text, behind those that were appended
 pub end_after : (t : Table) (old new : Changes) (ts : List (List ℕ)) (rs : List Record) → Adds t old new ts rs → strings_end t new ≡ strings_end t old + texts_len ts
 end_after t old new ts rs adds = omega (arith, ap length adds.strings, length-append old.new_strings.items (flat_map ended ts), ended_len ts)
+
+-- ---- prototypes whose parameters all have names
+
+-- a parameter lacks its name where its words do
+pub lacks_words : (ps : List BtfParam) → list_any (λ (p : BtfParam). wants_name p.name_offset p.btf_type) ps ≡ lack_a_name (flat_map param_words ps)
+lacks_words [] = refl
+lacks_words (p ∷ ps) = ap (λ (b : Bool). wants_name p.name_offset p.btf_type || b) (lacks_words ps)
+
+or_false : (a b : Bool) → (a || b) ≡ false → (a ≡ false) × (b ≡ false)
+or_false false b is = (refl, is)
+or_false true b is = absurd (true≢false is)
+
+-- they need no texts,
+pub no_texts : (k : ℕ) (words : List ℕ) → lack_a_name words ≡ false → param_texts k words ≡ []
+no_texts k [] none = refl
+no_texts k (name ∷ []) none = refl
+no_texts k (name ∷ type ∷ words) none =
+    let both = or_false (wants_name name type) (lack_a_name words) none in
+    ap (λ (b : Bool). (if b then param_text k ∷ [] else []) ++ param_texts (k + 1) words) both.0 ∙ no_texts (k + 1) words both.1
+
+-- and stay as they are
+pub names_stay : (k offset : ℕ) (words : List ℕ) → lack_a_name words ≡ false → named_params k offset words ≡ words
+names_stay k offset [] none = refl
+names_stay k offset (name ∷ []) none = refl
+names_stay k offset (name ∷ type ∷ words) none =
+    let both = or_false (wants_name name type) (lack_a_name words) none in
+    ap (λ (b : Bool). if b then offset ∷ type ∷ named_params (k + 1) (offset + length (param_text k) + 1) words else name ∷ type ∷ named_params (k + 1) offset words) both.0
+    ∙ ap (λ (ws : List ℕ). name ∷ type ∷ ws) (names_stay (k + 1) offset words both.1)

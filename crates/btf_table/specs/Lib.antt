@@ -1,5 +1,6 @@
 pub mod Changes
 pub mod Adding
+pub mod Params
 pub mod PassStep
 pub mod SectionStep
 pub mod Rewrites

@@ -1,7 +1,7 @@
 //! Prototypes: with names for all their parameters, or as enumerations.
 
 ghost use Rattle.std.specs.Prelude.{◌≡◌, ◌≤◌, if◌then◌else◌, ℕ, [], ◌∷◌, length, string_bytes, IfOk, OnOk, Ok};
-ghost use Rattle.std.specs.List.{flat_map};
+ghost use Rattle.std.specs.List.{flat_map, list_any};
 ghost use Rattle.btf_model.specs.Record.{vlen};
 ghost use Rattle.btf_rewrite_model.specs.Made.{enum, wants_name};
 ghost use Rattle.btf_rewrite_model.specs.Checks.{first_fault, have_room};
@@ -11,6 +11,7 @@ ghost use Rattle.btf_rewrite_model.specs.Rule.{named_params};
 ghost use Rattle.btf_words.specs.Error.{Gives};
 ghost use Rattle.btf_items.specs.Items.{enum_words, param_words};
 ghost use Rattle.btf_table.specs.Adding.{strings_end, HasRoom, Adds};
+ghost use Rattle.btf_table.specs.Params.{lack_a_name};
 ghost use Rattle.btf_rules.specs.Checked.{checked};
 
 use crate::table::{Btf, Changes};
@@ -18,6 +19,27 @@ use btf_plain::BtfError;
 use btf_records::{BtfEnum, BtfParam, Enum, FuncProto};
 use btf_rules::param_text;
 use std::alloc::{AllocError, Global};
+
+/// Whether a parameter gets a new text for its name: it has a type and no name.
+fn is_unnamed(param: &BtfParam) -> bool
+    ensures { result ≡ wants_name param.now.name_offset param.now.btf_type }
+{
+    param.name_offset == 0 && param.btf_type != 0
+}
+
+/// Whether one of the parameters has a type and no name.
+fn any_unnamed(params: &[BtfParam]) -> bool
+    ensures { result ≡ list_any (λ p. wants_name p.name_offset p.btf_type) params.now }
+{
+    params.iter().any(|param| is_unnamed(param))
+}
+
+/// Whether a parameter of the prototype has a type and no name.
+pub fn has_unnamed(proto: &FuncProto) -> bool
+    ensures { result ≡ lack_a_name proto.now.tail }
+{
+    any_unnamed(proto.params())
+}
 
 /// The string offset of the name that the parameter at a place gets: that of a new text, where it has a type and no
 /// name. `InvalidStringOffset` where such a text has no room.
@@ -31,7 +53,7 @@ fn param_name(
     ensures answer { Gives (λ offset. offset) result (checked (first_fault (have_room (strings_end btf.now changes.old) (param_texts index (param_words param.now)))) (if wants_name param.now.name_offset param.now.btf_type then strings_end btf.now changes.old else param.now.name_offset)) }
     ensures adds { OnOk result (Adds btf.now changes.old changes.new (param_texts index (param_words param.now)) []) }
 {
-    if param.name_offset == 0 && param.btf_type != 0 {
+    if is_unnamed(param) {
         let text = param_text(btf.allocator(), index)?;
         changes.append_text(btf, &text)
     } else {

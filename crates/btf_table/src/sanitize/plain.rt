@@ -15,7 +15,7 @@ ghost use Rattle.btf_rules.specs.SoleFeature as step;
 ghost use Rattle.btf_table.specs.PassStep.{Given, IsHere, Rules};
 ghost use Rattle.btf_rules.specs.SoleFeature.{IsGranted};
 
-use crate::sanitize::func_proto::with_param_names;
+use crate::sanitize::func_proto::{has_unnamed, with_param_names};
 use crate::sanitize::made::Made;
 use crate::table::Btf;
 use btf_plain::{BtfError, Const, Int, IntEncoding, Ptr};
@@ -32,26 +32,28 @@ impl Made {
     ghost use Rattle.btf_table.specs.PassStep.{pass_on};
     ghost use Rattle.btf_rules.specs.SoleFeature.{asks_one};
 
-    /// The rule of a FUNC_PROTO: its parameters get names, or it becomes an ENUM. `InvalidStringOffset` where strings have
-    /// no room for the names.
+    /// The rule of a FUNC_PROTO: its parameters get names, or it becomes an ENUM; None where it stays. `InvalidStringOffset`
+    /// where strings have no room for the names.
     fn rewrite_proto(
         &mut self,
         btf: &Btf,
         proto: &FuncProto,
         granted: bool,
-    ) -> Result<BtfType, BtfError>
+    ) -> Result<Option<BtfType>, BtfError>
         requires { HasRoom btf.now self.old.changes }
         ensures { (given : Given) (answers : List Answer) (id : ℕ) → IsType btf.now id (BtfType.FuncProto proto.now) → IsHere (pass_on btf.now given answers) id self.old → grants answers features.Func ≡ granted
-            → Answers (λ new. new) result (Rules (pass_on btf.now given answers) id (BtfType.FuncProto proto.now) self.old self.new) }
+            → Answers (λ new. unwrap_or new (BtfType.FuncProto proto.now)) result (Rules (pass_on btf.now given answers) id (BtfType.FuncProto proto.now) self.old self.new) }
     {
         // The contract speaks of the kind in the info word, which a use of it shows.
         let _ = proto.info();
-        if granted {
-            let proto = with_param_names(btf, &mut self.changes, proto)?;
-            Ok(BtfType::FuncProto(proto))
-        } else {
-            Ok(BtfType::Enum(as_enum(btf.allocator(), proto)?))
+        if !granted {
+            return Ok(Some(BtfType::Enum(as_enum(btf.allocator(), proto)?)));
         }
+        if !has_unnamed(proto) {
+            return Ok(None);
+        }
+        let proto = with_param_names(btf, &mut self.changes, proto)?;
+        Ok(Some(BtfType::FuncProto(proto)))
     }
 
     /// The rule of an ENUM64 for a kernel that has none: it becomes a UNION. `InvalidStringOffset` and `InvalidTypeInfo`
@@ -84,7 +86,7 @@ impl Made {
         // The contract speaks of the kind in the info word, which a use of it shows.
         let _ = btf_type.info();
         match btf_type {
-            BtfType::FuncProto(proto) => Ok(Some(self.rewrite_proto(btf, proto, granted)?)),
+            BtfType::FuncProto(proto) => self.rewrite_proto(btf, proto, granted),
             BtfType::Enum64(enum64) if !granted => Ok(Some(self.rewrite_enum64(btf, enum64)?)),
             BtfType::Enum64(_) => Ok(None),
             _ => replaced(btf.allocator(), btf_type, granted),
