@@ -2,3 +2,4 @@ pub mod Layout
 pub mod Checked
 pub mod Features
 pub mod SoleFeature
+pub mod Builtins

@@ -2,16 +2,20 @@
 
 ghost use Rattle.std.specs.Prelude.{◌≡◌, IfOk};
 ghost use Rattle.btf_rewrite_model.specs.Made.{with_linkage};
-ghost use Rattle.btf_rewrite_model.specs.Pass as model;
+ghost use Rattle.btf_rules.specs.Builtins.{begins_builtin};
 
 use btf_plain::{Func, FuncLinkage};
 use std::alloc::AllocError;
 
-/// Whether a function of this name is one that compilers make Global, and kernels want Static.
-pub fn is_builtin(name: &str) -> bool
-    ensures { result ≡ model.is_builtin name.now }
+/// Whether the name at the front of these strings is that of a function that compilers make Global, and kernels want
+/// Static. No byte after such a name and its zero byte is read, however long the strings are.
+pub fn is_builtin(strings: &[u8]) -> bool
+    ensures { result ≡ begins_builtin strings.now }
 {
-    name == "memset" || name == "memcpy" || name == "memmove" || name == "memcmp"
+    strings.starts_with(b"memset\0")
+        || strings.starts_with(b"memcpy\0")
+        || strings.starts_with(b"memmove\0")
+        || strings.starts_with(b"memcmp\0")
 }
 
 /// The function, with Static for its linkage.

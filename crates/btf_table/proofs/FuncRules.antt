@@ -1,5 +1,5 @@
 -- The rule of a FUNC.
-use Rattle.std.proofs.Common.{◌≡◌, ◌≢◌, ◌==◌, ℕ, Bool, true, false, not, ◌&&◌, ◌||◌, List, [], ◌∷◌, length, Option, None, Some, Result, Ok, Err, refl, sym, ap, ◌∙◌}
+use Rattle.std.proofs.Common.{◌≡◌, ◌≢◌, ◌==◌, ℕ, Bool, true, false, not, ◌&&◌, ◌||◌, List, [], ◌∷◌, length, drop, ◌<◌, Option, None, Some, Result, Ok, Err, refl, sym, ap, ◌∙◌}
 use Rattle.std.specs.Prelude.{if◌then◌else◌}
 use Rattle.std.proofs.lemmas.Bool.{eqb-true, false_from_ne_true}
 use Rattle.btf_model.specs.Record as kinds
@@ -24,6 +24,9 @@ use Rattle.btf_records.specs.BtfType.{record_of, fallback_of}
 use Rattle.btf_records.specs.declared.btf_type.BtfType.{BtfType}
 use Rattle.btf_table.proofs.Adding.{adds_none}
 use Rattle.btf_table.proofs.PassRules.{record_there, kind_there, becomes_there, fault_there, texts_there, added_there, falls_back_there, made_on, wants_none, no_filler, grown_by, same_len}
+use Rattle.btf_rules.specs.Builtins.{begins_builtin}
+use Rattle.btf_table.specs.Readable.{IsReadableEnd}
+use Rattle.btf_table.proofs.Readable.{builtin_is}
 use Rattle.btf_table.specs.PassStep.{Given, pass_on, IsType, IsHere, IsRuled, AsksUpTo}
 use Rattle.btf_table.specs.declared.sanitize.made.Made.{Made}
 
@@ -107,6 +110,17 @@ module _ (t : Table) (given : Given) (id : ℕ) (b : BtfType) (there : IsType t 
         kept,
         two.1,
       )
+
+-- ---- the name
+
+-- the name, which can be read
+pub read_name : (strings : List ℕ) (end offset name : ℕ) → IsReadableEnd strings end → offset < end → offset ≡ name → (text : List ℕ) × (Ok text ≡ text_at strings name)
+read_name strings end offset name readable lt is = let found = readable.below offset lt in (found.0, sym found.1 ∙ ap (text_at strings) is)
+
+-- and is known where the strings from its offset on begin with a known name
+pub is_known : (strings rest text : List ℕ) (offset name : ℕ) (known : Bool) → rest ≡ drop offset strings → offset ≡ name → Ok text ≡ text_at strings name → known ≡ begins_builtin rest → is_builtin text ≡ known
+is_known strings rest text offset name known rest_is offset_is text_is known_is =
+    sym (known_is ∙ ap begins_builtin rest_is ∙ builtin_is strings offset text (ap (text_at strings) offset_is ∙ sym text_is))
 
 -- ---- the linkage
 

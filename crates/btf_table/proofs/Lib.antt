@@ -16,4 +16,5 @@ pub mod KnownKinds
 pub mod Sections
 pub mod Tables
 pub mod Names
+pub mod Readable
 pub mod Walks

@@ -1,6 +1,7 @@
 pub mod Changes
 pub mod Adding
 pub mod Params
+pub mod Readable
 pub mod PassStep
 pub mod SectionStep
 pub mod Rewrites

@@ -7,7 +7,7 @@ mod text;
 mod types;
 mod walk;
 
-ghost use Rattle.std.specs.Prelude.{◌≡◌, List, ◌+◌, ◌*◌, ◌≤◌, ◌↔◌, [], ◌∷◌, map, IsTrue, IfOk, OnOk, OnErr, MatchResult, Ok, Err, Some, slice_get, length, ◌<◌, ◌^◌};
+ghost use Rattle.std.specs.Prelude.{◌≡◌, List, ◌+◌, ◌*◌, ◌≤◌, ◌↔◌, [], ◌∷◌, map, IsTrue, IfOk, OnOk, OnErr, MatchResult, Ok, Err, Some, slice_get, length, drop, ◌<◌, ◌^◌};
 ghost use Rattle.std.specs.Slice.Iter.{iter_rest};
 ghost use Rattle.btf_model.specs.Record.{Record, unknown, kind_of};
 ghost use Rattle.btf_model.specs.Refusal.{Refusal};
@@ -22,6 +22,7 @@ ghost use Rattle.btf_words.specs.Endianness.{order_of};
 ghost use Rattle.btf_words.specs.Kind as kinds;
 ghost use Rattle.btf_records.specs.BtfType.{record_of, fallback_of, type_kind};
 ghost use Rattle.btf_table.specs.BtfStr.{text_bytes};
+ghost use Rattle.btf_table.specs.Readable.{IsReadableEnd};
 ghost use Rattle.std.specs.Prelude.{IfSome, string_bytes};
 ghost use Rattle.std.specs.Option.{option_map};
 ghost use Rattle.std.specs.Result.{result_ok};
@@ -31,7 +32,7 @@ pub(crate) use crate::table::changes::Changes;
 use crate::table::header::{HEADER_LEN, Header, section};
 pub(crate) use crate::table::limits::{record_fits, text_fits};
 pub use crate::table::text::BtfStr;
-use crate::table::text::{find_named, text_at};
+use crate::table::text::{find_named, readable_end, text_at};
 use crate::table::types::{append_types, clone_types, read_types};
 pub use crate::table::walk::WALK_LIMIT;
 use crate::table::walk::{resolve, size};
@@ -309,6 +310,20 @@ impl Btf {
         ensures first { (rs : List Record) × (self.now.records ≡ unknown ∷ rs) }
     {
         &self.types
+    }
+
+    /// The end of the string offsets at which a text can be read.
+    pub(crate) fn readable_end(&self) -> usize
+        ensures { IsReadableEnd self.now.strings result }
+    {
+        readable_end(&self.strings)
+    }
+
+    /// The strings from an offset on.
+    pub(crate) fn strings_from(&self, offset: u32) -> &[u8]
+        ensures { result.now ≡ drop offset self.now.strings }
+    {
+        self.strings.get(offset as usize..).unwrap_or(&[])
     }
 
     /// The length of the strings in bytes.

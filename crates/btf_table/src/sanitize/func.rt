@@ -10,6 +10,7 @@ ghost use Rattle.btf_rewrite_model.specs.Passing.{AreAnswersTo};
 ghost use Rattle.btf_words.specs.Error.{Answers};
 ghost use Rattle.btf_rules.specs.Features.{Called, IsFurther, answers_of};
 ghost use Rattle.btf_table.specs.PassStep.{Given, pass_on, IsType, IsHere, AsksUpTo, Steps};
+ghost use Rattle.btf_table.specs.Readable.{IsReadableEnd};
 ghost use Rattle.btf_table.specs.declared.sanitize.made.Made as made;
 
 use crate::table::Btf;
@@ -19,13 +20,18 @@ use btf_rules::{BtfFeature, BtfFeatureResolver, is_builtin, made_static};
 use std::alloc::AllocError;
 
 /// What a FUNC becomes; None where it stays. A kernel that has no functions gets a TYPEDEF of the prototype; one that has
-/// no Global ones, or knows a Global one as its own, a Static one. `InvalidStringOffset` where its name can't be read.
+/// no Global ones, or knows a Global one as its own, a Static one.
+///
+/// `InvalidStringOffset` where its name can't be read, which is where its offset isn't below `readable_end`. The name
+/// itself is not read, however long it is.
 pub fn rewrite_func<F: FnMut(BtfFeature) -> bool>(
     btf: &Btf,
     func: &Func,
+    readable_end: usize,
     resolver: &mut BtfFeatureResolver<F>,
 ) -> Result<Option<BtfType>, BtfError>
-    requires { F.IsAlwaysCallable resolver.old.0 }
+    requires callable { F.IsAlwaysCallable resolver.old.0 }
+    requires readable { IsReadableEnd btf.now.strings readable_end }
     ensures callable { F.IsAlwaysCallable resolver.new.0 }
     ensures called { (first : F) → Called F.step first resolver.old.1 resolver.old.0 → Called F.step first resolver.new.1 resolver.new.0 }
     ensures further { IsFurther resolver.old.1 resolver.new.1 }
@@ -37,15 +43,20 @@ pub fn rewrite_func<F: FnMut(BtfFeature) -> bool>(
 {
     // The contract speaks of the kind in the info word, which a use of it shows.
     let _ = func.info();
-    let name = btf.string_at(func.name_offset())?;
+    let name_offset = func.name_offset();
+    if name_offset as usize >= readable_end {
+        return Err(BtfError::InvalidStringOffset {
+            offset: name_offset as usize,
+        });
+    }
     if !resolver.is_supported(BtfFeature::Func) {
-        let typedef = Typedef::new(func.name_offset(), func.btf_type());
+        let typedef = Typedef::new(name_offset, func.btf_type());
         return Ok(Some(BtfType::Typedef(typedef)));
     }
     let FuncLinkage::Global = func.linkage() else {
         return Ok(None);
     };
-    if is_builtin(name.as_str()) {
+    if is_builtin(btf.strings_from(name_offset)) {
         return Ok(Some(BtfType::Func(made_static(func)?)));
     }
     if resolver.is_supported(BtfFeature::FuncGlobal) {

@@ -15,6 +15,7 @@ ghost use Rattle.btf_rules.specs.Layout.{sizes_of, offsets_of, layout_of};
 ghost use Rattle.btf_rules.specs.SoleFeature as step;
 ghost use Rattle.btf_table.specs.PassStep.{Given, pass_on, under, IsType, IsHere, AsksUpTo, Steps, Passes, BeginsAsked};
 ghost use Rattle.btf_rules.specs.SoleFeature.{asks_one, IsGranted};
+ghost use Rattle.btf_table.specs.Readable.{IsReadableEnd};
 
 use crate::sanitize::func::rewrite_func;
 use crate::sanitize::made::Made;
@@ -46,7 +47,7 @@ fn has_sole_feature<F: FnMut(BtfFeature) -> bool>(
 }
 
 impl Made {
-    /// The rule of a type, by its kind; None where it stays.
+    /// The rule of a type, by its kind; None where it stays. Names can be read at the offsets below `readable_end`.
     ///
     /// `InvalidStringOffset` where the name of a FUNC or a DATASEC can't be read, or strings have no room for what is
     /// appended; `InvalidTypeInfo` where types have no room for it; and of a DATASEC, `UnknownBtfType`,
@@ -58,9 +59,11 @@ impl Made {
         symbols: &HashMap<String, u64>,
         btf_type: &BtfType,
         policy: FillPolicy,
+        readable_end: usize,
         resolver: &mut BtfFeatureResolver<F>,
     ) -> Result<Option<BtfType>, BtfError>
         requires room { HasRoom btf.now self.old.changes }
+        requires readable { IsReadableEnd btf.now.strings readable_end }
         requires callable { F.IsAlwaysCallable resolver.old.0 }
         ensures callable { F.IsAlwaysCallable resolver.new.0 }
         ensures called { (first : F) → Called F.step first resolver.old.1 resolver.old.0 → Called F.step first resolver.new.1 resolver.new.0 }
@@ -74,7 +77,7 @@ impl Made {
         // The contract speaks of the kind in the info word, which a use of it shows.
         let _ = btf_type.info();
         match btf_type {
-            BtfType::Func(func) => rewrite_func(btf, func, resolver),
+            BtfType::Func(func) => rewrite_func(btf, func, readable_end, resolver),
             BtfType::DataSec(data_sec) => {
                 self.rewrite_section(btf, sections, symbols, data_sec, policy, resolver)
             }
@@ -103,9 +106,18 @@ pub fn pass_changes<F: FnMut(BtfFeature) -> bool>(
 {
     let types = btf.as_slice();
     let mut made = Made::new(btf)?;
+    let readable_end = btf.readable_end();
     for id in 1..types.len() {
         let btf_type = &types[id];
-        let new_type = made.rewrite(btf, sections, symbols, btf_type, policy, resolver)?;
+        let new_type = made.rewrite(
+            btf,
+            sections,
+            symbols,
+            btf_type,
+            policy,
+            readable_end,
+            resolver,
+        )?;
         made.keep(id as u32, btf_type, new_type)?;
     }
     Ok(made.changes)

@@ -10,6 +10,7 @@ ghost use Rattle.btf_words.specs.Error.{Answers, Gives, Tells};
 ghost use Rattle.btf_words.specs.Kind as kinds;
 ghost use Rattle.btf_records.specs.BtfType.{record_of};
 ghost use Rattle.btf_table.specs.BtfStr.{text_bytes, IsNamed};
+ghost use Rattle.btf_table.specs.Readable.{IsReadableEnd};
 
 use bstr::ByteSlice;
 use btf_plain::{BtfError, BtfKind};
@@ -64,6 +65,16 @@ pub fn text_at(alloc: Global, strings: &[u8], offset: u32) -> Result<BtfStr<'_>,
     match bytes.to_str_lossy(alloc)? {
         CowStr::Borrowed(text) => Ok(BtfStr::Borrowed(text)),
         CowStr::Owned(text) => Ok(BtfStr::Owned(text)),
+    }
+}
+
+/// The end of the offsets at which a text can be read: a zero byte stands at each below it, or after it.
+pub fn readable_end(strings: &[u8]) -> usize
+    ensures { IsReadableEnd strings.now result }
+{
+    match strings.rfind_byte(0) {
+        Some(last) => last + 1,
+        None => 0,
     }
 }
 
