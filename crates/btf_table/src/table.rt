@@ -22,6 +22,9 @@ ghost use Rattle.btf_words.specs.Endianness.{order_of};
 ghost use Rattle.btf_words.specs.Kind as kinds;
 ghost use Rattle.btf_records.specs.BtfType.{record_of, fallback_of, type_kind};
 ghost use Rattle.btf_table.specs.BtfStr.{text_bytes};
+ghost use Rattle.btf_model.specs.Text.{text_at};
+ghost use Rattle.btf_rewrite_model.specs.Checks.{is_read};
+ghost use Rattle.btf_rules.specs.Checked.{checked};
 ghost use Rattle.btf_table.specs.Readable.{IsReadableEnd};
 ghost use Rattle.std.specs.Prelude.{IfSome, string_bytes};
 ghost use Rattle.std.specs.Option.{option_map};
@@ -317,6 +320,20 @@ impl Btf {
         ensures { IsReadableEnd self.now.strings result }
     {
         readable_end(&self.strings)
+    }
+
+    /// Whether a text can be read at an offset, where `readable_end` is the end of such offsets; or
+    /// `InvalidStringOffset` of it. The text is not read, however long it is.
+    pub(crate) fn check_name(&self, offset: u32, readable_end: usize) -> Result<(), BtfError>
+        requires { IsReadableEnd self.now.strings readable_end }
+        ensures { Gives (λ u. u) result (checked (is_read (text_at self.now.strings offset)) tt) }
+    {
+        let offset = offset as usize;
+        if offset < readable_end {
+            Ok(())
+        } else {
+            Err(BtfError::InvalidStringOffset { offset })
+        }
     }
 
     /// The strings from an offset on.

@@ -11,6 +11,7 @@ ghost use Rattle.btf_words.specs.Error.{Gives, Answers};
 ghost use Rattle.btf_records.specs.BtfType.{record_of};
 ghost use Rattle.btf_rules.specs.Checked.{checked};
 ghost use Rattle.btf_table.specs.KsymsStep.{target_of, prototype_of, laid_out_anew, FindsSymbols, StepsWith, ksyms_ids, MakesKsyms};
+ghost use Rattle.btf_table.specs.Readable.{IsReadableEnd};
 
 use crate::table::{Btf, Changes, record_fits, text_fits};
 use btf_plain::{BtfError, Func, FuncLinkage, Int, IntEncoding, Var, VarLinkage};
@@ -120,8 +121,9 @@ fn find_target(btf: &Btf, placeholder_id: Option<u32>) -> Result<Target, BtfErro
     })
 }
 
-/// The DATASEC of an id, whose name can be read.
-fn named_data_sec(btf: &Btf, id: u32) -> Result<&DataSec, BtfError>
+/// The DATASEC of an id, whose name can be read. Names can be read at the offsets below `readable_end`.
+fn named_data_sec(btf: &Btf, id: u32, readable_end: usize) -> Result<&DataSec, BtfError>
+    requires { IsReadableEnd btf.now.strings readable_end }
     ensures { Gives (λ s. s.now) result (checked (first_fault (data_sec_checks btf.now id)) (record_at btf.now id)) }
 {
     let btf_type = btf.type_by_id(id)?;
@@ -130,7 +132,7 @@ fn named_data_sec(btf: &Btf, id: u32) -> Result<&DataSec, BtfError>
     let BtfType::DataSec(data_sec) = btf_type else {
         return Err(BtfError::InvalidDatasec);
     };
-    btf.string_at(data_sec.name_offset())?;
+    btf.check_name(data_sec.name_offset(), readable_end)?;
     Ok(data_sec)
 }
 
@@ -139,7 +141,9 @@ fn symbol_prototype(
     btf: &Btf,
     id: u32,
     placeholder_id: Option<u32>,
+    readable_end: usize,
 ) -> Result<Option<u32>, BtfError>
+    requires { IsReadableEnd btf.now.strings readable_end }
     ensures { (e : Entry) → e.type ≡ id → Gives (λ p. p) result (checked (first_fault (entry_checks btf.now placeholder_id e)) (prototype_of btf.now id)) }
 {
     let symbol = btf.type_by_id(id)?;
@@ -147,14 +151,14 @@ fn symbol_prototype(
     let _ = symbol.info();
     match symbol {
         BtfType::Func(func) => {
-            btf.string_at(func.name_offset())?;
+            btf.check_name(func.name_offset(), readable_end)?;
             if placeholder_id.is_some() {
                 btf.type_by_id(func.btf_type())?;
             }
             Ok(Some(func.btf_type()))
         }
         BtfType::Var(var) => {
-            btf.string_at(var.name_offset())?;
+            btf.check_name(var.name_offset(), readable_end)?;
             Ok(None)
         }
         _ => Err(BtfError::InvalidDatasec),
@@ -166,12 +170,14 @@ fn find_symbols(
     btf: &Btf,
     data_sec: &DataSec,
     placeholder_id: Option<u32>,
+    readable_end: usize,
 ) -> Result<Symbols, BtfError>
+    requires { IsReadableEnd btf.now.strings readable_end }
     ensures { Answers (λ s. s) result (FindsSymbols btf.now placeholder_id (entries data_sec.now.tail)) }
 {
     let mut symbols = Symbols::new(btf.allocator());
     for entry in data_sec.entries() {
-        let prototype = symbol_prototype(btf, entry.btf_type, placeholder_id)?;
+        let prototype = symbol_prototype(btf, entry.btf_type, placeholder_id, readable_end)?;
         symbols.add(entry.btf_type, prototype)?;
     }
     Ok(symbols)
@@ -253,8 +259,9 @@ impl Step {
         ensures { Answers (λ s. s) result (StepsWith btf.now (ksyms_ids datasec_id placeholder_id)) }
     {
         let target = find_target(btf, placeholder_id)?;
-        let data_sec = named_data_sec(btf, datasec_id)?;
-        let symbols = find_symbols(btf, data_sec, placeholder_id)?;
+        let readable_end = btf.readable_end();
+        let data_sec = named_data_sec(btf, datasec_id, readable_end)?;
+        let symbols = find_symbols(btf, data_sec, placeholder_id, readable_end)?;
         Ok(Step {
             target,
             symbols,
