@@ -1,6 +1,6 @@
 -- The rule of a FUNC.
-use Rattle.std.proofs.Common.{◌≡◌, ◌≢◌, ◌==◌, ℕ, Bool, true, false, not, ◌&&◌, ◌||◌, List, [], ◌∷◌, length, drop, ◌<◌, Option, None, Some, Result, Ok, Err, refl, sym, ap, ◌∙◌}
-use Rattle.std.specs.Prelude.{if◌then◌else◌}
+use Rattle.std.proofs.Common.{◌≡◌, ◌≢◌, ◌==◌, ℕ, Bool, true, false, not, ◌&&◌, ◌||◌, List, [], ◌∷◌, length, drop, Option, None, Some, Result, Ok, Err, refl, sym, ap, ◌∙◌}
+use Rattle.std.specs.Prelude.{if◌then◌else◌, ⊤}
 use Rattle.std.proofs.lemmas.Bool.{eqb-true, false_from_ne_true}
 use Rattle.btf_model.specs.Record as kinds
 use Rattle.btf_model.specs.Record.{Kind, Record, kind_of, vlen}
@@ -25,7 +25,9 @@ use Rattle.btf_records.specs.declared.btf_type.BtfType.{BtfType}
 use Rattle.btf_table.proofs.Adding.{adds_none}
 use Rattle.btf_table.proofs.PassRules.{record_there, kind_there, becomes_there, fault_there, texts_there, added_there, falls_back_there, made_on, wants_none, no_filler, grown_by, same_len}
 use Rattle.btf_rules.specs.Builtins.{begins_builtin}
-use Rattle.btf_table.specs.Readable.{IsReadableEnd}
+use Rattle.std.specs.Result.{result_ok, result_err}
+use Rattle.std.proofs.lemmas.Option.{none-some, same_Some}
+use Rattle.btf_rules.specs.Checked.{checked}
 use Rattle.btf_table.proofs.Readable.{builtin_is}
 use Rattle.btf_table.specs.PassStep.{Given, pass_on, IsType, IsHere, IsRuled, AsksUpTo}
 use Rattle.btf_table.specs.declared.sanitize.made.Made.{Made}
@@ -113,9 +115,21 @@ module _ (t : Table) (given : Given) (id : ℕ) (b : BtfType) (there : IsType t 
 
 -- ---- the name
 
--- the name, which can be read
-pub read_name : (strings : List ℕ) (end offset name : ℕ) → IsReadableEnd strings end → offset < end → offset ≡ name → (text : List ℕ) × (Ok text ≡ text_at strings name)
-read_name strings end offset name readable lt is = let found = readable.below offset lt in (found.0, sym found.1 ∙ ap (text_at strings) is)
+-- a name that is checked can be read,
+pub read_name : (strings : List ℕ) (offset name : ℕ) → ◌≡◌ {A = Result ⊤ Refusal} (Ok tt) (checked (is_read (text_at strings offset)) tt) → offset ≡ name → (text : List ℕ) × (Ok text ≡ text_at strings name)
+read_name strings offset name passed is = let found = there (text_at strings offset) passed in (found.0, found.1 ∙ ap (text_at strings) is)
+  where
+    there : (read : Result (List ℕ) Refusal) → ◌≡◌ {A = Result ⊤ Refusal} (Ok tt) (checked (is_read read) tt) → (text : List ℕ) × (Ok text ≡ read)
+    there (Ok text) passed = (text, refl)
+    there (Err refusal) passed = absurd (none-some tt (sym (ap (result_ok {T = ⊤} {E = Refusal}) passed)))
+
+-- or why it can't,
+pub unread_name : (strings : List ℕ) (offset name : ℕ) (refusal : Refusal) → ◌≡◌ {A = Result ⊤ Refusal} (Err refusal) (checked (is_read (text_at strings offset)) tt) → offset ≡ name → Err refusal ≡ text_at strings name
+unread_name strings offset name refusal refused is = there (text_at strings offset) refused ∙ ap (text_at strings) is
+  where
+    there : (read : Result (List ℕ) Refusal) → ◌≡◌ {A = Result ⊤ Refusal} (Err refusal) (checked (is_read read) tt) → Err refusal ≡ read
+    there (Ok text) refused = absurd (none-some tt (ap (result_ok {T = ⊤} {E = Refusal}) refused))
+    there (Err other) refused = ap (λ (f : Refusal). Err f) (same_Some refusal other (ap (result_err {T = ⊤} {E = Refusal}) refused))
 
 -- and is known where the strings from its offset on begin with a known name
 pub is_known : (strings rest text : List ℕ) (offset name : ℕ) (known : Bool) → rest ≡ drop offset strings → offset ≡ name → Ok text ≡ text_at strings name → known ≡ begins_builtin rest → is_builtin text ≡ known

@@ -44,11 +44,7 @@ pub fn rewrite_func<F: FnMut(BtfFeature) -> bool>(
     // The contract speaks of the kind in the info word, which a use of it shows.
     let _ = func.info();
     let name_offset = func.name_offset();
-    if name_offset as usize >= readable_end {
-        return Err(BtfError::InvalidStringOffset {
-            offset: name_offset as usize,
-        });
-    }
+    btf.check_name(name_offset, readable_end)?;
     if !resolver.is_supported(BtfFeature::Func) {
         let typedef = Typedef::new(name_offset, func.btf_type());
         return Ok(Some(BtfType::Typedef(typedef)));

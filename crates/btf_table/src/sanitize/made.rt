@@ -47,7 +47,7 @@ impl Made {
         ensures placeholder { IfOk result (λ m. m.placeholder ≡ None) }
         ensures filler { IfOk result (λ m. m.filler ≡ None) }
     {
-        let mut names = Vec::new(btf.allocator());
+        let mut names = Vec::with_capacity(btf.allocator(), btf.as_slice().len())?;
         names.push(0)?;
         Ok(Made {
             changes: Changes::new(btf),

@@ -1,23 +1,25 @@
-use Rattle.std.proofs.Common.{ℕ, Bool, not, ◌||◌, [], refl, sym, ap, subst, ◌∙◌, arith}
+use Rattle.std.proofs.Common.{ℕ, Bool, not, ◌||◌, [], Err, refl, sym, ap, subst, ◌∙◌}
 use Rattle.btf_model.specs.Record.{kind_of, vlen}
 use Rattle.btf_rewrite_model.specs.Feature.{is_global}
 use Rattle.btf_rewrite_model.specs.Made.{typedef}
-use Rattle.btf_rewrite_model.specs.Pass.{has, is_builtin}
+use Rattle.btf_rewrite_model.specs.Pass.{Pass, has, is_builtin}
 use Rattle.btf_rewrite_model.specs.Feature as features
 use Rattle.btf_rewrite_model.proofs.Passing.{NextAnswers}
 use Rattle.btf_rules.specs.Features.{answers_of}
-use Rattle.btf_table.specs.PassStep.{pass_on}
+use Rattle.btf_table.specs.PassStep.{pass_on, Steps}
 use Rattle.btf_records.specs.declared.btf_type.BtfType.TheVariants.{Func, Typedef}
 use Rattle.btf_rules.specs.declared.features.BtfFeature.TheVariants as asked
-use Rattle.btf_model.specs.Text.{text_at}
-use Rattle.btf_model.specs.Refusal.{InvalidStringOffset}
+use Rattle.std.specs.Option.{unwrap_or}
+use Rattle.std.proofs.lemmas.Option.{IfSome_then}
+use Rattle.btf_words.proofs.Refused.{handed_on}
+use Rattle.btf_records.specs.declared.btf_type.BtfType.{BtfType}
 use Rattle.btf_table.proofs.PassAsking.{asked_none, asks_called, asks_next, asks_further, further_then, further_none}
-use Rattle.btf_table.proofs.FuncRules.{func_unread, func_denied, func_static, func_stays, none_asked, one_granted, one_asked, both_asked, linkage_global, linkage_other, and_first, and_second, and_third, not_if, changes_if, changes_else, stays_if, read_name, is_known}
+use Rattle.btf_table.proofs.FuncRules.{func_unread, func_denied, func_static, func_stays, none_asked, one_granted, one_asked, both_asked, linkage_global, linkage_other, and_first, and_second, and_third, not_if, changes_if, changes_else, stays_if, read_name, unread_name, is_known}
 use Rattle.btf_table.specs.contracts.sanitize.func.rewrite_func.F-FnMut.{words}
 use Rattle.btf_table.proofs.sanitize.func.rewrite_func.Goals as goal
 
-pub returns-then-name_offset-readable_end-clause-asks : goal.returns-then-name_offset-readable_end-clause-asks
-returns-then-name_offset-readable_end-clause-asks g c = λ given id there below. none_asked c.args.btf.now given id (answers_of c.args.resolver.now.1) below
+pub returns-in_err-check_name-clause-asks : goal.returns-in_err-check_name-clause-asks
+returns-in_err-check_name-clause-asks g c = λ given id there below. none_asked c.args.btf.now given id (answers_of c.args.resolver.now.1) below
 
 pub returns-then-not-is_supported-clause-called : goal.returns-then-not-is_supported-clause-called
 returns-then-not-is_supported-clause-called g c = λ first called.
@@ -52,7 +54,7 @@ returns-clause-called g c = λ first called.
 
 pub returns-then-not-is_supported-clause-asks : goal.returns-then-not-is_supported-clause-asks
 returns-then-not-is_supported-clause-asks g c = λ given id there below.
-    let n = read_name c.args.btf.now.strings c.args.readable_end c.name_offset-name_offset.result c.args.func.now.name c.requires.readable (omega (arith, c.if-name_offset-readable_end.false)) c.name_offset-name_offset.ensures in (
+    let n = read_name c.args.btf.now.strings c.name_offset-name_offset.result c.args.func.now.name c.in_ok-check_name.ensures c.name_offset-name_offset.ensures in (
       [],
       one_asked c.args.btf.now given id (Func c.args.func.now) there (ap kind_of (sym c.info.ensures.value) ∙ c.info.ensures.kind) n.0 n.1 (answers_of c.args.resolver.now.1) below (answers_of c.is_supported.new.self.1) c.is_supported.result (asks_next (words g.row.F g.F.FnMut).step asked.Func c.args.resolver.now c.is_supported.new.self c.is_supported.result c.is_supported.ensures.asks)
           (and_first c.is_supported.result (is_global c.args.func.now) (not (is_builtin n.0)) c.if-not-is_supported.true),
@@ -60,7 +62,7 @@ returns-then-not-is_supported-clause-asks g c = λ given id there below.
 
 pub returns-in_default-clause-asks : goal.returns-in_default-clause-asks
 returns-in_default-clause-asks g c = λ given id there below.
-    let n = read_name c.args.btf.now.strings c.args.readable_end c.name_offset-name_offset.result c.args.func.now.name c.requires.readable (omega (arith, c.if-name_offset-readable_end.false)) c.name_offset-name_offset.ensures in (
+    let n = read_name c.args.btf.now.strings c.name_offset-name_offset.result c.args.func.now.name c.in_ok-check_name.ensures c.name_offset-name_offset.ensures in (
       [],
       one_asked c.args.btf.now given id (Func c.args.func.now) there (ap kind_of (sym c.info.ensures.value) ∙ c.info.ensures.kind) n.0 n.1 (answers_of c.args.resolver.now.1) below (answers_of c.is_supported.new.self.1) c.is_supported.result (asks_next (words g.row.F g.F.FnMut).step asked.Func c.args.resolver.now c.is_supported.new.self c.is_supported.result c.is_supported.ensures.asks)
           (and_second c.is_supported.result (is_global c.args.func.now) (not (is_builtin n.0)) (linkage_other (vlen c.args.func.now.info) (λ is. c.in_default.not-Global (c.linkage.ensures ∙ is)))),
@@ -68,7 +70,7 @@ returns-in_default-clause-asks g c = λ given id there below.
 
 pub returns-in_err-made_static-clause-asks : goal.returns-in_err-made_static-clause-asks
 returns-in_err-made_static-clause-asks g c = λ given id there below.
-    let n = read_name c.args.btf.now.strings c.args.readable_end c.name_offset-name_offset.result c.args.func.now.name c.requires.readable (omega (arith, c.if-name_offset-readable_end.false)) c.name_offset-name_offset.ensures in (
+    let n = read_name c.args.btf.now.strings c.name_offset-name_offset.result c.args.func.now.name c.in_ok-check_name.ensures c.name_offset-name_offset.ensures in (
       [],
       one_asked c.args.btf.now given id (Func c.args.func.now) there (ap kind_of (sym c.info.ensures.value) ∙ c.info.ensures.kind) n.0 n.1 (answers_of c.args.resolver.now.1) below (answers_of c.is_supported.new.self.1) c.is_supported.result (asks_next (words g.row.F g.F.FnMut).step asked.Func c.args.resolver.now c.is_supported.new.self c.is_supported.result c.is_supported.ensures.asks)
           (and_third c.is_supported.result (is_global c.args.func.now) (is_builtin n.0) (is_known c.args.btf.now.strings c.strings_from.result.now n.0 c.name_offset-name_offset.result c.args.func.now.name c.is_builtin.result c.strings_from.ensures c.name_offset-name_offset.ensures n.1 c.is_builtin.ensures ∙ c.if-is_builtin.true)),
@@ -76,7 +78,7 @@ returns-in_err-made_static-clause-asks g c = λ given id there below.
 
 pub returns-then-is_builtin-clause-asks : goal.returns-then-is_builtin-clause-asks
 returns-then-is_builtin-clause-asks g c = λ given id there below.
-    let n = read_name c.args.btf.now.strings c.args.readable_end c.name_offset-name_offset.result c.args.func.now.name c.requires.readable (omega (arith, c.if-name_offset-readable_end.false)) c.name_offset-name_offset.ensures in (
+    let n = read_name c.args.btf.now.strings c.name_offset-name_offset.result c.args.func.now.name c.in_ok-check_name.ensures c.name_offset-name_offset.ensures in (
       [],
       one_asked c.args.btf.now given id (Func c.args.func.now) there (ap kind_of (sym c.info.ensures.value) ∙ c.info.ensures.kind) n.0 n.1 (answers_of c.args.resolver.now.1) below (answers_of c.is_supported.new.self.1) c.is_supported.result (asks_next (words g.row.F g.F.FnMut).step asked.Func c.args.resolver.now c.is_supported.new.self c.is_supported.result c.is_supported.ensures.asks)
           (and_third c.is_supported.result (is_global c.args.func.now) (is_builtin n.0) (is_known c.args.btf.now.strings c.strings_from.result.now n.0 c.name_offset-name_offset.result c.args.func.now.name c.is_builtin.result c.strings_from.ensures c.name_offset-name_offset.ensures n.1 c.is_builtin.ensures ∙ c.if-is_builtin.true)),
@@ -84,7 +86,7 @@ returns-then-is_builtin-clause-asks g c = λ given id there below.
 
 pub returns-then-is_supported-clause-asks : goal.returns-then-is_supported-clause-asks
 returns-then-is_supported-clause-asks g c = λ given id there below.
-    let n = read_name c.args.btf.now.strings c.args.readable_end c.name_offset-name_offset.result c.args.func.now.name c.requires.readable (omega (arith, c.if-name_offset-readable_end.false)) c.name_offset-name_offset.ensures in (
+    let n = read_name c.args.btf.now.strings c.name_offset-name_offset.result c.args.func.now.name c.in_ok-check_name.ensures c.name_offset-name_offset.ensures in (
       [],
       (both_asked c.args.btf.now given id (Func c.args.func.now) there (ap kind_of (sym c.info.ensures.value) ∙ c.info.ensures.kind) n.0 n.1 (answers_of c.args.resolver.now.1) below (answers_of c.is_supported.new.self.1) (answers_of c.is_supported-2.new.self.1) c.is_supported-2.result (subst (λ (b : Bool). NextAnswers (answers_of c.args.resolver.now.1) features.Func b (answers_of c.is_supported.new.self.1)) c.if-not-is_supported.false (asks_next (words g.row.F g.F.FnMut).step asked.Func c.args.resolver.now c.is_supported.new.self c.is_supported.result c.is_supported.ensures.asks)) (asks_next (words g.row.F g.F.FnMut).step asked.FuncGlobal c.is_supported.new.self c.is_supported-2.new.self c.is_supported-2.result c.is_supported-2.ensures.asks)
           (linkage_global (vlen c.args.func.now.info) (sym c.linkage.ensures ∙ c.in-Global.is)) (is_known c.args.btf.now.strings c.strings_from.result.now n.0 c.name_offset-name_offset.result c.args.func.now.name c.is_builtin.result c.strings_from.ensures c.name_offset-name_offset.ensures n.1 c.is_builtin.ensures ∙ c.if-is_builtin.false)).0,
@@ -92,7 +94,7 @@ returns-then-is_supported-clause-asks g c = λ given id there below.
 
 pub returns-in_err-made_static-2-clause-asks : goal.returns-in_err-made_static-2-clause-asks
 returns-in_err-made_static-2-clause-asks g c = λ given id there below.
-    let n = read_name c.args.btf.now.strings c.args.readable_end c.name_offset-name_offset.result c.args.func.now.name c.requires.readable (omega (arith, c.if-name_offset-readable_end.false)) c.name_offset-name_offset.ensures in (
+    let n = read_name c.args.btf.now.strings c.name_offset-name_offset.result c.args.func.now.name c.in_ok-check_name.ensures c.name_offset-name_offset.ensures in (
       [],
       (both_asked c.args.btf.now given id (Func c.args.func.now) there (ap kind_of (sym c.info.ensures.value) ∙ c.info.ensures.kind) n.0 n.1 (answers_of c.args.resolver.now.1) below (answers_of c.is_supported.new.self.1) (answers_of c.is_supported-2.new.self.1) c.is_supported-2.result (subst (λ (b : Bool). NextAnswers (answers_of c.args.resolver.now.1) features.Func b (answers_of c.is_supported.new.self.1)) c.if-not-is_supported.false (asks_next (words g.row.F g.F.FnMut).step asked.Func c.args.resolver.now c.is_supported.new.self c.is_supported.result c.is_supported.ensures.asks)) (asks_next (words g.row.F g.F.FnMut).step asked.FuncGlobal c.is_supported.new.self c.is_supported-2.new.self c.is_supported-2.result c.is_supported-2.ensures.asks)
           (linkage_global (vlen c.args.func.now.info) (sym c.linkage.ensures ∙ c.in-Global.is)) (is_known c.args.btf.now.strings c.strings_from.result.now n.0 c.name_offset-name_offset.result c.args.func.now.name c.is_builtin.result c.strings_from.ensures c.name_offset-name_offset.ensures n.1 c.is_builtin.ensures ∙ c.if-is_builtin.false)).0,
@@ -100,7 +102,7 @@ returns-in_err-made_static-2-clause-asks g c = λ given id there below.
 
 pub returns-clause-asks : goal.returns-clause-asks
 returns-clause-asks g c = λ given id there below.
-    let n = read_name c.args.btf.now.strings c.args.readable_end c.name_offset-name_offset.result c.args.func.now.name c.requires.readable (omega (arith, c.if-name_offset-readable_end.false)) c.name_offset-name_offset.ensures in (
+    let n = read_name c.args.btf.now.strings c.name_offset-name_offset.result c.args.func.now.name c.in_ok-check_name.ensures c.name_offset-name_offset.ensures in (
       [],
       (both_asked c.args.btf.now given id (Func c.args.func.now) there (ap kind_of (sym c.info.ensures.value) ∙ c.info.ensures.kind) n.0 n.1 (answers_of c.args.resolver.now.1) below (answers_of c.is_supported.new.self.1) (answers_of c.is_supported-2.new.self.1) c.is_supported-2.result (subst (λ (b : Bool). NextAnswers (answers_of c.args.resolver.now.1) features.Func b (answers_of c.is_supported.new.self.1)) c.if-not-is_supported.false (asks_next (words g.row.F g.F.FnMut).step asked.Func c.args.resolver.now c.is_supported.new.self c.is_supported.result c.is_supported.ensures.asks)) (asks_next (words g.row.F g.F.FnMut).step asked.FuncGlobal c.is_supported.new.self c.is_supported-2.new.self c.is_supported-2.result c.is_supported-2.ensures.asks)
           (linkage_global (vlen c.args.func.now.info) (sym c.linkage.ensures ∙ c.in-Global.is)) (is_known c.args.btf.now.strings c.strings_from.result.now n.0 c.name_offset-name_offset.result c.args.func.now.name c.is_builtin.result c.strings_from.ensures c.name_offset-name_offset.ensures n.1 c.is_builtin.ensures ∙ c.if-is_builtin.false)).0,
@@ -108,7 +110,7 @@ returns-clause-asks g c = λ given id there below.
 
 pub returns-then-not-is_supported-clause-steps : goal.returns-then-not-is_supported-clause-steps
 returns-then-not-is_supported-clause-steps g c = λ given id made there below here.
-    let n = read_name c.args.btf.now.strings c.args.readable_end c.name_offset-name_offset.result c.args.func.now.name c.requires.readable (omega (arith, c.if-name_offset-readable_end.false)) c.name_offset-name_offset.ensures in (
+    let n = read_name c.args.btf.now.strings c.name_offset-name_offset.result c.args.func.now.name c.in_ok-check_name.ensures c.name_offset-name_offset.ensures in (
       one_asked c.args.btf.now given id (Func c.args.func.now) there (ap kind_of (sym c.info.ensures.value) ∙ c.info.ensures.kind) n.0 n.1 (answers_of c.args.resolver.now.1) below (answers_of c.is_supported.new.self.1) c.is_supported.result (asks_next (words g.row.F g.F.FnMut).step asked.Func c.args.resolver.now c.is_supported.new.self c.is_supported.result c.is_supported.ensures.asks)
           (and_first c.is_supported.result (is_global c.args.func.now) (not (is_builtin n.0)) c.if-not-is_supported.true),
       func_denied (pass_on c.args.btf.now given (answers_of c.is_supported.new.self.1)) id (Func c.args.func.now) there (ap kind_of (sym c.info.ensures.value) ∙ c.info.ensures.kind) made here n.0 n.1 refl (Typedef c.new-typedef.result) refl (one_granted c.args.btf.now given id (Func c.args.func.now) there (ap kind_of (sym c.info.ensures.value) ∙ c.info.ensures.kind) n.0 n.1 (answers_of c.args.resolver.now.1) below (answers_of c.is_supported.new.self.1) c.is_supported.result (asks_next (words g.row.F g.F.FnMut).step asked.Func c.args.resolver.now c.is_supported.new.self c.is_supported.result c.is_supported.ensures.asks) ∙ c.if-not-is_supported.true) (c.new-typedef.ensures ∙ ap (λ (n : ℕ). typedef n c.btf_type.result) c.name_offset-name_offset.ensures ∙ ap (typedef c.args.func.now.name) c.btf_type.ensures) c.info.ensures.no_tail,
@@ -116,7 +118,7 @@ returns-then-not-is_supported-clause-steps g c = λ given id made there below he
 
 pub returns-in_default-clause-steps : goal.returns-in_default-clause-steps
 returns-in_default-clause-steps g c = λ given id made there below here.
-    let n = read_name c.args.btf.now.strings c.args.readable_end c.name_offset-name_offset.result c.args.func.now.name c.requires.readable (omega (arith, c.if-name_offset-readable_end.false)) c.name_offset-name_offset.ensures in (
+    let n = read_name c.args.btf.now.strings c.name_offset-name_offset.result c.args.func.now.name c.in_ok-check_name.ensures c.name_offset-name_offset.ensures in (
       one_asked c.args.btf.now given id (Func c.args.func.now) there (ap kind_of (sym c.info.ensures.value) ∙ c.info.ensures.kind) n.0 n.1 (answers_of c.args.resolver.now.1) below (answers_of c.is_supported.new.self.1) c.is_supported.result (asks_next (words g.row.F g.F.FnMut).step asked.Func c.args.resolver.now c.is_supported.new.self c.is_supported.result c.is_supported.ensures.asks)
           (and_second c.is_supported.result (is_global c.args.func.now) (not (is_builtin n.0)) (linkage_other (vlen c.args.func.now.info) (λ is. c.in_default.not-Global (c.linkage.ensures ∙ is)))),
       func_stays (pass_on c.args.btf.now given (answers_of c.is_supported.new.self.1)) id (Func c.args.func.now) there (ap kind_of (sym c.info.ensures.value) ∙ c.info.ensures.kind) made here n.0 n.1 refl (Func c.args.func.now) refl (one_granted c.args.btf.now given id (Func c.args.func.now) there (ap kind_of (sym c.info.ensures.value) ∙ c.info.ensures.kind) n.0 n.1 (answers_of c.args.resolver.now.1) below (answers_of c.is_supported.new.self.1) c.is_supported.result (asks_next (words g.row.F g.F.FnMut).step asked.Func c.args.resolver.now c.is_supported.new.self c.is_supported.result c.is_supported.ensures.asks) ∙ c.if-not-is_supported.false) (not_if (is_global c.args.func.now) (is_builtin n.0 || not (has (pass_on c.args.btf.now given (answers_of c.is_supported.new.self.1)) features.FuncGlobal)) (linkage_other (vlen c.args.func.now.info) (λ is. c.in_default.not-Global (c.linkage.ensures ∙ is)))) refl,
@@ -124,7 +126,7 @@ returns-in_default-clause-steps g c = λ given id made there below here.
 
 pub returns-then-is_builtin-clause-steps : goal.returns-then-is_builtin-clause-steps
 returns-then-is_builtin-clause-steps g c = λ given id made there below here.
-    let n = read_name c.args.btf.now.strings c.args.readable_end c.name_offset-name_offset.result c.args.func.now.name c.requires.readable (omega (arith, c.if-name_offset-readable_end.false)) c.name_offset-name_offset.ensures in (
+    let n = read_name c.args.btf.now.strings c.name_offset-name_offset.result c.args.func.now.name c.in_ok-check_name.ensures c.name_offset-name_offset.ensures in (
       one_asked c.args.btf.now given id (Func c.args.func.now) there (ap kind_of (sym c.info.ensures.value) ∙ c.info.ensures.kind) n.0 n.1 (answers_of c.args.resolver.now.1) below (answers_of c.is_supported.new.self.1) c.is_supported.result (asks_next (words g.row.F g.F.FnMut).step asked.Func c.args.resolver.now c.is_supported.new.self c.is_supported.result c.is_supported.ensures.asks)
           (and_third c.is_supported.result (is_global c.args.func.now) (is_builtin n.0) (is_known c.args.btf.now.strings c.strings_from.result.now n.0 c.name_offset-name_offset.result c.args.func.now.name c.is_builtin.result c.strings_from.ensures c.name_offset-name_offset.ensures n.1 c.is_builtin.ensures ∙ c.if-is_builtin.true)),
       func_static (pass_on c.args.btf.now given (answers_of c.is_supported.new.self.1)) id (Func c.args.func.now) there (ap kind_of (sym c.info.ensures.value) ∙ c.info.ensures.kind) made here n.0 n.1 refl (Func c.in_ok-made_static.field-0) refl (one_granted c.args.btf.now given id (Func c.args.func.now) there (ap kind_of (sym c.info.ensures.value) ∙ c.info.ensures.kind) n.0 n.1 (answers_of c.args.resolver.now.1) below (answers_of c.is_supported.new.self.1) c.is_supported.result (asks_next (words g.row.F g.F.FnMut).step asked.Func c.args.resolver.now c.is_supported.new.self c.is_supported.result c.is_supported.ensures.asks) ∙ c.if-not-is_supported.false) (changes_if (is_global c.args.func.now) (is_builtin n.0) (has (pass_on c.args.btf.now given (answers_of c.is_supported.new.self.1)) features.FuncGlobal) (linkage_global (vlen c.args.func.now.info) (sym c.linkage.ensures ∙ c.in-Global.is)) (is_known c.args.btf.now.strings c.strings_from.result.now n.0 c.name_offset-name_offset.result c.args.func.now.name c.is_builtin.result c.strings_from.ensures c.name_offset-name_offset.ensures n.1 c.is_builtin.ensures ∙ c.if-is_builtin.true)) c.in_ok-made_static.ensures,
@@ -132,7 +134,7 @@ returns-then-is_builtin-clause-steps g c = λ given id made there below here.
 
 pub returns-then-is_supported-clause-steps : goal.returns-then-is_supported-clause-steps
 returns-then-is_supported-clause-steps g c = λ given id made there below here.
-    let n = read_name c.args.btf.now.strings c.args.readable_end c.name_offset-name_offset.result c.args.func.now.name c.requires.readable (omega (arith, c.if-name_offset-readable_end.false)) c.name_offset-name_offset.ensures in
+    let n = read_name c.args.btf.now.strings c.name_offset-name_offset.result c.args.func.now.name c.in_ok-check_name.ensures c.name_offset-name_offset.ensures in
     let both = both_asked c.args.btf.now given id (Func c.args.func.now) there (ap kind_of (sym c.info.ensures.value) ∙ c.info.ensures.kind) n.0 n.1 (answers_of c.args.resolver.now.1) below (answers_of c.is_supported.new.self.1) (answers_of c.is_supported-2.new.self.1) c.is_supported-2.result (subst (λ (b : Bool). NextAnswers (answers_of c.args.resolver.now.1) features.Func b (answers_of c.is_supported.new.self.1)) c.if-not-is_supported.false (asks_next (words g.row.F g.F.FnMut).step asked.Func c.args.resolver.now c.is_supported.new.self c.is_supported.result c.is_supported.ensures.asks)) (asks_next (words g.row.F g.F.FnMut).step asked.FuncGlobal c.is_supported.new.self c.is_supported-2.new.self c.is_supported-2.result c.is_supported-2.ensures.asks)
     (linkage_global (vlen c.args.func.now.info) (sym c.linkage.ensures ∙ c.in-Global.is)) (is_known c.args.btf.now.strings c.strings_from.result.now n.0 c.name_offset-name_offset.result c.args.func.now.name c.is_builtin.result c.strings_from.ensures c.name_offset-name_offset.ensures n.1 c.is_builtin.ensures ∙ c.if-is_builtin.false) in (
       both.0,
@@ -141,7 +143,7 @@ returns-then-is_supported-clause-steps g c = λ given id made there below here.
 
 pub returns-clause-steps : goal.returns-clause-steps
 returns-clause-steps g c = λ given id made there below here.
-    let n = read_name c.args.btf.now.strings c.args.readable_end c.name_offset-name_offset.result c.args.func.now.name c.requires.readable (omega (arith, c.if-name_offset-readable_end.false)) c.name_offset-name_offset.ensures in
+    let n = read_name c.args.btf.now.strings c.name_offset-name_offset.result c.args.func.now.name c.in_ok-check_name.ensures c.name_offset-name_offset.ensures in
     let both = both_asked c.args.btf.now given id (Func c.args.func.now) there (ap kind_of (sym c.info.ensures.value) ∙ c.info.ensures.kind) n.0 n.1 (answers_of c.args.resolver.now.1) below (answers_of c.is_supported.new.self.1) (answers_of c.is_supported-2.new.self.1) c.is_supported-2.result (subst (λ (b : Bool). NextAnswers (answers_of c.args.resolver.now.1) features.Func b (answers_of c.is_supported.new.self.1)) c.if-not-is_supported.false (asks_next (words g.row.F g.F.FnMut).step asked.Func c.args.resolver.now c.is_supported.new.self c.is_supported.result c.is_supported.ensures.asks)) (asks_next (words g.row.F g.F.FnMut).step asked.FuncGlobal c.is_supported.new.self c.is_supported-2.new.self c.is_supported-2.result c.is_supported-2.ensures.asks)
     (linkage_global (vlen c.args.func.now.info) (sym c.linkage.ensures ∙ c.in-Global.is)) (is_known c.args.btf.now.strings c.strings_from.result.now n.0 c.name_offset-name_offset.result c.args.func.now.name c.is_builtin.result c.strings_from.ensures c.name_offset-name_offset.ensures n.1 c.is_builtin.ensures ∙ c.if-is_builtin.false) in (
       both.0,
@@ -172,12 +174,15 @@ pub returns-clause-further : goal.returns-clause-further
 returns-clause-further g c = further_then c.args.resolver.now.1 c.is_supported.new.self.1 c.is_supported-2.new.self.1 (asks_further (words g.row.F g.F.FnMut).step asked.Func c.args.resolver.now c.is_supported.new.self c.is_supported.result c.is_supported.ensures.asks)
     (asks_further (words g.row.F g.F.FnMut).step asked.FuncGlobal c.is_supported.new.self c.is_supported-2.new.self c.is_supported-2.result c.is_supported-2.ensures.asks)
 
-pub returns-then-name_offset-readable_end-clause-further : goal.returns-then-name_offset-readable_end-clause-further
-returns-then-name_offset-readable_end-clause-further g c = further_none c.args.resolver.now.1
+pub returns-in_err-check_name-clause-further : goal.returns-in_err-check_name-clause-further
+returns-in_err-check_name-clause-further g c = further_none c.args.resolver.now.1
 
-pub returns-then-name_offset-readable_end-clause-steps : goal.returns-then-name_offset-readable_end-clause-steps
-returns-then-name_offset-readable_end-clause-steps g c = λ given id made there below here.
-    let p = pass_on c.args.btf.now given (answers_of c.args.resolver.now.1) in
-    let offset = c.name_offset-name_offset.result in
-    let unread = func_unread p id (Func c.args.func.now) there (ap kind_of (sym c.info.ensures.value) ∙ c.info.ensures.kind) (InvalidStringOffset offset) (sym (c.requires.readable.from offset (omega (arith, c.if-name_offset-readable_end.true))) ∙ ap (text_at c.args.btf.now.strings) c.name_offset-name_offset.ensures) in
-    (([], asked_none p id below, unread.0), unread.1)
+pub returns-in_err-check_name-clause-steps : goal.returns-in_err-check_name-clause-steps
+returns-in_err-check_name-clause-steps g c = λ given id made there below here.
+    let b : BtfType = Func c.args.func.now in
+    let p : Pass = pass_on c.args.btf.now given (answers_of c.args.resolver.now.1) in
+    handed_on (λ new. unwrap_or new b) c.in_err-check_name.field-0.0 c.from_residual.result (Steps p id c.args.resolver.now.1 b made made) c.from_residual.ensures.1
+    (IfSome_then _ c.in_err-check_name.ensures (λ refusal is.
+    let unread = func_unread p id b there (ap kind_of (sym c.info.ensures.value) ∙ c.info.ensures.kind) refusal (unread_name c.args.btf.now.strings c.name_offset-name_offset.result c.args.func.now.name refusal is c.name_offset-name_offset.ensures) in
+    let refuses : Steps p id c.args.resolver.now.1 b made made (Err refusal) = (([], asked_none p id below, unread.0), unread.1) in
+    refuses))
