@@ -1,12 +1,13 @@
 -- Where texts can be read, and the names of functions that kernels know.
-use Rattle.std.proofs.Common.{◌≡◌, ℕ, ◌+◌, ◌-◌, ◌<◌, ◌≤◌, ◌==◌, ◌||◌, Bool, true, false, cond, nat_lt, List, [], ◌∷◌, ◌++◌, length, take, drop, get_or, Option, None, Some, Ok, Err, refl, sym, ap, ◌∙◌, arith, ◌⊎◌, ⊎_elim}
-use Rattle.std.specs.Prelude.{position, option_map, Contains}
+use Rattle.std.proofs.Common.{◌≡◌, ◌≢◌, ℕ, suc, ◌+◌, ◌-◌, ◌<◌, ◌≤◌, ◌==◌, ◌||◌, Bool, true, false, cond, nat_lt, List, [], ◌∷◌, ◌++◌, length, take, drop, get_or, Option, None, Some, Ok, Err, refl, sym, ap, ◌∙◌, arith, ◌⊎◌, ⊎_elim}
+use Rattle.std.specs.Prelude.{position, option_map, slice_get, Contains}
+use Rattle.std.proofs.lemmas.Option.{none-some, same_Some}
 use Rattle.std.specs.List.{list_any, list_all, position_or_len, starts_with, AllByRecursion}
 use Rattle.std.specs.Str.{IsUtf8, bytes_eq}
 use Rattle.std.specs.Str.Lossy.{utf8_lossy, utf8_valid_len, replacement_bytes, after_first_chunk}
-use Rattle.std.proofs.lemmas.Bool.{lt-ltb, ltb-true, true_from_ne_false, eqb-true, eq-eqb, cases_order, false≢true}
+use Rattle.std.proofs.lemmas.Bool.{lt-ltb, ltb-true, true_from_ne_false, false_from_ne_true, eqb-true, eq-eqb, cases_order, false≢true}
 use Rattle.std.proofs.lemmas.Bool.Decides.{Decides-eqb}
-use Rattle.std.proofs.lemmas.List.{length-drop, get_or-drop, append_assoc, take-append-drop, drop_more}
+use Rattle.std.proofs.lemmas.List.{length-drop, get_or-drop, append_assoc, append_cancel_left, take-append-drop, drop_more}
 use Rattle.std.proofs.lemmas.List.Sums.{fails_before_first}
 use Rattle.std.proofs.lemmas.List.Folds.{list_any-append, list_any_at, list_all_at}
 use Rattle.std.proofs.lemmas.List.Quantifiers.{position-Some}
@@ -20,6 +21,7 @@ use Rattle.btf_model.specs.Text.{is_zero, bytes_at, lossy, text_of, text_at}
 use Rattle.btf_model.proofs.Texts.{has_bytes, some_mapped, added_text, text_stays, no_bytes}
 use Rattle.btf_rewrite_model.specs.Pass.{is_builtin, builtins}
 use Rattle.btf_rules.specs.Builtins.{begins_builtin}
+use Rattle.btf_table.specs.Readable.{HasNameAt, IsComparable}
 
 -- ---- where a zero byte stands
 
@@ -93,6 +95,24 @@ ascii_is xs all =
 no_zero : (xs : List ℕ) → list_any is_zero xs ≡ false → ¬ (Contains xs 0)
 no_zero xs none has = absurd (false≢true (sym none ∙ list_any_at is_zero xs has.0 0 has.1 (ap is_zero has.2)))
 
+-- a name that strings begin with, with its zero byte, is their text
+name_is : (strings name text rest : List ℕ) → IsUtf8 name → ¬ (Contains name 0) → text_at strings 0 ≡ Ok text → strings ≡ name ++ 0 ∷ rest → text ≡ name
+name_is strings name text rest utf8 none is begins =
+    let there : text_at ((name ++ 0 ∷ []) ++ rest) 0 ≡ Ok name = text_stays (name ++ 0 ∷ []) rest 0 name (added_text [] name utf8 none) in
+    same_ok {E = Refusal} text name (sym is ∙ ap (λ (xs : List ℕ). text_at xs 0) (begins ∙ sym (append_assoc name (0 ∷ []) rest)) ∙ there)
+
+-- and strings whose text is a name without U+FFFD begin with it
+name_begins : (strings name text : List ℕ) → has_mark name ≡ false → text_at strings 0 ≡ Ok text → text ≡ name → (rest : List ℕ) × (strings ≡ name ++ 0 ∷ rest)
+name_begins strings name text unmarked is equal =
+    let b = has_bytes 0 (bytes_at strings 0) text is in
+    let found = some_mapped (λ end. take end strings) (position is_zero strings) b.0 b.1 in
+    let end : ℕ = found.0 in
+    let at = position-Some is_zero strings end 0 found.1 in
+    let front : take end strings ≡ name = found.2 ∙ plain_text b.0 name unmarked (b.2 ∙ equal) in
+    let behind : List ℕ = drop (end + 1) strings in
+    let cut : drop end strings ≡ 0 ∷ behind = drop_more strings end 0 at.0 ∙ ap (λ (n : ℕ). n ∷ behind) (eqb-true (get_or strings end 0) 0 at.1) in
+    (behind, sym (take-append-drop end strings) ∙ ap (λ (xs : List ℕ). xs ++ drop end strings) front ∙ ap (λ (xs : List ℕ). name ++ xs) cut)
+
 -- strings begin with a name and its zero byte where this is their text
 begins_is : (strings name text : List ℕ) → IsPlain name → text_at strings 0 ≡ Ok text → starts_with ◌==◌ strings (name ++ 0 ∷ []) ≡ bytes_eq text name
 begins_is strings name text plain is = by_cases (starts_with ◌==◌ strings (name ++ 0 ∷ [])) (bytes_eq text name) refl refl
@@ -101,20 +121,13 @@ begins_is strings name text plain is = by_cases (starts_with ◌==◌ strings (n
     same begins =
         let starts = starts_is Decides-eqb strings (name ++ 0 ∷ []) (starts_with ◌==◌ strings (name ++ 0 ∷ [])) refl in
         let rest : List ℕ = drop (length (name ++ 0 ∷ [])) strings in
-        let there : text_at ((name ++ 0 ∷ []) ++ rest) 0 ≡ Ok name = text_stays (name ++ 0 ∷ []) rest 0 name (added_text [] name (ascii_is name plain.1) (no_zero name plain.2)) in
-        same_ok {E = Refusal} text name (sym is ∙ ap (λ (xs : List ℕ). text_at xs 0) (starts.0 begins) ∙ there)
+        name_is strings name text rest (ascii_is name plain.1) (no_zero name plain.2) is (starts.0 begins ∙ append_assoc name (0 ∷ []) rest)
 
     begins : text ≡ name → starts_with ◌==◌ strings (name ++ 0 ∷ []) ≡ true
     begins equal =
         let starts = starts_is Decides-eqb strings (name ++ 0 ∷ []) (starts_with ◌==◌ strings (name ++ 0 ∷ [])) refl in
-        let b = has_bytes 0 (bytes_at strings 0) text is in
-        let found = some_mapped (λ end. take end strings) (position is_zero strings) b.0 b.1 in
-        let end : ℕ = found.0 in
-        let at = position-Some is_zero strings end 0 found.1 in
-        let front : take end strings ≡ name = found.2 ∙ plain_text b.0 name plain.0 (b.2 ∙ equal) in
-        let behind : List ℕ = drop (end + 1) strings in
-        let cut : drop end strings ≡ 0 ∷ behind = drop_more strings end 0 at.0 ∙ ap (λ (n : ℕ). n ∷ behind) (eqb-true (get_or strings end 0) 0 at.1) in
-        starts.1 behind (sym (take-append-drop end strings) ∙ ap (λ (xs : List ℕ). xs ++ drop end strings) front ∙ ap (λ (xs : List ℕ). name ++ xs) cut ∙ sym (append_assoc name (0 ∷ []) behind))
+        let found = name_begins strings name text plain.0 is equal in
+        starts.1 found.0 (found.1 ∙ sym (append_assoc name (0 ∷ []) found.0))
 
     by_cases : (a b : Bool) → starts_with ◌==◌ strings (name ++ 0 ∷ []) ≡ a → bytes_eq text name ≡ b → a ≡ b
     by_cases true true one two = refl
@@ -129,8 +142,34 @@ begins_any strings text (name ∷ names) plain is =
     ap (λ (b : Bool). b || list_any (λ n. starts_with ◌==◌ strings (n ++ 0 ∷ [])) names) (begins_is strings name text plain.0 is)
     ∙ ap (λ (b : Bool). bytes_eq text name || b) (begins_any strings text names plain.1 is)
 
+-- the text at an offset is the one at the front of what stands from there on
+from_front : (strings : List ℕ) (offset : ℕ) (text : List ℕ) → text_at strings offset ≡ Ok text → text_at (drop offset strings) 0 ≡ Ok text
+from_front strings offset text is = let b = has_bytes offset (bytes_at strings offset) text is in ap (text_of 0) b.1 ∙ ap (λ (x : List ℕ). Ok x) b.2
+
+none_marked : (xs : List ℕ) → ((k : ℕ) → k < length xs → get_or xs k 0 ≢ 0xEF) → has_mark xs ≡ false
+none_marked [] h = refl
+none_marked (x ∷ xs) h =
+    ap (λ (b : Bool). b || has_mark xs) (false_from_ne_true (x == 0xEF) (λ e. h 0 (omega arith) (eqb-true x 0xEF e)))
+    ∙ none_marked xs (λ k lt. h (suc k) (omega (arith, lt)))
+
+-- a name that bytes can be compared with stands at an offset exactly where it is the text there
+pub text_is_name : (strings name text : List ℕ) (offset : ℕ) → IsUtf8 name → IsComparable name → text_at strings offset ≡ Ok text → HasNameAt strings offset name → text ≡ name
+text_is_name strings name text offset utf8 comparable is has =
+    name_is (drop offset strings) name text has.0 utf8 (λ found. absurd ((comparable found.0 found.1).0 found.2)) (from_front strings offset text is) has.1
+
+pub name_at_text : (strings name text : List ℕ) (offset : ℕ) → IsComparable name → text_at strings offset ≡ Ok text → text ≡ name → HasNameAt strings offset name
+name_at_text strings name text offset comparable is equal =
+    name_begins (drop offset strings) name text (none_marked name (λ k lt. (comparable k lt).1)) (from_front strings offset text is) equal
+
+-- whether the byte after a name is zero decides that both stand there
+pub name_and_zero : (rest name after : List ℕ) (byte : ℕ) → rest ≡ name ++ after → Some byte ≡ slice_get after 0 → ((byte == 0) ≡ true → (more : List ℕ) × (rest ≡ name ++ 0 ∷ more)) × ((more : List ℕ) × (rest ≡ name ++ 0 ∷ more) → (byte == 0) ≡ true)
+name_and_zero rest name [] byte is first = absurd (none-some byte (sym first))
+name_and_zero rest name (x ∷ after) byte is first =
+    let same : byte ≡ x = same_Some byte x first in (
+      λ t. (after, is ∙ ap (λ (n : ℕ). name ++ n ∷ after) (sym same ∙ eqb-true byte 0 t)),
+      λ has. ap (λ (n : ℕ). n == 0) same ∙ same_Some (x == 0) true (ap (option_map (λ n. n == 0)) (ap (λ (xs : List ℕ). slice_get xs 0) (append_cancel_left name (x ∷ after) (0 ∷ has.0) (sym is ∙ has.1)))),
+    )
+
 pub builtin_is : (strings : List ℕ) (offset : ℕ) (text : List ℕ) → text_at strings offset ≡ Ok text → begins_builtin (drop offset strings) ≡ is_builtin text
 builtin_is strings offset text is =
-    let b = has_bytes offset (bytes_at strings offset) text is in
-    let here : text_at (drop offset strings) 0 ≡ Ok text = ap (text_of 0) b.1 ∙ ap (λ (x : List ℕ). Ok x) b.2 in
-    begins_any (drop offset strings) text builtins ((refl, refl, refl), ((refl, refl, refl), ((refl, refl, refl), ((refl, refl, refl), tt)))) here
+    begins_any (drop offset strings) text builtins ((refl, refl, refl), ((refl, refl, refl), ((refl, refl, refl), ((refl, refl, refl), tt)))) (from_front strings offset text is)

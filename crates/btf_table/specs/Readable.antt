@@ -1,5 +1,5 @@
 -- The offsets at which a text of the strings can be read.
-use Rattle.std.specs.Prelude.{◌≡◌, ℕ, ◌<◌, ◌≤◌, List, Ok, Err}
+use Rattle.std.specs.Prelude.{◌≡◌, ◌≢◌, ℕ, ◌<◌, ◌≤◌, List, ◌∷◌, ◌++◌, length, drop, get_or, Ok, Err}
 use Rattle.btf_model.specs.Refusal.{InvalidStringOffset}
 use Rattle.btf_model.specs.Text.{text_at}
 
@@ -7,3 +7,11 @@ use Rattle.btf_model.specs.Text.{text_at}
 pub record IsReadableEnd (strings : List ℕ) (end : ℕ) : Type 0 where
   pub below : (offset : ℕ) → offset < end → (text : List ℕ) × (text_at strings offset ≡ Ok text)
   pub from : (offset : ℕ) → end ≤ offset → text_at strings offset ≡ Err (InvalidStringOffset offset)
+
+-- The bytes at an offset are this name and a zero byte.
+abbrev pub HasNameAt : List ℕ → ℕ → List ℕ → Type 0
+HasNameAt strings offset name = (rest : List ℕ) × (drop offset strings ≡ name ++ 0 ∷ rest)
+
+-- A name that bytes can be compared with: it has no zero byte, nor one with which U+FFFD begins, which stands for what is not UTF-8.
+abbrev pub IsComparable : List ℕ → Type 0
+IsComparable name = (k : ℕ) → k < length name → (get_or name k 0 ≢ 0) × (get_or name k 0 ≢ 0xEF)

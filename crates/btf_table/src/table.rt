@@ -35,7 +35,7 @@ pub(crate) use crate::table::changes::Changes;
 use crate::table::header::{HEADER_LEN, Header, section};
 pub(crate) use crate::table::limits::{record_fits, text_fits};
 pub use crate::table::text::BtfStr;
-use crate::table::text::{find_named, readable_end, text_at};
+use crate::table::text::{find_named, readable_end, strings_from, text_at};
 use crate::table::types::{append_types, clone_types, read_types};
 pub use crate::table::walk::WALK_LIMIT;
 use crate::table::walk::{resolve, size};
@@ -340,7 +340,7 @@ impl Btf {
     pub(crate) fn strings_from(&self, offset: u32) -> &[u8]
         ensures { result.now ≡ drop offset self.now.strings }
     {
-        self.strings.get(offset as usize..).unwrap_or(&[])
+        strings_from(&self.strings, offset)
     }
 
     /// The length of the strings in bytes.

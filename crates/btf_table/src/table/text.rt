@@ -1,6 +1,6 @@
 //! Texts of the string section, and the type of a name.
 
-ghost use Rattle.std.specs.Prelude.{◌≡◌, ◌↔◌, ◌<◌, ◌^◌, length, map, Some, IfSome, IsTrue};
+ghost use Rattle.std.specs.Prelude.{◌≡◌, ◌↔◌, ◌<◌, ◌^◌, length, drop, map, Some, IfSome, IsTrue};
 ghost use Rattle.std.specs.Option.{option_map};
 ghost use Rattle.std.specs.Str.{IsUtf8};
 ghost use Rattle.btf_model.specs.Record.{kind_of};
@@ -10,7 +10,7 @@ ghost use Rattle.btf_words.specs.Error.{Answers, Gives, Tells};
 ghost use Rattle.btf_words.specs.Kind as kinds;
 ghost use Rattle.btf_records.specs.BtfType.{record_of};
 ghost use Rattle.btf_table.specs.BtfStr.{text_bytes, IsNamed};
-ghost use Rattle.btf_table.specs.Readable.{IsReadableEnd};
+ghost use Rattle.btf_table.specs.Readable.{IsReadableEnd, IsComparable, HasNameAt};
 
 use bstr::ByteSlice;
 use btf_plain::{BtfError, BtfKind};
@@ -78,6 +78,13 @@ pub fn readable_end(strings: &[u8]) -> usize
     }
 }
 
+/// The strings from an offset on.
+pub fn strings_from(strings: &[u8], offset: u32) -> &[u8]
+    ensures { result.now ≡ drop offset strings.now }
+{
+    strings.get(offset as usize..).unwrap_or(&[])
+}
+
 /// Whether a type has this kind.
 fn has_kind(btf_type: &BtfType, kind: BtfKind) -> bool
     ensures { IsTrue result ↔ (kind_of (record_of btf_type.now).info ≡ Some (kinds.kind kind)) }
@@ -87,24 +94,71 @@ fn has_kind(btf_type: &BtfType, kind: BtfKind) -> bool
     btf_type.kind() == kind
 }
 
-/// Whether a type has this kind and this name, or why the name of one of this kind can't be read.
+/// Whether bytes can be compared with a name: it has no zero byte, which would end it, and no byte with which U+FFFD
+/// begins, the text of bytes that are not UTF-8.
+fn is_comparable(name: &str) -> bool
+    ensures { IsTrue result → IsComparable name.now }
+{
+    let bytes = name.as_bytes();
+    bytes.find_byte(0).is_none() && bytes.find_byte(0xef).is_none()
+}
+
+/// The readable end of the strings, where bytes can be compared with a name.
+fn comparable_end(strings: &[u8], name: &str) -> Option<usize>
+    ensures { IfSome result (λ end. IsReadableEnd strings.now end × IsComparable name.now) }
+{
+    if is_comparable(name) {
+        Some(readable_end(strings))
+    } else {
+        None
+    }
+}
+
+/// Whether this name and a zero byte stand at an offset. No more bytes are looked at than these.
+fn has_name_at(strings: &[u8], offset: u32, name: &str) -> bool
+    ensures { IsTrue result ↔ HasNameAt strings.now offset name.now }
+{
+    let rest = strings_from(strings, offset);
+    let Some(after) = rest.strip_prefix(name.as_bytes()) else {
+        return false;
+    };
+    match after.first() {
+        Some(byte) => *byte == 0,
+        None => false,
+    }
+}
+
+/// Whether a type has this kind and this name, or why the name of one of this kind can't be read. With a readable end
+/// the bytes are compared, and otherwise the text that they are read as.
 fn is_named(
     alloc: Global,
     strings: &[u8],
     btf_type: &BtfType,
     name: &str,
     kind: BtfKind,
+    readable_end: Option<usize>,
 ) -> Result<bool, BtfError>
+    requires { IfSome readable_end (λ end. IsReadableEnd strings.now end × IsComparable name.now) }
     ensures { Answers (λ b. b) result (IsNamed strings.now (kinds.kind kind) name.now (record_of btf_type.now)) }
 {
     if !has_kind(btf_type, kind) {
         return Ok(false);
     }
-    let text = text_at(alloc, strings, btf_type.name_offset())?;
-    Ok(text.as_str() == name)
+    let offset = btf_type.name_offset();
+    let Some(end) = readable_end else {
+        let text = text_at(alloc, strings, offset)?;
+        return Ok(text.as_str() == name);
+    };
+    if offset as usize >= end {
+        return Err(BtfError::InvalidStringOffset {
+            offset: offset as usize,
+        });
+    }
+    Ok(has_name_at(strings, offset, name))
 }
 
-/// The id of the first type of this kind and name, of fewer types than 32 bits can number.
+/// The id of the first type of this kind and name, of fewer types than 32 bits can number. No name is read to its end,
+/// but for a name that bytes can't be compared with.
 ///
 /// `InvalidStringOffset` where a type of this kind in front of it has a name that can't be read, and
 /// `UnknownBtfTypeName` where there is none.
@@ -118,8 +172,9 @@ pub fn find_named(
     requires { length types.now < 2 ^ 32 }
     ensures { Answers (λ id. id) result (FindsName strings.now (map record_of types.now) (kinds.kind kind) name.now) }
 {
+    let readable_end = comparable_end(strings, name);
     for (id, btf_type) in types.iter().enumerate() {
-        if is_named(alloc, strings, btf_type, name, kind)? {
+        if is_named(alloc, strings, btf_type, name, kind, readable_end)? {
             return Ok(id as u32);
         }
     }
