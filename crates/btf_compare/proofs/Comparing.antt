@@ -1,12 +1,6 @@
 -- The loop of the comparison of types, as a run of the definitions.
 use Rattle.std.proofs.Common.{◌≡◌, ℕ, ◌+◌, ◌-◌, ◌<◌, ◌≤◌, List, [], ◌∷◌, ◌++◌, length, map, reverse, refl, sym, ap, subst, ◌∙◌, inl, inr, Bool, true, false, Some, None, Ok, Err, Result, Contains, arith, append_assoc}
-use Rattle.std.specs.List.{list_any}
-use Rattle.std.specs.Prelude.{◌⊎◌, ◌==◌, ◌&&◌, cond, IsErrAnd}
-use Rattle.std.specs.BTreeSet as ordered
-use Rattle.std.specs.BTreeSet.{BTreeSet}
-use Rattle.std.specs.BTreeMap.{is_at}
-use Rattle.std.specs.Ordering.{is_eq, nat_cmp}
-use Rattle.std.specs.Cmp.{both_tied, unsigned_ties}
+use Rattle.std.specs.Prelude.{◌⊎◌, cond, IsErrAnd}
 use Rattle.std.specs.Result.{result_ok}
 use Rattle.std.proofs.lemmas.Bool.{false≢true}
 use Rattle.std.proofs.lemmas.List.{reverse-append, map-append, length-append, length-map}
@@ -29,7 +23,7 @@ use Rattle.btf_words.specs.Error.{Answers, Tells, refusal_of}
 use Rattle.btf_words.specs.declared.error.BtfError.{BtfError}
 use Rattle.btf_words.specs.declared.error.BtfError.TheVariants as errors
 use Rattle.btf_compare.specs.declared.step.Frame.{Frame}
-use Rattle.btf_compare.specs.Compared.{frame_of, ids_cmp, has, Changes, IsStarted, IsRefused, Traces}
+use Rattle.btf_compare.specs.Compared.{frame_of, IsStarted, IsRefused, Traces}
 use Rattle.btf_compare.specs.Pairs.{pair_of, ids_of}
 use Rattle.btf_words.proofs.Refused.{known_refusal}
 
@@ -73,12 +67,16 @@ stack_of frames = reverse (map frame_of frames)
 pub stack_push : (frames more : List Frame) (f : Frame) → more ≡ frames ++ f ∷ [] → stack_of more ≡ frame_of f ∷ stack_of frames
 stack_push frames more f is = ap stack_of is ∙ ap reverse (map-append frame_of frames (f ∷ [])) ∙ reverse-append (map frame_of frames) (frame_of f ∷ [])
 
--- a set of pairs of ids
+-- which pairs of ids are in a set
 abbrev pub PairSet : Type 0
-PairSet = BTreeSet (ℕ × ℕ)
+PairSet = Pair → Bool
 
 abbrev pub IsIn : PairSet → Pair → Type 0
-IsIn set p = has set p ≡ true
+IsIn set p = set p ≡ true
+
+-- the set has p if b is true, and otherwise what it had
+abbrev pub Changes : PairSet → PairSet → Pair → Bool → Type 0
+Changes old new p b = (q : Pair) → new q ≡ cond (pair_eq p q) b (old q)
 
 -- What holds at each step of the loop: it is a run, and the set of open pairs has those of the stack.
 pub record IsRunning (local target : Table) (root : Pair) (opened settled : PairSet) (top : runs.Frame) (below : List runs.Frame) (old new : List (ℕ × ℕ)) : Type 0 where
@@ -88,35 +86,23 @@ pub record IsRunning (local target : Table) (root : Pair) (opened settled : Pair
   pub among : (q : Pair) → IsIn opened q → Among (top.pair ∷ open_pairs below) q
   pub has_all : (q : Pair) → Among (top.pair ∷ open_pairs below) q → IsIn opened q
 
--- a set in which nothing is has nothing
-pub nothing_in : (set : PairSet) → ordered.IsEmpty set → (q : Pair) → has set q ≡ false
-nothing_in set is q = ap (list_any (is_at (ids_cmp (ids_of q)))) is
-
--- pairs that the order does not tell apart are one
-same_ids : (p q : Pair) → is_eq (ids_cmp (ids_of p) (ids_of q)) ≡ pair_eq p q
-same_ids p q = sym (both_tied (p.local == q.local) (p.target == q.target) (nat_cmp p.local q.local) (nat_cmp p.target q.target) (unsigned_ties p.local q.local) (unsigned_ties p.target q.target))
-
--- what a change of the set says of each pair of ids
-pub changes : (old new : PairSet) (p : Pair) (b : Bool) → ((ids : ℕ × ℕ) → ordered.contains ids_cmp new ids ≡ cond (is_at (ids_cmp (ids_of p)) ids) b (ordered.contains ids_cmp old ids)) → Changes old new p b
-changes old new p b given q = given (ids_of q) ∙ ap (λ (x : Bool). cond x b (has old q)) (same_ids p q)
-
 -- what is in a set behind a change
 behind_cond : (b : Bool) (x : Bool) → cond b true x ≡ true → (b ≡ true) ⊎ (x ≡ true)
 behind_cond true x is = inl refl
 behind_cond false x is = inr is
 
 pub now_in : (old new : PairSet) (p : Pair) → Changes old new p true → (q : Pair) → IsIn new q → IsIn old q ⊎ (p ≡ q)
-now_in old new p changes q h = elim (behind_cond (pair_eq p q) (has old q) (sym (changes q) ∙ h)) [ inl is ↦ inr (eq_same p q is) | inr was ↦ inl was ]
+now_in old new p changes q h = elim (behind_cond (pair_eq p q) (old q) (sym (changes q) ∙ h)) [ inl is ↦ inr (eq_same p q is) | inr was ↦ inl was ]
 
 in_cond : (b x : Bool) → x ≡ true → cond b true x ≡ true
 in_cond true x is = refl
 in_cond false x is = is
 
 pub still_in : (old new : PairSet) (p : Pair) → Changes old new p true → (q : Pair) → IsIn old q → IsIn new q
-still_in old new p changes q h = changes q ∙ in_cond (pair_eq p q) (has old q) h
+still_in old new p changes q h = changes q ∙ in_cond (pair_eq p q) (old q) h
 
 pub itself_in : (old new : PairSet) (p : Pair) → Changes old new p true → IsIn new p
-itself_in old new p changes = changes p ∙ ap (λ (b : Bool). cond b true (has old p)) (eq_itself p)
+itself_in old new p changes = changes p ∙ ap (λ (b : Bool). cond b true (old p)) (eq_itself p)
 
 -- ---- before the loop
 
@@ -140,7 +126,7 @@ module _ (local target : Table) (root : ℕ × ℕ) where
   pub root_differs : (old new : List (ℕ × ℕ)) → IsStarted local target (pair_of root) None → new ≡ old ++ root ∷ [] → Compares local target (pair_of root) (Ok false) old new
   root_differs old new h added = answered local target none (pair_of root) (Ok false) (pair_of root ∷ []) (Ok false) old new (pair_of root ∷ [], Plain.kinds_differ [] (pair_of root) h.0 h.1 none_open h.2 h.3, refl) refl added
 
-  pub root_started : (top : Frame) (begun opened settled : PairSet) (items : List Frame) (old new : List (ℕ × ℕ)) → IsStarted local target (pair_of root) (Some top) → items ≡ [] → ordered.IsEmpty begun → ordered.IsEmpty settled → Changes begun opened (pair_of root) true → new ≡ old ++ root ∷ []
+  pub root_started : (top : Frame) (begun opened settled : PairSet) (items : List Frame) (old new : List (ℕ × ℕ)) → IsStarted local target (pair_of root) (Some top) → items ≡ [] → ((q : Pair) → begun q ≡ false) → ((q : Pair) → settled q ≡ false) → Changes begun opened (pair_of root) true → new ≡ old ++ root ∷ []
       → IsRunning local target (pair_of root) opened settled (frame_of top) (stack_of items) old new
   root_started top begun opened settled items old new h below empty none_settled changes added =
       subst (λ (x : runs.Frame). IsRunning local target (pair_of root) opened settled x (stack_of items) old new) (sym h.1)
@@ -148,8 +134,8 @@ module _ (local target : Table) (root : ℕ × ℕ) where
       (record {
         listed = pair_of root ∷ [];
         added = added;
-        run = run_begun local target (IsIn settled) (pair_of root) h.0 (λ q is. false≢true (sym (nothing_in settled none_settled q) ∙ is));
-        among = λ q is. elim (now_in begun opened (pair_of root) changes q is) [ inl was ↦ absurd (false≢true (sym (nothing_in begun empty q) ∙ was)) | inr same ↦ inl same ];
+        run = run_begun local target (IsIn settled) (pair_of root) h.0 (λ q is. false≢true (sym (none_settled q) ∙ is));
+        among = λ q is. elim (now_in begun opened (pair_of root) changes q is) [ inl was ↦ absurd (false≢true (sym (empty q) ∙ was)) | inr same ↦ inl same ];
         has_all = λ q. elim [ inl same ↦ subst (IsIn opened) same (itself_in begun opened (pair_of root) changes) | inr m ↦ absurd m ];
       }))
 
@@ -208,7 +194,7 @@ module _ (local target : Table) (root : Pair) (opened settled : PairSet) (top : 
         (run_refused local target (IsIn settled) root top g p below state.listed state.run next (Err (MaximumTypeDepthReached p.local)) (Plain.again (top.pair ∷ open_pairs below) p (contains_from_among (top.pair ∷ open_pairs below) p (state.among p is))) (not_true (MaximumTypeDepthReached p.local)))
         (MaximumTypeDepthReached p.local, refl, refl) state.added
 
-    module _ (not_open : has opened p ≡ false) (not_settled : has settled p ≡ false) where
+    module _ (not_open : opened p ≡ false) (not_settled : settled p ≡ false) where
       new_pair : Among (top.pair ∷ open_pairs below) p → ⊥
       new_pair m = false≢true (sym not_open ∙ state.has_all p m)
 
@@ -270,12 +256,12 @@ module _ (local target : Table) (root : Pair) (opened settled : PairSet) (top g 
     added = state.added;
     run = run_settles local target (IsIn settled) (IsIn more) (still_in settled more top.pair changes) root top g below state.listed state.run next (itself_in settled more top.pair changes) (now_in settled more top.pair changes);
     among = λ q is.
-        let out = out_cond (pair_eq top.pair q) (has opened q) (sym (closes q) ∙ is) in
+        let out = out_cond (pair_eq top.pair q) (opened q) (sym (closes q) ∙ is) in
         elim (state.among q out.1) [
           | inl same ↦ absurd (false≢true (sym out.0 ∙ ap (pair_eq top.pair) (sym same) ∙ eq_itself top.pair))
           | inr m ↦ m
         ];
-    has_all = λ q m. closes q ∙ ap (λ (b : Bool). cond b false (has opened q)) (other_pair q m) ∙ state.has_all q (inr m);
+    has_all = λ q m. closes q ∙ ap (λ (b : Bool). cond b false (opened q)) (other_pair q m) ∙ state.has_all q (inr m);
   }
 
 -- ---- the steps come to an end

@@ -1,5 +1,7 @@
 pub mod FieldSteps
 pub mod Positions
 pub mod Steps
+pub mod PairMaps
 pub mod Comparing
+pub mod Progresses
 pub mod Starts

@@ -1,10 +1,6 @@
 -- What the parts of the comparison of types stand for.
-use Rattle.std.specs.Prelude.{◌≡◌, ◌≢◌, ◌⊎◌, ◌≤◌, ℕ, ◌+◌, ◌-◌, ◌*◌, length, All, cond, Bool, List, ◌++◌, map, slice_get, Option, Some, None, Result, Ok, Err}
+use Rattle.std.specs.Prelude.{◌≡◌, ◌≢◌, ◌⊎◌, ◌≤◌, ℕ, ◌+◌, ◌-◌, ◌*◌, length, All, Bool, true, false, List, ◌++◌, map, slice_get, Option, Some, None, Result, Ok, Err}
 use Rattle.std.specs.List.{IsDistinct}
-use Rattle.std.specs.BTreeSet as ordered
-use Rattle.std.specs.BTreeSet.{BTreeSet}
-use Rattle.std.specs.declared.cmp.Ordering.{Ordering}
-use Rattle.std.specs.Ordering.{nat_cmp, ordering_then}
 use Rattle.btf_model.specs.Record.{Record, Kind, compared_kind}
 use Rattle.btf_model.specs.Refusal.{Refusal}
 use Rattle.btf_model.specs.Table.{Table}
@@ -20,6 +16,10 @@ use Rattle.btf_words.specs.Error.{Tells}
 use Rattle.btf_words.specs.declared.error.BtfError.{BtfError}
 use Rattle.btf_words.specs.declared.error.BtfError.TheVariants as errors
 use Rattle.btf_items.specs.declared.items.BtfParam.{BtfParam}
+use Rattle.btf_compare.specs.declared.pair_map.PairMap.{PairMap}
+use Rattle.btf_compare.specs.declared.progress.Progress.{Progress}
+use Rattle.btf_compare.specs.declared.progress.Progress.TheVariants as progresses
+use Rattle.btf_compare.specs.PairMap.{known}
 use Rattle.btf_compare.specs.declared.position.Position.{Position}
 use Rattle.btf_compare.specs.declared.position.Position.TheVariants as positions
 use Rattle.btf_compare.specs.declared.step.Frame.{Frame}
@@ -53,17 +53,20 @@ ParameterStepIs local target f at (steps.Ends answer) = Tells (λ b. b) answer (
 ParameterStepIs local target f at (steps.GoesOn g) = ⊥
 ParameterStepIs local target f at (steps.Waits ids g) = ResolvesPair local target at (Ok (pair_of ids)) × (g ≡ record f { parameter = f.parameter + 1 })
 
--- the order of two pairs of ids: by the local ids, and then by the target ids
-abbrev pub ids_cmp : ℕ × ℕ → ℕ × ℕ → Ordering
-ids_cmp x y = ordering_then (nat_cmp x.0 y.0) (nat_cmp x.1 y.1)
+-- whether a run has a pair open, or knows it to be compatible
+abbrev pub tells_open : Option Progress → Bool
+tells_open (Some progresses.Open) = true
+tells_open o = false
 
--- whether the set has the pair
-abbrev pub has : BTreeSet (ℕ × ℕ) → Pair → Bool
-has set p = ordered.contains ids_cmp set (ids_of p)
+abbrev pub tells_settled : Option Progress → Bool
+tells_settled (Some progresses.Compatible) = true
+tells_settled o = false
 
--- the set has p if b is true, and otherwise what it had
-abbrev pub Changes : BTreeSet (ℕ × ℕ) → BTreeSet (ℕ × ℕ) → Pair → Bool → Type 0
-Changes old new p b = (q : Pair) → has new q ≡ cond (pair_eq p q) b (has old q)
+abbrev pub opened_in : PairMap Progress → Pair → Bool
+opened_in seen p = tells_open (known seen (ids_of p))
+
+abbrev pub settled_in : PairMap Progress → Pair → Bool
+settled_in seen p = tells_settled (known seen (ids_of p))
 
 -- A pair that is started is known: its walk begins, or the kinds differ.
 abbrev pub IsStarted : Table → Table → Pair → Option Frame → Type 0

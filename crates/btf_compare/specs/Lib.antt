@@ -1,4 +1,5 @@
 pub mod Pairs
+pub mod PairMap
 pub mod FieldStep
 pub mod Compared
 pub use Rattle.btf_model.specs.Text

@@ -2,7 +2,9 @@
 #![tactic(auto)]
 
 mod fields;
+mod pair_map;
 mod position;
+mod progress;
 mod resolved;
 mod run;
 mod step;

@@ -1,41 +1,38 @@
 //! The run of the comparison of types: open pairs on a stack of its own, and pairs that came out true.
 
-ghost use Rattle.std.specs.Prelude.{◌≡◌, [], ◌∷◌, ◌++◌, map, true, false, List, Bool, Result, IfOk, OnOk, IfErr, OnErr, MatchOption};
-ghost use Rattle.std.specs.BTreeSet.{IsEmpty};
+ghost use Rattle.std.specs.Prelude.{◌≡◌, ℕ, None, [], ◌∷◌, ◌++◌, List, Bool, Result, IfOk, OnOk, IfErr, OnErr, MatchOption};
 ghost use Rattle.btf_model.specs.Fields.{Pair};
 ghost use Rattle.btf_model.specs.Refusal.{Refusal};
 ghost use Rattle.btf_model.specs.Compat.{Plain, firsts};
-ghost use Rattle.btf_compare.specs.Compared.{has, Changes, IsStarted, IsRefused, Traces};
+ghost use Rattle.btf_compare.specs.Compared.{IsStarted, IsRefused, Traces};
+ghost use Rattle.btf_compare.specs.PairMap.{known, Learns};
 ghost use Rattle.btf_compare.specs.Pairs.{pair_of};
 
+use crate::pair_map::PairMap;
+use crate::progress::Progress;
 use crate::step::{Frame, Step};
 use btf_plain::BtfError;
 use btf_table::{Btf, allocator_of};
 use std::alloc::Global;
-use std::collections::BTreeSet;
 
 /// What a run remembers.
 #[derive(Drop)]
 struct Run {
     /// The open pairs that wait for the one above them, the root first.
     below: Vec<Frame>,
-    /// All open pairs.
-    opened: BTreeSet<(u32, u32)>,
-    /// The pairs that came out true.
-    settled: BTreeSet<(u32, u32)>,
+    /// The pairs that were started, each with its progress.
+    seen: PairMap<Progress>,
 }
 
 impl Run {
     /// A run in which no pair is open or settled.
     fn new(alloc: Global) -> Run
         ensures below { result.below.items ≡ [] }
-        ensures opened { IsEmpty result.opened }
-        ensures settled { IsEmpty result.settled }
+        ensures seen { (ids : ℕ × ℕ) → known result.seen ids ≡ None }
     {
         Run {
             below: Vec::new(alloc),
-            opened: BTreeSet::new(alloc),
-            settled: BTreeSet::new(alloc),
+            seen: PairMap::new(alloc),
         }
     }
 
@@ -48,19 +45,17 @@ impl Run {
         pair: (u32, u32),
         starts: &mut Vec<(u32, u32)>,
     ) -> Result<Option<Frame>, BtfError>
-        requires not_open { has self.old.opened (pair_of pair) ≡ false }
-        requires not_settled { has self.old.settled (pair_of pair) ≡ false }
+        requires { known self.old.seen pair ≡ None }
         ensures started { IfOk result (IsStarted local.now target.now (pair_of pair)) }
-        ensures opened { OnOk result (Changes self.old.opened self.new.opened (pair_of pair) true) }
+        ensures opened { OnOk result (Learns self.old.seen self.new.seen pair Progress.Open) }
         ensures listed { OnOk result (starts.new.items ≡ starts.old.items ++ pair ∷ []) }
         ensures refused { IfErr result (IsRefused local.now target.now (pair_of pair)) }
         ensures not_listed { OnErr result (starts.new.items ≡ starts.old.items) }
         ensures below { self.new.below ≡ self.old.below }
-        ensures settled { self.new.settled ≡ self.old.settled }
     {
         let local_type = local.type_by_id(pair.0)?;
         let target_type = target.type_by_id(pair.1)?;
-        self.opened.insert(pair)?;
+        self.seen.insert(pair, Progress::Open)?;
         starts.push(pair)?;
         if local_type.is_compatible(target_type) {
             Ok(Some(Frame::new(pair)))
@@ -69,15 +64,13 @@ impl Run {
         }
     }
 
-    /// Settles an open pair that came out true; answers the one below it, which goes on.
+    /// Settles an open pair that came out true, and returns the one below it, which goes on.
     fn settle(&mut self, pair: (u32, u32)) -> Result<Option<Frame>, BtfError>
         ensures next { IfOk result (λ next. MatchOption next (self.old.below.items ≡ []) (λ frame. self.old.below.items ≡ self.new.below.items ++ frame ∷ [])) }
-        ensures settled { OnOk result (Changes self.old.settled self.new.settled (pair_of pair) true) }
-        ensures closed { OnOk result (Changes self.old.opened self.new.opened (pair_of pair) false) }
+        ensures settled { OnOk result (Learns self.old.seen self.new.seen pair Progress.Compatible) }
         ensures err { IfErr result (λ e. e ≡ BtfError.OutOfMemory) }
     {
-        self.settled.insert(pair)?;
-        self.opened.remove(&pair);
+        self.seen.insert(pair, Progress::Compatible)?;
         Ok(self.below.pop())
     }
 }
@@ -109,20 +102,19 @@ pub fn compare(
                 };
                 top = next;
             }
-            Step::Waits(pair, next) => {
-                if run.opened.contains(&pair) {
+            Step::Waits(pair, next) => match run.seen.get(pair) {
+                Some(Progress::Open) => {
                     return Err(BtfError::MaximumTypeDepthReached { type_id: pair.0 });
                 }
-                if run.settled.contains(&pair) {
-                    top = next;
-                    continue;
+                Some(Progress::Compatible) => top = next,
+                None => {
+                    run.below.push(next)?;
+                    let Some(new) = run.start(local, target, pair, starts)? else {
+                        return Ok(false);
+                    };
+                    top = new;
                 }
-                run.below.push(next)?;
-                let Some(new) = run.start(local, target, pair, starts)? else {
-                    return Ok(false);
-                };
-                top = new;
-            }
+            },
         }
     }
 }

@@ -1,12 +1,6 @@
-use Rattle.std.proofs.Common.{true}
 use Rattle.btf_records.specs.declared.btf_type.BtfType.{BtfType}
 use Rattle.btf_records.specs.BtfType.{record_of, type_kind}
-use Rattle.btf_compare.specs.Pairs.{pair_of}
-use Rattle.btf_compare.proofs.Comparing.{changes}
 use Rattle.btf_compare.proofs.run.Run.start.Goals as goal
-
-pub returns-then-is_compatible-clause-opened : goal.returns-then-is_compatible-clause-opened
-returns-then-is_compatible-clause-opened c = changes c.args.self.now.opened c.insert.new.self (pair_of c.args.pair) true c.in_ok-insert.ensures.updates.0
 
 pub returns-then-is_compatible-clause-started : goal.returns-then-is_compatible-clause-started
 returns-then-is_compatible-clause-started c =
@@ -15,6 +9,3 @@ returns-then-is_compatible-clause-started c =
     let local : _ = c.in_ok-local_type.ensures in
     let target : _ = c.in_ok-target_type.ensures in
     ((type_kind a, type_kind b, (record_of a, record_of b, (local.0, local.2), (target.0, target.2)), c.is_compatible.ensures.0 c.if-is_compatible.true), c.new.ensures.frame)
-
-pub returns-else-is_compatible-clause-opened : goal.returns-else-is_compatible-clause-opened
-returns-else-is_compatible-clause-opened c = changes c.args.self.now.opened c.insert.new.self (pair_of c.args.pair) true c.in_ok-insert.ensures.updates.0

@@ -1,0 +1,34 @@
+-- What a run learns of a pair, as the sets of the open pairs and of the settled ones.
+use Rattle.std.proofs.Common.{◌≡◌, ℕ, refl, sym, ap, ◌∙◌, Bool, true, false, Option, Some}
+use Rattle.std.specs.Prelude.{cond}
+use Rattle.btf_model.specs.Fields.{Pair}
+use Rattle.btf_model.specs.Compat.{pair_eq}
+use Rattle.btf_compare.specs.declared.pair_map.PairMap.{PairMap}
+use Rattle.btf_compare.specs.declared.progress.Progress.{Progress}
+use Rattle.btf_compare.specs.PairMap.{known, is_ids, Learns}
+use Rattle.btf_compare.specs.Pairs.{pair_of, ids_of}
+use Rattle.btf_compare.proofs.PairMaps.{ids_eq, is_same}
+use Rattle.btf_compare.proofs.Comparing.{Changes}
+
+-- what is told of a value that a condition picks
+told_of : (f : Option Progress → Bool) (c : Bool) (v : Progress) (o : Option Progress) → f (cond c (Some v) o) ≡ cond c (f (Some v)) (f o)
+told_of f true v o = refl
+told_of f false v o = refl
+
+cond_same : (c b : Bool) (x : Bool) → (c ≡ true → x ≡ b) → cond c b x ≡ x
+cond_same true b x is = sym (is refl)
+cond_same false b x is = refl
+
+module _ (old new : PairMap Progress) (ids : ℕ × ℕ) (v : Progress) (learns : Learns old new ids v) where
+  -- what f tells of each pair
+  pub learned : (f : Option Progress → Bool) → Changes (λ q. f (known old (ids_of q))) (λ q. f (known new (ids_of q))) (pair_of ids) (f (Some v))
+  learned f q =
+      ap f (learns (ids_of q)) ∙ told_of f (is_ids ids (ids_of q)) v (known old (ids_of q))
+      ∙ ap (λ (c : Bool). cond c (f (Some v)) (f (known old (ids_of q)))) (sym (ids_eq ids (ids_of q)))
+
+  -- and where it tells the same of the pair, it tells the same of all
+  pub learned_nothing : (f : Option Progress → Bool) → f (known old ids) ≡ f (Some v) → ◌≡◌ {A = Pair → Bool} (λ q. f (known new (ids_of q))) (λ q. f (known old (ids_of q)))
+  learned_nothing f is =
+      let each : (q : Pair) → f (known new (ids_of q)) ≡ f (known old (ids_of q)) =
+      (λ q. learned f q ∙ cond_same (pair_eq (pair_of ids) q) (f (Some v)) (f (known old (ids_of q))) (λ same. sym (ap (λ (x : ℕ × ℕ). f (known old x)) (is_same ids (ids_of q) (sym (ids_eq ids (ids_of q)) ∙ same))) ∙ is)) in
+      λ i q. each q i

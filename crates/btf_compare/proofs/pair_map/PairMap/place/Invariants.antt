@@ -1,0 +1,7 @@
+use Rattle.std.proofs.Common.{take}
+use Rattle.btf_compare.specs.PairMap.{IsNoPair}
+use Rattle.btf_compare.proofs.pair_map.PairMap.place.Given as goal
+
+-- none of the entries so far is the pair's
+abbrev pub invariant-loop-index : goal.invariant-loop-index
+invariant-loop-index g l = IsNoPair l.pair (take l.index l.entry-items)
