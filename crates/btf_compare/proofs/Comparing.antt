@@ -1,9 +1,9 @@
 -- The loop of the comparison of types, as a run of the definitions.
-use Rattle.std.proofs.Common.{◌≡◌, ℕ, ◌+◌, ◌-◌, ◌<◌, ◌≤◌, List, [], ◌∷◌, ◌++◌, length, map, reverse, refl, sym, ap, subst, ◌∙◌, inl, inr, Bool, true, false, Some, None, Ok, Err, Result, Contains, arith, append_assoc}
+use Rattle.std.proofs.Common.{◌≡◌, ℕ, ◌+◌, ◌<◌, List, [], ◌∷◌, ◌++◌, length, map, reverse, refl, sym, ap, subst, ◌∙◌, inl, inr, Bool, true, false, Some, None, Ok, Err, Result, Contains, arith}
 use Rattle.std.specs.Prelude.{◌⊎◌, cond, IsErrAnd}
 use Rattle.std.specs.Result.{result_ok}
 use Rattle.std.proofs.lemmas.Bool.{false≢true}
-use Rattle.std.proofs.lemmas.List.{reverse-append, map-append, length-append, length-map}
+use Rattle.std.proofs.lemmas.List.{reverse-append, map-append, length-append}
 use Rattle.std.proofs.lemmas.Option.{none-some, same_Some}
 use Rattle.std.proofs.lemmas.Result.{err_from_is_err_and}
 use Rattle.btf_model.specs.Refusal.{Refusal, UnknownBtfType, MaximumTypeDepthReached}
@@ -23,26 +23,30 @@ use Rattle.btf_words.specs.Error.{Answers, Tells, refusal_of}
 use Rattle.btf_words.specs.declared.error.BtfError.{BtfError}
 use Rattle.btf_words.specs.declared.error.BtfError.TheVariants as errors
 use Rattle.btf_compare.specs.declared.step.Frame.{Frame}
-use Rattle.btf_compare.specs.Compared.{frame_of, IsStarted, IsRefused, Traces}
+use Rattle.btf_compare.specs.Compared.{frame_of, IsStarted, IsRefused, TracesBy}
 use Rattle.btf_compare.specs.Pairs.{pair_of, ids_of}
 use Rattle.btf_words.proofs.Refused.{known_refusal}
 
 -- ---- what the call answers
 
 -- the call answers the comparison that remembers nothing, and lists what that starts
-abbrev pub Compares : Table → Table → Pair → Result Bool BtfError → List (ℕ × ℕ) → List (ℕ × ℕ) → Type 0
-Compares local target root result old new = (answer : Result Bool Refusal) × (listed : List Pair) × Plain local target [] root answer listed × Traces result answer old new (firsts listed)
+abbrev pub Compares : Table → Table → Pair → Result Bool BtfError → (List (ℕ × ℕ) → Type 0) → Type 0
+Compares local target root result IsTold = (answer : Result Bool Refusal) × (listed : List Pair) × Plain local target [] root answer listed × TracesBy IsTold result answer (firsts listed)
 
--- what is listed behind what the list held
-abbrev pub Adds : List (ℕ × ℕ) → List (ℕ × ℕ) → List Pair → Type 0
-Adds old new listed = new ≡ old ++ map ids_of listed
+-- after these pairs one more was told of
+abbrev pub TellsOneMore : (List (ℕ × ℕ) → Type 0) → (List (ℕ × ℕ) → Type 0) → ℕ × ℕ → Type 0
+TellsOneMore IsTold IsToldNow ids = (before : List (ℕ × ℕ)) → IsTold before → IsToldNow (before ++ ids ∷ [])
 
-answered : (local target : Table) (Settled : Pair → Type 0) (root : Pair) (answer : Result Bool Refusal) (listed : List Pair) (result : Result Bool BtfError) (old new : List (ℕ × ℕ)) → Outcome local target Settled root answer listed → Tells (λ b. b) result (λ a. a ≡ answer) → Adds old new listed
-    → Compares local target root result old new
-answered local target Settled root answer listed result old new outcome tells added = (answer, outcome.0, outcome.1, inl (tells, added ∙ ap (λ (x : List Pair). old ++ map ids_of x) (sym outcome.2)))
+answered : (local target : Table) (Settled : Pair → Type 0) (root : Pair) (answer : Result Bool Refusal) (listed : List Pair) (result : Result Bool BtfError) (IsTold : List (ℕ × ℕ) → Type 0) → Outcome local target Settled root answer listed → Tells (λ b. b) result (λ a. a ≡ answer) → IsTold (map ids_of listed)
+    → Compares local target root result IsTold
+answered local target Settled root answer listed result IsTold outcome tells added = (answer, outcome.0, outcome.1, inl (tells, subst (λ (x : List Pair). IsTold (map ids_of x)) (sym outcome.2) added))
 
-cut_short : (local target : Table) (Settled : Pair → Type 0) (root : Pair) (listed : List Pair) (result : Result Bool BtfError) (old new : List (ℕ × ℕ)) → BeginsWith local target Settled root listed → result ≡ Err errors.OutOfMemory → Adds old new listed → Compares local target root result old new
-cut_short local target Settled root listed result old new begins is added = (begins.0, begins.1, begins.3, inr (is, listed, begins.2, begins.4, added))
+cut_short : (local target : Table) (Settled : Pair → Type 0) (root : Pair) (listed : List Pair) (result : Result Bool BtfError) (IsTold : List (ℕ × ℕ) → Type 0) → BeginsWith local target Settled root listed → result ≡ Err errors.OutOfMemory → IsTold (map ids_of listed) → Compares local target root result IsTold
+cut_short local target Settled root listed result IsTold begins is added = (begins.0, begins.1, begins.3, inr (is, listed, begins.2, begins.4, added))
+
+-- what is told at once, is told later
+pub told_on : (local target : Table) (root : Pair) (result : Result Bool BtfError) (IsTold IsToldNow : List (ℕ × ℕ) → Type 0) → ((ids : List (ℕ × ℕ)) → IsTold ids → IsToldNow ids) → Compares local target root result IsTold → Compares local target root result IsToldNow
+told_on local target root result IsTold IsToldNow more h = (h.0, h.1, h.2, elim h.3 [ inl t ↦ inl (t.0, more (map ids_of (firsts h.1)) t.1) | inr t ↦ inr (t.0, t.1, t.2, t.3, more (map ids_of t.1) t.4) ])
 
 -- an error tells its refusal
 tells_refusal : (result : Result Bool BtfError) (e : BtfError) (refusal : Refusal) → result ≡ Err e → refusal_of e ≡ Some refusal → Tells (λ b. b) result (λ a. a ≡ Err refusal)
@@ -79,9 +83,10 @@ abbrev pub Changes : PairSet → PairSet → Pair → Bool → Type 0
 Changes old new p b = (q : Pair) → new q ≡ cond (pair_eq p q) b (old q)
 
 -- What holds at each step of the loop: it is a run, and the set of open pairs has those of the stack.
-pub record IsRunning (local target : Table) (root : Pair) (opened settled : PairSet) (top : runs.Frame) (below : List runs.Frame) (old new : List (ℕ × ℕ)) : Type 0 where
+pub record IsRunning (local target : Table) (root : Pair) (opened settled : PairSet) (top : runs.Frame) (below : List runs.Frame) (many : ℕ) (IsTold : List (ℕ × ℕ) → Type 0) : Type 0 where
   pub listed : List Pair
-  pub added : Adds old new listed
+  pub added : IsTold (map ids_of listed)
+  pub counts : many ≡ length listed
   pub run : states.Run local target (IsIn settled) root top below listed
   pub among : (q : Pair) → IsIn opened q → Among (top.pair ∷ open_pairs below) q
   pub has_all : (q : Pair) → Among (top.pair ∷ open_pairs below) q → IsIn opened q
@@ -114,25 +119,26 @@ module _ (local target : Table) (root : ℕ × ℕ) where
   none : Pair → Type 0
   none q = ⊥
 
-  pub root_refused : HaveKinds local → HaveKinds target → (e : BtfError) (result : Result Bool BtfError) (old new : List (ℕ × ℕ)) → IsRefused local target (pair_of root) e → result ≡ Err e → Adds old new [] → Compares local target (pair_of root) result old new
-  root_refused ls ts e result old new (inl memory) is added =
+  pub root_refused : HaveKinds local → HaveKinds target → (e : BtfError) (result : Result Bool BtfError) (IsTold : List (ℕ × ℕ) → Type 0) → IsRefused local target (pair_of root) e → result ≡ Err e → IsTold [] → Compares local target (pair_of root) result IsTold
+  root_refused ls ts e result IsTold (inl memory) is added =
       let whole = plain_answers local target ls ts [] (pair_of root) in
-      cut_short local target none (pair_of root) [] result old new (whole.0, whole.1, firsts whole.1, whole.2, refl) (is ∙ ap (λ (x : BtfError). Err x) memory) added
-  root_refused ls ts e result old new (inr (inl h)) is added =
-      answered local target none (pair_of root) (Err (UnknownBtfType root.0)) [] result old new ([], Plain.no_local [] (pair_of root) none_open h.0, refl) (tells_refusal result e (UnknownBtfType root.0) is (ap refusal_of h.1)) added
-  root_refused ls ts e result old new (inr (inr h)) is added =
-      answered local target none (pair_of root) (Err (UnknownBtfType root.1)) [] result old new ([], Plain.no_target [] (pair_of root) h.0 none_open h.1 h.2, refl) (tells_refusal result e (UnknownBtfType root.1) is (ap refusal_of h.3)) added
+      cut_short local target none (pair_of root) [] result IsTold (whole.0, whole.1, firsts whole.1, whole.2, refl) (is ∙ ap (λ (x : BtfError). Err x) memory) added
+  root_refused ls ts e result IsTold (inr (inl h)) is added =
+      answered local target none (pair_of root) (Err (UnknownBtfType root.0)) [] result IsTold ([], Plain.no_local [] (pair_of root) none_open h.0, refl) (tells_refusal result e (UnknownBtfType root.0) is (ap refusal_of h.1)) added
+  root_refused ls ts e result IsTold (inr (inr h)) is added =
+      answered local target none (pair_of root) (Err (UnknownBtfType root.1)) [] result IsTold ([], Plain.no_target [] (pair_of root) h.0 none_open h.1 h.2, refl) (tells_refusal result e (UnknownBtfType root.1) is (ap refusal_of h.3)) added
 
-  pub root_differs : (old new : List (ℕ × ℕ)) → IsStarted local target (pair_of root) None → new ≡ old ++ root ∷ [] → Compares local target (pair_of root) (Ok false) old new
-  root_differs old new h added = answered local target none (pair_of root) (Ok false) (pair_of root ∷ []) (Ok false) old new (pair_of root ∷ [], Plain.kinds_differ [] (pair_of root) h.0 h.1 none_open h.2 h.3, refl) refl added
+  pub root_differs : (IsTold : List (ℕ × ℕ) → Type 0) → IsStarted local target (pair_of root) None → IsTold (root ∷ []) → Compares local target (pair_of root) (Ok false) IsTold
+  root_differs IsTold h added = answered local target none (pair_of root) (Ok false) (pair_of root ∷ []) (Ok false) IsTold (pair_of root ∷ [], Plain.kinds_differ [] (pair_of root) h.0 h.1 none_open h.2 h.3, refl) refl added
 
-  pub root_started : (top : Frame) (begun opened settled : PairSet) (items : List Frame) (old new : List (ℕ × ℕ)) → IsStarted local target (pair_of root) (Some top) → items ≡ [] → ((q : Pair) → begun q ≡ false) → ((q : Pair) → settled q ≡ false) → Changes begun opened (pair_of root) true → new ≡ old ++ root ∷ []
-      → IsRunning local target (pair_of root) opened settled (frame_of top) (stack_of items) old new
-  root_started top begun opened settled items old new h below empty none_settled changes added =
-      subst (λ (x : runs.Frame). IsRunning local target (pair_of root) opened settled x (stack_of items) old new) (sym h.1)
-      (subst (λ (xs : List Frame). IsRunning local target (pair_of root) opened settled (new_frame (pair_of root)) (stack_of xs) old new) (sym below)
+  pub root_started : (top : Frame) (begun opened settled : PairSet) (items : List Frame) (many : ℕ) (IsTold : List (ℕ × ℕ) → Type 0) → IsStarted local target (pair_of root) (Some top) → items ≡ [] → ((q : Pair) → begun q ≡ false) → ((q : Pair) → settled q ≡ false) → Changes begun opened (pair_of root) true → many ≡ 1 → IsTold (root ∷ [])
+      → IsRunning local target (pair_of root) opened settled (frame_of top) (stack_of items) many IsTold
+  root_started top begun opened settled items many IsTold h below empty none_settled changes is_one added =
+      subst (λ (x : runs.Frame). IsRunning local target (pair_of root) opened settled x (stack_of items) many IsTold) (sym h.1)
+      (subst (λ (xs : List Frame). IsRunning local target (pair_of root) opened settled (new_frame (pair_of root)) (stack_of xs) many IsTold) (sym below)
       (record {
         listed = pair_of root ∷ [];
+        counts = is_one;
         added = added;
         run = run_begun local target (IsIn settled) (pair_of root) h.0 (λ q is. false≢true (sym (none_settled q) ∙ is));
         among = λ q is. elim (now_in begun opened (pair_of root) changes q is) [ inl was ↦ absurd (false≢true (sym (empty q) ∙ was)) | inr same ↦ inl same ];
@@ -147,28 +153,29 @@ told_again answer result e P is same h =
     let given = subst (λ (r : Result Bool BtfError). Tells (λ b. b) r P) is h in
     (given.0, given.2, tells_refusal result e given.0 same given.1)
 
-module _ (local target : Table) (root : Pair) (opened settled : PairSet) (top : runs.Frame) (below : List runs.Frame) (old new : List (ℕ × ℕ)) (state : IsRunning local target root opened settled top below old new) where
-  pub no_memory : HaveKinds local → HaveKinds target → (result : Result Bool BtfError) → result ≡ Err errors.OutOfMemory → Compares local target root result old new
-  no_memory ls ts result is = cut_short local target (IsIn settled) root state.listed result old new (run_begins local target (IsIn settled) ls ts root top below state.listed state.run) is state.added
+module _ (local target : Table) (root : Pair) (opened settled : PairSet) (top : runs.Frame) (below : List runs.Frame) (many : ℕ) (IsTold : List (ℕ × ℕ) → Type 0) (state : IsRunning local target root opened settled top below many IsTold) where
+  pub no_memory : HaveKinds local → HaveKinds target → (result : Result Bool BtfError) → result ≡ Err errors.OutOfMemory → Compares local target root result IsTold
+  no_memory ls ts result is = cut_short local target (IsIn settled) root state.listed result IsTold (run_begins local target (IsIn settled) ls ts root top below state.listed state.run) is state.added
 
-  pub ends_refused : (answer result : Result Bool BtfError) (e : BtfError) → answer ≡ Err e → result ≡ Err e → Tells (λ b. b) answer (λ a. IsNext local target top (runs.Ends a)) → Compares local target root result old new
+  pub ends_refused : (answer result : Result Bool BtfError) (e : BtfError) → answer ≡ Err e → result ≡ Err e → Tells (λ b. b) answer (λ a. IsNext local target top (runs.Ends a)) → Compares local target root result IsTold
   ends_refused answer result e is same h =
       let told = told_again answer result e (λ a. IsNext local target top (runs.Ends a)) is same h in
-      answered local target (IsIn settled) root (Err told.0) state.listed result old new (run_fails local target (IsIn settled) root top below state.listed state.run (Err told.0) told.1 (not_true told.0)) told.2 state.added
+      answered local target (IsIn settled) root (Err told.0) state.listed result IsTold (run_fails local target (IsIn settled) root top below state.listed state.run (Err told.0) told.1 (not_true told.0)) told.2 state.added
 
-  pub ends_false : IsNext local target top (runs.Ends (Ok false)) → Compares local target root (Ok false) old new
-  ends_false next = answered local target (IsIn settled) root (Ok false) state.listed (Ok false) old new (run_fails local target (IsIn settled) root top below state.listed state.run (Ok false) next false_is_not_true) refl state.added
+  pub ends_false : IsNext local target top (runs.Ends (Ok false)) → Compares local target root (Ok false) IsTold
+  ends_false next = answered local target (IsIn settled) root (Ok false) state.listed (Ok false) IsTold (run_fails local target (IsIn settled) root top below state.listed state.run (Ok false) next false_is_not_true) refl state.added
 
-  pub ends_true : IsNext local target top (runs.Ends (Ok true)) → below ≡ [] → Compares local target root (Ok true) old new
+  pub ends_true : IsNext local target top (runs.Ends (Ok true)) → below ≡ [] → Compares local target root (Ok true) IsTold
   ends_true next is =
-      answered local target (IsIn settled) root (Ok true) state.listed (Ok true) old new
+      answered local target (IsIn settled) root (Ok true) state.listed (Ok true) IsTold
       (run_ends local target (IsIn settled) root top state.listed (subst (λ (x : List runs.Frame). states.Run local target (IsIn settled) root top x state.listed) is state.run) next) refl state.added
 
-  pub goes_on : (g : runs.Frame) → IsNext local target top (runs.GoesOn g) → IsRunning local target root opened settled g below old new
+  pub goes_on : (g : runs.Frame) → IsNext local target top (runs.GoesOn g) → IsRunning local target root opened settled g below many IsTold
   goes_on g next =
       let same : top.pair ≡ g.pair = sym (ap (λ (x : runs.Frame). x.pair) next.3) in
       record {
         listed = state.listed;
+        counts = state.counts;
         added = state.added;
         run = run_on local target (IsIn settled) root top g below state.listed state.run next;
         among = subst (λ (p : Pair). (q : Pair) → IsIn opened q → Among (p ∷ open_pairs below) q) same state.among;
@@ -179,18 +186,19 @@ module _ (local target : Table) (root : Pair) (opened settled : PairSet) (top : 
     same_pair : top.pair ≡ g.pair
     same_pair = sym (ap (λ (x : runs.Frame). x.pair) next.5)
 
-    pub pays : IsIn settled p → IsRunning local target root opened settled g below old new
+    pub pays : IsIn settled p → IsRunning local target root opened settled g below many IsTold
     pays is = record {
       listed = state.listed;
+      counts = state.counts;
       added = state.added;
       run = run_paid local target (IsIn settled) root top g p below state.listed state.run next is;
       among = subst (λ (o : Pair). (q : Pair) → IsIn opened q → Among (o ∷ open_pairs below) q) same_pair state.among;
       has_all = subst (λ (o : Pair). (q : Pair) → Among (o ∷ open_pairs below) q → IsIn opened q) same_pair state.has_all;
     }
 
-    pub is_open : IsIn opened p → Compares local target root (Err (errors.MaximumTypeDepthReached p.local)) old new
+    pub is_open : IsIn opened p → Compares local target root (Err (errors.MaximumTypeDepthReached p.local)) IsTold
     is_open is =
-        answered local target (IsIn settled) root (Err (MaximumTypeDepthReached p.local)) state.listed (Err (errors.MaximumTypeDepthReached p.local)) old new
+        answered local target (IsIn settled) root (Err (MaximumTypeDepthReached p.local)) state.listed (Err (errors.MaximumTypeDepthReached p.local)) IsTold
         (run_refused local target (IsIn settled) root top g p below state.listed state.run next (Err (MaximumTypeDepthReached p.local)) (Plain.again (top.pair ∷ open_pairs below) p (contains_from_among (top.pair ∷ open_pairs below) p (state.among p is))) (not_true (MaximumTypeDepthReached p.local)))
         (MaximumTypeDepthReached p.local, refl, refl) state.added
 
@@ -204,31 +212,30 @@ module _ (local target : Table) (root : Pair) (opened settled : PairSet) (top : 
       not_above : ¬ (Contains (top.pair ∷ open_pairs below) p)
       not_above h = new_pair (among_from_contains (top.pair ∷ open_pairs below) p h)
 
-      refused_with : (result : Result Bool BtfError) (e : BtfError) (refusal : Refusal) → result ≡ Err e → refusal_of e ≡ Some refusal → Plain local target (top.pair ∷ open_pairs below) p (Err refusal) [] → Compares local target root result old new
+      refused_with : (result : Result Bool BtfError) (e : BtfError) (refusal : Refusal) → result ≡ Err e → refusal_of e ≡ Some refusal → Plain local target (top.pair ∷ open_pairs below) p (Err refusal) [] → Compares local target root result IsTold
       refused_with result e refusal is known plain =
-          answered local target (IsIn settled) root (Err refusal) state.listed result old new (run_refused local target (IsIn settled) root top g p below state.listed state.run next (Err refusal) plain (not_true refusal)) (tells_refusal result e refusal is known) state.added
+          answered local target (IsIn settled) root (Err refusal) state.listed result IsTold (run_refused local target (IsIn settled) root top g p below state.listed state.run next (Err refusal) plain (not_true refusal)) (tells_refusal result e refusal is known) state.added
 
-      pub is_refused : HaveKinds local → HaveKinds target → (e : BtfError) (result : Result Bool BtfError) → IsRefused local target p e → result ≡ Err e → Compares local target root result old new
+      pub is_refused : HaveKinds local → HaveKinds target → (e : BtfError) (result : Result Bool BtfError) → IsRefused local target p e → result ≡ Err e → Compares local target root result IsTold
       is_refused ls ts e result (inl memory) is = no_memory ls ts result (is ∙ ap (λ (x : BtfError). Err x) memory)
       is_refused ls ts e result (inr (inl h)) is = refused_with result e (UnknownBtfType p.local) is (ap refusal_of h.1) (Plain.no_local (top.pair ∷ open_pairs below) p not_above h.0)
       is_refused ls ts e result (inr (inr h)) is = refused_with result e (UnknownBtfType p.target) is (ap refusal_of h.3) (Plain.no_target (top.pair ∷ open_pairs below) p h.0 not_above h.1 h.2)
 
-      adds_one : (more : List (ℕ × ℕ)) → more ≡ new ++ ids_of p ∷ [] → Adds old more (state.listed ++ p ∷ [])
-      adds_one more is =
-          is ∙ ap (λ (x : List (ℕ × ℕ)). x ++ ids_of p ∷ []) state.added ∙ append_assoc old (map ids_of state.listed) (ids_of p ∷ [])
-          ∙ ap (λ (x : List (ℕ × ℕ)). old ++ x) (sym (map-append ids_of state.listed (p ∷ [])))
+      adds_one : (IsToldNow : List (ℕ × ℕ) → Type 0) → TellsOneMore IsTold IsToldNow (ids_of p) → IsToldNow (map ids_of (state.listed ++ p ∷ []))
+      adds_one IsToldNow tells = subst IsToldNow (sym (map-append ids_of state.listed (p ∷ []))) (tells (map ids_of state.listed) state.added)
 
-      pub differs : (more : List (ℕ × ℕ)) → IsStarted local target p None → more ≡ new ++ ids_of p ∷ [] → Compares local target root (Ok false) old more
-      differs more h is =
-          answered local target (IsIn settled) root (Ok false) (state.listed ++ p ∷ []) (Ok false) old more
-          (run_differs local target (IsIn settled) root top g p below state.listed state.run next new_pair unsettled (Ok false) (Plain.kinds_differ (top.pair ∷ open_pairs below) p h.0 h.1 not_above h.2 h.3) false_is_not_true) refl (adds_one more is)
+      pub differs : (IsToldNow : List (ℕ × ℕ) → Type 0) → IsStarted local target p None → TellsOneMore IsTold IsToldNow (ids_of p) → Compares local target root (Ok false) IsToldNow
+      differs IsToldNow h tells =
+          answered local target (IsIn settled) root (Ok false) (state.listed ++ p ∷ []) (Ok false) IsToldNow
+          (run_differs local target (IsIn settled) root top g p below state.listed state.run next new_pair unsettled (Ok false) (Plain.kinds_differ (top.pair ∷ open_pairs below) p h.0 h.1 not_above h.2 h.3) false_is_not_true) refl (adds_one IsToldNow tells)
 
-      pub starts : (f : Frame) (more_open : PairSet) (more : List (ℕ × ℕ)) → IsStarted local target p (Some f) → Changes opened more_open p true → more ≡ new ++ ids_of p ∷ [] → IsRunning local target root more_open settled (frame_of f) (g ∷ below) old more
-      starts f more_open more h changes is =
-          subst (λ (x : runs.Frame). IsRunning local target root more_open settled x (g ∷ below) old more) (sym h.1)
+      pub starts : (f : Frame) (more_open : PairSet) (now : ℕ) (IsToldNow : List (ℕ × ℕ) → Type 0) → IsStarted local target p (Some f) → Changes opened more_open p true → now ≡ many + 1 → TellsOneMore IsTold IsToldNow (ids_of p) → IsRunning local target root more_open settled (frame_of f) (g ∷ below) now IsToldNow
+      starts f more_open now IsToldNow h changes one tells =
+          subst (λ (x : runs.Frame). IsRunning local target root more_open settled x (g ∷ below) now IsToldNow) (sym h.1)
           (record {
             listed = state.listed ++ p ∷ [];
-            added = adds_one more is;
+            added = adds_one IsToldNow tells;
+            counts = omega (arith, one, state.counts, length-append state.listed (p ∷ []));
             run = run_starts local target (IsIn settled) root top g p below state.listed state.run next new_pair unsettled h.0;
             among = λ q m. elim (now_in opened more_open p changes q m) [
               | inl was ↦ inr (subst (λ (o : Pair). Among (o ∷ open_pairs below) q) same_pair (state.among q was))
@@ -246,13 +253,14 @@ out_cond : (b x : Bool) → cond b false x ≡ true → (b ≡ false) × (x ≡ 
 out_cond true x is = absurd (false≢true is)
 out_cond false x is = (refl, is)
 
-module _ (local target : Table) (root : Pair) (opened settled : PairSet) (top g : runs.Frame) (below : List runs.Frame) (old new : List (ℕ × ℕ)) (state : IsRunning local target root opened settled top (g ∷ below) old new) where
+module _ (local target : Table) (root : Pair) (opened settled : PairSet) (top g : runs.Frame) (below : List runs.Frame) (many : ℕ) (IsTold : List (ℕ × ℕ) → Type 0) (state : IsRunning local target root opened settled top (g ∷ below) many IsTold) where
   other_pair : (q : Pair) → Among (open_pairs (g ∷ below)) q → pair_eq top.pair q ≡ false
   other_pair q m = eq_other top.pair q (λ same. state.run.apart.0 (subst (λ (x : Pair). Among (open_pairs (g ∷ below)) x) (sym same) m))
 
-  pub settles : (fewer more : PairSet) → IsNext local target top (runs.Ends (Ok true)) → Changes settled more top.pair true → Changes opened fewer top.pair false → IsRunning local target root fewer more g below old new
+  pub settles : (fewer more : PairSet) → IsNext local target top (runs.Ends (Ok true)) → Changes settled more top.pair true → Changes opened fewer top.pair false → IsRunning local target root fewer more g below many IsTold
   settles fewer more next changes closes = record {
     listed = state.listed;
+    counts = state.counts;
     added = state.added;
     run = run_settles local target (IsIn settled) (IsIn more) (still_in settled more top.pair changes) root top g below state.listed state.run next (itself_in settled more top.pair changes) (now_in settled more top.pair changes);
     among = λ q is.
@@ -266,26 +274,15 @@ module _ (local target : Table) (root : Pair) (opened settled : PairSet) (top g 
 
 -- ---- the steps come to an end
 
-module _ (local target : Table) (root : Pair) (old : List (ℕ × ℕ)) where
-  -- so many pairs are listed
-  abbrev pub count : List (ℕ × ℕ) → ℕ
-  count new = length new - length old
+module _ (local target : Table) (root : Pair) where
+  -- where so many pairs are started
+  abbrev pub left : ℕ → runs.Frame → List runs.Frame → ℕ
+  left many top below = left_to_do (length (known_pairs local target)) many (widest local.records) top below
 
-  abbrev pub left : List (ℕ × ℕ) → runs.Frame → List runs.Frame → ℕ
-  left new top below = left_to_do (length (known_pairs local target)) (count new) (widest local.records) top below
-
-  listed_count : (opened settled : PairSet) (top : runs.Frame) (below : List runs.Frame) (new : List (ℕ × ℕ)) → IsRunning local target root opened settled top below old new → (length old ≤ length new) × (count new ≤ length (known_pairs local target))
-  listed_count opened settled top below new state =
-      let sum : length new ≡ length old + length state.listed = ap length state.added ∙ length-append old (map ids_of state.listed) ∙ ap (λ (n : ℕ). length old + n) (length-map state.listed ids_of) in
-      (omega (arith, sum), omega (arith, sum, state.run.counts))
-
-  pub less_by_start : (opened settled more_open more_settled : PairSet) (top g f : runs.Frame) (p : Pair) (below : List runs.Frame) (new more : List (ℕ × ℕ)) (ids : ℕ × ℕ) → IsNext local target top (runs.Waits p g) → f ≡ new_frame p → more ≡ new ++ ids ∷ []
-      → IsRunning local target root opened settled top below old new → IsRunning local target root more_open more_settled f (g ∷ below) old more → left more f (g ∷ below) < left new top below
-  less_by_start opened settled more_open more_settled top g f p below new more ids next is adds state started =
-      let was = listed_count opened settled top below new state in
-      let now = listed_count more_open more_settled f (g ∷ below) more started in
-      let one : count more ≡ count new + 1 = omega (arith, ap length adds, length-append new (ids ∷ []), was.0) in
-      rw (is, one) (less_started local target (length (known_pairs local target)) (count new) top g p below next (omega (arith, one, now.1)))
+  pub less_by_start : (opened settled : PairSet) (f top g : runs.Frame) (p : Pair) (below : List runs.Frame) (many now : ℕ) (IsToldNow : List (ℕ × ℕ) → Type 0) → IsNext local target top (runs.Waits p g) → f ≡ new_frame p → now ≡ many + 1
+      → IsRunning local target root opened settled f (g ∷ below) now IsToldNow → left now f (g ∷ below) < left many top below
+  less_by_start opened settled f top g p below many now IsToldNow next is one started =
+      rw (is, one) (less_started local target (length (known_pairs local target)) many top g p below next (omega (arith, one, started.counts, started.run.counts)))
 
 -- ---- the answer alone
 
@@ -296,8 +293,8 @@ tells_answer (Err e) answer P is h = known_refusal e is.0 (λ f. P (Err f)) is.1
 no_answer : (result : Result Bool BtfError) (P : Result Bool Refusal → Type 0) → result ≡ Err errors.OutOfMemory → Answers (λ b. b) result P
 no_answer result P is = subst (λ (r : Result Bool BtfError). Answers (λ b. b) r P) (sym is) tt
 
-pub answers : (local target : Table) (root : Pair) (result : Result Bool BtfError) (old new : List (ℕ × ℕ)) → Compares local target root result old new → Answers (λ b. b) result (λ answer. (listed : List Pair) × Plain local target [] root answer listed)
-answers local target root result old new h =
+pub answers : (local target : Table) (root : Pair) (result : Result Bool BtfError) (IsTold : List (ℕ × ℕ) → Type 0) → Compares local target root result IsTold → Answers (λ b. b) result (λ answer. (listed : List Pair) × Plain local target [] root answer listed)
+answers local target root result IsTold h =
     elim h.3 [
       | inl told ↦ tells_answer result h.0 (λ answer. (listed : List Pair) × Plain local target [] root answer listed) told.0 (h.1, h.2)
       | inr short ↦ no_answer result (λ answer. (listed : List Pair) × Plain local target [] root answer listed) short.0

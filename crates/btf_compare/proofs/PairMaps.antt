@@ -43,6 +43,10 @@ cond_none : {V : Type 0} (b : Bool) (v : V) (o : Option V) → cond b (Some v) o
 cond_none true v o is = absurd (none-some v (sym is))
 cond_none false v o is = (refl, is)
 
+or_none : {V : Type 0} (o more : Option V) → option_or o more ≡ None → (o ≡ None) × (more ≡ None)
+or_none None more is = (refl, is)
+or_none (Some v) more is = absurd (none-some v (sym is))
+
 module _ {V : Type 0} (ids : ℕ × ℕ) where
   -- an entry that is not the pair's
   pub none_so_far : (es : List ((ℕ × ℕ) × V)) (i : ℕ) (e : (ℕ × ℕ) × V) → slice_get es i ≡ Some e → IsNoPair ids (take i es) → is_ids ids e.0 ≡ false → IsNoPair ids (take (suc i) es)
@@ -139,3 +143,7 @@ module _ {V : Type 0} (ids : ℕ × ℕ) where
             ap (λ (o : Option V). option_or (lookup (is_ids other) es) o) (is other ∙ ap (λ (b : Bool). cond b (Some v) (more other)) differs)
             ∙ ap (λ (b : Bool). cond b (Some v) (option_or (lookup (is_ids other) es) (more other))) (sym differs)
       ]
+
+  -- a pair that has no value is in neither
+  pub nowhere : (es : List ((ℕ × ℕ) × V)) (more : Option V) → option_or (lookup (is_ids ids) es) more ≡ None → IsNoPair ids es × (more ≡ None)
+  nowhere es more is = or_none (lookup (is_ids ids) es) more is

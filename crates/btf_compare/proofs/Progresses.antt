@@ -1,11 +1,13 @@
 -- What a run learns of a pair, as the sets of the open pairs and of the settled ones.
-use Rattle.std.proofs.Common.{◌≡◌, ℕ, refl, sym, ap, ◌∙◌, Bool, true, false, Option, Some}
-use Rattle.std.specs.Prelude.{cond}
+use Rattle.std.proofs.Common.{◌≡◌, ℕ, refl, sym, ap, ◌∙◌, Bool, true, false, Option, Some, None}
+use Rattle.std.specs.Prelude.{cond, IsSome}
 use Rattle.btf_model.specs.Fields.{Pair}
 use Rattle.btf_model.specs.Compat.{pair_eq}
 use Rattle.btf_compare.specs.declared.pair_map.PairMap.{PairMap}
 use Rattle.btf_compare.specs.declared.progress.Progress.{Progress}
+use Rattle.std.proofs.lemmas.Bool.{false≢true}
 use Rattle.btf_compare.specs.PairMap.{known, is_ids, Learns}
+use Rattle.btf_compare.specs.Compared.{tells_open}
 use Rattle.btf_compare.specs.Pairs.{pair_of, ids_of}
 use Rattle.btf_compare.proofs.PairMaps.{ids_eq, is_same}
 use Rattle.btf_compare.proofs.Comparing.{Changes}
@@ -32,3 +34,8 @@ module _ (old new : PairMap Progress) (ids : ℕ × ℕ) (v : Progress) (learns 
       let each : (q : Pair) → f (known new (ids_of q)) ≡ f (known old (ids_of q)) =
       (λ q. learned f q ∙ cond_same (pair_eq (pair_of ids) q) (f (Some v)) (f (known old (ids_of q))) (λ same. sym (ap (λ (x : ℕ × ℕ). f (known old x)) (is_same ids (ids_of q) (sym (ids_eq ids (ids_of q)) ∙ same))) ∙ is)) in
       λ i q. each q i
+
+-- an open pair is known
+pub known_if_open : (o : Option Progress) → tells_open o ≡ true → IsSome o
+known_if_open None is = absurd (false≢true is)
+known_if_open (Some p) is = refl

@@ -80,6 +80,12 @@ IsRefused local target p e =
     ⊎ (((slice_get local.records p.local ≡ None) × (e ≡ errors.UnknownBtfType p.local))
     ⊎ ((r : Record) × (slice_get local.records p.local ≡ Some r) × (slice_get target.records p.target ≡ None) × (e ≡ errors.UnknownBtfType p.target)))
 
+-- The call answers this, and these pairs were told of, as Told has it; or memory is wanted, and a beginning of them was.
+abbrev pub TracesBy : (List (ℕ × ℕ) → Type 0) → Result Bool BtfError → Result Bool Refusal → List Pair → Type 0
+TracesBy IsTold result answer listed =
+    (Tells (λ b. b) result (λ a. a ≡ answer) × IsTold (map ids_of listed))
+    ⊎ ((result ≡ Err errors.OutOfMemory) × (front rest : List Pair) × (listed ≡ front ++ rest) × IsTold (map ids_of front))
+
 -- The call answers this, and lists these pairs behind what the list held; or memory is wanted, and it lists a beginning of them.
 abbrev pub Traces : Result Bool BtfError → Result Bool Refusal → List (ℕ × ℕ) → List (ℕ × ℕ) → List Pair → Type 0
 Traces result answer old new listed =

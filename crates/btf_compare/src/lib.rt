@@ -8,6 +8,7 @@ mod progress;
 mod resolved;
 mod run;
 mod step;
+mod trace;
 mod types;
 
 pub use crate::fields::fields_are_compatible;

@@ -1,6 +1,6 @@
 //! What is known of pairs of ids.
 
-ghost use Rattle.std.specs.Prelude.{◌≡◌, ℕ, ◌+◌, ◌<◌, length, None, IfSome, IfNone, OnOk, OnErr};
+ghost use Rattle.std.specs.Prelude.{◌≡◌, ℕ, ◌+◌, ◌<◌, length, None, IsSome, IfSome, IfNone, OnOk};
 ghost use Rattle.btf_compare.specs.PairMap.{known, count, IsNoPair, IsPlaceOf, Learns};
 
 use arrayvec::ArrayVec;
@@ -37,22 +37,33 @@ impl<V: Copy + Default + Drop> PairMap<V> {
         }
     }
 
-    /// Gives a pair a value. Only a pair that has none needs memory.
+    /// Gives a pair that has no value its first.
     pub fn insert(&mut self, pair: (u32, u32), value: V) -> Result<(), AllocError>
+        requires { known self.old pair ≡ None }
         ensures learns { OnOk result (Learns self.old self.new pair value) }
-        ensures counts { OnOk result (known self.old pair ≡ None → count self.new ≡ count self.old + 1) }
-        ensures new { OnErr result (known self.old pair ≡ None) }
+        ensures counts { OnOk result (count self.new ≡ count self.old + 1) }
     {
-        if let Some(index) = self.place(pair) {
-            if let Some(entry) = self.first.get_mut(index) {
-                *entry = (pair, value);
-            }
-        } else if self.first.is_full() {
+        if self.first.is_full() {
             self.further.insert(pair, value)?;
         } else {
             self.first.push((pair, value));
         }
         Ok(())
+    }
+
+    /// Gives a pair that has a value another, which takes no memory.
+    pub fn update(&mut self, pair: (u32, u32), value: V)
+        requires { IsSome (known self.old pair) }
+        ensures learns { Learns self.old self.new pair value }
+        ensures counts { count self.new ≡ count self.old }
+    {
+        if let Some(index) = self.place(pair) {
+            if let Some(entry) = self.first.get_mut(index) {
+                *entry = (pair, value);
+            }
+        } else if let Some(entry) = self.further.get_mut(&pair) {
+            *entry = value;
+        }
     }
 
     /// Where a pair stands in the array.

@@ -1,16 +1,17 @@
 //! The run of the comparison of types: open pairs on a stack of its own, and pairs that came out true.
 
-ghost use Rattle.std.specs.Prelude.{◌≡◌, ℕ, None, [], ◌∷◌, ◌++◌, List, Bool, Result, IfOk, OnOk, IfErr, OnErr, MatchOption};
+ghost use Rattle.std.specs.Prelude.{◌≡◌, ℕ, ◌+◌, None, IsSome, [], ◌∷◌, ◌++◌, List, Bool, Result, IfOk, OnOk, IfErr, OnErr, MatchOption};
 ghost use Rattle.btf_model.specs.Fields.{Pair};
 ghost use Rattle.btf_model.specs.Refusal.{Refusal};
 ghost use Rattle.btf_model.specs.Compat.{Plain, firsts};
-ghost use Rattle.btf_compare.specs.Compared.{IsStarted, IsRefused, Traces};
-ghost use Rattle.btf_compare.specs.PairMap.{known, Learns};
+ghost use Rattle.btf_compare.specs.Compared.{IsStarted, IsRefused, TracesBy};
+ghost use Rattle.btf_compare.specs.PairMap.{known, count, Learns};
 ghost use Rattle.btf_compare.specs.Pairs.{pair_of};
 
 use crate::pair_map::PairMap;
 use crate::progress::Progress;
 use crate::step::{Frame, Step};
+use crate::trace::Starts;
 use btf_plain::BtfError;
 use btf_table::{Btf, allocator_of};
 use std::alloc::Global;
@@ -29,6 +30,7 @@ impl Run {
     fn new(alloc: Global) -> Run
         ensures below { result.below.items ≡ [] }
         ensures seen { (ids : ℕ × ℕ) → known result.seen ids ≡ None }
+        ensures counts { count result.seen ≡ 0 }
     {
         Run {
             below: Vec::new(alloc),
@@ -38,25 +40,26 @@ impl Run {
 
     /// Starts a pair that this run has not listed: looks up both ids, opens the pair and lists it; None where the kinds of
     /// the two types differ. An error leaves the list as it was.
-    fn start(
+    fn start<S: Starts>(
         &mut self,
         local: &Btf,
         target: &Btf,
         pair: (u32, u32),
-        starts: &mut Vec<(u32, u32)>,
+        starts: &mut S,
     ) -> Result<Option<Frame>, BtfError>
         requires { known self.old.seen pair ≡ None }
         ensures started { IfOk result (IsStarted local.now target.now (pair_of pair)) }
         ensures opened { OnOk result (Learns self.old.seen self.new.seen pair Progress.Open) }
-        ensures listed { OnOk result (starts.new.items ≡ starts.old.items ++ pair ∷ []) }
+        ensures counts { OnOk result (count self.new.seen ≡ count self.old.seen + 1) }
+        ensures listed { OnOk result ((first : S) → (ids : List (ℕ × ℕ)) → S.has_added first starts.old ids → S.has_added first starts.new (ids ++ pair ∷ [])) }
         ensures refused { IfErr result (IsRefused local.now target.now (pair_of pair)) }
-        ensures not_listed { OnErr result (starts.new.items ≡ starts.old.items) }
+        ensures not_listed { OnErr result ((first : S) → (ids : List (ℕ × ℕ)) → S.has_added first starts.old ids → S.has_added first starts.new ids) }
         ensures below { self.new.below ≡ self.old.below }
     {
         let local_type = local.type_by_id(pair.0)?;
         let target_type = target.type_by_id(pair.1)?;
         self.seen.insert(pair, Progress::Open)?;
-        starts.push(pair)?;
+        starts.add(pair)?;
         if local_type.is_compatible(target_type) {
             Ok(Some(Frame::new(pair)))
         } else {
@@ -65,24 +68,26 @@ impl Run {
     }
 
     /// Settles an open pair that came out true, and returns the one below it, which goes on.
-    fn settle(&mut self, pair: (u32, u32)) -> Result<Option<Frame>, BtfError>
-        ensures next { IfOk result (λ next. MatchOption next (self.old.below.items ≡ []) (λ frame. self.old.below.items ≡ self.new.below.items ++ frame ∷ [])) }
-        ensures settled { OnOk result (Learns self.old.seen self.new.seen pair Progress.Compatible) }
-        ensures err { IfErr result (λ e. e ≡ BtfError.OutOfMemory) }
+    fn settle(&mut self, pair: (u32, u32)) -> Option<Frame>
+        requires { IsSome (known self.old.seen pair) }
+        ensures next { MatchOption result (self.old.below.items ≡ []) (λ frame. self.old.below.items ≡ self.new.below.items ++ frame ∷ []) }
+        ensures settled { Learns self.old.seen self.new.seen pair Progress.Compatible }
+        ensures counts { count self.new.seen ≡ count self.old.seen }
     {
-        self.seen.insert(pair, Progress::Compatible)?;
-        Ok(self.below.pop())
+        self.seen.update(pair, Progress::Compatible);
+        self.below.pop()
     }
 }
 
 /// Whether the types of a pair of ids are compatible.
-pub fn compare(
+pub fn compare<S: Starts>(
     local: &Btf,
     target: &Btf,
     root: (u32, u32),
-    starts: &mut Vec<(u32, u32)>,
+    starts: &mut S,
 ) -> Result<bool, BtfError>
-    ensures { (answer : Result Bool Refusal) × (listed : List Pair) × Plain local.now target.now [] (pair_of root) answer listed × Traces result answer starts.old.items starts.new.items (firsts listed) }
+    requires { S.has_added starts.old starts.old [] }
+    ensures { (answer : Result Bool Refusal) × (listed : List Pair) × Plain local.now target.now [] (pair_of root) answer listed × TracesBy (S.has_added starts.old starts.new) result answer (firsts listed) }
 {
     let mut run = Run::new(allocator_of(local));
     // The contract speaks of an answer, which there is where each record has a kind, as a use of the tables shows.
@@ -97,7 +102,7 @@ pub fn compare(
                 if !answer? {
                     return Ok(false);
                 }
-                let Some(next) = run.settle(top.pair)? else {
+                let Some(next) = run.settle(top.pair) else {
                     return Ok(true);
                 };
                 top = next;

@@ -9,8 +9,9 @@ ghost use Rattle.btf_compare.specs.Compared.{Traces, GainsStarts};
 ghost use Rattle.btf_compare.specs.Pairs.{pair};
 
 use crate::run::compare;
+use crate::trace::Untraced;
 use btf_plain::BtfError;
-use btf_table::{Btf, allocator_of};
+use btf_table::Btf;
 
 /// Whether two types are compatible, where each stands in its own table, as libbpf has it: the kinds of the two ids are
 /// the same, before modifiers are resolved, where ENUM and ENUM64 are one kind; and so on behind modifiers, where
@@ -37,8 +38,7 @@ pub fn types_are_compatible(
 ) -> Result<bool, BtfError>
     ensures { Answers (λ b. b) result (λ answer. (listed : List Pair) × Plain local.now target.now [] (pair local_id target_id) answer listed) }
 {
-    let mut starts = Vec::new(allocator_of(local));
-    types_are_compatible_traced(local, local_id, target, target_id, &mut starts)
+    compare(local, target, (local_id, target_id), &mut Untraced)
 }
 
 /// The same answer as `types_are_compatible`; and each pair of ids whose comparison is started is added to the list, the
