@@ -3,13 +3,20 @@
 //! FILE is a table in little-endian order, as `/sys/kernel/btf/vmlinux`. For each work, or for WHAT alone, it prints the
 //! least and the median time of REPS runs, and the least by record; with `--csv` in nanoseconds, with commas between,
 //! and with `--names` that it was done, without its times.
+//!
+//! `btf_bench FAMILY N [REPS] [--csv|--names]` does so for a table that a stranger could make, at the sizes N, 2 N and
+//! 4 N: a step that is not linear shows in the time of a unit. FAMILY is `collide`, `fan`, `rings`, `nest`, `longname`
+//! or `sections`; what these are stands in the module `hostile`.
 #![tactic(auto)]
 
+mod hostile;
+mod sketch;
 mod table;
 mod timing;
 mod work;
 
-use crate::table::{Form, print};
+use crate::hostile::{Family, Hostile};
+use crate::table::{Form, Row};
 use crate::timing::Timing;
 use crate::work::{Bench, NAMES};
 use btf_plain::Endianness;
@@ -53,18 +60,48 @@ fn time(rt: &HostRuntime, name: &str, request: &Request, bench: &Bench) -> Resul
     for _ in 0..request.reps {
         timing.add(bench.nanoseconds(rt, name)?)?;
     }
-    print(rt, name, &timing, bench.records(), request.form)
+    let (units, unit) = (bench.records(), "record");
+    Row { name, units, unit }.print(rt, &timing, request.form)
 }
 
-fn main(rt: HostRuntime) -> Result<(), Fail> {
-    let request = asked_for(&rt, rt.alloc())?;
-    let blob = fs::read(&rt, request.file.as_str())?;
+/// Times the works over the table of a file, and prints a line for each.
+fn time_works(rt: &HostRuntime, request: &Request) -> Result<(), Fail> {
+    let blob = fs::read(rt, request.file.as_str())?;
     let btf = Btf::parse(rt.alloc(), &blob, Endianness::Little)?;
     let bench = Bench::new(rt.alloc(), &blob, &btf)?;
     for name in NAMES {
         if request.what.as_str() == "all" || request.what.as_str() == name {
-            time(&rt, name, &request, &bench)?;
+            time(rt, name, request, &bench)?;
         }
+    }
+    Ok(())
+}
+
+/// Times what is done with the table of a family and a size, and prints its line.
+fn time_hostile(
+    rt: &HostRuntime,
+    family: Family,
+    size: u32,
+    request: &Request,
+) -> Result<(), Fail> {
+    let hostile = Hostile::new(rt.alloc(), family, size)?;
+    let mut timing = Timing::new(rt.alloc());
+    for _ in 0..request.reps {
+        timing.add(hostile.nanoseconds(rt)?)?;
+    }
+    let name = format!(in rt.alloc(); "{} {size}", request.file)?;
+    let (name, units, unit) = (name.as_str(), family.units(size), "unit");
+    Row { name, units, unit }.print(rt, &timing, request.form)
+}
+
+fn main(rt: HostRuntime) -> Result<(), Fail> {
+    let request = asked_for(&rt, rt.alloc())?;
+    let Some(family) = Family::named(request.file.as_str()) else {
+        return time_works(&rt, &request);
+    };
+    let size: u32 = request.what.parse()?;
+    for times in [1, 2, 4] {
+        time_hostile(&rt, family, size.wrapping_mul(times), &request)?;
     }
     Ok(())
 }

@@ -24,23 +24,29 @@ impl From<&str> for Form {
     }
 }
 
-/// Prints the least and the median time of a work, and the least by record.
-pub fn print(
-    rt: &HostRuntime,
-    name: &str,
-    timing: &Timing,
-    records: u64,
-    form: Form,
-) -> Result<(), Fail> {
-    let (least, median) = (timing.least(), timing.median());
-    let each = least / records.max(1);
-    match form {
-        Form::Names => println!(rt; "{name}")?,
-        Form::Csv => println!(rt; "{name},{least},{median},{each}")?,
-        Form::Table => {
-            let (least, median) = (least / 1000, median / 1000);
-            println!(rt; "{name:<14} {least:>9} us {median:>9} us {each:>6} ns a record")?
+/// What a line is about.
+#[derive(Clone, Copy)]
+pub struct Row<'a> {
+    pub name: &'a str,
+    /// How many there are of what the least time is divided by, and what one is called.
+    pub units: u64,
+    pub unit: &'a str,
+}
+
+impl Row<'_> {
+    /// Prints the least and the median time, and the least by unit.
+    pub fn print(self, rt: &HostRuntime, timing: &Timing, form: Form) -> Result<(), Fail> {
+        let (least, median) = (timing.least(), timing.median());
+        let each = least / self.units.max(1);
+        let (name, unit) = (self.name, self.unit);
+        match form {
+            Form::Names => println!(rt; "{name}")?,
+            Form::Csv => println!(rt; "{name},{least},{median},{each}")?,
+            Form::Table => {
+                let (least, median) = (least / 1000, median / 1000);
+                println!(rt; "{name:<16} {least:>9} us {median:>9} us {each:>6} ns a {unit}")?
+            }
         }
+        Ok(())
     }
-    Ok(())
 }

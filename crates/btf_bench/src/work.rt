@@ -34,7 +34,7 @@ pub struct Bench<'a> {
 }
 
 /// The nanoseconds since a time.
-fn since(rt: &HostRuntime, start: Instant) -> Result<u64, Fail> {
+pub fn since(rt: &HostRuntime, start: Instant) -> Result<u64, Fail> {
     Ok(u64::try_from(start.elapsed(rt)?.as_nanos())?)
 }
 
@@ -58,7 +58,7 @@ fn name_of(alloc: Global, btf: &Btf, id: u32) -> Result<String, BtfError> {
 }
 
 /// Rewrites a table for a kernel that has all features, or none.
-fn rewrite(alloc: Global, btf: &mut Btf, granted: bool) -> Result<(), BtfError> {
+pub fn rewrite(alloc: Global, btf: &mut Btf, granted: bool) -> Result<(), BtfError> {
     let sections = HashMap::new(alloc);
     let symbols = HashMap::new(alloc);
     let mut resolver = BtfFeatureResolver::new(|_| granted);

@@ -1,0 +1,37 @@
+//! BTF, the Linux kernel's type metadata for BPF programs: the one crate to import.
+//!
+//! A table of BTF has a header, records that are named by their place, and strings. [`Btf::parse`] reads the bytes of a
+//! `.BTF` section or of `/sys/kernel/btf/vmlinux`, [`Btf::to_bytes`] writes them, and between the two a table can be
+//! looked into, compared with another one, and rewritten for a kernel that lacks some features.
+//!
+//! Every call returns, whatever the bytes are: a bad table is refused with the first cause in a stated order, and a
+//! refused change leaves the table as it was. What a call returns is stated by its clauses, in the definitions of
+//! `btf::specs`, and the checker proved each clause for every input before anything was built.
+//!
+//! The size of a structure that a table has by name:
+//!
+//! ```text
+//! let table = Btf::parse(alloc, &bytes, Endianness::Little)?;
+//! let id = table.id_by_type_name_kind("task_struct", BtfKind::Struct)?;
+//! let size = table.type_size(id)?;
+//! ```
+//!
+//! Each item lies in a crate below, by what it is about, and is passed on here under its name.
+#![tactic(auto)]
+
+pub use btf_above::{relocations_of, variant_value};
+pub use btf_plain::{
+    Array, BtfArray, BtfError, BtfKind, Const, DeclTag, Endianness, Float, Func, FuncLinkage, Fwd,
+    Int, IntEncoding, MAX_VLEN, Ptr, Restrict, SectionIndex, TypeTag, Typedef, Var, VarLinkage,
+    Volatile,
+};
+pub use btf_records::{
+    BtfEnum, BtfEnum64, BtfMember, BtfParam, BtfType, DataSec, DataSecEntry, Enum, Enum64,
+    Enum64Fallback, Enum64VariantFallback, FuncProto, Struct, Union,
+};
+pub use btf_types::{
+    Btf, BtfExt, BtfFeature, BtfFeatureResolver, BtfStr, FeatureAnswer, FillPolicy, FuncInfo,
+    FuncSecInfo, KsymsIds, LineInfo, LineSecInfo, SecInfo, SecInfoIter, bpf_func_info,
+    bpf_line_info, fields_are_compatible, rewrite_bytes, rewrite_bytes_with, types_are_compatible,
+    types_are_compatible_traced,
+};

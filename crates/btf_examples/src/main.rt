@@ -1,0 +1,35 @@
+//! Examples of what a loader, a linker or a dumper does with the library: `btf_examples PROGRAM KERNEL`, two files with
+//! tables in little-endian order, here those that clang wrote for `data/program.c` and `data/kernel.c`.
+//!
+//! Each module is one example, and reads on its own. `HostRuntime` is what `main` gets in Rattle: who has it may use
+//! the process's files and streams. Memory is asked for by an allocator that is passed along, and a call that asks for
+//! it returns a `Result`, so an allocation failure is an error like any other.
+#![tactic(auto)]
+
+mod compatible;
+mod lasting;
+mod layout;
+mod list;
+mod old_kernel;
+
+use btf::{Btf, Endianness};
+use std::test::Fail;
+use std::{env, fs};
+
+/// The table in a file.
+fn table(rt: &HostRuntime, file: Option<String>) -> Result<Btf, Fail> {
+    let file = file.unwrap_or(String::new(rt.alloc()));
+    let bytes = fs::read(rt, file.as_str())?;
+    Ok(Btf::parse(rt.alloc(), &bytes, Endianness::Little)?)
+}
+
+fn main(rt: HostRuntime) -> Result<(), Fail> {
+    let mut files = env::args(&rt)?.skip(1);
+    let mut program = table(&rt, files.next())?;
+    let kernel = table(&rt, files.next())?;
+    list::print_types(&rt, &kernel)?;
+    layout::print_struct(&rt, &program, "packet")?;
+    compatible::print_compatible(&rt, &program, &kernel, "handler")?;
+    old_kernel::print_rewritten(&rt, &program.to_bytes()?)?;
+    lasting::print_values(&rt, &mut program, "verdict")
+}
