@@ -11,7 +11,7 @@ use std::test::Fail;
 /// Two sections of the name at 1, with a record each.
 const TWO_SECTIONS: &str = "32 0 0 0 0 0 52  16  1 1 1 2 3 4  1 1 5 6 7 8";
 
-/// A section of the name at 1, and one whose name is behind all strings.
+/// A section of the name at 1, and one whose name is after all strings.
 const UNREADABLE: &str = "32 0 0 0 0 0 52  16  1 1 1 2 3 4  9 1 5 6 7 8";
 
 /// The `.BTF.ext` section of a header's first four bytes and these words, parsed under a table.

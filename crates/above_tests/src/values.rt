@@ -91,7 +91,7 @@ fn void_has_no_variants(rt: HostRuntime) -> Result<(), Fail> {
     Ok(())
 }
 
-/// An ENUM whose second variant's name is behind all strings, between two of the name A.
+/// An ENUM whose second variant's name is after all strings, between two of the name A.
 const UNREADABLE: &str = "0 6000003 4  1 7  9 8  1 9";
 
 fn stops_at_what_it_cannot_read(table: &Btf) -> bool {

@@ -27,7 +27,7 @@ enum Step {
 }
 
 /// Whether the types of two fields are compatible, where each stands in its own table: as libbpf has it, any two
-/// structures or unions are, enumerations and forward declarations of one name are (but for the flavor behind `___`),
+/// structures or unions are, enumerations and forward declarations of one name are (but for the flavor after `___`),
 /// integers that begin at bit 0, any two pointers or floating-point numbers, and arrays whose elements are.
 ///
 /// Modifiers are resolved at each step, the local side first, with the errors of `resolve_type`; a name that can't be

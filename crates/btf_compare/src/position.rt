@@ -19,7 +19,7 @@ pub enum Position<'a> {
     Told(Result<bool, BtfError>),
     /// The pair to go on to.
     On((u32, u32)),
-    /// The parameters of two prototypes, as many of the one as of the other, and the pair to go on to behind them.
+    /// The parameters of two prototypes, as many of the one as of the other, and the pair to go on to after them.
     Owes(&'a [BtfParam], &'a [BtfParam], (u32, u32)),
 }
 

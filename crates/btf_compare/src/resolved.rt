@@ -1,4 +1,4 @@
-//! Types that the comparisons look at, behind modifiers.
+//! Types that the comparisons look at, after modifiers.
 
 ghost use Rattle.btf_words.specs.Error.{Tells};
 ghost use Rattle.btf_records.specs.BtfType.{record_of, type_kind};

@@ -13,7 +13,7 @@ use btf_plain::BtfError;
 use btf_records::BtfParam;
 use btf_table::{Btf, WALK_LIMIT};
 
-/// A pair of ids that is open: where its walk is, how many positions it has behind it, and which parameter comes next.
+/// A pair of ids that is open: where its walk is, how many positions it has passed, and which parameter comes next.
 #[derive(Clone, Copy, Drop)]
 pub struct Frame {
     /// The pair, the local id first.
@@ -48,7 +48,7 @@ impl Frame {
         }
     }
 
-    /// What comes next. At a position the two ids are looked up, behind their modifiers, and a parameter's when its turn comes.
+    /// What comes next. At a position the two ids are looked up, after their modifiers, and a parameter's when its turn comes.
     pub fn step(self, local: &Btf, target: &Btf) -> Step
         ensures { StepIs local.now target.now self result }
     {

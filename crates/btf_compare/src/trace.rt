@@ -2,7 +2,7 @@
 
 use std::alloc::AllocError;
 
-/// What is told of each pair that a run starts, in order.
+/// What is reported of each pair that a run starts, in order.
 pub trait Starts {
     ghost use Rattle.std.specs.Prelude.{ℕ, List, [], ◌∷◌, ◌++◌, OnOk, OnErr};
 

@@ -14,7 +14,7 @@ use btf_plain::BtfError;
 use btf_table::Btf;
 
 /// Whether two types are compatible, where each stands in its own table, as libbpf has it: the kinds of the two ids are
-/// the same, before modifiers are resolved, where ENUM and ENUM64 are one kind; and so on behind modifiers, where
+/// the same, before modifiers are resolved, where ENUM and ENUM64 are one kind; and so on after modifiers, where
 /// structures, unions, enumerations, forward declarations, floating-point numbers and the type of id 0 are compatible by
 /// their kind, integers if both begin at bit 0, pointers and arrays if what they lead to is, and prototypes if they have
 /// as many parameters, each pair of parameter types is, and then what they return is. Names and sizes don't count.
@@ -24,7 +24,7 @@ use btf_table::Btf;
 /// - `UnknownBtfType` of an id that has no type, the local side first, and otherwise the errors of `resolve_type`, at
 ///   each position and at a parameter when its turn comes;
 /// - `UnexpectedBtfType` of the local id at two variables, functions, sections or declaration tags;
-/// - `MaximumTypeDepthReached` of the local id that would come next behind 32 positions of one pair, where the two types
+/// - `MaximumTypeDepthReached` of the local id that would come next after 32 positions of one pair, where the two types
 ///   themselves and each pair of parameter types begin anew; and of the local id of a pair of parameter types that is
 ///   met again while it is still compared, as in a cycle;
 /// - `OutOfMemory` where memory is refused.

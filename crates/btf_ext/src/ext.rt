@@ -35,7 +35,7 @@ impl BtfExt {
     /// What the bytes of a `.BTF.ext` section say, whose words are in this order. The names of sections are read in
     /// a table; of a name the last section counts. Memory is taken with the table's allocator.
     ///
-    /// The first cause of refusal is told. `InvalidHeader` for fewer than 8 bytes, or fewer than the header's length.
+    /// The first cause is reported. `InvalidHeader` for fewer than 8 bytes, or fewer than the header's length.
     /// `InvalidInfo` for the first of the ranges of functions, lines and relocations that passes the end, or is not
     /// empty and begins with no word, or with a record size below 8, 16 and 16: it says where the range begins, its
     /// length, and the length of the data. Then, section after section, in this order: `InvalidInfo` as

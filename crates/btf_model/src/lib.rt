@@ -22,7 +22,7 @@ pub fn written_parses_back()
 {}
 
 /// A blob that is parsed is written as it was read exactly if it has the written form: the usual header, the
-/// strings right behind the types, nothing behind the strings, and no word that reading drops.
+/// strings right after the types, nothing after the strings, and no word that reading drops.
 pub fn parsed_writes_back()
     ensures { ParsedWritesBack }
 {}
@@ -63,7 +63,7 @@ pub fn relocation_words_are_determined()
     ensures { RelocationWordsAreDetermined }
 {}
 
-/// The sections of `.BTF.ext` that bytes begin with, and the rest behind them, are determined.
+/// The sections of `.BTF.ext` that bytes begin with, and the rest after them, are determined.
 pub fn sections_are_determined()
     ensures { SectionsAreDetermined }
 {}
@@ -79,7 +79,7 @@ pub fn comparisons_have_answers()
     ensures { ComparisonsHaveAnswers }
 {}
 
-/// A comparison that answers true or false answers the same from the other side, and starts the same pairs; a
+/// A comparison that returns true or false answers the same from the other side, and starts the same pairs; a
 /// refusal is a refusal from there too, perhaps another one.
 pub fn comparisons_are_symmetric()
     ensures { ComparisonsAreSymmetric }

@@ -50,11 +50,11 @@ enum Position<'a> {
     Told(Result<bool, BtfError>),
     /// The pair to go on to.
     On((u32, u32)),
-    /// The parameters of two prototypes, as many of the one as of the other, and the pair to go on to behind them.
+    /// The parameters of two prototypes, as many of the one as of the other, and the pair to go on to after them.
     Owes(&'a [BtfParam], &'a [BtfParam], (u32, u32)),
 }
 
-/// The answer of the comparison of a pair, and all pairs that it starts, in order, behind those of the list.
+/// The answer of the comparison of a pair, and all pairs that it starts, in order, after those of the list.
 pub fn compare_plainly(
     local: &Btf,
     target: &Btf,

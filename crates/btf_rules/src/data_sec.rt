@@ -1,4 +1,4 @@
-//! What becomes of a DATASEC's name, and what the caller's maps tell of its section and its symbols.
+//! What becomes of a DATASEC's name, and what the caller's maps say of its section and its symbols.
 
 ghost use Rattle.std.specs.Prelude.{◌≡◌, if◌then◌else◌, None, Some, Ok, IfOk, string_bytes};
 ghost use Rattle.std.specs.Option.{unwrap_or};

@@ -1,4 +1,4 @@
-//! What a kernel's BTF may hold, as a caller's predicate tells.
+//! What a kernel's BTF may hold, as a caller's predicate says.
 
 ghost use Rattle.std.specs.Prelude.{◌≡◌, IfOk};
 ghost use Rattle.btf_rules.specs.Features.{feature_of, told as told_of, Asks};
@@ -46,7 +46,7 @@ pub struct FeatureAnswer {
     pub granted: bool,
 }
 
-/// A predicate that tells which features a kernel has, and what it has told so far. It is called once for a
+/// A predicate that tells which features a kernel has, and what it has said so far. It is called once for a
 /// feature.
 #[derive(Drop)]
 pub struct BtfFeatureResolver<F> {
@@ -80,7 +80,7 @@ impl<F: FnMut(BtfFeature) -> bool> BtfFeatureResolver<F> {
         }
     }
 
-    /// Whether the kernel has a feature: what the predicate told when it was asked for this feature first.
+    /// Whether the kernel has a feature: what the predicate said when it was asked for this feature first.
     pub fn is_supported(&mut self, feature: BtfFeature) -> bool
         requires { F.IsAlwaysCallable self.old.0 }
         ensures asks { Asks F.step feature self.old result self.new }
@@ -94,7 +94,7 @@ impl<F: FnMut(BtfFeature) -> bool> BtfFeatureResolver<F> {
         granted
     }
 
-    /// What the predicate has told so far, in the order in which it was asked.
+    /// What the predicate has said so far, in the order in which it was asked.
     pub fn answers(&self) -> &[FeatureAnswer]
         ensures { result.now ≡ self.now.1 }
     {
@@ -102,7 +102,7 @@ impl<F: FnMut(BtfFeature) -> bool> BtfFeatureResolver<F> {
     }
 }
 
-/// A copy of what the predicate has told a resolver so far. It stands on its own, and takes no memory but its eight
+/// A copy of what the predicate has said a resolver so far. It stands on its own, and takes no memory but its eight
 /// places.
 pub fn copied_answers<F>(
     resolver: &BtfFeatureResolver<F>,

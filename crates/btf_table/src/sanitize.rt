@@ -48,9 +48,9 @@ impl Btf {
     /// Each FUNC and VAR that an entry names becomes Global. A VAR gets the type of the placeholder, a VAR too; without one
     /// it gets the first INT of 4 bytes, and a string `int` and such an INT are appended where there is none. With a
     /// placeholder, each entry of a FUNC names it instead, and each unnamed parameter of the FUNC's prototype gets its name.
-    /// The entries take 4 bytes each, one behind the other.
+    /// The entries take 4 bytes each, one after the other.
     ///
-    /// The first cause of refusal is told. Of the placeholder: `UnknownBtfType`, and `InvalidDatasec` where it is no VAR; or,
+    /// The first cause is reported. Of the placeholder: `UnknownBtfType`, and `InvalidDatasec` where it is no VAR; or,
     /// without one, `InvalidStringOffset` and `InvalidTypeInfo` where strings or types have no room for the INT. Of the
     /// DATASEC: `UnknownBtfType`, `InvalidDatasec` where it is another kind, and `InvalidStringOffset` where its name can't
     /// be read. Of each entry in turn: `UnknownBtfType`, `InvalidDatasec` where it names neither a FUNC nor a VAR,
@@ -95,13 +95,13 @@ impl Btf {
         Ok(answers)
     }
 
-    /// Rewrites the table for a kernel that has what the resolver's predicate tells, and answers what it was asked.
+    /// Rewrites the table for a kernel that has what the resolver's predicate says, and returns what it was asked.
     ///
     /// `ksyms` makes ordinary variables of the kernel's symbols first, as `fixup_ksyms_datasec` does. Then each type becomes
     /// what its kind's rule says: `sections` has the sizes of sections by name, beside an index that is not read, and
     /// `symbols` the offsets of symbols by name. Ids stay, strings are only appended, and at most four types are.
     ///
-    /// The first cause of refusal is told: those of `fixup_ksyms_datasec`, and then of the least id that has one:
+    /// The first cause is reported: those of `fixup_ksyms_datasec`, and then of the least id that has one:
     /// `InvalidStringOffset` where the name of a FUNC or a DATASEC, or of a variable that a DATASEC names, can't be read, or
     /// strings have no room for a name; `UnknownBtfType` of an entry's id; `InvalidDatasec` where an entry names no VAR;
     /// `UnknownSectionSize` and `SymbolOffsetNotFound` of a name that the maps don't have, or with more than 32 bits; and

@@ -45,7 +45,7 @@ use std::alloc::Global;
 use std::marker::Model;
 use std::slice::Iter;
 
-/// The length that the strings, or the records behind id 0, have at most in bytes.
+/// The length that the strings, or the records after id 0, have at most in bytes.
 pub(crate) const SECTION_LIMIT: usize = 4294967295;
 
 /// A table of types: the byte order, the header's magic, version and flags, the strings, and the types by id.
@@ -95,7 +95,7 @@ impl Btf {
         })
     }
 
-    /// Adds a text and a zero byte to the strings, and answers the offset of the text. An equal text that is
+    /// Adds a text and a zero byte to the strings, and returns the offset of the text. An equal text that is
     /// there already is not used.
     ///
     /// `InvalidStringOffset` with the length of the strings where they would pass 4,294,967,295 bytes. An error
@@ -115,7 +115,7 @@ impl Btf {
         Ok(offset as u32)
     }
 
-    /// Adds a type, and answers its id.
+    /// Adds a type, and returns its id.
     ///
     /// `InvalidTypeInfo` where the records would pass 4,294,967,295 bytes. An error leaves the table as it was.
     pub fn add_type(&mut self, btf_type: BtfType) -> Result<u32, BtfError>
@@ -138,7 +138,7 @@ impl Btf {
 
     /// The table that a blob stands for, whose words are in this order.
     ///
-    /// The first cause of refusal is told: `InvalidHeader` for fewer than 24 bytes, or strings that pass the
+    /// The first cause of refusal is reported: `InvalidHeader` for fewer than 24 bytes, or strings that pass the
     /// end; `InvalidTypeInfo` for types that pass the end; and, record after record, `InvalidTypeInfo` for one
     /// that is cut and `InvalidTypeKind` for one of a kind that is not read. Magic, version and flags are kept
     /// as they are, and not looked at.
@@ -179,7 +179,7 @@ impl Btf {
     /// The text at a string offset, up to the first zero byte. Bytes that are not UTF-8 are read with U+FFFD in place
     /// of each longest piece that is none.
     ///
-    /// `InvalidStringOffset` of the offset where no zero byte stands at it or behind it. Memory is taken only where
+    /// `InvalidStringOffset` of the offset where no zero byte stands at it or after it. Memory is taken only where
     /// the bytes are not UTF-8.
     pub fn string_at(&self, offset: u32) -> Result<BtfStr<'_>, BtfError>
         ensures text { Gives text_bytes result (model.text_at self.now.strings offset) }
@@ -268,9 +268,9 @@ impl Btf {
     }
 
     /// The size of a type in bytes: the size that the type itself says, 8 for a pointer, times the length of each
-    /// array, behind types that lead to one other, which is the return type for a prototype.
+    /// array, after types that lead to one other, which is the return type for a prototype.
     ///
-    /// The first cause of refusal on the walk is told: `UnknownBtfType` of an id that has no type,
+    /// The first cause of refusal on the walk is reported: `UnknownBtfType` of an id that has no type,
     /// `UnexpectedBtfType` of the id of an Unknown, a FWD or a FUNC, `InvalidTypeInfo` for a product of lengths or a
     /// size that passes 32 bits, and `MaximumTypeDepthReached` of `type_id` where the first 32 types lead on. No
     /// memory is taken.

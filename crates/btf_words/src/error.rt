@@ -20,7 +20,7 @@ pub enum BtfError {
     #[error("invalid BTF type info segment")]
     InvalidTypeInfo,
 
-    /// A relocation record is cut. No call of these crates answers it.
+    /// A relocation record is cut. No call of these crates returns it.
     #[error("invalid BTF relocation info segment")]
     InvalidRelocationInfo,
 
@@ -31,7 +31,7 @@ pub enum BtfError {
         kind: u32,
     },
 
-    /// A relocation is of a kind that does not exist. No call of these crates answers it.
+    /// A relocation is of a kind that does not exist. No call of these crates returns it.
     #[error("invalid BTF relocation kind `{kind}`")]
     InvalidRelocationKind {
         /// The number of the kind.
@@ -56,7 +56,7 @@ pub enum BtfError {
         section_len: usize,
     },
 
-    /// A line record does not lie where it should. No call of these crates answers it.
+    /// A line record does not lie where it should. No call of these crates returns it.
     #[error("invalid BTF line info, offset: {offset} len: {len} section_len: {section_len}")]
     InvalidLineInfo {
         /// Where the part begins.
@@ -113,25 +113,25 @@ pub enum BtfError {
         section_name: String,
     },
 
-    /// A symbol has no readable name. No call of these crates answers it.
+    /// A symbol has no readable name. No call of these crates returns it.
     #[error("Unable to get symbol name")]
     InvalidSymbolName,
 
-    /// The inner map of a map of maps is to be pinned. No call of these crates answers it.
+    /// The inner map of a map of maps is to be pinned. No call of these crates returns it.
     #[error("BTF map `{name}`: inner map definition cannot be pinned")]
     InnerMapCannotBePinned {
         /// The name of the map.
         name: String,
     },
 
-    /// A map of maps holds maps of maps. No call of these crates answers it.
+    /// A map of maps holds maps of maps. No call of these crates returns it.
     #[error("BTF map `{name}`: multi-level map-in-map is not supported")]
     MultiLevelMapInMapNotSupported {
         /// The name of the map.
         name: String,
     },
 
-    /// The `values` of a map of maps have a size. No call of these crates answers it.
+    /// The `values` of a map of maps have a size. No call of these crates returns it.
     #[error("BTF map `{name}`: `values` spec is not a zero-sized array")]
     InvalidValuesSpec {
         /// The name of the map.

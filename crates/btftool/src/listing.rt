@@ -74,7 +74,7 @@ pub fn listing(alloc: Global, table: &Btf) -> Result<Vec<u8>, BtfError>
     Ok(out.into_bytes())
 }
 
-/// The line that tells a size.
+/// The line that says a size.
 pub fn size_line(alloc: Global, size: usize) -> Result<Vec<u8>, BtfError>
     ensures { Gives (λ v. v.items) result (Ok (spec.size_line size)) }
 {
@@ -82,7 +82,7 @@ pub fn size_line(alloc: Global, size: usize) -> Result<Vec<u8>, BtfError>
     Ok(text.into_bytes())
 }
 
-/// The lines that tell the answer of a comparison, and how many pairs it started.
+/// The lines that say the answer of a comparison, and how many pairs it started.
 pub fn comparison_lines(alloc: Global, answer: bool, starts: usize) -> Result<Vec<u8>, BtfError>
     ensures { Gives (λ v. v.items) result (Ok (spec.comparison_lines answer starts)) }
 {

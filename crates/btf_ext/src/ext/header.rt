@@ -88,7 +88,7 @@ impl Header {
     }
 }
 
-/// Bytes with zeros behind them.
+/// Bytes with zeros after them.
 fn filled_up(given: &[u8]) -> [u8; 32]
     requires { length given.now ≤ 32 }
     ensures { result ≡ given.now ++ replicate (32 - length given.now) 0 }

@@ -159,7 +159,7 @@ impl Made {
     /// DATASEC without entries. One that has a size keeps it, and gets the filler only under a policy that fills
     /// such, where the kernel takes none without entries. Its name becomes one that the kernel takes.
     ///
-    /// The first cause of refusal is told. `InvalidStringOffset` where the name can't be read or strings have no room
+    /// The first cause is reported. `InvalidStringOffset` where the name can't be read or strings have no room
     /// for the new one. As a STRUCT: `UnknownBtfType` of an entry's id that has no type, and `InvalidTypeInfo` where
     /// its offset in bits has more than 32 bits. Of a DATASEC of size 0: `UnknownSectionSize` where the size of its
     /// section isn't known or has more than 32 bits. Of one that gets the filler: `InvalidStringOffset` and

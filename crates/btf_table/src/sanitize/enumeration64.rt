@@ -26,7 +26,7 @@ use std::alloc::{AllocError, Global};
 const PLACEHOLDER: &str = "enum64_placeholder";
 
 /// Appends the placeholder, the type of the members that ENUM64s get: an INT of one byte with a name of its own.
-/// Answers its id. `InvalidStringOffset` and `InvalidTypeInfo` where strings or types have no room for it.
+/// Returns its id. `InvalidStringOffset` and `InvalidTypeInfo` where strings or types have no room for it.
 pub fn append_placeholder(btf: &Btf, changes: &mut Changes) -> Result<u32, BtfError>
     requires { HasRoom btf.now changes.old }
     ensures answer { Gives (λ id. id) result (checked (first_fault (have_room (strings_end btf.now changes.old) (placeholder_text ∷ []) ++ all_fit changes.old.type_len (byte_int (strings_end btf.now changes.old) ∷ []))) (next_id btf.now changes.old)) }

@@ -221,7 +221,7 @@ impl Target {
         Ok(Some(BtfType::FuncProto(proto)))
     }
 
-    /// The DATASEC, with 4 bytes for each entry, one behind the other.
+    /// The DATASEC, with 4 bytes for each entry, one after the other.
     fn laid_out(&self, btf: &Btf, data_sec: &DataSec) -> Result<DataSec, BtfError>
         ensures like { (placeholder : Option ℕ) → self.now ≡ target_of btf.now placeholder → IfOk result (λ s. IsLike (BtfType.DataSec data_sec.now) (BtfType.DataSec s)) }
         ensures words { (placeholder : Option ℕ) → self.now ≡ target_of btf.now placeholder → Gives (λ s. s) result (Ok (laid_out_anew btf.now placeholder data_sec.now)) }

@@ -89,7 +89,7 @@ impl Made {
     }
 }
 
-/// What a pass changes in a table, for a kernel that has what the resolver tells, or why it is refused.
+/// What a pass changes in a table, for a kernel that has what the resolver says, or why it is refused.
 pub fn pass_changes<F: FnMut(BtfFeature) -> bool>(
     btf: &Btf,
     sections: &HashMap<String, (SectionIndex, u64)>,

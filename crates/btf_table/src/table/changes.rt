@@ -54,7 +54,7 @@ impl Changes {
         }
     }
 
-    /// Appends a text and a zero byte to the strings, and answers the offset of the text. `InvalidStringOffset` of that
+    /// Appends a text and a zero byte to the strings, and returns the offset of the text. `InvalidStringOffset` of that
     /// offset where the strings of the table and the new ones would pass their limit.
     pub fn append_text(&mut self, btf: &Btf, text: &str) -> Result<u32, BtfError>
         requires { HasRoom btf.now self.old }
@@ -67,7 +67,7 @@ impl Changes {
         Ok(offset as u32)
     }
 
-    /// Appends a type, and answers its id. `InvalidTypeInfo` where the records would pass their limit.
+    /// Appends a type, and returns its id. `InvalidTypeInfo` where the records would pass their limit.
     pub fn append_type(&mut self, btf: &Btf, btf_type: BtfType) -> Result<u32, BtfError>
         requires room { HasRoom btf.now self.old }
         requires no_fallback { fallback_of btf_type ≡ None }
@@ -143,7 +143,7 @@ fn put_back_types(types: &mut [BtfType], old: &mut [(u32, BtfType)])
 }
 
 impl Btf {
-    /// Puts changes of this table into it, and answers what takes them out again. `OutOfMemory` is the only error, and leaves
+    /// Puts changes of this table into it, and returns what takes them out again. `OutOfMemory` is the only error, and leaves
     /// the table as it was.
     pub(crate) fn apply(&mut self, mut changes: Changes) -> Result<Undo, BtfError>
         requires { AreOf self.old changes }

@@ -25,7 +25,7 @@ pub struct Header {
     pub str_len: u32,
 }
 
-/// So many bytes of the data, which begin at an offset behind the header. None where they pass the end.
+/// So many bytes of the data, which begin at an offset after the header. None where they pass the end.
 pub fn section(data: &[u8], hdr_len: u32, offset: u32, len: u32) -> Option<&[u8]>
     ensures { MatchOption result
         (length «data».now < hdr_len + offset + len)

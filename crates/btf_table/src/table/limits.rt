@@ -8,7 +8,7 @@ ghost use Rattle.btf_rules.specs.Checked.{checked};
 use crate::table::SECTION_LIMIT;
 use btf_plain::BtfError;
 
-/// Whether a text has room with its zero byte behind so many bytes of strings; `InvalidStringOffset` of them if not.
+/// Whether a text has room with its zero byte after so many bytes of strings; `InvalidStringOffset` of them if not.
 pub fn text_fits(offset: usize, text: &str) -> Result<(), BtfError>
     requires { offset ≤ SECTION_LIMIT }
     ensures { Tells (λ u. u) result (λ answer. answer ≡ checked (has_room offset text.now) tt) }
@@ -19,7 +19,7 @@ pub fn text_fits(offset: usize, text: &str) -> Result<(), BtfError>
     Ok(())
 }
 
-/// Whether a record of so many bytes has room behind so many bytes of records; `InvalidTypeInfo` if not.
+/// Whether a record of so many bytes has room after so many bytes of records; `InvalidTypeInfo` if not.
 pub fn record_fits(used: usize, bytes: usize) -> Result<(), BtfError>
     requires { used ≤ SECTION_LIMIT }
     ensures { Tells (λ u. u) result (λ answer. answer ≡ checked (fits used bytes) tt) }

@@ -51,7 +51,7 @@ fn bytes_at(strings: &[u8], offset: u32) -> Option<&[u8]>
     Some(&rest[..end])
 }
 
-/// The text at an offset, or `InvalidStringOffset` of it where no zero byte stands at it or behind it.
+/// The text at an offset, or `InvalidStringOffset` of it where no zero byte stands at it or after it.
 pub fn text_at(alloc: Global, strings: &[u8], offset: u32) -> Result<BtfStr<'_>, BtfError>
     ensures text { Gives text_bytes result (model.text_at strings.now offset) }
     // Memory is taken only for bytes that are not UTF-8.
