@@ -1,5 +1,6 @@
 pub mod FieldSteps
 pub mod Positions
+pub mod Passed
 pub mod Steps
 pub mod PairMaps
 pub mod Comparing

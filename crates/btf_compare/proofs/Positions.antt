@@ -18,7 +18,7 @@ use Rattle.btf_items.specs.Items.{param_words}
 use Rattle.btf_items.specs.declared.items.BtfParam.{BtfParam}
 use Rattle.btf_compare.specs.declared.position.Position.{Position}
 use Rattle.btf_compare.specs.declared.position.Position.TheVariants as positions
-use Rattle.btf_compare.specs.Compared.{PositionIs, types_of}
+use Rattle.btf_compare.specs.Compared.{PositionIs, IfOwed, types_of}
 use Rattle.btf_compare.specs.Pairs.{pair_of, IsResolved}
 
 -- ---- prototypes
@@ -63,6 +63,12 @@ pub found_behind : (local target : Table) (at : Pair) (found other : ℕ × Kind
 found_behind local target at found other x h g is =
     position_more x (PositionFound found.0 found.1 other.1 found.2 other.2) (Finds local target at)
     (λ y is. inr (record { local = found.0; target = other.0 }, found.1, other.1, found.2, other.2, (h.0, g.0), h.1, g.1, is)) is
+
+-- what holds anyway, holds if there are parameters
+pub if_owed : (x : Position) (P : Type 0) → P → IfOwed x P
+if_owed (positions.Told answer) P h = tt
+if_owed (positions.On next) P h = tt
+if_owed (positions.Owes params others next) P h = h
 
 -- ---- parameters by their index
 

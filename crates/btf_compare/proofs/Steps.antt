@@ -14,10 +14,10 @@ use Rattle.btf_words.specs.declared.error.BtfError.{BtfError}
 use Rattle.btf_compare.specs.declared.step.Frame.{Frame}
 use Rattle.btf_compare.specs.declared.step.Step.{Step}
 use Rattle.btf_compare.specs.declared.step.Step.TheVariants as steps
-use Rattle.btf_compare.specs.Compared.{StepIs, ParameterStepIs, frame_of}
+use Rattle.btf_compare.specs.Compared.{StepIs, ParameterStepIs, GoesPast, frame_of}
 use Rattle.btf_compare.specs.Pairs.{pair_of}
 
-one_more : (gone : ℕ) → gone < walk_limit → walk_limit - gone ≡ suc (walk_limit - (gone + 1))
+pub one_more : (gone : ℕ) → gone < walk_limit → walk_limit - gone ≡ suc (walk_limit - (gone + 1))
 one_more gone lt = omega (arith, lt)
 
 module _ (local target : Table) (f : Frame) where
@@ -47,9 +47,26 @@ module _ (local target : Table) (f : Frame) where
   refused (Ok b) at to owed lt found is h = inr (walk_limit - (f.gone + 1), one_more f.gone lt, inr (owed, to, h.0, (found, (at, is, h.1)), h.2))
   refused (Err e) at to owed lt found is h = (h.0, h.1, inr (walk_limit - (f.gone + 1), one_more f.gone lt, inr (owed, to, h.2.0, (found, (at, is, h.2.1)), h.2.2)))
 
-  pub waits : (step : Step) (at to : Pair) (owed : List Pair) → f.gone < walk_limit → Finds local target (pair_of f.at) (Owes owed to) → slice_get owed f.parameter ≡ Some at → ParameterStepIs local target f at step → StepIs local target f step
-  waits (steps.Ends answer) at to owed lt found is h = refused answer at to owed lt found is h
-  waits (steps.GoesOn g) at to owed lt found is h = elim h [ ]
-  waits (steps.Waits ids g) at to owed lt found is h =
+  abbrev pub past_all : (g : Frame) (ids to : ℕ × ℕ) (owed : List Pair) → f.gone < walk_limit → g ≡ record f { at = to; gone = f.gone + 1; parameter = 0 } → Finds local target (pair_of f.at) (Owes owed (pair_of to)) → ResolvesPair local target (pair_of f.at) (Ok (pair_of ids)) → GoesPast local target f g (pair_of ids)
+  past_all g ids to owed lt is found resolves = record {
+    owed = owed;
+    to = pair_of to;
+    left = walk_limit - (f.gone + 1);
+    finds = found;
+    resolves = resolves;
+    was = one_more f.gone lt;
+    is = ap frame_of is;
+  }
+
+  pub passes : (g : Frame) (ids to : ℕ × ℕ) (owed : List Pair) → f.gone < walk_limit → g ≡ record f { at = to; gone = f.gone + 1; parameter = 0 } → Finds local target (pair_of f.at) (Owes owed (pair_of to)) → ResolvesPair local target (pair_of f.at) (Ok (pair_of ids)) → None ≡ slice_get owed f.parameter
+      → (past : GoesPast local target f g (pair_of ids)) × (length past.owed ≤ f.parameter)
+  passes g ids to owed lt is found resolves none = (past_all g ids to owed lt is found resolves, past owed f.parameter none)
+
+  pub waits : (passed : Pair → Bool) (step : Step) (at to : Pair) (owed : List Pair) → f.gone < walk_limit → Finds local target (pair_of f.at) (Owes owed to) → slice_get owed f.parameter ≡ Some at → ParameterStepIs local target f at step → StepIs local target passed f step
+  waits passed (steps.Ends answer) at to owed lt found is h = refused answer at to owed lt found is h
+  waits passed (steps.Passes ids g) at to owed lt found is h = elim h [ ]
+  waits passed (steps.Skips g) at to owed lt found is h = elim h [ ]
+  waits passed (steps.GoesOn g) at to owed lt found is h = elim h [ ]
+  waits passed (steps.Waits ids g) at to owed lt found is h =
       let one : f.parameter + 1 ≡ suc f.parameter = omega arith in
       (walk_limit - (f.gone + 1), owed, to, one_more f.gone lt, (found, (at, is, h.0)), ap frame_of h.1 ∙ ap (λ (j : ℕ). record { pair = pair_of f.pair; at = pair_of f.at; left = walk_limit - f.gone; parameter = j }) one)

@@ -1,12 +1,14 @@
 -- What the parts of the comparison of types stand for.
-use Rattle.std.specs.Prelude.{◌≡◌, ◌≢◌, ◌⊎◌, ◌≤◌, ℕ, ◌+◌, ◌-◌, ◌*◌, length, All, Bool, true, false, List, ◌++◌, map, slice_get, Option, Some, None, Result, Ok, Err}
+use Rattle.std.specs.BTreeSet as ordered
+use Rattle.std.specs.BTreeSet.{BTreeSet}
+use Rattle.std.specs.Prelude.{◌≡◌, ◌≢◌, ◌⊎◌, ◌≤◌, ℕ, suc, ◌+◌, ◌-◌, ◌*◌, length, All, Bool, true, false, List, ◌++◌, map, slice_get, Option, Some, None, Result, Ok, Err}
 use Rattle.std.specs.List.{IsDistinct}
 use Rattle.btf_model.specs.Record.{Record, Kind, compared_kind}
 use Rattle.btf_model.specs.Refusal.{Refusal}
 use Rattle.btf_model.specs.Table.{Table}
 use Rattle.btf_model.specs.Walk.{walk_limit}
 use Rattle.btf_model.specs.Fields.{Pair}
-use Rattle.btf_model.specs.Compat.{Told, On, Owes, pairs, ResolvesPair, AreKnown, pair_eq}
+use Rattle.btf_model.specs.Compat.{Told, On, Owes, pairs, Finds, ResolvesPair, AreKnown, pair_eq}
 use Rattle.btf_model.specs.Compat as model
 use Rattle.btf_model.specs.Laws.{AreIds}
 use Rattle.btf_model.specs.Run as runs
@@ -19,7 +21,7 @@ use Rattle.btf_items.specs.declared.items.BtfParam.{BtfParam}
 use Rattle.btf_compare.specs.declared.pair_map.PairMap.{PairMap}
 use Rattle.btf_compare.specs.declared.progress.Progress.{Progress}
 use Rattle.btf_compare.specs.declared.progress.Progress.TheVariants as progresses
-use Rattle.btf_compare.specs.PairMap.{known}
+use Rattle.btf_compare.specs.PairMap.{known, ids_cmp}
 use Rattle.btf_compare.specs.declared.position.Position.{Position}
 use Rattle.btf_compare.specs.declared.position.Position.TheVariants as positions
 use Rattle.btf_compare.specs.declared.step.Frame.{Frame}
@@ -37,20 +39,43 @@ PositionIs (positions.Told answer) P = Tells (λ b. b) answer (λ a. P (Told a))
 PositionIs (positions.On next) P = P (On (pair_of next))
 PositionIs (positions.Owes params others next) P = P (Owes (pairs (types_of params.now) (types_of others.now)) (pair_of next))
 
+-- P holds, if there are parameters at the position
+abbrev pub IfOwed : Position → Type 0 → Type 0
+IfOwed (positions.Owes params others next) P = P
+IfOwed x P = Unit {0}
+
+-- whether the set has the pair
+abbrev pub passed_in : BTreeSet (ℕ × ℕ) → Pair → Bool
+passed_in set p = ordered.contains ids_cmp set (ids_of p)
+
 -- an open pair, as the definitions of a run have it
 abbrev pub frame_of : Frame → runs.Frame
 frame_of f = record { pair = pair_of f.pair; at = pair_of f.at; left = walk_limit - f.gone; parameter = f.parameter }
 
--- the step is what comes next for an open pair
-abbrev pub StepIs : Table → Table → Frame → Step → Type 0
-StepIs local target f (steps.Ends answer) = Tells (λ b. b) answer (λ a. IsNext local target (frame_of f) (runs.Ends a))
-StepIs local target f (steps.GoesOn g) = IsNext local target (frame_of f) (runs.GoesOn (frame_of g))
-StepIs local target f (steps.Waits ids g) = IsNext local target (frame_of f) (runs.Waits (pair_of ids) (frame_of g))
+-- The prototypes at an open pair's position have these ids and these parameters, and its walk goes on to g after them.
+pub record GoesPast (local target : Table) (f g : Frame) (ids : Pair) : Type 0 where
+  pub owed : List Pair
+  pub to : Pair
+  pub left : ℕ
+  pub finds : Finds local target (pair_of f.at) (Owes owed to)
+  pub resolves : ResolvesPair local target (pair_of f.at) (Ok ids)
+  pub was : (frame_of f).left ≡ suc left
+  pub is : frame_of g ≡ record { pair = pair_of f.pair; at = to; left = left; parameter = 0 }
+
+-- the step is what comes next for an open pair, where the parameters of the passed prototypes came out true
+abbrev pub StepIs : Table → Table → (Pair → Bool) → Frame → Step → Type 0
+StepIs local target passed f (steps.Ends answer) = Tells (λ b. b) answer (λ a. IsNext local target (frame_of f) (runs.Ends a))
+StepIs local target passed f (steps.GoesOn g) = IsNext local target (frame_of f) (runs.GoesOn (frame_of g))
+StepIs local target passed f (steps.Waits ids g) = IsNext local target (frame_of f) (runs.Waits (pair_of ids) (frame_of g))
+StepIs local target passed f (steps.Passes ids g) = (past : GoesPast local target f g (pair_of ids)) × (length past.owed ≤ f.parameter)
+StepIs local target passed f (steps.Skips g) = (ids : Pair) × GoesPast local target f g ids × (passed ids ≡ true) × (f.parameter ≡ 0)
 
 -- the step is what comes next where the parameters at their turn are this pair: it is resolved, and waited for
 abbrev pub ParameterStepIs : Table → Table → Frame → Pair → Step → Type 0
 ParameterStepIs local target f at (steps.Ends answer) = Tells (λ b. b) answer (λ a. (refusal : Refusal) × ResolvesPair local target at (Err refusal) × (a ≡ Err refusal))
 ParameterStepIs local target f at (steps.GoesOn g) = ⊥
+ParameterStepIs local target f at (steps.Passes ids g) = ⊥
+ParameterStepIs local target f at (steps.Skips g) = ⊥
 ParameterStepIs local target f at (steps.Waits ids g) = ResolvesPair local target at (Ok (pair_of ids)) × (g ≡ record f { parameter = f.parameter + 1 })
 
 -- whether a run has a pair open, or knows it to be compatible

@@ -1,10 +1,10 @@
 //! What the comparison of types finds at a pair of types.
 
-ghost use Rattle.std.specs.Prelude.{◌≡◌};
+ghost use Rattle.std.specs.Prelude.{◌≡◌, Ok};
 ghost use Rattle.btf_model.specs.Record as model;
-ghost use Rattle.btf_model.specs.Compat.{Finds, PositionFound, position_by};
+ghost use Rattle.btf_model.specs.Compat.{Finds, PositionFound, ResolvesPair, position_by};
 ghost use Rattle.btf_records.specs.BtfType.{record_of, type_kind};
-ghost use Rattle.btf_compare.specs.Compared.{PositionIs};
+ghost use Rattle.btf_compare.specs.Compared.{PositionIs, IfOwed};
 ghost use Rattle.btf_compare.specs.Pairs.{pair_of};
 
 use crate::resolved::resolved;
@@ -23,17 +23,24 @@ pub enum Position<'a> {
     Owes(&'a [BtfParam], &'a [BtfParam], (u32, u32)),
 }
 
-/// What is found at a pair of ids. Both are resolved, the local one first.
-pub fn found_at<'a>(local: &'a Btf, target: &'a Btf, at: (u32, u32)) -> Position<'a>
-    ensures { PositionIs result (Finds local.now target.now (pair_of at)) }
+/// What is found at a pair of ids, and the ids of the types that are compared there. Both are resolved, the local one
+/// first; where one cannot be, the ids are those of the call.
+pub fn found_at<'a>(local: &'a Btf, target: &'a Btf, at: (u32, u32)) -> ((u32, u32), Position<'a>)
+    ensures position { PositionIs result.1 (Finds local.now target.now (pair_of at)) }
+    ensures ids { IfOwed result.1 (ResolvesPair local.now target.now (pair_of at) (Ok (pair_of result.0))) }
 {
     let (local_id, local_type) = match resolved(local, at.0) {
         Ok(found) => found,
-        Err(e) => return Position::Told(Err(e)),
+        Err(e) => return (at, Position::Told(Err(e))),
     };
     match resolved(target, at.1) {
-        Ok((_, target_type)) => compared(local_id, local_type, target_type),
-        Err(e) => Position::Told(Err(e)),
+        Ok((target_id, target_type)) => {
+            (
+                (local_id, target_id),
+                compared(local_id, local_type, target_type),
+            )
+        }
+        Err(e) => (at, Position::Told(Err(e))),
     }
 }
 

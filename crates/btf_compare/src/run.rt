@@ -1,6 +1,7 @@
 //! The run of the comparison of types: open pairs on a stack of its own, and pairs that came out true.
 
 ghost use Rattle.std.specs.Prelude.{◌≡◌, ℕ, ◌+◌, None, IsSome, [], ◌∷◌, ◌++◌, List, Bool, Result, IfOk, OnOk, IfErr, OnErr, MatchOption};
+ghost use Rattle.std.specs.BTreeSet.{IsEmpty};
 ghost use Rattle.btf_model.specs.Fields.{Pair};
 ghost use Rattle.btf_model.specs.Refusal.{Refusal};
 ghost use Rattle.btf_model.specs.Compat.{Plain, firsts};
@@ -15,6 +16,7 @@ use crate::trace::Starts;
 use btf_plain::BtfError;
 use btf_table::{Btf, allocator_of};
 use std::alloc::Global;
+use std::collections::BTreeSet;
 
 /// What a run remembers.
 #[derive(Drop)]
@@ -23,6 +25,8 @@ struct Run {
     below: Vec<Frame>,
     /// The pairs that were started, each with its progress.
     seen: PairMap<Progress>,
+    /// The long prototypes all of whose parameters came out true, which a walk that meets them again goes past.
+    passed: BTreeSet<(u32, u32)>,
 }
 
 impl Run {
@@ -31,10 +35,12 @@ impl Run {
         ensures below { result.below.items ≡ [] }
         ensures seen { (ids : ℕ × ℕ) → known result.seen ids ≡ None }
         ensures counts { count result.seen ≡ 0 }
+        ensures passed { IsEmpty result.passed }
     {
         Run {
             below: Vec::new(alloc),
             seen: PairMap::new(alloc),
+            passed: BTreeSet::new(alloc),
         }
     }
 
@@ -55,6 +61,7 @@ impl Run {
         ensures refused { IfErr result (IsRefused local.now target.now (pair_of pair)) }
         ensures not_listed { OnErr result ((first : S) → (ids : List (ℕ × ℕ)) → S.has_added first starts.old ids → S.has_added first starts.new ids) }
         ensures below { self.new.below ≡ self.old.below }
+        ensures passed { self.new.passed ≡ self.old.passed }
     {
         let local_type = local.type_by_id(pair.0)?;
         let target_type = target.type_by_id(pair.1)?;
@@ -73,6 +80,7 @@ impl Run {
         ensures next { MatchOption result (self.old.below.items ≡ []) (λ frame. self.old.below.items ≡ self.new.below.items ++ frame ∷ []) }
         ensures settled { Learns self.old.seen self.new.seen pair Progress.Compatible }
         ensures counts { count self.new.seen ≡ count self.old.seen }
+        ensures passed { self.new.passed ≡ self.old.passed }
     {
         self.seen.update(pair, Progress::Compatible);
         self.below.pop()
@@ -96,8 +104,13 @@ pub fn compare<S: Starts>(
         return Ok(false);
     };
     'steps: loop {
-        match top.step(local, target) {
+        match top.step(local, target, &run.passed) {
             Step::GoesOn(next) => top = next,
+            Step::Skips(next) => top = next,
+            Step::Passes(ids, next) => {
+                run.passed.insert(ids)?;
+                top = next;
+            }
             Step::Ends(answer) => {
                 if !answer? {
                     return Ok(false);

@@ -4,7 +4,7 @@ ghost use Rattle.std.specs.Prelude.{◌≡◌, ◌+◌, ◌<◌, ◌^◌, slice_
 ghost use Rattle.std.specs.Option.{option_map};
 ghost use Rattle.btf_model.specs.Compat.{pairs};
 ghost use Rattle.btf_model.specs.Run.{new_frame};
-ghost use Rattle.btf_compare.specs.Compared.{StepIs, ParameterStepIs, frame_of, types_of};
+ghost use Rattle.btf_compare.specs.Compared.{StepIs, ParameterStepIs, frame_of, passed_in, types_of};
 ghost use Rattle.btf_compare.specs.Pairs.{pair_of};
 
 use crate::position::{Position, found_at};
@@ -12,6 +12,11 @@ use crate::resolved::resolved;
 use btf_plain::BtfError;
 use btf_records::BtfParam;
 use btf_table::{Btf, WALK_LIMIT};
+use std::collections::BTreeSet;
+
+/// Prototypes with more parameters are remembered once these came out true. Where they are fewer, to look each of them
+/// up again costs no more than that.
+const FEW_PARAMETERS: usize = 8;
 
 /// A pair of ids that is open: where its walk is, how many positions it has passed, and which parameter comes next.
 #[derive(Clone, Copy, Drop)]
@@ -32,6 +37,10 @@ pub enum Step {
     GoesOn(Frame),
     /// This pair has to be compatible, and then its walk goes on.
     Waits((u32, u32), Frame),
+    /// All parameters of the prototypes with these ids came out true, and its walk goes on.
+    Passes((u32, u32), Frame),
+    /// They had come out true before, and its walk goes on.
+    Skips(Frame),
 }
 
 impl Frame {
@@ -48,19 +57,26 @@ impl Frame {
         }
     }
 
-    /// What comes next. At a position the two ids are looked up, after their modifiers, and a parameter's when its turn comes.
-    pub fn step(self, local: &Btf, target: &Btf) -> Step
-        ensures { StepIs local.now target.now self result }
+    /// What comes next, where all parameters of the `passed` prototypes came out true. At a position the two ids are
+    /// looked up, after their modifiers, and a parameter's when its turn comes.
+    pub fn step(self, local: &Btf, target: &Btf, passed: &BTreeSet<(u32, u32)>) -> Step
+        ensures { StepIs local.now target.now (passed_in passed.now) self result }
     {
         if self.gone >= WALK_LIMIT {
             return Step::Ends(Err(BtfError::MaximumTypeDepthReached { type_id: self.at.0 }));
         }
-        match found_at(local, target, self.at) {
+        let (ids, position) = found_at(local, target, self.at);
+        match position {
             Position::Told(answer) => Step::Ends(answer),
             Position::On(next) => Step::GoesOn(self.on(next)),
             Position::Owes(params, others, next) => {
+                let is_long = params.len() > FEW_PARAMETERS;
+                if is_long && self.parameter == 0 && passed.contains(&ids) {
+                    return Step::Skips(self.on(next));
+                }
                 match parameters_at(params, others, self.parameter) {
                     Some(at) => self.waits(local, target, at),
+                    None if is_long => Step::Passes(ids, self.on(next)),
                     None => Step::GoesOn(self.on(next)),
                 }
             }

@@ -87,6 +87,13 @@ one_position local target at a b (inr p) (inr q) =
     (found_of_same p.0.local q.0.local p.1 q.1 p.2 q.2 p.3 q.3 p.4 q.4 b (ap (λ (x : Pair). x.local) pairs) (one_kind local p.0.local p.1 q.1 p.3 q.3 p.6 here) (one_kind target p.0.target p.2 q.2 p.4 q.4 p.7 there)
     (one_record local p.0.local p.1 q.1 p.3 q.3 p.6 here) (one_record target p.0.target p.2 q.2 p.4 q.4 p.7 there) q.8)
 
+-- where the ids resolve to the same types, the same is found
+pub found_alike : (local target : Table) (at other p : Pair) (found : Position) → ResolvesPair local target at (Ok p) → ResolvesPair local target other (Ok p) → Finds local target at found → Finds local target other found
+found_alike local target at other p found here there (inl h) = absurd (pair_not_refused local target at p h.0 here h.1)
+found_alike local target at other p found here there (inr h) =
+    let same : p ≡ h.0 = same_ok p h.0 (one_resolved local target at (Ok p) (Ok h.0) here h.5) in
+    inr (h.0, h.1, h.2, h.3, h.4, subst (λ (x : Pair). ResolvesPair local target other (Ok x)) same there, h.6, h.7, h.8)
+
 -- ---- something is found
 
 pair_answer_by : (local target : Table) (at : Pair) (a b : Result ℕ Refusal) → Resolves local.records at.local a → Resolves target.records at.target b → (answer : Result Pair Refusal) × ResolvesPair local target at answer

@@ -20,7 +20,8 @@ tail_within [] id r is = absurd (omega (arith, slice_get_within [] id r is))
 tail_within (s ∷ rs) zero r is = omega (arith, ap (λ (x : Record). length x.tail) (same_Some s r is))
 tail_within (s ∷ rs) (suc id) r is = omega (arith, tail_within rs id r is)
 
-abbrev owed_at : Position → List Pair
+-- the pairs that are owed there
+abbrev pub owed_at : Position → List Pair
 owed_at (Told answer) = []
 owed_at (On to) = []
 owed_at (Owes owed to) = owed
@@ -113,6 +114,10 @@ module _ (local target : Table) where
 
   pub less_on : (known listed w : ℕ) (f g : Frame) (below : List Frame) → IsNext local target f (GoesOn g) → left_to_do known listed w g below < left_to_do known listed w f below
   less_on known listed w f g below next = omega (arith, on_is_less w f g next)
+
+  -- a walk that goes on without its parameters
+  pub less_passed : (known listed w n : ℕ) (f : Frame) (to : Pair) (below : List Frame) → f.left ≡ suc n → left_to_do known listed w (record { pair = f.pair; at = to; left = n; parameter = zero }) below < left_to_do known listed w f below
+  less_passed known listed w n f to below left = rw left (omega (arith, fewer_positions n w f.parameter))
 
   pub less_paid : (known listed : ℕ) (f g : Frame) (p : Pair) (below : List Frame) → IsNext local target f (Waits p g) → left_to_do known listed (widest local.records) g below < left_to_do known listed (widest local.records) f below
   less_paid known listed f g p below next = omega (arith, waits_is_less f g p next)

@@ -1,6 +1,6 @@
 -- What holds at each step of a run of the comparison: of the pairs that are settled, of those that are open, and of what is listed.
-use Rattle.std.proofs.Common.{◌≡◌, ◌≢◌, zero, suc, ◌+◌, List, [], ◌∷◌, ◌++◌, length, refl, sym, ap, subst, ◌∙◌, inl, inr, Bool, true, false, Result, Ok, arith, append_assoc, Contains}
-use Rattle.std.specs.Prelude.{◌⊎◌, map, not, cond}
+use Rattle.std.proofs.Common.{◌≡◌, ◌≢◌, ℕ, zero, suc, ◌+◌, ◌<◌, List, [], ◌∷◌, ◌++◌, length, refl, sym, ap, subst, ◌∙◌, inl, inr, Bool, true, false, Result, Ok, arith, append_assoc, Contains}
+use Rattle.std.specs.Prelude.{◌⊎◌, map, not, cond, slice_get, Some}
 use Rattle.std.proofs.lemmas.List.{append-nil, length-append}
 use Rattle.std.proofs.lemmas.List.Elements.{Contains-append_left, Contains-push}
 use Rattle.btf_model.specs.Refusal.{Refusal}
@@ -8,7 +8,10 @@ use Rattle.btf_model.specs.Table.{Table}
 use Rattle.btf_model.specs.Walk.{walk_limit}
 use Rattle.btf_model.specs.Fields.{Pair, HaveKinds}
 use Rattle.std.specs.List.{filter}
-use Rattle.btf_model.specs.Compat.{Plain, pair_eq, firsts}
+use Rattle.btf_model.specs.Compat.{Plain, Owes, Finds, ResolvesPair, pair_eq, firsts}
+use Rattle.btf_model.proofs.Comparisons.{one_position}
+use Rattle.btf_model.proofs.RunLengths.{owed_at}
+use Rattle.std.proofs.lemmas.Option.{same_Some, slice_get_cases}
 use Rattle.btf_model.proofs.Known.{Among, among_from_contains, HasIds, Covers, known_pairs, known_pairs_cover, known_pairs_among, Without, without}
 use Rattle.btf_model.proofs.PlainAnswers.{true_or_not}
 use Rattle.btf_model.specs.Run.{Begins}
@@ -79,7 +82,24 @@ lists_as early went before t rest p is = rw is (simp append_assoc)
 lists_on : (early went before t more rest : List Pair) (p : Pair) → before ≡ early ++ p ∷ went → early ++ ((p ∷ (went ++ (t ++ more))) ++ rest) ≡ before ++ (t ++ (more ++ rest))
 lists_on early went before t more rest p is = rw is (simp append_assoc)
 
+earlier_or_last : (index place : ℕ) → index < suc place → (index < place) ⊎ (place ≡ index)
+earlier_or_last zero zero lt = inr refl
+earlier_or_last zero (suc place) lt = inl (omega arith)
+earlier_or_last (suc index) zero lt = absurd (omega (arith, lt))
+earlier_or_last (suc index) (suc place) lt = elim (earlier_or_last index place (omega (arith, lt))) [ inl less ↦ inl (omega (arith, less)) | inr is ↦ inr (ap (λ (n : ℕ). suc n) is) ]
+
+there_within : (owed : List Pair) (index : ℕ) → index < length owed → (at : Pair) × (slice_get owed index ≡ Some at)
+there_within owed index lt = elim (slice_get_cases owed index).1 [ inl h ↦ (h.0, h.2) | inr past ↦ absurd (omega (arith, past.0, lt)) ]
+
 module _ (local target : Table) where
+  -- each of the pairs before this place resolves to a pair of which P holds
+  abbrev pub AllBefore : List Pair → ℕ → (Pair → Type 0) → Type 0
+  AllBefore owed place P = (index : ℕ) → index < place → (at : Pair) → slice_get owed index ≡ Some at → (p : Pair) × ResolvesPair local target at (Ok p) × P p
+
+  -- so do the parameters of an open pair's position that had their turn
+  abbrev pub HavePaid : Frame → (Pair → Type 0) → Type 0
+  HavePaid f P = (owed : List Pair) (to : Pair) → Finds local target f.at (Owes owed to) → AllBefore owed f.parameter P
+
   -- a pair that is begun and walked
   walked_pair : (above : List Pair) (p : Pair) (b : Result Bool Refusal) (t : List Pair) → Begins local target p → (Among above p → ⊥) → WalkOf local target above p b t → Plain local target above p b (p ∷ t)
   walked_pair above p b t begins new h = Plain.walked above p begins.0 begins.1 b t (not_open above p new) begins.2 begins.3 h
@@ -90,12 +110,14 @@ module _ (local target : Table) where
     pub record Walks (f : Frame) (went : List Pair) : Type 0 where
       pub begins : Begins local target f.pair
       pub starts : (q : Pair) → Among went q → Settled q
+      pub paid : HavePaid f Settled
       pub goes : (above : List Pair) → AvoidsAll Settled above → (b : Result Bool Refusal) (t : List Pair) → RestOf local target above f b t → WalkOf local target above f.pair b (went ++ t)
 
     -- The same of an open pair that waits for the answer of p, and then goes on.
     pub record Awaits (g : Frame) (p : Pair) (went : List Pair) : Type 0 where
       pub begins : Begins local target g.pair
       pub starts : (q : Pair) → Among went q → Settled q
+      pub paid : HavePaid g (λ q. Settled q ⊎ (p ≡ q))
       pub fails : (above : List Pair) → AvoidsAll Settled above → (b : Result Bool Refusal) (t : List Pair) → Plain local target (g.pair ∷ above) p b t → b ≢ Ok true → WalkOf local target above g.pair b (went ++ t)
       pub pays : (above : List Pair) → AvoidsAll Settled above → (first : List Pair) → Plain local target (g.pair ∷ above) p (Ok true) first → (b : Result Bool Refusal) (t : List Pair) → RestOf local target above g b t
           → WalkOf local target above g.pair b (went ++ (first ++ t))
@@ -115,6 +137,7 @@ module _ (local target : Table) where
     begun_walks p begins = record {
       begins = begins;
       starts = λ q m. elim m [ ];
+      paid = λ owed to finds index lt. absurd (omega (arith, lt));
       goes = λ above avoids b t h. walked_from_rest local target (p ∷ above) walk_limit p b t h;
     }
 
@@ -126,23 +149,36 @@ module _ (local target : Table) where
         (record {
           begins = walks.begins;
           starts = walks.starts;
+          paid = λ owed to finds index lt. absurd (omega (arith, lt));
           goes = λ above avoids b t h. walks.goes above avoids b t (goes_on_rest local target f on to above b t h);
         })
+
+    -- the parameters that were paid, and the one that is waited for now
+    paid_or_next : (f : Frame) (p : Pair) (went : List Pair) → Walks f went → IsNext local target f (Waits p (record f { parameter = suc f.parameter })) → (owed : List Pair) (to : Pair) → Finds local target f.at (Owes owed to) → (index : ℕ) (at : Pair) → slice_get owed index ≡ Some at
+        → (index < f.parameter) ⊎ (f.parameter ≡ index) → (q : Pair) × ResolvesPair local target at (Ok q) × (Settled q ⊎ (p ≡ q))
+    paid_or_next f p went walks next owed to finds index at is (inl lt) = let was = walks.paid owed to finds index lt at is in (was.0, was.1, inl was.2)
+    paid_or_next f p went walks next owed to finds index at is (inr last) =
+        let owes = next.4 in
+        let same : next.1 ≡ owed = ap owed_at (one_position local target f.at (Owes next.1 next.2) (Owes owed to) owes.0 finds) in
+        let there : owes.1.0 ≡ at = same_Some owes.1.0 at (sym owes.1.1 ∙ ap (λ (x : List Pair). slice_get x f.parameter) same ∙ ap (slice_get owed) last ∙ is) in
+        (p, subst (λ (x : Pair). ResolvesPair local target x (Ok p)) there owes.1.2, inr refl)
 
     walks_into : (f : Frame) (p : Pair) (went : List Pair) → Walks f went → IsNext local target f (Waits p (record f { parameter = suc f.parameter })) → Awaits (record f { parameter = suc f.parameter }) p went
     walks_into f p went walks next = record {
       begins = walks.begins;
       starts = walks.starts;
+      paid = λ owed to finds index lt at is. paid_or_next f p went walks next owed to finds index at is (earlier_or_last index f.parameter lt);
       fails = λ above avoids b t plain not_true. walks.goes above avoids b t (fails_rest local target f (record f { parameter = suc f.parameter }) p next above b t plain not_true);
       pays = λ above avoids first plain b t h. walks.goes above avoids b (first ++ t) (pays_rest local target f (record f { parameter = suc f.parameter }) p next above first plain b t h);
     }
 
     -- a pair that got its answer walks on
-    paid_walks : (g : Frame) (p : Pair) (went first : List Pair) → Awaits g p went → ((q : Pair) → Among first q → Settled q) → ((above : List Pair) → AvoidsAll Settled above → Plain local target above p (Ok true) first) → (Settled g.pair → ⊥)
+    paid_walks : (g : Frame) (p : Pair) (went first : List Pair) → Awaits g p went → ((q : Pair) → Among first q → Settled q) → ((above : List Pair) → AvoidsAll Settled above → Plain local target above p (Ok true) first) → (Settled g.pair → ⊥) → Settled p
         → Walks g (went ++ first)
-    paid_walks g p went first awaits starts plain not_settled = record {
+    paid_walks g p went first awaits starts plain not_settled settled = record {
       begins = awaits.begins;
       starts = λ q m. elim (among_append went first q m) [ inl h ↦ awaits.starts q h | inr h ↦ starts q h ];
+      paid = λ owed to finds index lt at is. let was = awaits.paid owed to finds index lt at is in (was.0, was.1, elim was.2 [ inl s ↦ s | inr same ↦ subst Settled same settled ]);
       goes = λ above avoids b t h.
           subst (λ (x : List Pair). WalkOf local target above g.pair b x) (sym (append_assoc went first t))
           (awaits.pays above avoids first (plain (g.pair ∷ above) (λ q. elim [ inl is ↦ (λ s. not_settled (subst Settled (sym is) s)) | inr m ↦ avoids q m ])) b t h);
@@ -199,7 +235,7 @@ module _ (local target : Table) where
           before = run.before;
           went = run.went ++ known.0;
           stack = run.stack;
-          walks = paid_walks on p run.went known.0 (walks_into f p run.went run.walks to) known.1 known.2 (run.avoids f.pair (inl refl));
+          walks = paid_walks on p run.went known.0 (walks_into f p run.went run.walks to) known.1 known.2 (run.avoids f.pair (inl refl)) settled;
           lists = ap firsts same ∙ firsts_of_known listed_so_far known.0 (λ q m. run.seen q (known.1 q m)) ∙ run.lists;
           closed = run.closed;
           avoids = run.avoids;
@@ -210,6 +246,17 @@ module _ (local target : Table) where
           covers = run.covers;
           counts = run.counts;
         })
+
+    -- So do all parameters from here on, where each resolves to a settled pair, and then the walk goes on.
+    pub run_passes : (root : Pair) (many : ℕ) (f : Frame) (n : ℕ) (owed : List Pair) (to : Pair) (below : List Frame) (listed : List Pair) → Run root f below listed → f.left ≡ suc n → Finds local target f.at (Owes owed to) → AllBefore owed (length owed) Settled → f.parameter + many ≡ length owed
+        → Run root (record { pair = f.pair; at = to; left = n; parameter = zero }) below listed
+    run_passes root zero f n owed to below listed run left finds settled is = run_on root f (record { pair = f.pair; at = to; left = n; parameter = zero }) below listed run (n, to, left, refl, inr (owed, finds, omega (arith, is)))
+    run_passes root (suc many) f n owed to below listed run left finds settled is =
+        let lt : f.parameter < length owed = omega (arith, is) in
+        let there = there_within owed f.parameter lt in
+        let pays = settled f.parameter lt there.0 there.1 in
+        let on : Frame = record f { parameter = suc f.parameter } in
+        run_passes root many on n owed to below listed (run_paid root f on pays.0 below listed run (n, owed, to, left, (finds, (there.0, there.1, pays.1)), refl) pays.2) left finds settled (omega (arith, is))
 
     ids_of : (p : Pair) → Begins local target p → HasIds local target p
     ids_of p begins = (begins.2.0, begins.2.1, begins.2.2.0, begins.2.3.0)
@@ -376,6 +423,7 @@ module _ (local target : Table) where
     awaits_more g p went awaits = record {
       begins = awaits.begins;
       starts = λ q m. more q (awaits.starts q m);
+      paid = λ owed to finds index lt at is. let was = awaits.paid owed to finds index lt at is in (was.0, was.1, elim was.2 [ inl s ↦ inl (more was.0 s) | inr same ↦ inr same ]);
       fails = λ above avoids. awaits.fails above (avoids_less above avoids);
       pays = λ above avoids. awaits.pays above (avoids_less above avoids);
     }
@@ -413,7 +461,7 @@ module _ (local target : Table) where
           before = early;
           went = went ++ (f.pair ∷ run.went);
           stack = stack_more root below g.pair early run.stack.3;
-          walks = paid_walks More g f.pair went (f.pair ∷ run.went) (awaits_more g f.pair went run.stack.4) (its_starts root f (g ∷ below) listed run next settled either) (is_plain root f (g ∷ below) listed run next settled either) (avoids g.pair (inl refl));
+          walks = paid_walks More g f.pair went (f.pair ∷ run.went) (awaits_more g f.pair went run.stack.4) (its_starts root f (g ∷ below) listed run next settled either) (is_plain root f (g ∷ below) listed run next settled either) (avoids g.pair (inl refl)) settled;
           lists = ap firsts same ∙ run.lists;
           closed = now_closed root f (g ∷ below) listed run next settled either;
           avoids = avoids;

@@ -1,12 +1,16 @@
-use Rattle.btf_compare.proofs.Positions.{no_local_type, no_target_type, found_behind}
+use Rattle.btf_compare.proofs.Positions.{no_local_type, no_target_type, found_behind, if_owed}
 use Rattle.btf_compare.proofs.position.found_at.Goals as goal
 use Rattle.btf_compare.specs.Pairs.{pair_of}
 
-pub returns-in-Err : goal.returns-in-Err
-returns-in-Err c = (c.in-Err.ensures.0, c.in-Err.ensures.1, no_local_type c.args.local.now c.args.target.now (pair_of c.args.at) c.in-Err.ensures.0 c.in-Err.ensures.2)
+pub returns-in-Err-clause-position : goal.returns-in-Err-clause-position
+returns-in-Err-clause-position c = (c.in-Err.ensures.0, c.in-Err.ensures.1, no_local_type c.args.local.now c.args.target.now (pair_of c.args.at) c.in-Err.ensures.0 c.in-Err.ensures.2)
 
-pub returns-in-Err-resolved : goal.returns-in-Err-resolved
-returns-in-Err-resolved c = let e = c.in-Err-resolved.ensures in (e.0, e.1, no_target_type c.args.local.now c.args.target.now (pair_of c.args.at) _ e.0 c.in-Ok.ensures e.2)
+pub returns-in-Err-resolved-clause-position : goal.returns-in-Err-resolved-clause-position
+returns-in-Err-resolved-clause-position c = let e = c.in-Err-resolved.ensures in (e.0, e.1, no_target_type c.args.local.now c.args.target.now (pair_of c.args.at) _ e.0 c.in-Ok.ensures e.2)
 
-pub returns-in-Ok-resolved : goal.returns-in-Ok-resolved
-returns-in-Ok-resolved c = found_behind c.args.local.now c.args.target.now (pair_of c.args.at) _ _ c.compared.result c.in-Ok.ensures c.in-Ok-resolved.ensures c.compared.ensures
+pub returns-in-Ok-resolved-clause-position : goal.returns-in-Ok-resolved-clause-position
+returns-in-Ok-resolved-clause-position c = found_behind c.args.local.now c.args.target.now (pair_of c.args.at) _ _ c.compared.result c.in-Ok.ensures c.in-Ok-resolved.ensures c.compared.ensures
+
+pub returns-in-Ok-resolved-clause-ids : goal.returns-in-Ok-resolved-clause-ids
+returns-in-Ok-resolved-clause-ids c =
+    if_owed c.compared.result _ (c.in-Ok.ensures.0, c.in-Ok-resolved.ensures.0)
