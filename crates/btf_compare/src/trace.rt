@@ -6,7 +6,7 @@ use std::alloc::AllocError;
 pub trait Starts {
     ghost use Rattle.std.specs.Prelude.{ℕ, List, [], ◌∷◌, ◌++◌, OnOk, OnErr};
 
-    /// The second value is the first after it was told of these pairs.
+    /// The second value is the first after these pairs were reported to it.
     ghost has_added: { Self → Self → List (ℕ × ℕ) → Type 0 };
 
     /// Tells of a pair.
