@@ -90,7 +90,7 @@ error_here strings name vs i offset v e r returned at others offset_is is =
     subst (λ (x : Result (Option ℕ) BtfError). Answers (λ a. a) x (FindsVariant strings name vs)) (sym returned)
     (IfSome_then (refusal_of e) is (λ refusal unread. refused_here strings name vs i offset v refusal at others offset_is unread))
 
--- where the name is UTF-8, if it can be read, it was not for want of memory
+-- where the name is UTF-8, if it can be read, it was not for lack of memory
 pub told_here : (strings name : List ℕ) (vs : List Variant) (i offset : ℕ) (v : Variant) (e : BtfError) (r : Result (Option ℕ) BtfError) → r ≡ Err e → slice_get vs i ≡ Some v → HaveOtherNames strings name (take i vs) → offset ≡ v.name
     → (IfSome (bytes_at strings offset) IsUtf8 → (refusal : Refusal) × (refusal_of e ≡ Some refusal) × (text_at strings offset ≡ Err refusal)) → HaveUtf8Names strings vs → Tells (λ a. a) r (FindsVariant strings name vs)
 told_here strings name vs i offset v e r returned at others offset_is told utf8 =

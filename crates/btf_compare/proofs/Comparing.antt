@@ -27,13 +27,13 @@ use Rattle.btf_compare.specs.Compared.{frame_of, IsStarted, IsRefused, TracesBy}
 use Rattle.btf_compare.specs.Pairs.{pair_of, ids_of}
 use Rattle.btf_words.proofs.Refused.{known_refusal}
 
--- ---- what the call answers
+-- ---- what the call returns
 
--- the call answers the comparison that remembers nothing, and lists what that starts
+-- the call returns the comparison that remembers nothing, and lists what that starts
 abbrev pub Compares : Table → Table → Pair → Result Bool BtfError → (List (ℕ × ℕ) → Type 0) → Type 0
 Compares local target root result IsTold = (answer : Result Bool Refusal) × (listed : List Pair) × Plain local target [] root answer listed × TracesBy IsTold result answer (firsts listed)
 
--- after these pairs one more was told of
+-- after these pairs one more was reported
 abbrev pub TellsOneMore : (List (ℕ × ℕ) → Type 0) → (List (ℕ × ℕ) → Type 0) → ℕ × ℕ → Type 0
 TellsOneMore IsTold IsToldNow ids = (before : List (ℕ × ℕ)) → IsTold before → IsToldNow (before ++ ids ∷ [])
 
@@ -44,7 +44,7 @@ answered local target Settled root answer listed result IsTold outcome tells add
 cut_short : (local target : Table) (Settled : Pair → Type 0) (root : Pair) (listed : List Pair) (result : Result Bool BtfError) (IsTold : List (ℕ × ℕ) → Type 0) → BeginsWith local target Settled root listed → result ≡ Err errors.OutOfMemory → IsTold (map ids_of listed) → Compares local target root result IsTold
 cut_short local target Settled root listed result IsTold begins is added = (begins.0, begins.1, begins.3, inr (is, listed, begins.2, begins.4, added))
 
--- what is told at once, is told later
+-- what is reported at once is reported later
 pub told_on : (local target : Table) (root : Pair) (result : Result Bool BtfError) (IsTold IsToldNow : List (ℕ × ℕ) → Type 0) → ((ids : List (ℕ × ℕ)) → IsTold ids → IsToldNow ids) → Compares local target root result IsTold → Compares local target root result IsToldNow
 told_on local target root result IsTold IsToldNow more h = (h.0, h.1, h.2, elim h.3 [ inl t ↦ inl (t.0, more (map ids_of (firsts h.1)) t.1) | inr t ↦ inr (t.0, t.1, t.2, t.3, more (map ids_of t.1) t.4) ])
 
@@ -91,7 +91,7 @@ pub record IsRunning (local target : Table) (root : Pair) (opened settled : Pair
   pub among : (q : Pair) → IsIn opened q → Among (top.pair ∷ open_pairs below) q
   pub has_all : (q : Pair) → Among (top.pair ∷ open_pairs below) q → IsIn opened q
 
--- what is in a set behind a change
+-- what is in a set after a change
 behind_cond : (b : Bool) (x : Bool) → cond b true x ≡ true → (b ≡ true) ⊎ (x ≡ true)
 behind_cond true x is = inl refl
 behind_cond false x is = inr is
@@ -147,7 +147,7 @@ module _ (local target : Table) (root : ℕ × ℕ) where
 
 -- ---- in the loop
 
--- what an error told, an equal one tells
+-- what an error says, an equal one says
 told_again : (answer result : Result Bool BtfError) (e : BtfError) (P : Result Bool Refusal → Type 0) → answer ≡ Err e → result ≡ Err e → Tells (λ b. b) answer P → (refusal : Refusal) × P (Err refusal) × Tells (λ b. b) result (λ a. a ≡ Err refusal)
 told_again answer result e P is same h =
     let given = subst (λ (r : Result Bool BtfError). Tells (λ b. b) r P) is h in

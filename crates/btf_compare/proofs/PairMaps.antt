@@ -106,7 +106,7 @@ module _ {V : Type 0} (ids : ℕ × ℕ) where
   push_other [] v other differs = ap (λ (b : Bool). cond b (Some v) None) (is_turned other ids ∙ differs)
   push_other (a ∷ es) v other differs = ap (λ (o : Option V). cond (is_ids other a.0) (Some a.1) o) (push_other es v other differs)
 
-  -- ---- the array, and the map behind it
+  -- ---- the array, and the map after it
 
   set_behind : (p : Bool) (v : V) (o more : Option V) → option_or (cond p (Some v) o) more ≡ cond p (Some v) (option_or o more)
   set_behind true v o more = refl

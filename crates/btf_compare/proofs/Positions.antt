@@ -42,7 +42,7 @@ pub other_parameters : (r s : Record) (params others : List BtfParam) → r.tail
 other_parameters r s params others is there differ =
     rw (its_types r params is, its_types s others there, ne_eqb (length (types_of params)) (length (types_of others)) (λ same. differ (sym (count_of params) ∙ same ∙ count_of others))) refl
 
--- ---- what is found behind modifiers
+-- ---- what is found after modifiers
 
 pub no_local_type : (local target : Table) (at : Pair) (refusal : Refusal) → IsResolved local at.local (Err refusal) → Finds local target at (Told (Err refusal))
 no_local_type local target at refusal h = inl (refusal, inl h, refl)

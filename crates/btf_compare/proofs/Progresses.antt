@@ -12,7 +12,7 @@ use Rattle.btf_compare.specs.Pairs.{pair_of, ids_of}
 use Rattle.btf_compare.proofs.PairMaps.{ids_eq, is_same}
 use Rattle.btf_compare.proofs.Comparing.{Changes}
 
--- what is told of a value that a condition picks
+-- what is said of a value that a condition picks
 told_of : (f : Option Progress → Bool) (c : Bool) (v : Progress) (o : Option Progress) → f (cond c (Some v) o) ≡ cond c (f (Some v)) (f o)
 told_of f true v o = refl
 told_of f false v o = refl

@@ -98,20 +98,20 @@ abbrev pub IsStarted : Table → Table → Pair → Option Frame → Type 0
 IsStarted local target p (Some f) = Begins local target p × (frame_of f ≡ new_frame p)
 IsStarted local target p None = (k q : Kind) × AreKnown local target p k q × (compared_kind k ≢ compared_kind q)
 
--- Why a pair is not started: an id is not known, the local one first, or memory is wanted.
+-- Why a pair is not started: an id is not known, the local one first, or memory is refused.
 abbrev pub IsRefused : Table → Table → Pair → BtfError → Type 0
 IsRefused local target p e =
     (e ≡ errors.OutOfMemory)
     ⊎ (((slice_get local.records p.local ≡ None) × (e ≡ errors.UnknownBtfType p.local))
     ⊎ ((r : Record) × (slice_get local.records p.local ≡ Some r) × (slice_get target.records p.target ≡ None) × (e ≡ errors.UnknownBtfType p.target)))
 
--- The call answers this, and these pairs were told of, as Told has it; or memory is wanted, and a beginning of them was.
+-- The call returns this, and these pairs were reported, as IsTold has it; or memory is refused after a beginning of them.
 abbrev pub TracesBy : (List (ℕ × ℕ) → Type 0) → Result Bool BtfError → Result Bool Refusal → List Pair → Type 0
 TracesBy IsTold result answer listed =
     (Tells (λ b. b) result (λ a. a ≡ answer) × IsTold (map ids_of listed))
     ⊎ ((result ≡ Err errors.OutOfMemory) × (front rest : List Pair) × (listed ≡ front ++ rest) × IsTold (map ids_of front))
 
--- The call answers this, and lists these pairs behind what the list held; or memory is wanted, and it lists a beginning of them.
+-- The call returns this, and lists these pairs after what the list held; or memory is refused after a beginning of them.
 abbrev pub Traces : Result Bool BtfError → Result Bool Refusal → List (ℕ × ℕ) → List (ℕ × ℕ) → List Pair → Type 0
 Traces result answer old new listed =
     (Tells (λ b. b) result (λ a. a ≡ answer) × (new ≡ old ++ map ids_of listed))

@@ -7,7 +7,7 @@ use Rattle.btf_compare.specs.declared.fields.Step.{Step}
 use Rattle.btf_compare.specs.declared.fields.Step.TheVariants as steps
 use Rattle.btf_compare.specs.Pairs.{pair}
 
--- the step is a finding of which P holds, or memory was wanted
+-- the step is a finding of which P holds, or memory was refused
 abbrev pub StepIs : Step → (Finding Pair Bool → Type 0) → Type 0
 StepIs (steps.Ends answer) P = Answers (λ b. b) answer (λ a. P (Ends a))
 StepIs (steps.GoesOn local target) P = P (GoesOn (pair local target))

@@ -31,7 +31,7 @@ enum Step {
 /// integers that begin at bit 0, any two pointers or floating-point numbers, and arrays whose elements are.
 ///
 /// Modifiers are resolved at each step, the local side first, with the errors of `resolve_type`; a name that can't be
-/// read is `InvalidStringOffset`; types of other kinds are `UnexpectedBtfType` with the local id. Behind 32 arrays it is
+/// read is `InvalidStringOffset`; types of other kinds are `UnexpectedBtfType` with the local id. After 32 arrays it is
 /// `MaximumTypeDepthReached` with the local id that would come next.
 pub fn fields_are_compatible(
     local: &Btf,

@@ -6,10 +6,10 @@ use std::alloc::AllocError;
 pub trait Starts {
     ghost use Rattle.std.specs.Prelude.{ℕ, List, [], ◌∷◌, ◌++◌, OnOk, OnErr};
 
-    /// The second value is the first after it was told of these pairs.
+    /// The second value is the first after these pairs were reported to it.
     ghost has_added: { Self → Self → List (ℕ × ℕ) → Type 0 };
 
-    /// Tells of a pair.
+    /// Reports a pair.
     fn add(&mut self, pair: (u32, u32)) -> Result<(), AllocError>
         ensures added { OnOk result ((first : Self) → (ids : List (ℕ × ℕ)) → has_added first self.old ids → has_added first self.new (ids ++ pair ∷ [])) }
         ensures refused { OnErr result ((first : Self) → (ids : List (ℕ × ℕ)) → has_added first self.old ids → has_added first self.new ids) };

@@ -27,7 +27,7 @@ last_section : (fs : List Named) (n : Named) (b : Bool) → option_map (λ x. x.
 last_section fs n true = ap (option_map (λ x. x.section)) (last_or-push None fs n)
 last_section fs n false = ap (λ xs. option_map (λ x. x.section) (last_or None xs)) (append-nil fs)
 
--- the section of a name, where one more stands behind the others
+-- the section of a name, where one more stands after the others
 section_named-push : (ns : List Named) (n : Named) (q : List ℕ) → section_named (ns ++ n ∷ []) q ≡ cond (bytes_eq q n.text) (Some n.section) (section_named ns q)
 section_named-push ns n q =
     ap (λ xs. option_map (λ x. x.section) (last_or None xs)) (filter-append (λ x. bytes_eq q x.text) ns (n ∷ []))

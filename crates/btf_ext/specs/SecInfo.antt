@@ -8,7 +8,7 @@ use Rattle.btf_ext.specs.declared.ext.sections.SecInfo.{SecInfo}
 abbrev pub section_of : SecInfo → Section
 section_of s = record { name = s.name_offset; count = s.num_info; bytes = s.bytes.now }
 
--- Nothing comes where no byte is left; a section, and the bytes behind it are left; or why what is left begins with no
+-- Nothing comes where no byte is left; a section, and the bytes after it are left; or why what is left begins with no
 -- section, and then no byte is left.
 abbrev pub GivesSection : SectionBytes → Option (Result SecInfo BtfError) → SectionBytes → Type 0
 GivesSection before None after = (before.bytes ≡ []) × (after ≡ before)

@@ -39,7 +39,7 @@ impl BtfExt {
     /// `InvalidInfo` for the first of the ranges of functions, lines and relocations that passes the end, or is not
     /// empty and begins with no word, or with a record size below 8, 16 and 16: it says where the range begins, its
     /// length, and the length of the data. Then, section after section, in this order: `InvalidInfo` as
-    /// `SecInfoIter` tells it, and for functions and lines `InvalidStringOffset` of a name that can't be read.
+    /// `SecInfoIter` reports it, and for functions and lines `InvalidStringOffset` of a name that can't be read.
     /// Magic, version and flags are not looked at.
     pub fn parse(data: &[u8], endianness: Endianness, btf: &Btf) -> Result<BtfExt, BtfError>
         ensures { Answers ext result (IsExt (order_of endianness) «data».now btf.now.strings) }

@@ -79,7 +79,7 @@ words_before k f each xs i le =
     let len : length (flat_map f (take i xs)) ≡ k * i = length-items k f each (take i xs) ∙ ap (λ (n : ℕ). k * n) (length-take-le i xs le) in
     ap (take (k * i)) parts ∙ take_at (flat_map f (take i xs)) (flat_map f (drop i xs)) (k * i) len
 
--- the words behind the first items
+-- the words after the first items
 pub words_after : {X : Type 0} (k : ℕ) (f : X → List ℕ) → ((x : X) → length (f x) ≡ k) → (xs : List X) (i : ℕ) → i ≤ length xs → drop (k * i) (flat_map f xs) ≡ flat_map f (drop i xs)
 words_after k f each xs i le =
     let parts : flat_map f xs ≡ flat_map f (take i xs) ++ flat_map f (drop i xs) = ap (flat_map f) (sym (take-append-drop i xs)) ∙ flat_map-append f (take i xs) (drop i xs) in

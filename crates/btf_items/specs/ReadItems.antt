@@ -1,4 +1,4 @@
--- What the reader of a list answers.
+-- What the reader of a list returns.
 use Rattle.std.specs.Prelude.{◌≡◌, ℕ, ◌*◌, ◌<◌, ◌≤◌, List, length, Result, Ok, Err}
 use Rattle.std.specs.List.{flat_map}
 use Rattle.btf_model.specs.Word.{Order, words_at}

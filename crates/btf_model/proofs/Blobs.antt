@@ -13,7 +13,7 @@ use Rattle.btf_model.specs.Blob.{Header, header_len, header_of, header_bytes, st
 use Rattle.btf_model.proofs.Words.{word_of-word, half_of-half}
 use Rattle.btf_model.proofs.Records.{goes_no_further, same_records, whole_are_records}
 
--- behind the longest front no spelling begins
+-- after the longest front no spelling begins
 pub rest_from_none : (order : Order) (bytes front rest : List ℕ) (rs : List Record) → bytes ≡ front ++ rest → AreRecords order front rs → BeginsNoRecord order rest → IsRest order bytes rest
 rest_from_none order bytes front rest rs whole cut none = record {
   front = front;
@@ -85,7 +85,7 @@ length-header_bytes : (order : Order) (h : Header) → length (header_bytes orde
 length-header_bytes Little h = refl
 length-header_bytes Big h = refl
 
--- the header, the types and the strings that are written, each behind the ones before it
+-- the header, the types and the strings that are written, each after the ones before it
 pub regrouped : (t : Table) → canon t ≡ header_bytes t.order (canon_header t) ++ (type_bytes t ++ t.strings)
 regrouped t = append_assoc (header_bytes t.order (canon_header t)) (type_bytes t) t.strings
 
@@ -134,7 +134,7 @@ slice_get-append_left [] ys i lt = absurd (omega arith)
 slice_get-append_left (x ∷ xs) ys zero lt = refl
 slice_get-append_left (x ∷ xs) ys (suc i) lt = slice_get-append_left xs ys i (omega arith)
 
--- the element behind the others
+-- the element after the others
 pub slice_get-push : {X : Type 0} (xs : List X) (x : X) → slice_get (xs ++ x ∷ []) (length xs) ≡ Some x
 slice_get-push [] x = refl
 slice_get-push (y ∷ xs) x = slice_get-push xs x

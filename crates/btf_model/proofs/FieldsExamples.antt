@@ -32,7 +32,7 @@ by_kind : (id other : ℕ) (k q : Kind) (r s : Record) (answer : Result Bool Ref
 by_kind id other k q r s answer here there is at plain same found =
     at_once id other answer (inr (inr (id, other, k, q, r, s, itself types id here, itself types other there, is, at, inr (inr (no_composite k q plain, same, sym found)))))
 
--- what stands behind three underscores is no part of a name
+-- what stands after three underscores is no part of a name
 flavors_are_one_enum : Fields types 1 types 2 (Ok true)
 unfolding pieces_from encode
 flavors_are_one_enum = by_kind 1 2 Enum Enum64 _ _ (Ok true) refl refl (refl, refl) (refl, refl) refl refl refl

@@ -60,7 +60,7 @@ firsts_new (p ∷ ps) q new =
     ∙ ap (λ (xs : List Pair). p ∷ xs) (others_append p (firsts ps) (q ∷ []) ∙ ap (λ (xs : List Pair). others p (firsts ps) ++ xs) (others_with p q (λ is. new (inl is))))
     ∙ ap (λ (xs : List Pair). xs ++ q ∷ []) (sym (firsts_cons p ps))
 
--- a pair that is there already is left out behind p, where it is p
+-- a pair that is there already is left out after p, where it is p
 left_out : (p q : Pair) (ps : List Pair) → p ≡ q → others p (firsts ps ++ q ∷ []) ≡ others p (firsts ps)
 left_out p q ps is = others_append p (firsts ps) (q ∷ []) ∙ ap (λ (xs : List Pair). others p (firsts ps) ++ xs) (others_without p q is) ∙ append-nil (others p (firsts ps))
 

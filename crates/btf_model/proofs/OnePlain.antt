@@ -11,7 +11,7 @@ use Rattle.btf_model.proofs.PlainSteps.{Are, walked_follows, paid_none, paid_fol
 flipped : (a b : Result Bool Refusal) (s t : List Pair) → Are b t a s → Are a s b t
 flipped a b s t h = (sym h.0, sym h.1)
 
--- starts behind starts
+-- starts after starts
 joined : (first other behind more t : List Pair) → first ≡ other → behind ≡ more → t ≡ other ++ more → first ++ behind ≡ t
 joined first other behind more t p q is = ap (λ (x : List Pair). x ++ behind) p ∙ ap (λ (x : List Pair). other ++ x) q ∙ sym is
 

@@ -1,4 +1,4 @@
--- One step of a comparison, read off its answer: what was found decides what stands behind it.
+-- One step of a comparison, read off its answer: what was found decides what it rests on.
 use Rattle.std.proofs.Common.{◌≡◌, ◌≢◌, ℕ, suc, List, [], ◌∷◌, ◌++◌, refl, sym, subst, inl, inr, Bool, true, false, Option, Some, None, Result, Ok, Err, Contains, slice_get}
 use Rattle.std.specs.Prelude.{◌⊎◌}
 use Rattle.btf_model.specs.Record.{Record, Kind, compared_kind, kind_of}
@@ -16,7 +16,7 @@ Are a s b t = (a ≡ b) × (s ≡ t)
 module _ (local target : Table) where
   -- ---- a walk
 
-  -- what stands behind a position, by what is found there
+  -- what a walk from a position rests on, by what is found there
   abbrev pub Follows : List Pair → ℕ → Position → Result Bool Refusal → List Pair → Type 0
   Follows above n (Told a) b t = Are b t a []
   Follows above n (On to) b t = Walked local target above n to b t
@@ -29,7 +29,7 @@ module _ (local target : Table) where
   walked_finds above n at b t (Walked.paid _ _ _ to owed answer first behind found pays goes) = (Owes owed to, found, inl (first, behind, pays, goes, refl))
   walked_finds above n at b t (Walked.unpaid _ _ _ to owed answer starts found pays not_true) = (Owes owed to, found, inr (pays, not_true))
 
-  -- behind what is found there
+  -- a walk rests on that
   pub walked_follows : (above : List Pair) (n : ℕ) (at : Pair) (found : Position) (b : Result Bool Refusal) (t : List Pair) → Finds local target at found → Walked local target above (suc n) at b t → Follows above n found b t
   walked_follows above n at found b t is h =
       let step = walked_finds above n at b t h in
@@ -37,7 +37,7 @@ module _ (local target : Table) where
 
   -- ---- owed pairs
 
-  -- what stands behind the first owed pair, by what it resolves to
+  -- what the first owed pair rests on, by what it resolves to
   abbrev pub Pays : List Pair → List Pair → Result Pair Refusal → Result Bool Refusal → List Pair → Type 0
   Pays above owed (Err refusal) b t = Are b t (Err refusal) []
   Pays above owed (Ok p) b t =
@@ -58,7 +58,7 @@ module _ (local target : Table) where
 
   -- ---- a pair
 
-  -- what stands behind a pair that is started, by the kinds
+  -- what a pair that is started rests on, by the kinds
   abbrev pub Starts : List Pair → Pair → Kind → Kind → Result Bool Refusal → List Pair → Type 0
   Starts above p k q b t =
       ((compared_kind k ≢ compared_kind q) × Are b t (Ok false) (p ∷ [])) ⊎ ((compared_kind k ≡ compared_kind q) × (starts : List Pair) × Walked local target (p ∷ above) walk_limit p b starts × (t ≡ p ∷ starts))
@@ -68,13 +68,13 @@ module _ (local target : Table) where
   StartsBy above p (Some k) None b t = ⊥
   StartsBy above p None q b t = ⊥
 
-  -- what stands behind a pair that is looked up, by its records
+  -- what a pair that is looked up rests on, by its records
   abbrev pub LookedUp : List Pair → Pair → Option Record → Option Record → Result Bool Refusal → List Pair → Type 0
   LookedUp above p None s b t = Are b t (Err (UnknownBtfType p.local)) []
   LookedUp above p (Some r) None b t = Are b t (Err (UnknownBtfType p.target)) []
   LookedUp above p (Some r) (Some s) b t = StartsBy above p (kind_of r.info) (kind_of s.info) b t
 
-  -- and behind any pair
+  -- and what any pair rests on
   abbrev pub Compares : List Pair → Pair → Result Bool Refusal → List Pair → Type 0
   Compares above p b t =
       (Contains above p × Are b t (Err (MaximumTypeDepthReached p.local)) []) ⊎ (¬ (Contains above p) × LookedUp above p (slice_get local.records p.local) (slice_get target.records p.target) b t)

@@ -131,7 +131,7 @@ same_records order bytes (r ∷ rs) (q ∷ qs) h g =
     let others = same_records order h.1 rs qs h.4 (subst (λ t. AreRecords order t qs) (sym same.rest) g.4) in
     ap (λ (x : Record). x ∷ rs) same.record_is ∙ ap (λ (xs : List Record). q ∷ xs) others
 
--- no front that is cut into spellings goes further than one behind which no spelling begins
+-- no front that is cut into spellings goes further than one after which no spelling begins
 pub goes_no_further : (order : Order) (front rest other more : List ℕ) (rs qs : List Record) → BeginsNoRecord order rest → AreRecords order front rs → AreRecords order other qs → front ++ rest ≡ other ++ more → length other ≤ length front
 goes_no_further order front rest other more rs [] none h g e = omega (arith, ap length g)
 goes_no_further order front rest other more [] (q ∷ qs) none h g e =

@@ -10,7 +10,7 @@ use Rattle.btf_model.specs.Run.{Frame, new_frame, GoesOn, Waits, IsNext}
 
 -- ---- how many parameters a prototype has
 
--- more words than any record has behind its third
+-- more words than any record has after its third
 abbrev pub widest : List Record → ℕ
 widest [] = 0
 widest (r ∷ rs) = length r.tail + widest rs

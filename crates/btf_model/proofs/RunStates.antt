@@ -300,7 +300,7 @@ module _ (local target : Table) where
           counts = omega (arith, run.counts, fewer.shorter, length-append listed (p ∷ []));
         })
 
-    -- ---- what the whole comparison answers
+    -- ---- what the whole comparison returns
 
     -- what goes wrong with p goes wrong with each pair that waits for it
     falls : (root : Pair) (below : List Frame) (p : Pair) (before : List Pair) (b : Result Bool Refusal) (t : List Pair) → IsStack root below p before → AvoidsAll Settled (open_pairs below) → AreApart (open_pairs below) → b ≢ Ok true
@@ -334,7 +334,7 @@ module _ (local target : Table) where
               (whole.0, whole.1, subst (λ (x : List Pair). Plain local target [] root whole.0 x) (lists_as stack.0 stack.1 before t whole.1 g.pair stack.2) whole.2)
         ]
 
-    -- The whole answers b, and this is what it lists.
+    -- The whole returns b, and this is what it lists.
     abbrev pub Outcome : Pair → Result Bool Refusal → List Pair → Type 0
     Outcome root b listed = (starts : List Pair) × Plain local target [] root b starts × (firsts starts ≡ listed)
 
@@ -377,7 +377,7 @@ module _ (local target : Table) where
         let same : f.pair ∷ (run.went ++ []) ≡ run.before ++ f.pair ∷ run.went = ap (λ (x : List Pair). f.pair ∷ x) (append-nil run.went) ∙ ap (λ (x : List Pair). x ++ f.pair ∷ run.went) (sym run.stack.1) in
         (f.pair ∷ (run.went ++ []), subst (λ (x : Pair). Plain local target [] x (Ok true) (f.pair ∷ (run.went ++ []))) run.stack.0 plain, ap firsts same ∙ run.lists)
 
-    -- The whole lists at first what is listed so far, and something behind it.
+    -- The whole lists at first what is listed so far, and something after it.
     abbrev pub BeginsWith : Pair → List Pair → Type 0
     BeginsWith root listed = (b : Result Bool Refusal) × (starts rest : List Pair) × Plain local target [] root b starts × (firsts starts ≡ listed ++ rest)
 

@@ -19,7 +19,7 @@ use Rattle.btf_model.proofs.PlainSteps.{Are}
 module _ (local target : Table) where
   -- ---- what is left of a walk
 
-  -- behind what is found at a position, where so many of its parameters are settled
+  -- after what is found at a position, where so many of its parameters are settled
   abbrev pub RestBy : List Pair → ℕ → ℕ → Position → Result Bool Refusal → List Pair → Type 0
   RestBy above n j (Told a) b t = Are b t a []
   RestBy above n j (On to) b t = Walked local target above n to b t

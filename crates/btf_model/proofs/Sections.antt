@@ -48,7 +48,7 @@ same_section order size s t x y hs ht e =
       rest = append_cancel_left s.bytes x y (behind ∙ ap (λ (b : List ℕ). b ++ y) (sym bytes));
     }
 
--- behind sections up to where none begins, no others go further
+-- after sections up to where none begins, no others go further
 no_further : (order : Order) (size : ℕ) (ss ts : List Section) (rest more : List ℕ) → AllByRecursion (IsSection size) ss → AllByRecursion (IsSection size) ts → BeginsNoSection order size rest → flat_map (section_bytes order) ss ++ rest ≡ flat_map (section_bytes order) ts ++ more → length rest ≤ length more
 no_further order size [] [] rest more hs ht none e = omega (arith, ap length e)
 no_further order size [] (t ∷ ts) rest more hs ht none e = absurd (none t (flat_map (section_bytes order) ts ++ more) ht.0 (e ∙ append_assoc (section_bytes order t) (flat_map (section_bytes order) ts) more))
@@ -57,7 +57,7 @@ no_further order size (s ∷ ss) (t ∷ ts) rest more hs ht none e =
     let first = same_section order size s t (flat_map (section_bytes order) ss ++ rest) (flat_map (section_bytes order) ts ++ more) hs.0 ht.0 (sym (append_assoc (section_bytes order s) (flat_map (section_bytes order) ss) rest) ∙ e ∙ append_assoc (section_bytes order t) (flat_map (section_bytes order) ts) more) in
     no_further order size ss ts rest more hs.1 ht.1 none first.rest
 
--- behind the most sections none begins
+-- after the most sections none begins
 pub sections_from_none : (order : Order) (size : ℕ) (bytes : List ℕ) (ss : List Section) (rest : List ℕ) → BeginsWith order size bytes ss rest → BeginsNoSection order size rest → Sections order size bytes ss rest
 sections_from_none order size bytes ss rest cut none = record {
   cut = cut;

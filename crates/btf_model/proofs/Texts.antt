@@ -1,4 +1,4 @@
--- Texts: where the first zero byte stands, and what a text added behind changes.
+-- Texts: where the first zero byte stands, and what a text that is added after others changes.
 use Rattle.std.proofs.Common.{◌≡◌, ℕ, ◌<◌, Bool, true, false, nat_lt, cond, List, [], ◌∷◌, ◌++◌, length, take, drop, get_or, Option, None, Some, Result, Ok, Err, refl, sym, ap, ◌∙◌, arith, ◌⊎◌, inl, inr, ⊎_elim}
 use Rattle.std.specs.Prelude.{position, option_map, Contains, slice_get}
 use Rattle.std.specs.List.{position_or_len}
@@ -28,7 +28,7 @@ position_none p xs d none =
     let end : position_or_len p xs ≡ length xs = position_or_len_is p xs (length xs) d (omega arith) none (λ lt. absurd (omega (arith, lt))) in
     ap (λ (n : ℕ). cond (nat_lt n (length xs)) (Some n) None) end ∙ ap (λ b. cond b (Some (length xs)) None) (le-ltb (length xs) (length xs) (omega arith))
 
--- what stands behind a place that passes changes nothing
+-- what stands after a place that passes changes nothing
 position_append : {X : Type 0} (p : X → Bool) (xs ys : List X) (i : ℕ) (d : X) → position p xs ≡ Some i → position p (xs ++ ys) ≡ Some i
 position_append p xs ys i d is =
     let at = position-Some p xs i d is in
@@ -54,7 +54,7 @@ bytes_are strings offset rest end is lt before at =
 pub no_bytes : (strings : List ℕ) (offset : ℕ) (rest : List ℕ) → rest ≡ drop offset strings → ((k : ℕ) → k < length rest → is_zero (get_or rest k 0) ≡ false) → bytes_at strings offset ≡ None
 no_bytes strings offset rest is none = ap (λ (xs : List ℕ). option_map (λ i. take i xs) (position is_zero xs)) (sym is) ∙ ap (option_map (λ i. take i rest)) (position_none is_zero rest 0 none)
 
--- what is read at an offset is read there when more is added behind
+-- what is read at an offset is read there when more is added after it
 bytes_at_append : (strings more : List ℕ) (offset : ℕ) (bytes : List ℕ) → bytes_at strings offset ≡ Some bytes → bytes_at (strings ++ more) offset ≡ Some bytes
 bytes_at_append strings more offset bytes is =
     let rest = drop offset strings in
@@ -80,7 +80,7 @@ text_stays strings more offset text is =
     let b = has_bytes offset (bytes_at strings offset) text is in
     text_is (strings ++ more) offset b.0 (bytes_at_append strings more offset b.0 b.1) ∙ ap (λ (x : List ℕ). Ok x) b.2
 
--- a text without a zero byte ends at the zero byte behind it
+-- a text without a zero byte ends at the zero byte after it
 pub added_bytes : (strings text : List ℕ) → ¬ (Contains text 0) → bytes_at (strings ++ text ++ 0 ∷ []) (length strings) ≡ Some text
 added_bytes strings text none =
     let behind : drop (length strings) (strings ++ text ++ 0 ∷ []) ≡ text ++ 0 ∷ [] = ap (drop (length strings)) (append_assoc strings text (0 ∷ [])) ∙ drop-append_seam strings (text ++ 0 ∷ []) in

@@ -19,7 +19,7 @@ use Rattle.btf_model.proofs.Walks.{one_answer, by_one}
 
 -- ---- the variant of a name
 
--- what the search answers at a variant, where this is what it answers among those after it
+-- what the search returns at a variant, where this is what it returns among those after it
 looked_at : List ℕ → Variant → Result (List ℕ) Refusal → Result (Option ℕ) Refusal → Result (Option ℕ) Refusal
 looked_at name v (Ok text) rest = if bytes_eq text name then Ok (Some v.value) else rest
 looked_at name v (Err refusal) rest = Err refusal

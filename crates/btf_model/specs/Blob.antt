@@ -89,7 +89,7 @@ rest_refusal order rest =
     let kind = kind_number (word_at order 4 rest) in
     if nat_lt (length rest) 12 then InvalidTypeInfo else (if nat_lt highest_kind kind then InvalidTypeKind kind else InvalidTypeInfo)
 
--- What reading one record answers: the record of which the bytes begin with a spelling, else why they begin with none.
+-- What reading one record returns: the record of which the bytes begin with a spelling, else why they begin with none.
 abbrev pub ReadsFront : Order → List ℕ → Result Record Refusal → Type 0
 ReadsFront order bytes (Ok r) = (front rest : List ℕ) × (bytes ≡ front ++ rest) × IsRecord order front r
 ReadsFront order bytes (Err refusal) = BeginsNoRecord order bytes × (refusal ≡ rest_refusal order bytes)
@@ -102,7 +102,7 @@ pub record IsRest (order : Order) (bytes rest : List ℕ) : Type 0 where
   pub longest : (other more : List ℕ) (rs : List Record) → bytes ≡ other ++ more → AreRecords order other rs → length other ≤ length front
 
 -- The first cause for which bytes are refused: a cut header, strings that don't fit, types that don't fit, and then what
--- stays behind the longest front of records.
+-- stays after the longest front of records.
 pub record IsRefusal (order : Order) (bytes : List ℕ) (refusal : Refusal) : Type 0 where
   pub header : length bytes < header_len → refusal ≡ InvalidHeader
   pub strings : header_len ≤ length bytes → length bytes < strings_end (header_of order bytes) → refusal ≡ InvalidHeader
@@ -110,13 +110,13 @@ pub record IsRefusal (order : Order) (bytes : List ℕ) (refusal : Refusal) : Ty
   pub record_at : header_len ≤ length bytes → strings_end (header_of order bytes) ≤ length bytes → types_end (header_of order bytes) ≤ length bytes
       → (rest : List ℕ) × IsRest order (type_section (header_of order bytes) bytes) rest × (rest ≢ []) × (refusal ≡ rest_refusal order rest)
 
--- What parsing answers: the table that the bytes stand for, else the first cause of refusal.
+-- What parsing returns: the table that the bytes stand for, else the first cause of refusal.
 abbrev pub Parses : Order → List ℕ → Result Table Refusal → Type 0
 Parses order bytes (Ok t) = IsTable order bytes t
 Parses order bytes (Err refusal) = IsRefusal order bytes refusal
 
 -- The header that is written: the table's own magic, version and flags, the usual header length, the types first, and
--- the strings behind them.
+-- the strings after them.
 abbrev pub canon_header : Table → Header
 canon_header t = record {
   magic = t.magic;

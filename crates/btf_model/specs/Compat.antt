@@ -47,7 +47,7 @@ position_by id Array r s = On (record { local = element_type r; target = element
 position_by id FuncProto r s = prototypes r s
 position_by id k r s = Told (Err (UnexpectedBtfType id))
 
--- the same, where kinds that differ are told, but for ENUM and ENUM64
+-- the same, where kinds that differ are reported, but for ENUM and ENUM64
 abbrev pub PositionFound : ℕ → Kind → Kind → Record → Record → Position → Type 0
 PositionFound id k q r s found =
     ((compared_kind k ≢ compared_kind q) × (found ≡ Told (Ok false))) ⊎ ((compared_kind k ≡ compared_kind q) × (found ≡ position_by id k r s))

@@ -57,7 +57,7 @@ bit_field_place = (refl, refl)
 plain_member_place : (member_bit_offset 0x04000002 0x03000020 ≡ 0x03000020) × (member_bit_field_size 0x04000002 0x03000020 ≡ 0)
 plain_member_place = (refl, refl)
 
--- an ENUM64 of one value has three words behind its third
+-- an ENUM64 of one value has three words after its third
 enum64_words : (kind_of 0x13000001 ≡ Some Enum64) × (tail_words Enum64 (vlen 0x13000001) ≡ 3)
 enum64_words = (refl, refl)
 

@@ -34,7 +34,7 @@ pub record IsSection (size : ℕ) (s : Section) : Type 0 where
 abbrev pub BeginsWith : Order → ℕ → List ℕ → List Section → List ℕ → Type 0
 BeginsWith order size bytes sections rest = AllByRecursion (IsSection size) sections × (bytes ≡ flat_map (section_bytes order) sections ++ rest)
 
--- The sections that bytes begin with, as many as there are, and the rest behind them.
+-- The sections that bytes begin with, as many as there are, and the rest after them.
 pub record Sections (order : Order) (size : ℕ) (bytes : List ℕ) (sections : List Section) (rest : List ℕ) : Type 0 where
   pub cut : BeginsWith order size bytes sections rest
   pub longest : (others : List Section) (more : List ℕ) → BeginsWith order size bytes others more → length rest ≤ length more
@@ -43,7 +43,7 @@ pub record Sections (order : Order) (size : ℕ) (bytes : List ℕ) (sections : 
 abbrev pub BeginsNoSection : Order → ℕ → List ℕ → Type 0
 BeginsNoSection order size bytes = (s : Section) (more : List ℕ) → IsSection size s → bytes ≡ section_bytes order s ++ more → ⊥
 
--- the largest number of bytes that is told
+-- the largest number of bytes that is reported
 abbrev pub largest_len : ℕ
 largest_len = 18446744073709551615
 
@@ -57,7 +57,7 @@ pub record SectionBytes : Type 0 where
   pub size : ℕ
   pub bytes : List ℕ
 
--- What reading all sections answers, where names are not read: the sections, or why the rest behind them is refused.
+-- What reading all sections returns, where names are not read: the sections, or why the rest after them is refused.
 abbrev pub AreSections : Order → ℕ → List ℕ → Result (List Section) Refusal → Type 0
 AreSections order size bytes (Ok sections) = BeginsWith order size bytes sections []
 AreSections order size bytes (Err refusal) = (sections : List Section) × (rest : List ℕ) × Sections order size bytes sections rest × (rest ≢ []) × (refusal ≡ cut_refusal order size rest)
@@ -76,16 +76,16 @@ HaveNames strings named = AllByRecursion (λ n. text_at strings n.section.name �
 abbrev pub sections_of : List Named → List Section
 sections_of named = map (λ n. n.section) named
 
--- Behind these named sections stands one whose name cannot be read.
+-- After these named sections stands one whose name cannot be read.
 abbrev pub IsUnnamedBehind : Order → ℕ → List ℕ → List ℕ → List Named → Refusal → Type 0
 IsUnnamedBehind order size strings bytes named refusal =
     (s : Section) × (more : List ℕ) × BeginsWith order size bytes (sections_of named ++ s ∷ []) more × (text_at strings s.name ≡ Err refusal)
 
--- Behind these named sections stands a rest that is cut.
+-- After these named sections stands a rest that is cut.
 abbrev pub IsCutBehind : Order → ℕ → List ℕ → List Named → Refusal → Type 0
 IsCutBehind order size bytes named refusal = (rest : List ℕ) × Sections order size bytes (sections_of named) rest × (rest ≢ []) × (refusal ≡ cut_refusal order size rest)
 
--- What reading all sections answers, where the name of each is read behind it: the named sections, or what is refused behind
+-- What reading all sections returns, where the name of each is read after it: the named sections, or what is refused after
 -- the first of them.
 abbrev pub AreNamed : Order → ℕ → List ℕ → List ℕ → Result (List Named) Refusal → Type 0
 AreNamed order size strings bytes (Ok named) = BeginsWith order size bytes (sections_of named) [] × HaveNames strings named
@@ -151,7 +151,7 @@ full_header = 32
 abbrev pub header_bytes : Order → List ℕ → List ℕ
 header_bytes order bytes = let given = take (min (word_at order 4 bytes) full_header) bytes in given ++ replicate (full_header - length given) 0
 
--- a range by the two words at a place: its offset behind the header, whose length is the second word, and its length
+-- a range by the two words at a place: its offset after the header, whose length is the second word, and its length
 abbrev pub range_at : Order → ℕ → ℕ → List ℕ → Range
 range_at order at least bytes = record { start = word_at order 4 bytes + word_at order at bytes; len = word_at order (at + 4) bytes; least = least }
 
@@ -179,7 +179,7 @@ pub record Part : Type 0 where
   pub size : ℕ
   pub bytes : List ℕ
 
--- An empty range has records of size 0; another its first word as their size, and the sections behind it.
+-- An empty range has records of size 0; another its first word as their size, and the sections after it.
 abbrev pub part_of : Order → List ℕ → Range → Part
 part_of order bytes r = if r.len == 0 then record { size = 0; bytes = [] } else record { size = word_at order r.start bytes; bytes = slice (r.start + 4) (r.len - 4) bytes }
 
@@ -212,7 +212,7 @@ ext_of order func funcs line lines core relocations = record {
   relocations = map (relocation_section order core.size) relocations;
 }
 
--- One thing is read, and then another by it: what the second answers, or the refusal of the first that is refused.
+-- One thing is read, and then another by it: what the second returns, or the refusal of the first that is refused.
 abbrev pub Then : {A B : Type 0} → (Result A Refusal → Type 0) → (A → Result B Refusal → Type 0) → Result B Refusal → Type 0
 Then first second (Ok b) = (a : _) × first (Ok a) × second a (Ok b)
 Then first second (Err refusal) = first (Err refusal) ⊎ ((a : _) × first (Ok a) × second a (Err refusal))

@@ -35,7 +35,7 @@ last_of_a_name = refl
 none_of_a_name : option_map (λ s. s.name) (section_named (record { text = 97 ∷ []; section = one_section } ∷ []) []) ≡ None
 none_of_a_name = refl
 
--- a header of 12 bytes: the words behind them are zeros
+-- a header of 12 bytes: the words after them are zeros
 short_header : header_words Little (header_bytes Little (159 ∷ 235 ∷ 1 ∷ 0 ∷ 12 ∷ 0 ∷ 0 ∷ 0 ∷ 5 ∷ 0 ∷ 0 ∷ 0 ∷ 77 ∷ 0 ∷ 0 ∷ 0 ∷ []))
     ≡ record { func = record { start = 17; len = 0; least = 8 }; line = record { start = 12; len = 0; least = 16 }; core = record { start = 12; len = 0; least = 16 } }
 short_header = refl

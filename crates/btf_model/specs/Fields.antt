@@ -1,6 +1,6 @@
 -- The comparison of the types of two fields, each in its own table.
 -- Source: aya-obj's `fields_are_compatible`, after libbpf's `bpf_core_fields_are_compat`. That the walk has 32 places at most,
--- and what is told of kinds that have no answer, is this project's profile.
+-- and what is reported for kinds that have no answer, is this project's profile.
 use Rattle.std.specs.Prelude.{◌≡◌, ◌≢◌, ◌⊎◌, ℕ, ◌/◌, ◌%◌, ◌^◌, ◌==◌, ◌&&◌, Bool, true, false, if◌then◌else◌, List, [], ◌∷◌, take, codes, slice_index, slice_get, Some, Result, Ok, Err}
 use Rattle.std.specs.Str.{bytes_eq}
 use Rattle.btf_model.specs.Record.{Kind, Int, Ptr, Array, Enum, Fwd, Float, Enum64, Record, kind_of, is_composite, compared_kind}
@@ -77,7 +77,7 @@ FieldsFind local target at found =
     ⊎ ((id other : ℕ) × (k q : Kind) × (r s : Record) × Resolves local.records at.local (Ok id) × Resolves target.records at.target (Ok other)
     × IsAt local id k r × IsAt target other q s × FieldsFound local target id k q r s found))
 
--- Whether the types of two fields are compatible, or why there is no answer: what is found behind ARRAYs of which each leads
+-- Whether the types of two fields are compatible, or why there is no answer: what is found after ARRAYs of which each leads
 -- to its elements.
 abbrev pub Fields : Table → ℕ → Table → ℕ → Result Bool Refusal → Type 0
 Fields local id target other = WalkAnswers (FieldsFind local target) (record { local = id; target = other }) (λ at. MaximumTypeDepthReached at.local)

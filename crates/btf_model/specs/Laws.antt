@@ -43,7 +43,7 @@ IsWrittenAsRead k w = Unit {0}
 abbrev pub AreWrittenAsRead : Order → List ℕ → Type 0
 AreWrittenAsRead order bytes = (rs : List Record) × AllByRecursion (λ w. (k : Kind) × HasKind k w × IsWrittenAsRead k w) rs × (bytes ≡ flat_map (spell order) rs)
 
--- The bytes have the one written form of a table: the usual header, the strings right behind the types, nothing behind
+-- The bytes have the one written form of a table: the usual header, the strings right after the types, nothing after
 -- the strings, and no word that reading drops.
 pub record IsUsual (order : Order) (bytes : List ℕ) : Type 0 where
   pub hdr_len : (header_of order bytes).hdr_len ≡ header_len
@@ -90,7 +90,7 @@ VariantValuesAreDetermined = (t : Table) (id : ℕ) (name : List ℕ) (a b : Res
 abbrev pub RelocationWordsAreDetermined : Type 0
 RelocationWordsAreDetermined = (strings : List ℕ) (sections : List RelocationSection) (name : List ℕ) (a b : Result (List (List ℕ)) Refusal) → Words strings sections name a → Words strings sections name b → a ≡ b
 
--- The sections that bytes begin with, and the rest behind them, are determined.
+-- The sections that bytes begin with, and the rest after them, are determined.
 abbrev pub SectionsAreDetermined : Type 0
 SectionsAreDetermined =
     (order : Order) (size : ℕ) (bytes : List ℕ) (a b : List Section) (x y : List ℕ) → Sections order size bytes a x → Sections order size bytes b y → (a ≡ b) × (x ≡ y)
@@ -123,7 +123,7 @@ pub record StartsAreFew : Type 0 where
 abbrev pub exchanged : Pair → Pair
 exchanged p = record { local = p.target; target = p.local }
 
--- A comparison that answers true or false answers the same from the other side, and starts the same pairs. In tables whose
+-- A comparison that returns true or false returns the same from the other side, and starts the same pairs. In tables whose
 -- records have kinds a refusal is a refusal from there too, but may name another id or cause: the local side is looked at first.
 pub record ComparisonsAreSymmetric : Type 0 where
   pub fields : (local target : Table) (id other : ℕ) (b : Bool) → Fields local id target other (Ok b) → Fields target other local id (Ok b)

@@ -1,4 +1,4 @@
--- Why a call is refused, want of memory aside: the errors of the crate, with names as the bytes of their text.
+-- Why a call is refused, allocation failure aside: the errors of the crate, with names as the bytes of their text.
 -- Source: aya-obj's `BtfError`, without the errors of what this project leaves out.
 use Rattle.std.specs.Prelude.{ℕ, List}
 

@@ -12,7 +12,7 @@ use Rattle.btf_model.specs.Refusal.{Refusal, InvalidStringOffset, UnknownBtfType
 abbrev pub is_zero : ℕ → Bool
 is_zero byte = byte == 0
 
--- The bytes from an offset up to the first zero byte: none where no zero byte stands at the offset or behind it.
+-- The bytes from an offset up to the first zero byte: none where no zero byte stands at the offset or after it.
 abbrev pub bytes_at : List ℕ → ℕ → Option (List ℕ)
 bytes_at strings offset = option_map (λ end. take end (drop offset strings)) (position is_zero (drop offset strings))
 

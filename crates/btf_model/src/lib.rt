@@ -27,7 +27,7 @@ pub fn parsed_writes_back()
     ensures { ParsedWritesBack }
 {}
 
-/// The type that was added last is found under the id that was answered, and old ids keep their records.
+/// The type that was added last is found under the id that was returned, and old ids keep their records.
 pub fn added_type_is_found()
     ensures { AddedTypeIsFound }
 {}
@@ -79,7 +79,7 @@ pub fn comparisons_have_answers()
     ensures { ComparisonsHaveAnswers }
 {}
 
-/// A comparison that returns true or false answers the same from the other side, and starts the same pairs; a
+/// A comparison that returns true or false returns the same from the other side, and starts the same pairs; a
 /// refusal is a refusal from there too, perhaps another one.
 pub fn comparisons_are_symmetric()
     ensures { ComparisonsAreSymmetric }

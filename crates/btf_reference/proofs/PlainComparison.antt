@@ -24,7 +24,7 @@ use Rattle.btf_types.specs.Pairs.{pair_of, ids_of, IsResolved}
 use Rattle.btf_types.specs.Compared.{types_of}
 use Rattle.btf_reference.specs.PlainComparison.{PositionIs, AreStarted, Lists}
 
--- ---- what is found behind modifiers
+-- ---- what is found after modifiers
 
 told_more : (answer : Result Bool BtfError) (P Q : model.Position → Type 0) → ((x : model.Position) → P x → Q x) → Tells (λ b. b) answer (λ a. P (Told a)) → Tells (λ b. b) answer (λ a. Q (Told a))
 told_more (Ok b) P Q more h = more (Told (Ok b)) h
@@ -74,7 +74,7 @@ joined : (first listed : List Pair) (old mid new : List (ℕ × ℕ)) → mid �
 joined first listed old mid new is more =
     more ∙ ap (λ (xs : List (ℕ × ℕ)). xs ++ map ids_of listed) is ∙ append_assoc old (map ids_of first) (map ids_of listed) ∙ ap (λ (xs : List (ℕ × ℕ)). old ++ xs) (sym (map-append ids_of first listed))
 
--- what is listed behind first ones
+-- what is listed after first ones
 lists_behind : (P Q : Result Bool Refusal → List Pair → Type 0) (r : Result Bool BtfError) (first : List Pair) (old mid new : List (ℕ × ℕ)) → ((a : Result Bool Refusal) (t : List Pair) → P a t → Q a (first ++ t))
     → mid ≡ old ++ map ids_of first → Lists P r mid new → Lists Q r old new
 lists_behind P Q (Ok b) first old mid new more is h = (first ++ h.0, more (Ok b) h.0 h.1, joined first h.0 old mid new is h.2)

@@ -27,6 +27,6 @@ AreStarted local target p (Err refusal) =
     ((slice_get local.records p.local ≡ None) × (refusal ≡ UnknownBtfType p.local))
     ⊎ ((r : Record) × (slice_get local.records p.local ≡ Some r) × (slice_get target.records p.target ≡ None) × (refusal ≡ UnknownBtfType p.target))
 
--- An answer, and pairs behind those of a list, of which P holds.
+-- An answer, and pairs after those of a list, of which P holds.
 abbrev pub Lists : (Result Bool Refusal → List Pair → Type 0) → Result Bool BtfError → List (ℕ × ℕ) → List (ℕ × ℕ) → Type 0
 Lists P result old new = Tells (λ b. b) result (λ answer. (listed : List Pair) × P answer listed × (new ≡ old ++ map ids_of listed))

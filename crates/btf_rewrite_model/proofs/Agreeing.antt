@@ -431,7 +431,7 @@ fillers_to p answers id agree ruled named j le =
           [ inl less ↦ fillers_same p answers id j (agree_below p answers id agree) ruled less | inr more ↦ absurd (omega (arith, le, more)) ]
     ]
 
--- the tests of a DATASEC behind those of its name
+-- the tests of a DATASEC after those of its name
 abbrev section_rest : Pass → ℕ → List Check
 section_rest p id = if has p features.DataSec then (if (record_at p.table id).third == 0 then completing_checks p id (record_at p.table id) else filling_checks p id) else flat_map (member_checks p) (entries (record_at p.table id).tail)
 

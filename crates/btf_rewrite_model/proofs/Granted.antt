@@ -205,7 +205,7 @@ passed_right [] after passed = passed
 passed_right (None ∷ before) after passed = passed_right before after passed
 passed_right (Some refusal ∷ before) after passed = absurd (none-some refusal (sym passed))
 
--- a section whose name is read and whose size is told is of a known size
+-- a section whose name is read and whose size is given is of a known size
 size_known : (size : Option ℕ) (name : Result (List ℕ) Refusal) → is_read name ≡ None → is_sized size name ≡ None → (n : ℕ) × (size ≡ Some n)
 size_known (Some n) name read sized = (n, refl)
 size_known None (Ok name) read sized = absurd (none-some (UnknownSectionSize name) (sym sized))

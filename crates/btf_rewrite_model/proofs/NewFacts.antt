@@ -94,7 +94,7 @@ no_zero_bytes strings offset bytes is =
     let below : k < end = omega (arith, lt, length-take end rest) in
     ap (λ (n : ℕ). n == 0) (get_or-take end rest k 0 below) ∙ at.2 k below))
 
--- the texts up to an id, its own, and those behind
+-- the texts up to an id, its own, and those after it
 texts_split : (p : Pass) (n id : ℕ) → id < n → (later : List (List ℕ)) × (texts_below p n ≡ texts_below p id ++ (texts p id ++ later))
 texts_split p zero id lt = absurd (omega (arith, lt))
 texts_split p (suc n) id lt =
@@ -160,7 +160,7 @@ module _ (p : Pass) (n id : ℕ) (lt : id < n) (kind : kind_at p.table id ≡ So
 
 -- ---- all kinds
 
--- the strings behind the pass
+-- the strings after the pass
 abbrev pub after : Pass → ℕ → List ℕ
 after p n = p.table.strings ++ flat_map ended (texts_below p n)
 

@@ -96,7 +96,7 @@ abbrev pub answer_to : List Answer → Feature → Option Bool
 answer_to [] f = None
 answer_to (answer ∷ answers) f = if same_feature answer.feature f then Some answer.granted else answer_to answers f
 
--- Asking for one more feature: the old answer, or a new one behind the others.
+-- Asking for one more feature: the old answer, or a new one after the others.
 abbrev pub AnswersWith : Option Bool → List Answer → Feature → Bool → List Answer → Type 0
 AnswersWith (Some told) answers f granted new = (granted ≡ told) × (new ≡ answers)
 AnswersWith None answers f granted new = new ≡ answers ++ record { feature = f; granted = granted } ∷ []
@@ -166,7 +166,7 @@ asked_next fs answers new f granted asked next =
     absent_from_each g gs absent =
         elim (list_any (same_feature g) gs) as (λ (b : Bool). list_any (same_feature g) gs ≡ b → b ≡ false) [ true ↦ λ is. absurd (true≢false (sym (among_each g gs is) ∙ absent)) | false ↦ λ is. refl ] refl
 
--- features that come behind others change nothing of what is there once
+-- features that come after others change nothing of what is there once
 pub each_once_begins : (fs gs : List Feature) → (rest : List Feature) × (each_once (fs ++ gs) ≡ each_once fs ++ rest)
 each_once_begins [] gs = (each_once gs, refl)
 each_once_begins (f ∷ fs) gs =
@@ -224,7 +224,7 @@ further_ruled p id more at j less =
 pub asked_to : (p : Pass) (id : ℕ) (more : List Answer) → IsAt p id → AreAnswersTo (asks_below p id ++ asks (with_answers p (p.answers ++ more)) id) (p.answers ++ more) → AreAnswersTo (asks_below (with_answers p (p.answers ++ more)) (suc id)) (p.answers ++ more)
 asked_to p id more at asked = asked ∙ ap (λ (fs : List Feature). each_once (fs ++ asks (with_answers p (p.answers ++ more)) id)) (sym (further_same p id more at).asks)
 
--- One more id is gone past: its asks are answered behind the others, and it is not refused.
+-- One more id is gone past: its asks are answered after the others, and it is not refused.
 pub goes_on : (p : Pass) (id : ℕ) (more : List Answer) → IsAt p id → AreAnswersTo (asks_below p id ++ asks (with_answers p (p.answers ++ more)) id) (p.answers ++ more) → fault (with_answers p (p.answers ++ more)) id ≡ None
     → IsAt (with_answers p (p.answers ++ more)) (suc id)
 goes_on p id more at asked passed =

@@ -84,7 +84,7 @@ positive_or : (o : Option ℕ) (n : ℕ) → IsPositive o → 1 ≤ n → 1 ≤ 
 positive_or None n p some = some
 positive_or (Some k) n p some = p
 
--- behind the first piece that is no text there is less
+-- after the first piece that is no text there is less
 shorter : (bs : List ℕ) → utf8_valid_len bs < length bs → length (after_first_chunk bs) < length bs
 shorter bs lt =
     let n : ℕ = utf8_valid_len bs in
@@ -170,7 +170,7 @@ not_contained bs none at = go bs at.0 none at.1 at.2
 
 -- ---- the name
 
--- A name of bytes without a zero, with one ASCII byte in place of another, reads back behind other strings.
+-- A name of bytes without a zero, with one ASCII byte in place of another, reads back after other strings.
 pub renamed_reads_back : (strings bytes : List ℕ) (byte other : ℕ) → byte < 128 → other < 128 → (other == 0) ≡ false → NoZero bytes
     → text_at (strings ++ replaced byte other (lossy bytes) ++ 0 ∷ []) (length strings) ≡ Ok (replaced byte other (lossy bytes))
 renamed_reads_back strings bytes byte other ascii ascii_too some none =

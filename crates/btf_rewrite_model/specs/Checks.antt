@@ -1,5 +1,5 @@
 -- The tests of a rewrite: each is passed, or says why not, and the first that is not passed counts.
--- Source: aya-obj's `fixup_and_sanitize`, in whose order they are told; the limits of both sections are the kernel's, whose header
+-- Source: aya-obj's `fixup_and_sanitize`, in whose order they stand; the limits of both sections are the kernel's, whose header
 -- has 32 bits for a length.
 use Rattle.std.specs.Prelude.{ℕ, ◌+◌, ◌*◌, ◌^◌, nat_le, nat_lt, if◌then◌else◌, List, [], ◌∷◌, length, slice_get, Option, Some, None, Result, Ok, Err}
 use Rattle.btf_model.specs.Record.{Record}
@@ -29,16 +29,16 @@ is_record id None = Some (UnknownBtfType id)
 abbrev pub is_known : Table → ℕ → Check
 is_known t id = is_record id (slice_get t.records id)
 
--- a text has room, with its zero byte, behind so many bytes of strings
+-- a text has room, with its zero byte, after so many bytes of strings
 abbrev pub has_room : ℕ → List ℕ → Check
 has_room offset text = if nat_le (offset + length text + 1) section_limit then None else Some (InvalidStringOffset offset)
 
--- texts have room, one behind the other
+-- texts have room, one after the other
 abbrev pub have_room : ℕ → List (List ℕ) → List Check
 have_room offset [] = []
 have_room offset (text ∷ texts) = has_room offset text ∷ have_room (offset + length text + 1) texts
 
--- so many bytes of records have room behind others
+-- so many bytes of records have room after others
 abbrev pub fits : ℕ → ℕ → Check
 fits used bytes = if nat_le (used + bytes) section_limit then None else Some InvalidTypeInfo
 

@@ -38,7 +38,7 @@ filler_checks p id =
     has_room (filler_offset p id) filler_type_text ∷ fits (type_len_at p id) (record_len (byte_int 0))
     ∷ has_room (filler_offset p id + length filler_type_text + 1) filler_text ∷ fits (type_len_at p id + record_len (byte_int 0)) (record_len (static_var 0 0)) ∷ []
 
--- room for the entry of the filler, behind what was added
+-- room for the entry of the filler, after what was added
 abbrev pub growth_checks : Pass → ℕ → List Check
 growth_checks p id = if gets_filler p id then fits (type_len_at p id + sum_by record_len (added p id)) 12 ∷ [] else []
 
@@ -53,7 +53,7 @@ completing_checks p id r =
 
 -- ---- the tests of each kind
 
--- records have room, one behind the other
+-- records have room, one after the other
 abbrev pub all_fit : ℕ → List Record → List Check
 all_fit used [] = []
 all_fit used (r ∷ rs) = fits used (record_len r) ∷ all_fit (used + record_len r) rs

@@ -72,7 +72,7 @@ abbrev pub entry_type : Table → Option ℕ → ℕ → ℕ
 entry_type t (Some placeholder) type = if is_func (kind_at t type) then placeholder else type
 entry_type t None type = type
 
--- the entries one behind the other, with 4 bytes for each, from this offset on
+-- the entries one after the other, with 4 bytes for each, from this offset on
 abbrev pub laid_out : Table → Option ℕ → ℕ → List Entry → List Entry
 laid_out t placeholder offset [] = []
 laid_out t placeholder offset (e ∷ es) = record { type = entry_type t placeholder e.type; offset = offset; size = 4 } ∷ laid_out t placeholder (offset + 4) es
@@ -126,6 +126,6 @@ ksyms_fault t ids = first_fault (placeholder_checks t ids.placeholder ++ data_se
 abbrev pub each_stepped : Table → KsymsIds → Table
 each_stepped t ids = record t { records = map (λ id. stepped t ids id (kind_at t id) (record_at t id)) (ids_of t) }
 
--- The table behind the step, where it is not refused: each record by itself, and then the INT, if it is appended.
+-- The table after the step, where it is not refused: each record by itself, and then the INT, if it is appended.
 abbrev pub ksyms_table : Table → KsymsIds → Table
 ksyms_table t ids = if appends_int t ids.placeholder then with_type (c_int (length t.strings)) None (with_string int_text (each_stepped t ids)) else each_stepped t ids

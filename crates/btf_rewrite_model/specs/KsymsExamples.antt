@@ -78,11 +78,11 @@ own_entry_is_no_symbol = refl
 
 -- ---- the step and the pass
 
--- the strings end without a zero byte: 0x66 is no text, until "int" and its zero byte are appended behind it
+-- the strings end without a zero byte: 0x66 is no text, until "int" and its zero byte are appended after it
 abbrev open_ended : Option KsymsIds → Pass
 open_ended given = pass_of (record (table_of (record { name = 0; info = 0x0f000000; third = 0; tail = [] } ∷ func 1 0 0 ∷ [])) { strings = 0 ∷ 0x66 ∷ [] }) given no_layout []
 
--- behind the step the name of FUNC 2 is "fint"
+-- after the step the name of FUNC 2 is "fint"
 read_behind_the_step : (fault (open_ended (Some (ids 1 None))) 2 ≡ None)
     × ((rewritten (open_ended (Some (ids 1 None)))).records
     ≡ unknown ∷ record { name = 0; info = 0x04000000; third = 0; tail = [] } ∷ record { name = 1; info = 0x08000000; third = 0; tail = [] } ∷ record { name = 2; info = 0x01000000; third = 4; tail = 0x01000020 ∷ [] } ∷ [])

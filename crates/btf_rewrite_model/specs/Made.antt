@@ -35,7 +35,7 @@ entries words = []
 abbrev pub entry_words : Entry → List ℕ
 entry_words e = e.type ∷ e.offset ∷ e.size ∷ []
 
--- a variable's linkage, its one word behind the third, is Static
+-- a variable's linkage, its one word after the third, is Static
 abbrev pub is_static : Record → Bool
 is_static r = slice_index r.tail 0 == 0
 

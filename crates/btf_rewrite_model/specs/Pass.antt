@@ -16,7 +16,7 @@ use Rattle.btf_rewrite_model.specs.Feature.{Feature, Answer, FillPolicy, fills_s
 use Rattle.btf_rewrite_model.specs.Made.{record_at, kind_at, byte_int, static_var, wants_name}
 use Rattle.btf_rewrite_model.specs.Checks.{Check, first_fault, is_read, have_room, record_len, in_a_word}
 
--- what a rewrite is told of the program: the sizes of its sections and the offsets of its symbols, by name
+-- what a rewrite knows of the program: the sizes of its sections and the offsets of its symbols, by name
 pub record Layout : Type 0 where
   pub sections : List ℕ → Option ℕ
   pub symbols : List ℕ → Option ℕ
@@ -175,7 +175,7 @@ texts_len ts = sum_by (λ text. length text + 1) ts
 abbrev pub offset_at : Pass → ℕ → ℕ
 offset_at p id = length p.table.strings + texts_len (texts_below p id)
 
--- the offset of the filler's first text, behind the new name
+-- the offset of the filler's first text, after the new name
 abbrev pub filler_offset : Pass → ℕ → ℕ
 filler_offset p id = offset_at p id + texts_len (renaming p (name_of p id))
 
@@ -189,7 +189,7 @@ added_by p free id (Some kinds.Enum64) = if makes_placeholder p id then byte_int
 added_by p free id (Some kinds.DataSec) = if makes_filler p id then filler (filler_offset p id) free else []
 added_by p free id k = []
 
--- those, behind the records that are added before
+-- those, after the records that are added before
 abbrev pub with_added : Pass → ℕ → List Record → List Record
 with_added p id before = before ++ added_by p (length p.table.records + length before) id (kind_at p.table id)
 

@@ -25,7 +25,7 @@ no_layout = record { sections = λ name. None; symbols = λ name. None }
 abbrev pub only : List ℕ → ℕ → List ℕ → Option ℕ
 only known number name = if bytes_eq name known then Some number else None
 
--- the empty text, and texts behind it, each with its zero byte
+-- the empty text, and texts after it, each with its zero byte
 abbrev pub strings_of : List (List ℕ) → List ℕ
 strings_of texts = 0 ∷ flat_map (λ text. text ++ 0 ∷ []) texts
 

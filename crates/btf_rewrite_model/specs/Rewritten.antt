@@ -12,7 +12,7 @@ use Rattle.btf_rewrite_model.specs.Made.{ids_of}
 use Rattle.btf_rewrite_model.specs.Rule.{ruled_below, falls_back}
 use Rattle.btf_rewrite_model.specs.Fault.{fault}
 
--- the table as the pass begins: behind the step of `.ksyms`, where its ids are given
+-- the table as the pass begins: after the step of `.ksyms`, where its ids are given
 abbrev pub begun : Table → Option KsymsIds → Table
 begun t (Some ids) = ksyms_table t ids
 begun t None = t

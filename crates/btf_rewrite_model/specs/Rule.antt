@@ -19,7 +19,7 @@ abbrev pub known_func : Pass → Record → Result (List ℕ) Refusal → Record
 known_func p r (Ok name) = if is_global r && (is_builtin name || not (has p features.FuncGlobal)) then with_linkage 0 r else r
 known_func p r (Err refusal) = r
 
--- the parameters, those without names named by texts one behind the other from this offset on; they count from k
+-- the parameters, those without names named by texts one after the other from this offset on; they count from k
 abbrev pub named_params : ℕ → ℕ → List ℕ → List ℕ
 named_params k offset (name ∷ type ∷ words) =
     if wants_name name type then offset ∷ type ∷ named_params (k + 1) (offset + length (param_text k) + 1) words else name ∷ type ∷ named_params (k + 1) offset words
@@ -53,7 +53,7 @@ member_name p lower id type = if nat_lt type id then (unwrap_or (slice_get lower
 abbrev pub entry_members : Pass → List Record → ℕ → List Entry → List ℕ
 entry_members p lower id es = flat_map (λ (e : Entry). member_name p lower id e.type ∷ e.type ∷ e.offset * 8 ∷ []) es
 
--- the VAR of the filler, which stands behind its INT
+-- the VAR of the filler, which stands after its INT
 abbrev pub filler_id : Pass → ℕ → ℕ
 filler_id p id = free_id p (least (gets_filler p) id) + 1
 

@@ -20,11 +20,11 @@ pub variants_of_words : (vs : List BtfEnum64) → variants (flat_map enum64_word
 variants_of_words [] = refl
 variants_of_words (v ∷ vs) = ap (λ (rest : List Variant). variant v ∷ rest) (variants_of_words vs)
 
--- behind the last variant, all are kept
+-- after the last variant, all are kept
 pub kept_all : (kept : List Enum64VariantFallback) (vs : List BtfEnum64) (i : ℕ) → length vs ≤ i → map variant_of kept ≡ map variant (take i vs) → map variant_of kept ≡ variants (flat_map enum64_words vs)
 kept_all kept vs i end is = is ∙ ap (map variant) (take_all i vs end) ∙ sym (variants_of_words vs)
 
--- behind the last variant, all have their member
+-- after the last variant, all have their member
 pub members_all : (type : ℕ) (members : List BtfMember) (vs : List BtfEnum64) (i : ℕ) → length vs ≤ i → flat_map member_words members ≡ variant_members type (map variant (take i vs))
     → flat_map member_words members ≡ variant_members type (variants (flat_map enum64_words vs))
 members_all type members vs i end is = is ∙ ap (variant_members type) (ap (map variant) (take_all i vs end) ∙ sym (variants_of_words vs))

@@ -30,7 +30,7 @@ answer_of a = record { feature = feature_of a.feature; granted = a.granted }
 abbrev pub answers_of : List FeatureAnswer → List Answer
 answers_of answers = map answer_of answers
 
--- what was told of a feature: what the first answer that is for it says
+-- the answer for a feature: what the first answer that is for it says
 abbrev pub told : List FeatureAnswer → Feature → Option Bool
 told answers feature = option_map (λ (a : FeatureAnswer). a.granted) (find (λ (a : FeatureAnswer). same_feature (feature_of a.feature) feature) answers)
 
@@ -43,7 +43,7 @@ abbrev pub AreDistinct : List FeatureAnswer → Type 0
 AreDistinct answers = IsDistinct eqb (numbers answers)
 
 -- Asking for a feature: one that was answered has that answer, and nothing changes; another is one call of the predicate as it
--- is now, whose answer is put behind the others.
+-- is now, whose answer is put after the others.
 abbrev pub AsksFor : {F : Type 0} → (F → BtfFeature → Bool → F → Type 0) → BtfFeature → Option Bool → F × List FeatureAnswer → Bool → F × List FeatureAnswer → Type 0
 AsksFor step feature (Some told) old answer new = (answer ≡ told) × (new ≡ old)
 AsksFor step feature None old answer new = step old.0 feature answer new.0 × (new.1 ≡ old.1 ++ record { feature = feature; granted = answer } ∷ [])
@@ -56,6 +56,6 @@ abbrev pub Called : {F : Type 0} → (F → BtfFeature → Bool → F → Type 0
 Called step before [] after = after ≡ before
 Called {F} step before (a ∷ answers) after = (mid : F) × step before a.feature a.granted mid × Called step mid answers after
 
--- these answers, and others behind them
+-- these answers, and others after them
 abbrev pub IsFurther : List FeatureAnswer → List FeatureAnswer → Type 0
 IsFurther old new = (more : List FeatureAnswer) × (new ≡ old ++ more)

@@ -112,7 +112,7 @@ pub fn copied_answers<F>(
     resolver.answers.clone()
 }
 
-/// What was told of a feature; None where it was not asked for.
+/// The answer for a feature; None where it was not asked for.
 fn told(answers: &[FeatureAnswer], feature: BtfFeature) -> Option<bool>
     ensures { result ≡ told_of answers.now (feature_of feature) }
 {

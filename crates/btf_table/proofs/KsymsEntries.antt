@@ -76,13 +76,13 @@ faults_at t placeholder es i refusal lt before faults =
 any_up_to : (test : Entry → Bool) (es : List DataSecEntry) (i : ℕ) → i < length es → list_any test (map entry (take (i + 1) es)) ≡ cond (test (entry (at es i))) true (list_any test (map entry (take i es)))
 any_up_to test es i lt = ap (λ (xs : List DataSecEntry). list_any test (map entry xs)) (up_to es i lt) ∙ any_more test (take i es) (at es i)
 
--- an entry that does not pass is what the search answers
+-- an entry that does not pass is what the search returns
 pub fault_found : (t : Table) (placeholder : Option ℕ) (tail : List ℕ) (es : List DataSecEntry) (i : ℕ) (refusal : Refusal) → tail ≡ flat_map entry_words es → i < length es
     → first_fault (flat_map (entry_checks t placeholder) (map entry (take i es))) ≡ None → first_fault (entry_checks t placeholder (entry (at es i))) ≡ Some refusal → FindsSymbols t placeholder (entries tail) (Err refusal)
 fault_found t placeholder tail es i refusal words lt before faults =
     subst (λ (xs : List Entry). FindsSymbols t placeholder xs (Err refusal)) (sym (entries_of_words es) ∙ ap entries (sym words)) (faults_at t placeholder es i refusal lt before faults)
 
--- behind the last entry, all have passed
+-- after the last entry, all have passed
 pub found_symbols : (t : Table) (placeholder : Option ℕ) (tail : List ℕ) (es : List DataSecEntry) (i : ℕ) (symbols : Symbols) → tail ≡ flat_map entry_words es → length es ≤ i
     → (first_fault (flat_map (entry_checks t placeholder) (map entry (take i es))) ≡ None) × HasSymbols t (map entry (take i es)) symbols → FindsSymbols t placeholder (entries tail) (Ok symbols)
 found_symbols t placeholder tail es i symbols words end found =

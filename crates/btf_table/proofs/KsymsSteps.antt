@@ -126,7 +126,7 @@ stepped_all t ids ts i cs records low high stepped =
     let end : i ≡ length t.records = omega (arith, low, high, ap length (sym records), length-map ts record_of) in
     subst (λ (n : ℕ). AreStepped t ids n cs) end stepped
 
--- ---- the table behind the step
+-- ---- the table after the step
 
 abbrev sizes : List (Option Kind × ℕ) → ℕ
 sizes shapes = sum_by (λ (s : Option Kind × ℕ). 12 + 4 * s.1) shapes

@@ -32,7 +32,7 @@ asks_called {F} step first f old new granted asks called =
       | Some was ↦ λ same. subst (λ (s : F × List FeatureAnswer). Called step first s.1 s.0) (sym same.1) called
     ] asks
 
--- and puts an answer behind the others, or none
+-- and puts an answer after the others, or none
 pub asks_further : {F : Type 0} (step : F → BtfFeature → Bool → F → Type 0) (f : BtfFeature) (old new : F × List FeatureAnswer) (granted : Bool) → Asks step f old granted new → IsFurther old.1 new.1
 asks_further {F} step f old new granted asks =
     elim (told old.1 (feature_of f)) as (λ (o : Option Bool). AsksFor step f o old granted new → IsFurther old.1 new.1) [

@@ -327,7 +327,7 @@ refused_never : (o : Option Refusal) (x : Record) (Q : Refusal → Type 0) → I
 refused_never None x Q is = tt
 refused_never (Some f) x Q is = absurd (none-some x (ap (result_ok {T = Record} {E = Refusal}) is))
 
--- what a rule that appends nothing answers
+-- what a rule that appends nothing returns
 pub quiet_answer : (p : Pass) (id : ℕ) (b : BtfType) (before : Made) (x : Record) (r : Result (Option BtfType) BtfError) → Gives (λ new. record_of (unwrap_or new b)) r (Ok x)
     → IfOk r (λ new. length (record_of (unwrap_or new b)).tail ≡ length (record_of b).tail) → IfOk r (λ new. fallback_of (unwrap_or new b) ≡ fallback_of b)
     → ((new : BtfType) → record_of new ≡ x → length (record_of new).tail ≡ length (record_of b).tail → fallback_of new ≡ fallback_of b → IsRuled p id b before before new) → Answers (λ new. unwrap_or new b) r (Rules p id b before before)

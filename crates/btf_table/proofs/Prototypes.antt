@@ -25,7 +25,7 @@ use Rattle.btf_rules.proofs.NamedParams.{put_at}
 
 -- ---- texts
 
--- the texts for parameters, and for those behind them
+-- the texts for parameters, and for those after them
 texts_append : (k : ℕ) (ps qs : List BtfParam) → param_texts k (flat_map param_words (ps ++ qs)) ≡ param_texts k (flat_map param_words ps) ++ param_texts (k + length ps) (flat_map param_words qs)
 texts_append k [] qs =
     let none : k ≡ k + 0 = omega arith in
@@ -89,7 +89,7 @@ room_fault offset ps i refusal lt before faults =
 abbrev pub named_to : ℕ → ℕ → List BtfParam → List ℕ
 named_to offset i ps = named_params 0 offset (flat_map param_words (take i ps)) ++ flat_map param_words (drop i ps)
 
--- the names of parameters, and of those behind them
+-- the names of parameters, and of those after them
 named_append : (k offset : ℕ) (ps qs : List BtfParam)
     → named_params k offset (flat_map param_words (ps ++ qs))
     ≡ named_params k offset (flat_map param_words ps) ++ named_params (k + length ps) (offset + texts_len (param_texts k (flat_map param_words ps))) (flat_map param_words qs)
@@ -158,7 +158,7 @@ named_next offset ps i new lt is =
 
 -- ---- what is appended
 
--- the offset of the next text, behind those that were appended
+-- the offset of the next text, after those that were appended
 pub end_after : (t : Table) (old new : Changes) (ts : List (List ℕ)) (rs : List Record) → Adds t old new ts rs → strings_end t new ≡ strings_end t old + texts_len ts
 end_after t old new ts rs adds = omega (arith, ap length adds.strings, length-append old.new_strings.items (flat_map ended ts), ended_len ts)
 

@@ -27,7 +27,7 @@ pub map-put : {X : Type 0} (f : BtfType → X) (cs : List (ℕ × BtfType)) (ts 
 map-put f [] ts = refl
 map-put f (c ∷ cs) ts = map-put f cs (set ts c.0 c.1) ∙ ap (put_all (each f cs)) (map-set f ts c.0 c.1)
 
--- what stands behind the ids stays
+-- what stands after the ids stays
 pub put_front : {X : Type 0} (f : BtfType → X) (cs : List (ℕ × BtfType)) (xs ys : List X) → AreInside (length xs) cs → put_all (each f cs) (xs ++ ys) ≡ put_all (each f cs) xs ++ ys
 put_front f [] xs ys inside = refl
 put_front f (c ∷ cs) xs ys inside =

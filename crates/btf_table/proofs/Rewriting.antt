@@ -19,7 +19,7 @@ use Rattle.btf_words.specs.Error.{Answers, refusal_of}
 use Rattle.btf_table.specs.PassStep.{Given, pass_on}
 use Rattle.btf_table.specs.Rewrites.{RewritesWith, Sanitizes, NeedsAreGrantedWith, KeepsSizes, KeepsResolutions, KeepsValues, AppendsAtMost, OfTables}
 
--- a pass over the table as it begins, behind the step
+-- a pass over the table as it begins, after the step
 sanitized : {X : Type 0} (old new : Table) (k : Option KsymsIds) (given : Given) (answers : List Answer) (r : Result X Refusal) → step_fault old k ≡ None → Sanitizes (pass_with given.policy old k given.layout answers) new r → RewritesWith given.policy old k given.layout answers new r
 sanitized old new k given answers (Ok x) step s = (record { step = step; ruled = s.0; table = s.1 }, s.2)
 sanitized old new k given answers (Err refusal) step s = inr (step, s)
@@ -27,7 +27,7 @@ sanitized old new k given answers (Err refusal) step s = inr (step, s)
 pub stepped_by : {X : Type 0} (old t new : Table) (k : Option KsymsIds) (given : Given) (answers : List Answer) (r : Result X Refusal) → step_fault old k ≡ None → t ≡ begun old k → Sanitizes (pass_on t given answers) new r → RewritesWith given.policy old k given.layout answers new r
 stepped_by old t new k given answers r step is s = sanitized old new k given answers r step (subst (λ u. Sanitizes (pass_on u given answers) new r) is s)
 
--- the same of what a call answers
+-- the same of what a call returns
 pub rewrites_by : {X Y : Type 0} (view : X → Y) (r : Result X BtfError) (old t new : Table) (k : Option KsymsIds) (given : Given) (answers : List Answer) → step_fault old k ≡ None → t ≡ begun old k
     → Answers view r (Sanitizes (pass_on t given answers) new) → Answers view r (RewritesWith given.policy old k given.layout answers new)
 rewrites_by view (Ok x) old t new k given answers step is told = stepped_by old t new k given answers (Ok (view x)) step is told

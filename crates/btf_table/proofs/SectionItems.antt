@@ -22,7 +22,7 @@ use Rattle.btf_table.proofs.KsymsEntries.{at, zero_entry, entries_of_words}
 
 -- ---- the filler
 
--- behind a text, strings end so many bytes later
+-- after a text, strings end so many bytes later
 end_behind : (t : Table) (old new : Changes) (text : List ℕ) (rs : List Record) → Adds t old new (text ∷ []) rs → strings_end t new ≡ strings_end t old + length text + 1
 end_behind t old new text rs adds =
     omega (arith, ap length adds.strings, length-append old.new_strings.items (flat_map ended (text ∷ [])), length-append (ended text) [], length-append text (0 ∷ []))
@@ -86,6 +86,6 @@ one_more_maps f es i old new lt before is =
     ap (λ (xs : List Entry). xs ++ new ∷ []) before ∙ ap (λ (x : Entry). map f (map entry (take i es)) ++ x ∷ []) is
     ∙ sym (ap (map f) (map_up_to es i lt) ∙ map-append f (map entry (take i es)) (entry (at es i) ∷ []))
 
--- behind the last entry, all are there
+-- after the last entry, all are there
 pub all_entries : (tail : List ℕ) (es : List DataSecEntry) (i : ℕ) → tail ≡ flat_map entry_words es → length es ≤ i → map entry (take i es) ≡ entries tail
 all_entries tail es i words end = ap (map entry) (take_all i es end) ∙ sym (entries_of_words es) ∙ ap entries (sym words)

@@ -53,7 +53,7 @@ use Rattle.btf_table.proofs.PassRules.{record_there, kind_there, becomes_there, 
 
 -- ---- results
 
--- an error is handed on, and told of the same tests
+-- an error is passed on, and reported for the same tests
 pub told_on : {X Y U : Type 0} (view : X → Y) (e : BtfError) (r : Result X BtfError) (f : Option Refusal) (u : U) (y : Y) → IsErrAnd r (λ x. x ≡ e) → IfSome (refusal_of e) (λ refusal. ◌≡◌ {A = Result U Refusal} (Err refusal) (checked f u)) → Gives view r (checked f y)
 told_on view e r f u y err is =
     handed_on view e r (λ a. a ≡ checked f y) err (IfSome_then _ is (λ refusal same. sym (ap (λ (o : Option Refusal). checked o y) (checked_err f u refusal same))))

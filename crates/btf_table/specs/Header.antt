@@ -1,4 +1,4 @@
--- What the reader of the header answers.
+-- What the reader of the header returns.
 use Rattle.btf_model.specs.Blob as blob
 use Rattle.btf_table.specs.declared.table.header.Header.{Header}
 

@@ -96,7 +96,7 @@ abbrev pub StepsAll : Table → KsymsIds → Result (List (ℕ × BtfType)) Refu
 StepsAll t ids (Ok cs) = AreStepped t ids (length t.records) cs
 StepsAll t ids (Err refusal) = ⊥
 
--- The tests of the step are passed, and with the changes the table is the one behind it; or they are not.
+-- The tests of the step are passed, and with the changes the table is the one after it; or they are not.
 abbrev pub MakesKsyms : Table → KsymsIds → Result Changes Refusal → Type 0
 MakesKsyms t ids (Ok changes) = (ksyms_fault t ids ≡ None) × AreOf t changes × (changed t changes ≡ ksyms_table t ids)
 MakesKsyms t ids (Err refusal) = ksyms_fault t ids ≡ Some refusal

@@ -5,7 +5,7 @@ use Rattle.btf_model.specs.Refusal.{Refusal}
 use Rattle.btf_words.specs.declared.error.BtfError.{BtfError}
 use Rattle.btf_words.specs.declared.error.BtfError.TheVariants as errors
 
--- The refusal that an error stands for: none, where memory was wanted.
+-- The refusal that an error stands for: none, where memory was refused.
 abbrev pub refusal_of : BtfError → Option Refusal
 refusal_of errors.InvalidHeader = Some refusals.InvalidHeader
 refusal_of errors.InvalidTypeInfo = Some refusals.InvalidTypeInfo
@@ -28,12 +28,12 @@ refusal_of (errors.MultiLevelMapInMapNotSupported name) = Some (refusals.MultiLe
 refusal_of (errors.InvalidValuesSpec name) = Some (refusals.InvalidValuesSpec (string_bytes name))
 refusal_of errors.OutOfMemory = None
 
--- The result, its value seen by view, is an answer of which P holds, or memory was wanted.
+-- The result, its value seen by view, is an answer of which P holds, or memory was refused.
 abbrev pub Answers : {X Y : Type 0} → (X → Y) → Result X BtfError → (Result Y Refusal → Type 0) → Type 0
 Answers view (Ok x) P = P (Ok (view x))
 Answers view (Err e) P = IfSome (refusal_of e) (λ refusal. P (Err refusal))
 
--- The result is this answer, or memory was wanted.
+-- The result is this answer, or memory was refused.
 abbrev pub Gives : {X Y : Type 0} → (X → Y) → Result X BtfError → Result Y Refusal → Type 0
 Gives view result answer = Answers view result (λ a. a ≡ answer)
 

@@ -6,7 +6,7 @@ use Rattle.btf_records.specs.BtfType.{record_of}
 use Rattle.btf_records.specs.declared.btf_type.BtfType.{BtfType}
 use Rattle.btftool.specs.Listing.{type_line, lines_from}
 
--- the line of the type behind
+-- the line of one more type
 lines_push : (strings : List ℕ) (id : ℕ) (rs : List Record) (r : Record) → lines_from strings id (rs ++ r ∷ []) ≡ lines_from strings id rs ++ type_line strings (id + length rs) r
 lines_push strings id [] r = append-nil (type_line strings id r) ∙ ap (λ (at : ℕ). type_line strings at r) (omega arith)
 lines_push strings id (q ∷ rs) r =

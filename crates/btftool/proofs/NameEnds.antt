@@ -25,7 +25,7 @@ not_cut [] lacks = refl
 not_cut (byte ∷ text) lacks =
     ap (cut_at byte text) (not_cut text (λ i lt. lacks (suc i) (omega (arith, lt)))) ∙ ap (λ b. if b then Some ([], text) else None) (ne_eqb byte 61 (lacks 0 (omega arith)))
 
--- and a text behind `=` without one is what stands after the last
+-- and a text after `=` without one is what stands after the last
 pub cut_is : (name rest : List ℕ) → cut_last rest ≡ None → cut_last (name ++ 61 ∷ rest) ≡ Some (name, rest)
 cut_is [] rest none = ap (cut_at 61 rest) none
 cut_is (byte ∷ name) rest none = ap (cut_at byte (name ++ 61 ∷ rest)) (cut_is name rest none)

@@ -59,7 +59,7 @@ module _ (request : Request) (layout : Layout) (policy : FillPolicy) (answers : 
   rewritten_declined endianness bytes refusal (inl no_table) = record { cause = inl no_table.0 }
   rewritten_declined endianness bytes refusal (inr table) = record { cause = inr (table.0, table.1, refuses_so table.0 refusal table.2) }
 
--- what is told of an error that goes through
+-- what is said of an error that is passed on
 pub told_through : (P Q : Refusal → Type 0) (e : BtfError) (r : Result (Vec ℕ Global) BtfError) → ((refusal : Refusal) → P refusal → Q refusal) → IfSome (refusal_of e) P → IsErrAnd r (λ y. y ≡ e) → IfErr r (λ y. IfSome (refusal_of y) Q)
 told_through P Q e r so told err =
     let q = err_from_is_err_and r err in

@@ -21,7 +21,7 @@ use Rattle.btftool.specs.declared.line.Command.{Command}
 use Rattle.btftool.specs.declared.line.Command.TheVariants.{Ask, Rewrite}
 use Rattle.btftool.specs.Listing.{listing, size_line, comparison_lines}
 
--- The comparison of two types of a table answers this, with so many pairs that it starts; or is refused.
+-- The comparison of two types of a table returns this, with so many pairs that it starts; or is refused.
 abbrev pub Compares : Table → ℕ → ℕ → Result (Bool × ℕ) Refusal → Type 0
 Compares t id other (Ok found) = (starts : List Pair) × Plain t t [] (pair id other) (Ok found.0) starts × (found.1 ≡ length (firsts starts))
 Compares t id other (Err refusal) = (starts : List Pair) × Plain t t [] (pair id other) (Err refusal) starts

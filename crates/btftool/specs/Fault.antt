@@ -5,7 +5,7 @@ use Rattle.btf_words.specs.Error.{refusal_of}
 use Rattle.btftool.specs.declared.fault.Fault.{Fault}
 use Rattle.btftool.specs.declared.fault.Fault.TheVariants.{Read, Write, Btf}
 
--- the refusal that a fault reports: none, where a stream failed or memory was wanted
+-- the refusal that a fault reports: none, where a stream failed or memory was refused
 abbrev pub fault_refusal : Fault → Option Refusal
 fault_refusal Read = None
 fault_refusal Write = None

@@ -102,7 +102,7 @@ pub fn run<R: Read, W: Write, E: Write>(
     out: &mut W,
     err: &mut E,
 ) -> u8
-    // Words that can't be read are answered so, and then nothing is read or written but the usage.
+    // Words that can't be read are reported so, and then nothing is read or written but the usage.
     ensures usage { (result ≡ 2) ↔ ((line : Line) → Asks words.now line → ⊥) }
     ensures usage_alone { result ≡ 2 → (input.new ≡ input.old) × (out.new ≡ out.old) }
     // On success the input stands for a table, and what the command makes of it is written.

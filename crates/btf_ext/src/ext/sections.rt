@@ -22,7 +22,7 @@ pub struct SecInfo<'a> {
     pub bytes: &'a [u8],
 }
 
-/// The sections that bytes hold, in order. Behind them, where the rest of the bytes is no section, comes the error
+/// The sections that bytes hold, in order. After them, where the rest of the bytes is no section, comes the error
 /// that says why, and then nothing more.
 ///
 /// The error is `InvalidInfo`, with the length of the rest as `section_len`: at offset 0 with length 8 where less

@@ -158,7 +158,7 @@ returns-in_default-2 g c =
     (pair_of c.in-Waits.pair) (frame_of c.in-Waits.next) c.in-Waits.ensures (ap tells_open (sym c.get.ensures ∙ c.in-None.is)) (ap tells_settled (sym c.get.ensures ∙ c.in-None.is)) (g.S.Starts.has_added c.args.starts.now c.start-in-None.new.starts)
     (subst (λ (o : Option Frame). IsStarted c.args.local.now c.args.target.now (pair_of c.in-Waits.pair) o) c.in_default-2.is c.in_ok-new-in-None.ensures.started) (c.in_ok-new-in-None.ensures.listed c.args.starts.now)
 
--- the stack behind a pair that is started
+-- the stack after a pair that is started
 new_stack : (g : Over) (c : goal.In-Some-2 g) → stack_of c.start-in-None.new.self.below.items ≡ frame_of c.in-Waits.next ∷ stack_of c.steps.run.below.items
 new_stack g c = stack_push c.steps.run.below.items c.start-in-None.new.self.below.items c.in-Waits.next (ap (λ v. v.items) c.start-in-None.ensures.below ∙ c.in_ok-push-in-None.ensures.items)
 
