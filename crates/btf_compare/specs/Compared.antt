@@ -105,13 +105,13 @@ IsRefused local target p e =
     ⊎ (((slice_get local.records p.local ≡ None) × (e ≡ errors.UnknownBtfType p.local))
     ⊎ ((r : Record) × (slice_get local.records p.local ≡ Some r) × (slice_get target.records p.target ≡ None) × (e ≡ errors.UnknownBtfType p.target)))
 
--- The call returns this, and these pairs were reported, as IsTold has it; or memory is refused after a beginning of them.
+-- The call returns this, and these pairs were reported, by IsTold; or memory is refused after a beginning of them.
 abbrev pub TracesBy : (List (ℕ × ℕ) → Type 0) → Result Bool BtfError → Result Bool Refusal → List Pair → Type 0
 TracesBy IsTold result answer listed =
     (Tells (λ b. b) result (λ a. a ≡ answer) × IsTold (map ids_of listed))
     ⊎ ((result ≡ Err errors.OutOfMemory) × (front rest : List Pair) × (listed ≡ front ++ rest) × IsTold (map ids_of front))
 
--- The call returns this, and lists these pairs after what the list held; or memory is refused after a beginning of them.
+-- The call returns this, and adds these pairs to the list, at its end; or memory is refused after a beginning of them.
 abbrev pub Traces : Result Bool BtfError → Result Bool Refusal → List (ℕ × ℕ) → List (ℕ × ℕ) → List Pair → Type 0
 Traces result answer old new listed =
     (Tells (λ b. b) result (λ a. a ≡ answer) × (new ≡ old ++ map ids_of listed))

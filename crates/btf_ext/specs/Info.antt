@@ -30,7 +30,7 @@ line_records s = record { count = s.num_info; words = map line_words s.line_info
 abbrev pub lines_by_name : LineInfo → List ℕ → Option Records
 lines_by_name f name = option_map line_records (get_by_text f.sections name)
 
--- What reading the named sections of a part returns: the records under each name, of so many words each, or why it is refused.
+-- What reading named sections of a part returns: the records under each name, of so many words each, or the refusal.
 abbrev pub AreByName : Order → ℕ → List ℕ → Part → Result (List ℕ → Option Records) Refusal → Type 0
 AreByName order width strings p (Ok found) =
     (sections : List Named) × AreNamed order p.size strings p.bytes (Ok sections) × ((name : List ℕ) → found name ≡ records_named order width p sections name)

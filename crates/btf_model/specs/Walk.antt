@@ -18,7 +18,7 @@ Leads Finds (suc n) place end = (next : _) × Finds place (GoesOn next) × Leads
 abbrev pub walk_limit : ℕ
 walk_limit = 32
 
--- The answer of a walk: that of its end, after fewer than 32 places that go on; or that it is too deep, by the place that
+-- The answer of a walk: that of its end, after fewer than 32 places that go on; or it is too deep, by the place that
 -- would come next.
 abbrev pub WalkAnswers : {Place Answer : Type 0} → (Place → Finding Place Answer → Type 0) → Place → (Place → Refusal) → Result Answer Refusal → Type 0
 WalkAnswers Finds start too_deep answer =

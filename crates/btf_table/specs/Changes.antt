@@ -40,7 +40,7 @@ changed t c = record t {
   fallbacks = put_all (each fallback_of c.types.items) t.fallbacks ++ map fallback_of c.new_types.items;
 }
 
--- The changes are of this table: the ids are its own, both sections keep to their limit, the length of records is right, and
+-- The changes are of this table: the ids are its own, both sections keep to their limit, the type length is right, and
 -- each record has a kind.
 pub record AreOf (t : Table) (c : Changes) : Type 0 where
   pub ids : AreInside (length t.records) c.types.items
