@@ -11,7 +11,7 @@ use std::test::Fail;
 /// A table: its name, the words of its records, and its strings.
 struct Table(&'static str, &'static str, &'static [u8]);
 
-const TABLES: [Table; 20] = [
+const TABLES: [Table; 21] = [
     Table("empty", "", b"\0"),
     // A name that is not UTF-8.
     Table("lossy", "1 01000000 4 20", b"\0\xffA\0"),
@@ -27,6 +27,12 @@ const TABLES: [Table; 20] = [
     ),
     // Prototypes with two parameters of the next one each, and an INT.
     Table("nested", NESTED, b"\0"),
+    // A prototype with nine parameters, which a comparison remembers.
+    Table(
+        "long",
+        "0 0d000009 0 0 2 0 2 0 2 0 2 0 2 0 2 0 2 0 2 0 2  0 1000000 4 20",
+        b"\0",
+    ),
     Table(
         "records",
         "0 04000001 4 0 3 0  0 05000001 4 0 3 0  0 04000000 4",
