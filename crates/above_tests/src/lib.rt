@@ -1,5 +1,5 @@
-//! Tests of the look-ups by name: values of variants, and the relocations of a section. Their expected values are worked
-//! by hand from the format.
+//! Tests of the look-ups by name: values of variants, and the relocations of a section. Their expected values are
+//! worked by hand from the format.
 #![tactic(auto)]
 
 #[cfg(test)]

@@ -1,8 +1,8 @@
 //! `btf_bench`: how long the calls of the library take, `btf_bench FILE [WHAT] [REPS] [--csv|--names]`.
 //!
-//! FILE is a table in little-endian order, as `/sys/kernel/btf/vmlinux`. For each work, or for WHAT alone, it prints the
-//! least and the median time of REPS runs, and the least by record; with `--csv` in nanoseconds, with commas between,
-//! and with `--names` that it was done, without its times.
+//! FILE is a table in little-endian order, as `/sys/kernel/btf/vmlinux`. For each work, or for WHAT alone, it prints
+//! the least and the median time of REPS runs, and the least by record; with `--csv` in nanoseconds, with commas
+//! between, and with `--names` that it was done, without its times.
 //!
 //! `btf_bench FAMILY N [REPS] [--csv|--names]` does so for a table that a stranger could make, at the sizes N, 2 N and
 //! 4 N: a step that is not linear shows in the time of a unit. FAMILY is `collide`, `fan`, `rings`, `nest`, `longname`

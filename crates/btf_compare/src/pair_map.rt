@@ -7,8 +7,8 @@ use arrayvec::ArrayVec;
 use std::alloc::{AllocError, Global};
 use std::collections::BTreeMap;
 
-/// A map from pairs of ids, the local id first. The first few lie in an array, as most comparisons need no more, and take
-/// no memory of their own; the others lie in an ordered map, whose look-ups stay short whatever ids a table names.
+/// A map from pairs of ids, the local id first. The first few lie in an array, as most comparisons need no more, and
+/// take no memory of their own; the others lie in an ordered map, whose look-ups stay short whatever ids a table names.
 #[derive(Drop)]
 pub struct PairMap<V> {
     first: ArrayVec<((u32, u32), V), 16>,

@@ -109,7 +109,8 @@ fn arrays<'a>(local: &Array, target_type: &BtfType) -> Position<'a>
     }
 }
 
-/// What is found at a prototype and another type: the parameters of both, if they are as many, and then what both return.
+/// What is found at a prototype and another type: the parameters of both, if they are as many, and then what both
+/// return.
 fn prototypes<'a>(local: &'a FuncProto, target_type: &'a BtfType) -> Position<'a>
     ensures { type_kind target_type.now ≡ model.FuncProto → PositionIs result (λ found. found ≡ position_by 0 model.FuncProto local.now (record_of target_type.now)) }
 {

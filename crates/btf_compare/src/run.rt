@@ -44,8 +44,8 @@ impl Run {
         }
     }
 
-    /// Starts a pair that this run has not listed: looks up both ids, opens the pair and lists it; None where the kinds of
-    /// the two types differ. An error leaves the list as it was.
+    /// Starts a pair that this run has not listed: looks up both ids, opens the pair and lists it; None where the kinds
+    /// of the two types differ. An error leaves the list as it was.
     fn start<S: Starts>(
         &mut self,
         local: &Btf,

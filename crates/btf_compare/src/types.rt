@@ -15,9 +15,9 @@ use btf_table::Btf;
 
 /// Whether two types are compatible, where each stands in its own table, as libbpf has it: the kinds of the two ids are
 /// the same, before modifiers are resolved, where ENUM and ENUM64 are one kind; and so on after modifiers, where
-/// structures, unions, enumerations, forward declarations, floating-point numbers and the type of id 0 are compatible by
-/// their kind, integers if both begin at bit 0, pointers and arrays if what they lead to is, and prototypes if they have
-/// as many parameters, each pair of parameter types is, and then what they return is. Names and sizes don't count.
+/// structures, unions, enumerations, forward declarations, floating-point numbers and the type of id 0 are compatible
+/// by their kind, integers if both begin at bit 0, pointers and arrays if what they lead to is, and prototypes if they
+/// have as many parameters, each pair of parameter types is, and then what they return is. Names and sizes don't count.
 ///
 /// The first thing in this order that is not compatible, or is refused, is the answer:
 ///
@@ -41,8 +41,8 @@ pub fn types_are_compatible(
     compare(local, target, (local_id, target_id), &mut Untraced)
 }
 
-/// The same answer as `types_are_compatible`; and each pair of ids whose comparison is started is added to the list, the
-/// local id first, in the order in which they are started: the pair of the call, if both of its ids are known, and
+/// The same answer as `types_are_compatible`; and each pair of ids whose comparison is started is added to the list,
+/// the local id first, in the order in which they are started: the pair of the call, if both of its ids are known, and
 /// each pair of resolved parameter types that is neither compared at the time nor known to be compatible.
 ///
 /// So no pair is added twice. What the list held stays in front. A refusal leaves in it the pairs that were started

@@ -1,5 +1,5 @@
--- The items of the kinds that have a list, as words.
--- Source: the kernel's BTF documentation, `struct btf_member`, `btf_enum`, `btf_enum64`, `btf_param`, `btf_var_secinfo`.
+-- The items of the kinds that have a list, as words. Source: the kernel's BTF documentation, `struct btf_member`,
+-- `btf_enum`, `btf_enum64`, `btf_param`, `btf_var_secinfo`.
 use Rattle.std.specs.Prelude.{ℕ, List, [], ◌∷◌}
 use Rattle.btf_items.specs.declared.items.BtfEnum.{BtfEnum}
 use Rattle.btf_items.specs.declared.items.BtfEnum64.{BtfEnum64}

@@ -59,8 +59,8 @@ shifted = table_of (record { name = 0; info = 0x01000000; third = 4; tail = 0x00
 shifted_is_not_itself : Plain shifted shifted [] (pair 1 1) (Ok false) (pair 1 1 ∷ [])
 shifted_is_not_itself = alone shifted 1 Int _ (Ok false) [] (refl, refl) (told _ 31 (pair 1 1) (Ok false) (on_itself shifted 1 Int _ (refl, refl) refl))
 
--- FUNC_PROTO 1 has two parameters of type 2 and returns it, INT 2: the pair of 2 is started for each parameter, since nothing is
--- remembered; the return type is a position, and no pair that is started.
+-- FUNC_PROTO 1 has two parameters of type 2 and returns it, INT 2: the pair of 2 is started for each parameter, since
+-- nothing is remembered; the return type is a position, and no pair that is started.
 abbrev two_parameters : Table
 two_parameters = table_of (record { name = 0; info = 0x0d000002; third = 2; tail = 0 ∷ 2 ∷ 0 ∷ 2 ∷ [] } ∷ int ∷ [])
 
@@ -78,8 +78,8 @@ parameters_are_started_again =
 
 -- ---- a walk in a circle
 
--- FUNC_PROTO 1 with a parameter of type 2 returns type 3, INT 2, PTR 3 to 1: the walk goes round and round, and so it is cut. At
--- each turn the parameter's pair is started again, since nothing is remembered.
+-- FUNC_PROTO 1 with a parameter of type 2 returns type 3, INT 2, PTR 3 to 1: the walk goes round and round, and so it
+-- is cut. At each turn the parameter's pair is started again, since nothing is remembered.
 abbrev circle : Table
 circle = table_of (prototype 2 3 ∷ int ∷ pointer 1 ∷ [])
 
@@ -134,7 +134,8 @@ is_cut above zero lt = too_deep above (pair 1 1)
 is_cut above (suc k) lt =
     on above k (pair (suc (suc k)) (suc (suc k))) (pair (suc k) (suc k)) (Err (MaximumTypeDepthReached 1)) [] (on_itself chain (suc (suc k)) Ptr (pointer (suc k)) (is_pointer k (omega (arith, lt))) refl) (is_cut above k (omega (arith, lt)))
 
--- The pair of the parameter comes out true; the walk comes to it with 31 positions left, walks on through it, and is cut.
+-- The pair of the parameter comes out true; the walk comes to it with 31 positions left, walks on through it, and is
+-- cut.
 true_pair_is_walked_through : Plain chain chain [] (pair 33 33) (Err (MaximumTypeDepthReached 1)) (pair 33 33 ∷ pair 32 32 ∷ [])
 true_pair_is_walked_through =
     alone chain 33 FuncProto _ (Err (MaximumTypeDepthReached 1)) (pair 32 32 ∷ []) (refl, refl)

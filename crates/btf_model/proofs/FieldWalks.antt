@@ -1,5 +1,5 @@
--- The comparison of the types of two fields: at each pair one thing is found, and something is found in tables whose records
--- have kinds.
+-- The comparison of the types of two fields: at each pair one thing is found, and something is found in tables whose
+-- records have kinds.
 use Rattle.std.proofs.Common.{◌≡◌, ℕ, zero, suc, List, [], ◌∷◌, refl, sym, ap, subst, ◌∙◌, inl, inr, Bool, true, false, Some, Result, Ok, Err, slice_get}
 use Rattle.std.specs.Prelude.{◌⊎◌}
 use Rattle.std.specs.List.{AllByRecursion}

@@ -1,4 +1,5 @@
--- The pairs that a comparison starts: their ids are known, and without repeats they are no more than the pairs of known ids.
+-- The pairs that a comparison starts: their ids are known, and without repeats they are no more than the pairs of known
+-- ids.
 use Rattle.std.proofs.Common.{◌≡◌, ℕ, ◌*◌, ◌≤◌, Bool, true, false, List, [], ◌∷◌, length, refl, sym, ap, subst, ◌∙◌, arith, inl, inr, Result, Ok}
 use Rattle.std.specs.Prelude.{not, cond, All}
 use Rattle.std.specs.List.{filter, AllByRecursion, IsDistinct}

@@ -1,4 +1,5 @@
--- What holds at each step of a run of the comparison: of the pairs that are settled, of those that are open, and of what is listed.
+-- What holds at each step of a run of the comparison: of the pairs that are settled, of those that are open, and of
+-- what is listed.
 use Rattle.std.proofs.Common.{◌≡◌, ◌≢◌, ℕ, zero, suc, ◌+◌, ◌<◌, List, [], ◌∷◌, ◌++◌, length, refl, sym, ap, subst, ◌∙◌, inl, inr, Bool, true, false, Result, Ok, arith, append_assoc, Contains}
 use Rattle.std.specs.Prelude.{◌⊎◌, map, not, cond, slice_get, Some}
 use Rattle.std.proofs.lemmas.List.{append-nil, length-append}
@@ -105,8 +106,8 @@ module _ (local target : Table) where
   walked_pair above p b t begins new h = Plain.walked above p begins.0 begins.1 b t (not_open above p new) begins.2 begins.3 h
 
   module _ (Settled : Pair → Type 0) where
-    -- An open pair that is walked: what it has started, and that what is left of its walk makes the whole, under any pairs that
-    -- are not settled.
+    -- An open pair that is walked: what it has started, and that what is left of its walk makes the whole, under any
+    -- pairs that are not settled.
     pub record Walks (f : Frame) (went : List Pair) : Type 0 where
       pub begins : Begins local target f.pair
       pub starts : (q : Pair) → Among went q → Settled q
@@ -122,7 +123,8 @@ module _ (local target : Table) where
       pub pays : (above : List Pair) → AvoidsAll Settled above → (first : List Pair) → Plain local target (g.pair ∷ above) p (Ok true) first → (b : Result Bool Refusal) (t : List Pair) → RestOf local target above g b t
           → WalkOf local target above g.pair b (went ++ (first ++ t))
 
-    -- Each settled pair is compatible under any pairs that are not settled, and starts settled pairs only, always the same.
+    -- Each settled pair is compatible under any pairs that are not settled, and starts settled pairs only, always the
+    -- same.
     abbrev pub IsClosed : Type 0
     IsClosed = (p : Pair) → Settled p → (starts : List Pair) × ((q : Pair) → Among starts q → Settled q) × ((above : List Pair) → AvoidsAll Settled above → Plain local target above p (Ok true) starts)
 

@@ -1,5 +1,5 @@
--- A run of the comparison of types that remembers the pairs which came out true: the pairs that are open, each with the position
--- of its walk, and what the run has to say of the comparison that remembers nothing.
+-- A run of the comparison of types that remembers the pairs which came out true: the pairs that are open, each with the
+-- position of its walk, and what the run has to say of the comparison that remembers nothing.
 use Rattle.std.proofs.Common.{◌≡◌, ◌≢◌, ℕ, zero, suc, List, [], ◌∷◌, ◌++◌, drop, refl, sym, ap, subst, ◌∙◌, inl, inr, Bool, true, Some, Result, Ok, Err, append_assoc, slice_get}
 use Rattle.std.specs.Prelude.{◌⊎◌}
 use Rattle.std.specs.Result.{result_ok}

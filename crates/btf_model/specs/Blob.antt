@@ -101,8 +101,8 @@ pub record IsRest (order : Order) (bytes rest : List ℕ) : Type 0 where
   pub cut : (rs : List Record) × AreRecords order front rs
   pub longest : (other more : List ℕ) (rs : List Record) → bytes ≡ other ++ more → AreRecords order other rs → length other ≤ length front
 
--- The first cause for which bytes are refused: a cut header, strings that don't fit, types that don't fit, and then what
--- stays after the longest front of records.
+-- The first cause for which bytes are refused: a cut header, strings that don't fit, types that don't fit, and then
+-- what stays after the longest front of records.
 pub record IsRefusal (order : Order) (bytes : List ℕ) (refusal : Refusal) : Type 0 where
   pub header : length bytes < header_len → refusal ≡ InvalidHeader
   pub strings : header_len ≤ length bytes → length bytes < strings_end (header_of order bytes) → refusal ≡ InvalidHeader

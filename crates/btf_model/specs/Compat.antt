@@ -1,6 +1,6 @@
--- The comparison of two types, each in its own table.
--- Source: aya-obj's `types_are_compatible`, after libbpf's `bpf_core_types_are_compat`. That a pair which is met again while
--- it is open is refused, and how many positions a walk has, is this project's profile.
+-- The comparison of two types, each in its own table. Source: aya-obj's `types_are_compatible`, after libbpf's
+-- `bpf_core_types_are_compat`. That a pair which is met again while it is open is refused, and how many positions a
+-- walk has, is this project's profile.
 use Rattle.std.specs.Prelude.{◌≡◌, ◌≢◌, ◌⊎◌, ℕ, zero, suc, ◌==◌, ◌&&◌, not, Bool, true, false, if◌then◌else◌, List, [], ◌∷◌, ◌++◌, length, slice_get, Some, None, Result, Ok, Err, Contains}
 use Rattle.std.specs.List.{filter}
 use Rattle.btf_model.specs.Record.{Kind, Unknown, Int, Ptr, Array, Struct, Union, Enum, Fwd, FuncProto, Float, Enum64, Record, compared_kind}
@@ -11,8 +11,8 @@ use Rattle.btf_model.specs.Fields.{Pair, int_offset, element_type, IsAt}
 
 -- ---- one position
 
--- What is found at a position: an answer; the position to go on to; or the parameters of two prototypes, which have to be
--- compatible first, and then the position to go on to.
+-- What is found at a position: an answer; the position to go on to; or the parameters of two prototypes, which have to
+-- be compatible first, and then the position to go on to.
 pub data Position : Type 0 where
   Told : Result Bool Refusal → Position
   On : Pair → Position
@@ -70,8 +70,8 @@ Finds local target at found =
 abbrev pub AreKnown : Table → Table → Pair → Kind → Kind → Type 0
 AreKnown local target p k q = (r s : Record) × IsAt local p.local k r × IsAt target p.target q s
 
--- The comparison of a pair, under the pairs that are open above it: its answer, and the pairs that it starts, in order. Nothing
--- that came out before is remembered.
+-- The comparison of a pair, under the pairs that are open above it: its answer, and the pairs that it starts, in order.
+-- Nothing that came out before is remembered.
 mutual
   pub data Plain (local target : Table) : List Pair → Pair → Result Bool Refusal → List Pair → Type 0 where
     -- an open pair is refused

@@ -1,5 +1,5 @@
--- Worked examples of the comparison of types: small tables, with their answers and starts. Those that take steps of their own
--- stand in proofs/ChainExamples.antt, and those of fields in proofs/FieldsExamples.antt.
+-- Worked examples of the comparison of types: small tables, with their answers and starts. Those that take steps of
+-- their own stand in proofs/ChainExamples.antt, and those of fields in proofs/FieldsExamples.antt.
 use Rattle.std.specs.Prelude.{◌≡◌, ◌≢◌, ℕ, List, [], ◌∷◌, Bool, true, false, Result, Ok, Err, Contains, refl}
 use Rattle.std.specs.Result.{is_ok}
 use Rattle.std.proofs.Common.{ap, arith, inl, inr}
@@ -30,7 +30,8 @@ none_open p c = absurd (omega (arith, c.1))
 const_is_no_int : Const ≢ Int
 const_is_no_int e = let words : tail_words Const 0 ≡ tail_words Int 0 = ap (λ (k : Kind). tail_words k 0) e in omega (arith, words)
 
--- INT 1, PTR 2 to 1, CONST 3 to 1: the kinds of a pair are compared before it is resolved, so 3 and 1 are not compatible.
+-- INT 1, PTR 2 to 1, CONST 3 to 1: the kinds of a pair are compared before it is resolved, so 3 and 1 are not
+-- compatible.
 abbrev qualified : Table
 qualified = table_of (record { name = 0; info = 0x01000000; third = 4; tail = 0x20 ∷ [] } ∷ record { name = 0; info = 0x02000000; third = 1; tail = [] } ∷ record { name = 0; info = 0x0a000000; third = 1; tail = [] } ∷ [])
 
@@ -61,7 +62,8 @@ parameter_is_unknown =
     (unresolved (pair 1 1 ∷ []) (pair 9 9) [] (UnknownBtfType 9) (inl (no_record without_parameter 9 refl)))
     (refused_is_not_true (UnknownBtfType 9)))
 
--- PTR 1 to 2, and FUNC_PROTO 2 with one parameter of type 1: the pair is met again while it is open, and is started once.
+-- PTR 1 to 2, and FUNC_PROTO 2 with one parameter of type 1: the pair is met again while it is open, and is started
+-- once.
 abbrev cyclic : Table
 cyclic = table_of (record { name = 0; info = 0x02000000; third = 2; tail = [] } ∷ record { name = 0; info = 0x0d000001; third = 0; tail = 0 ∷ 1 ∷ [] } ∷ [])
 

@@ -85,8 +85,8 @@ IsUnnamedBehind order size strings bytes named refusal =
 abbrev pub IsCutBehind : Order → ℕ → List ℕ → List Named → Refusal → Type 0
 IsCutBehind order size bytes named refusal = (rest : List ℕ) × Sections order size bytes (sections_of named) rest × (rest ≢ []) × (refusal ≡ cut_refusal order size rest)
 
--- What reading all sections returns, where the name of each is read after it: the named sections, or what is refused after
--- the first of them.
+-- What reading all sections returns, where the name of each is read after it: the named sections, or what is refused
+-- after the first of them.
 abbrev pub AreNamed : Order → ℕ → List ℕ → List ℕ → Result (List Named) Refusal → Type 0
 AreNamed order size strings bytes (Ok named) = BeginsWith order size bytes (sections_of named) [] × HaveNames strings named
 AreNamed order size strings bytes (Err refusal) =
@@ -168,7 +168,8 @@ abbrev pub HasHeader : Order → List ℕ → Result Header Refusal → Type 0
 HasHeader order bytes (Ok h) = (8 ≤ length bytes) × (word_at order 4 bytes ≤ length bytes) × (h ≡ header_words order (header_bytes order bytes))
 HasHeader order bytes (Err refusal) = ((length bytes < 8) ⊎ (length bytes < word_at order 4 bytes)) × (refusal ≡ InvalidHeader)
 
--- A range lies in the bytes. If it is not empty, it begins with a word, the size of its records, which is not below the least.
+-- A range lies in the bytes. If it is not empty, it begins with a word, the size of its records, which is not below the
+-- least.
 pub record IsRange (order : Order) (bytes : List ℕ) (r : Range) : Type 0 where
   pub within : r.start + r.len ≤ length bytes
   pub has_word : 0 < r.len → 4 ≤ r.len
@@ -188,8 +189,8 @@ abbrev pub HasPart : Order → List ℕ → Range → Result Part Refusal → Ty
 HasPart order bytes r (Ok part) = IsRange order bytes r × (part ≡ part_of order bytes r)
 HasPart order bytes r (Err refusal) = ¬ (IsRange order bytes r) × (refusal ≡ InvalidInfo r.start r.len (length bytes))
 
--- What the bytes say: of functions and of lines the size of their records and the records of each name; and the relocation
--- sections, each as the string offset of its name and the first four words of each record.
+-- What the bytes say: of functions and of lines the size of their records and the records of each name; and the
+-- relocation sections, each as the string offset of its name and the first four words of each record.
 pub record Ext : Type 0 where
   pub func_size : ℕ
   pub func : List ℕ → Option Records
@@ -217,8 +218,8 @@ abbrev pub Then : {A B : Type 0} → (Result A Refusal → Type 0) → (A → Re
 Then first second (Ok b) = (a : _) × first (Ok a) × second a (Ok b)
 Then first second (Err refusal) = first (Err refusal) ⊎ ((a : _) × first (Ok a) × second a (Err refusal))
 
--- What the bytes say, under a table's strings, or the first cause of refusal: the header, then the three ranges, then the
--- sections of functions, of lines, and of relocations.
+-- What the bytes say, under a table's strings, or the first cause of refusal: the header, then the three ranges, then
+-- the sections of functions, of lines, and of relocations.
 abbrev pub IsExt : Order → List ℕ → List ℕ → Result Ext Refusal → Type 0
 IsExt order bytes strings =
     Then (HasHeader order bytes) (λ h.

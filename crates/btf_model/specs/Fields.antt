@@ -1,6 +1,6 @@
--- The comparison of the types of two fields, each in its own table.
--- Source: aya-obj's `fields_are_compatible`, after libbpf's `bpf_core_fields_are_compat`. That the walk has 32 places at most,
--- and what is reported for kinds that have no answer, is this project's profile.
+-- The comparison of the types of two fields, each in its own table. Source: aya-obj's `fields_are_compatible`, after
+-- libbpf's `bpf_core_fields_are_compat`. That the walk has 32 places at most, and what is reported for kinds that have
+-- no answer, is this project's profile.
 use Rattle.std.specs.Prelude.{◌≡◌, ◌≢◌, ◌⊎◌, ℕ, ◌/◌, ◌%◌, ◌^◌, ◌==◌, ◌&&◌, Bool, true, false, if◌then◌else◌, List, [], ◌∷◌, take, codes, slice_index, slice_get, Some, Result, Ok, Err}
 use Rattle.std.specs.Str.{bytes_eq}
 use Rattle.btf_model.specs.Record.{Kind, Int, Ptr, Array, Enum, Fwd, Float, Enum64, Record, kind_of, is_composite, compared_kind}
@@ -37,8 +37,8 @@ int_offset r = slice_index r.tail 0 / 2 ^ 16 % 2 ^ 8
 abbrev pub element_type : Record → ℕ
 element_type r = slice_index r.tail 0
 
--- What is found at two types of these kinds, which are compatible, and of which one at least is no composite: r and s are
--- their records, and the local one has this id.
+-- What is found at two types of these kinds, which are compatible, and of which one at least is no composite: r and s
+-- are their records, and the local one has this id.
 abbrev pub field_by : Table → Table → ℕ → Kind → Kind → Record → Record → Finding Pair Bool
 field_by local target id Int Int r s = Ends (Ok (int_offset r == 0 && int_offset s == 0))
 field_by local target id Ptr q r s = Ends (Ok true)
@@ -53,8 +53,8 @@ field_by local target id k q r s = Ends (Err (UnexpectedBtfType id))
 abbrev pub BothComposite : Kind → Kind → Type 0
 BothComposite k q = (is_composite k ≡ true) × (is_composite q ≡ true)
 
--- What is found at two types that are no modifiers, of which the local one has this id: two composites are compatible; other
--- kinds that differ are not, but for ENUM and ENUM64; the rest is by the kind.
+-- What is found at two types that are no modifiers, of which the local one has this id: two composites are compatible;
+-- other kinds that differ are not, but for ENUM and ENUM64; the rest is by the kind.
 abbrev pub FieldsFound : Table → Table → ℕ → Kind → Kind → Record → Record → Finding Pair Bool → Type 0
 FieldsFound local target id k q r s found =
     (BothComposite k q × (found ≡ Ends (Ok true)))
@@ -77,7 +77,7 @@ FieldsFind local target at found =
     ⊎ ((id other : ℕ) × (k q : Kind) × (r s : Record) × Resolves local.records at.local (Ok id) × Resolves target.records at.target (Ok other)
     × IsAt local id k r × IsAt target other q s × FieldsFound local target id k q r s found))
 
--- Whether the types of two fields are compatible, or why there is no answer: what is found after ARRAYs of which each leads
--- to its elements.
+-- Whether the types of two fields are compatible, or why there is no answer: what is found after ARRAYs of which each
+-- leads to its elements.
 abbrev pub Fields : Table → ℕ → Table → ℕ → Result Bool Refusal → Type 0
 Fields local id target other = WalkAnswers (FieldsFind local target) (record { local = id; target = other }) (λ at. MaximumTypeDepthReached at.local)

@@ -63,8 +63,8 @@ AddedTypeIsFound =
     (t : Table) (r : Record) (fallback : Option Fallback) → (slice_get (with_type r fallback t).records (length t.records) ≡ Some r)
     × ((id : ℕ) → id < length t.records → slice_get (with_type r fallback t).records id ≡ slice_get t.records id)
 
--- The text that was added, if no zero byte stands in it, is read at the offset that it got; and each offset that was read
--- as a text is read as the same one.
+-- The text that was added, if no zero byte stands in it, is read at the offset that it got; and each offset that was
+-- read as a text is read as the same one.
 pub record AddedStringReadsBack : Type 0 where
   pub added : (t : Table) (text : List ℕ) → IsUtf8 text → ¬ (Contains text 0) → text_at (with_string text t).strings (length t.strings) ≡ Ok text
   pub old : (t : Table) (text other : List ℕ) (offset : ℕ) → text_at t.strings offset ≡ Ok other → text_at (with_string text t).strings offset ≡ Ok other
@@ -73,7 +73,8 @@ pub record AddedStringReadsBack : Type 0 where
 abbrev pub NameFindsOne : Type 0
 NameFindsOne = (strings : List ℕ) (records : List Record) (k : Kind) (name : List ℕ) (a b : Result ℕ Refusal) → FindsName strings records k name a → FindsName strings records k name b → a ≡ b
 
--- A walk has one answer: so an id resolves to one type or for one cause to none, and a type has one size or for one cause none.
+-- A walk has one answer: so an id resolves to one type or for one cause to none, and a type has one size or for one
+-- cause none.
 pub record WalksAreDetermined : Type 0 where
   pub resolving : (records : List Record) (id : ℕ) (a b : Result ℕ Refusal) → Resolves records id a → Resolves records id b → a ≡ b
   pub size : (records : List Record) (id : ℕ) (a b : Result ℕ Refusal) → HasSize records id a → HasSize records id b → a ≡ b
@@ -100,8 +101,8 @@ pub record ComparisonsAreDetermined : Type 0 where
   pub fields : (local : Table) (id : ℕ) (target : Table) (other : ℕ) (a b : Result Bool Refusal) → Fields local id target other a → Fields local id target other b → a ≡ b
   pub types : (local target : Table) (above : List Pair) (p : Pair) (a b : Result Bool Refusal) (s t : List Pair) → Plain local target above p a s → Plain local target above p b t → (a ≡ b) × (s ≡ t)
 
--- In tables whose records have kinds, as in each that can be written, a comparison has an answer: that of types ends also where
--- the types lead back to themselves.
+-- In tables whose records have kinds, as in each that can be written, a comparison has an answer: that of types ends
+-- also where the types lead back to themselves.
 pub record ComparisonsHaveAnswers : Type 0 where
   pub fields : (local target : Table) → HaveKinds local → HaveKinds target → (id other : ℕ) → (answer : Result Bool Refusal) × Fields local id target other answer
   pub types : (local target : Table) → HaveKinds local → HaveKinds target → (above : List Pair) (p : Pair) → (answer : Result Bool Refusal) × (starts : List Pair) × Plain local target above p answer starts
@@ -111,8 +112,8 @@ pub record ComparisonsHaveAnswers : Type 0 where
 abbrev pub AreIds : Table → Table → Pair → Type 0
 AreIds local target p = (p.local < length local.records) × (p.target < length target.records)
 
--- What a comparison starts are pairs of known ids. Without repeats no pair stands there twice, so there are at most as many as a local
--- and a target type make.
+-- What a comparison starts are pairs of known ids. Without repeats no pair stands there twice, so there are at most as
+-- many as a local and a target type make.
 pub record StartsAreFew : Type 0 where
   pub known : (local target : Table) (above : List Pair) (p : Pair) (answer : Result Bool Refusal) (starts : List Pair) → Plain local target above p answer starts → All (AreIds local target) starts
   pub once : (starts : List Pair) → IsDistinct pair_eq (firsts starts)
@@ -123,8 +124,9 @@ pub record StartsAreFew : Type 0 where
 abbrev pub exchanged : Pair → Pair
 exchanged p = record { local = p.target; target = p.local }
 
--- A comparison that returns true or false returns the same from the other side, and starts the same pairs. In tables whose
--- records have kinds a refusal is a refusal from there too, but may name another id or cause: the local side is looked at first.
+-- A comparison that returns true or false returns the same from the other side, and starts the same pairs. In tables
+-- whose records have kinds a refusal is a refusal from there too, but may name another id or cause: the local side is
+-- looked at first.
 pub record ComparisonsAreSymmetric : Type 0 where
   pub fields : (local target : Table) (id other : ℕ) (b : Bool) → Fields local id target other (Ok b) → Fields target other local id (Ok b)
   pub types : (local target : Table) (above : List Pair) (p : Pair) (b : Bool) (starts : List Pair) → Plain local target above p (Ok b) starts → Plain target local (map exchanged above) (exchanged p) (Ok b) (map exchanged starts)

@@ -99,7 +99,8 @@ record_size Float r = Some r.third
 record_size Enum64 r = Some r.third
 record_size k r = None
 
--- The one type that a record leads to: its third word, in the kinds where that is a type; none in the others, FUNC among them.
+-- The one type that a record leads to: its third word, in the kinds where that is a type; none in the others, FUNC
+-- among them.
 abbrev pub record_target : Kind → Record → Option ℕ
 record_target Ptr r = Some r.third
 record_target Typedef r = Some r.third
@@ -123,8 +124,8 @@ abbrev pub compared_kind : Kind → Kind
 compared_kind Enum64 = Enum
 compared_kind k = k
 
--- The bit at which a member of a STRUCT or UNION begins, by the record's info and the member's offset word: with the kind
--- flag set its low 24 bits, else the whole word.
+-- The bit at which a member of a STRUCT or UNION begins, by the record's info and the member's offset word: with the
+-- kind flag set its low 24 bits, else the whole word.
 abbrev pub member_bit_offset : ℕ → ℕ → ℕ
 member_bit_offset info offset = if kind_flag info == 1 then offset % 2 ^ 24 else offset
 

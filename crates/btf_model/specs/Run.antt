@@ -1,4 +1,5 @@
--- A run of the comparison of types: the pairs that are open, each with the position of its walk, and what comes next for one.
+-- A run of the comparison of types: the pairs that are open, each with the position of its walk, and what comes next
+-- for one.
 use Rattle.std.specs.Prelude.{◌≡◌, ◌⊎◌, ℕ, zero, suc, ◌≤◌, Bool, List, length, slice_get, Some, Result, Ok, Err}
 use Rattle.btf_model.specs.Record.{Kind, compared_kind}
 use Rattle.btf_model.specs.Refusal.{Refusal, MaximumTypeDepthReached}
@@ -18,7 +19,8 @@ pub record Frame : Type 0 where
 abbrev pub new_frame : Pair → Frame
 new_frame p = record { pair = p; at = p; left = walk_limit; parameter = zero }
 
--- What comes next for an open pair: its walk ends; it goes on; or a pair has to be compatible first, and then it goes on.
+-- What comes next for an open pair: its walk ends; it goes on; or a pair has to be compatible first, and then it goes
+-- on.
 pub data Next : Type 0 where
   Ends : Result Bool Refusal → Next
   GoesOn : Frame → Next

@@ -1,6 +1,6 @@
--- The grammar of one record, and its one written form.
--- Source: the kernel's BTF documentation, "Type Encoding"; what is dropped in reading is as in aya-obj's `BtfType::read`,
--- but for the linkage of a VAR and the words of an Unknown, which this project settles (docs/DIFFERENCES.md).
+-- The grammar of one record, and its one written form. Source: the kernel's BTF documentation, "Type Encoding"; what is
+-- dropped in reading is as in aya-obj's `BtfType::read`, but for the linkage of a VAR and the words of an Unknown,
+-- which this project settles (docs/DIFFERENCES.md).
 use Rattle.std.specs.Prelude.{◌≡◌, ℕ, ◌<◌, ◌^◌, min, List, map, length, Some}
 use Rattle.std.specs.List.{flat_map, AllByRecursion}
 use Rattle.btf_model.specs.Word.{Order, word}

@@ -45,8 +45,8 @@ ArePassed strings records k name id = (low : ℕ) (r : Record) → low < id → 
 abbrev pub IsReached : List ℕ → List Record → Kind → List ℕ → ℕ → Record → Type 0
 IsReached strings records k name id r = ArePassed strings records k name id × (slice_get records id ≡ Some r) × (kind_of r.info ≡ Some k)
 
--- The id of the type of a kind and a name: the least. A name of that kind that cannot be read, at a lower id, is why there
--- is none; or no record has the kind and the name.
+-- The id of the type of a kind and a name: the least. A name of that kind that cannot be read, at a lower id, is why
+-- there is none; or no record has the kind and the name.
 abbrev pub FindsName : List ℕ → List Record → Kind → List ℕ → Result ℕ Refusal → Type 0
 FindsName strings records k name (Ok id) = (r : Record) × IsReached strings records k name id r × (text_at strings r.name ≡ Ok name)
 FindsName strings records k name (Err refusal) =

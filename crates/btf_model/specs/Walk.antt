@@ -71,8 +71,8 @@ abbrev pub array_extent : List ℕ → Extent
 array_extent (element ∷ index ∷ count ∷ []) = Times count element
 array_extent tail = NoExtent
 
--- By the kind: a size in bytes, 8 for a pointer; the elements of an ARRAY; the one type that the others lead to; nothing
--- for Unknown, FWD and FUNC.
+-- By the kind: a size in bytes, 8 for a pointer; the elements of an ARRAY; the one type that the others lead to;
+-- nothing for Unknown, FWD and FUNC.
 abbrev pub extent : Option Kind → Record → Extent
 extent (Some Int) r = Bytes r.third
 extent (Some Ptr) r = Bytes 8

@@ -1,5 +1,5 @@
-//! The comparison of types as it is defined, by calls: nothing that came out before is remembered. It is for small tables,
-//! against which the comparison of the library is tested.
+//! The comparison of types as it is defined, by calls: nothing that came out before is remembered. It is for small
+//! tables, against which the comparison of the library is tested.
 
 ghost use Rattle.std.specs.Prelude.{◌≡◌, ◌∷◌, ◌≤◌, ◌↔◌, true, [], map, Contains, IfOk, IsTrue};
 ghost use Rattle.btf_model.specs.Record as model;
@@ -293,7 +293,8 @@ fn arrays<'a>(local: &Array, target_type: &BtfType) -> Position<'a>
     }
 }
 
-/// What is found at a prototype and another type: the parameters of both, if they are as many, and then what both return.
+/// What is found at a prototype and another type: the parameters of both, if they are as many, and then what both
+/// return.
 fn prototypes<'a>(local: &'a FuncProto, target_type: &'a BtfType) -> Position<'a>
     ensures { type_kind target_type.now ≡ model.FuncProto → PositionIs result (λ found. found ≡ position_by 0 model.FuncProto local.now (record_of target_type.now)) }
 {

@@ -414,7 +414,8 @@ type_len_same : (p : Pass) (answers : List Answer) (id : ℕ) → IsSameBelow p 
 type_len_same p answers id below =
     ap (λ (rs : List Record). length (type_bytes p.table) + sum_by record_len rs + growth_below (with_answers p answers) id) below.added ∙ ap (λ (n : ℕ). length (type_bytes p.table) + sum_by record_len (added_below p id) + n) below.growth
 
--- the tests of a DATASEC by its size, by whether it makes and gets the filler, by the filler's offset, the bytes before it and its records
+-- the tests of a DATASEC by its size, by whether it makes and gets the filler, by the filler's offset, the bytes before
+-- it and its records
 abbrev sizing_by : Pass → ℕ → Bool → Bool → ℕ → ℕ → List Record → List Check
 sizing_by p id makes gets offset used records =
     let r : Record = record_at p.table id in

@@ -1,4 +1,5 @@
--- What is rewritten, or refused, under the answers to what was asked is so under the answers to all features that agree with them.
+-- What is rewritten, or refused, under the answers to what was asked is so under the answers to all features that agree
+-- with them.
 use Rattle.std.proofs.Common.{◌≡◌, ℕ, zero, suc, ◌+◌, ◌<◌, ◌≤◌, List, [], ◌∷◌, ◌++◌, map, Option, None, Some, refl, sym, ap, ◌∙◌, arith, inl, inr}
 use Rattle.std.specs.Prelude.{if◌then◌else◌, ◌⊎◌}
 use Rattle.std.specs.List.{list_any, flat_map, range_with_len}

@@ -1,4 +1,5 @@
--- How a pass goes from id to id: the answers to what the ids below ask for are known, and further answers change nothing there.
+-- How a pass goes from id to id: the answers to what the ids below ask for are known, and further answers change
+-- nothing there.
 use Rattle.std.proofs.Common.{◌≡◌, ◌==◌, ℕ, zero, suc, ◌+◌, ◌<◌, ◌≤◌, Bool, true, false, not, cond, ◌||◌, ◌&&◌, List, [], ◌∷◌, ◌++◌, length, Option, None, Some, refl, sym, ap, subst, ◌∙◌, arith, inl, inr}
 use Rattle.std.specs.Prelude.{if◌then◌else◌, slice_get}
 use Rattle.std.specs.List.{list_any, filter, flat_map, sum_by}

@@ -1,6 +1,6 @@
--- The tests of a rewrite: each is passed, or says why not, and the first that is not passed counts.
--- Source: aya-obj's `fixup_and_sanitize`, in whose order they stand; the limits of both sections are the kernel's, whose header
--- has 32 bits for a length.
+-- The tests of a rewrite: each is passed, or says why not, and the first that is not passed counts. Source: aya-obj's
+-- `fixup_and_sanitize`, in whose order they stand; the limits of both sections are the kernel's, whose header has 32
+-- bits for a length.
 use Rattle.std.specs.Prelude.{ℕ, ◌+◌, ◌*◌, ◌^◌, nat_le, nat_lt, if◌then◌else◌, List, [], ◌∷◌, length, slice_get, Option, Some, None, Result, Ok, Err}
 use Rattle.btf_model.specs.Record.{Record}
 use Rattle.btf_model.specs.Refusal.{Refusal, InvalidTypeInfo, InvalidStringOffset, UnknownBtfType}

@@ -49,7 +49,8 @@ unknown_section = refl
 
 -- ---- sections without entries
 
--- ".a" at 1, ".b" at 4: DATASECs 1 and 2 of size 0 without entries, of sections of 0 and 5 bytes, where the kernel takes none such
+-- ".a" at 1, ".b" at 4: DATASECs 1 and 2 of size 0 without entries, of sections of 0 and 5 bytes, where the kernel
+-- takes none such
 abbrev empty_sections : Pass
 empty_sections = record {
   table = named_table (codes ".a" ∷ codes ".b" ∷ []) (data_sec 1 0 0 [] ∷ data_sec 4 0 0 [] ∷ []);
@@ -95,7 +96,8 @@ sized_section_is_taken : (becomes (sized_section FillSized (features.DataSec ∷
 unfolding pieces_from encode
 sized_section_is_taken = (refl, refl)
 
--- ".a" at 1: ENUM64 1 without variants, and DATASEC 2 of size 0 without entries: the placeholder stands before the filler
+-- ".a" at 1: ENUM64 1 without variants, and DATASEC 2 of size 0 without entries: the placeholder stands before the
+-- filler
 abbrev placeholder_and_filler : Pass
 placeholder_and_filler = record {
   table = named_table (codes ".a" ∷ []) (record { name = 0; info = 0x13000000; third = 8; tail = [] } ∷ data_sec 1 0 0 [] ∷ []);
@@ -115,8 +117,8 @@ filled_by_the_third = refl
 
 -- ---- sections that become structures
 
--- "p" at 1, "d" at 3: PTR 1 of name 1, DATASEC 2 of name 3 with 1 and 3 as entries, PTR 3 of name 1: the member of the lower id has
--- its new name
+-- "p" at 1, "d" at 3: PTR 1 of name 1, DATASEC 2 of name 3 with 1 and 3 as entries, PTR 3 of name 1: the member of the
+-- lower id has its new name
 abbrev no_sections : Pass
 no_sections = record {
   table = named_table (codes "p" ∷ codes "d" ∷ [])

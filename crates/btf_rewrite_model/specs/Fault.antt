@@ -1,5 +1,5 @@
--- Why a rewrite is refused at an id.
--- Source: aya-obj's `fixup_and_sanitize`, in whose order the tests stand; the limits are tested where a text or a record is appended.
+-- Why a rewrite is refused at an id. Source: aya-obj's `fixup_and_sanitize`, in whose order the tests stand; the limits
+-- are tested where a text or a record is appended.
 use Rattle.std.specs.Prelude.{ℕ, ◌+◌, ◌*◌, ◌^◌, nat_lt, ◌==◌, if◌then◌else◌, List, [], ◌∷◌, ◌++◌, length, Option, Some, None, Result, Ok}
 use Rattle.std.specs.List.{flat_map, sum_by}
 use Rattle.btf_model.specs.Record as kinds
@@ -42,7 +42,8 @@ filler_checks p id =
 abbrev pub growth_checks : Pass → ℕ → List Check
 growth_checks p id = if gets_filler p id then fits (type_len_at p id + sum_by record_len (added p id)) 12 ∷ [] else []
 
--- the tests of a DATASEC that has a size, once its name is read: room for the filler, where this id makes it, and for its entry
+-- the tests of a DATASEC that has a size, once its name is read: room for the filler, where this id makes it, and for
+-- its entry
 abbrev pub filling_checks : Pass → ℕ → List Check
 filling_checks p id = (if makes_filler p id then filler_checks p id else []) ++ growth_checks p id
 

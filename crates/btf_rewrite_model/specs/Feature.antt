@@ -1,6 +1,6 @@
--- The features of a kernel's BTF that a rewrite asks for, and those that a record needs.
--- Source: aya-obj's `BtfFeatures`, and which kind came with which in the kernel's BTF documentation; when the lack of a DATASEC
--- without entries is asked for, and that a caller may have those filled that have a size, is this project's profile.
+-- The features of a kernel's BTF that a rewrite asks for, and those that a record needs. Source: aya-obj's
+-- `BtfFeatures`, and which kind came with which in the kernel's BTF documentation; when the lack of a DATASEC without
+-- entries is asked for, and that a caller may have those filled that have a size, is this project's profile.
 use Rattle.std.specs.Prelude.{ℕ, ◌==◌, ◌&&◌, not, Bool, true, false, if◌then◌else◌, List, [], ◌∷◌, Option, Some}
 use Rattle.btf_model.specs.Record as kinds
 use Rattle.btf_model.specs.Record.{Kind, Record, kind_of, vlen, kind_flag}
@@ -39,12 +39,14 @@ pub record Answer : Type 0 where
   pub feature : Feature
   pub granted : Bool
 
--- Whether the answers grant a feature: one of them is for it, and the first such is yes. What they do not grant is denied.
+-- Whether the answers grant a feature: one of them is for it, and the first such is yes. What they do not grant is
+-- denied.
 abbrev pub grants : List Answer → Feature → Bool
 grants [] f = false
 grants (answer ∷ answers) f = if same_feature answer.feature f then answer.granted else grants answers f
 
--- What a rewrite does with a DATASEC that has a size and no entries, for a kernel that takes no DATASEC without entries.
+-- What a rewrite does with a DATASEC that has a size and no entries, for a kernel that takes no DATASEC without
+-- entries.
 pub data FillPolicy : Type 0 where
   -- It stays without entries, and the kernel is not asked about it.
   KeepSized : FillPolicy
@@ -67,8 +69,8 @@ is_signed r = kind_flag r.info == 1
 abbrev pub has_no_entries : Record → Bool
 has_no_entries r = vlen r.info == 0
 
--- The features that a kernel needs to take a record of this kind. A DATASEC without entries needs DataSecZero too, unless it is
--- exempt.
+-- The features that a kernel needs to take a record of this kind. A DATASEC without entries needs DataSecZero too,
+-- unless it is exempt.
 abbrev pub needs_by : Bool → Option Kind → Record → List Feature
 needs_by is_exempt (Some kinds.Func) r = if is_global r then Func ∷ FuncGlobal ∷ [] else Func ∷ []
 needs_by is_exempt (Some kinds.FuncProto) r = Func ∷ []
@@ -86,7 +88,7 @@ abbrev pub is_sized_and_empty : Option Kind → Record → Bool
 is_sized_and_empty (Some kinds.DataSec) r = has_no_entries r && not (r.third == 0)
 is_sized_and_empty k r = false
 
--- The features that a record needs, by the record that its id had before the pass. A DATASEC that had a size and no entries is exempt,
--- where the policy keeps it.
+-- The features that a record needs, by the record that its id had before the pass. A DATASEC that had a size and no
+-- entries is exempt, where the policy keeps it.
 abbrev pub needs : FillPolicy → Record → Record → List Feature
 needs policy before r = needs_by (not (fills_sized policy) && is_sized_and_empty (kind_of before.info) before) (kind_of r.info) r

@@ -1,6 +1,6 @@
--- The first step of a rewrite: what stands for the kernel's symbols, the entries of `.ksyms`, becomes ordinary variables.
--- Source: aya-obj's `fixup_ksyms_datasec`, after libbpf's `bpf_object__fixup_btf`; that names and ids are read in the table as the
--- step began is this project's profile.
+-- The first step of a rewrite: what stands for the kernel's symbols, the entries of `.ksyms`, becomes ordinary
+-- variables. Source: aya-obj's `fixup_ksyms_datasec`, after libbpf's `bpf_object__fixup_btf`; that names and ids are
+-- read in the table as the step began is this project's profile.
 use Rattle.std.specs.Prelude.{ℕ, ◌+◌, ◌*◌, ◌==◌, ◌&&◌, Bool, true, false, if◌then◌else◌, List, [], ◌∷◌, ◌++◌, length, map, codes, Option, Some, None}
 use Rattle.std.specs.List.{flat_map, list_any, position_or_len}
 use Rattle.std.specs.Option.{is_some}
@@ -77,8 +77,8 @@ abbrev pub laid_out : Table → Option ℕ → ℕ → List Entry → List Entry
 laid_out t placeholder offset [] = []
 laid_out t placeholder offset (e ∷ es) = record { type = entry_type t placeholder e.type; offset = offset; size = 4 } ∷ laid_out t placeholder (offset + 4) es
 
--- By the kind: a FUNC or VAR of the entries is Global, and a VAR has the type of the symbols; the parameters of such a FUNC get
--- names; the DATASEC is laid out anew; all others stay.
+-- By the kind: a FUNC or VAR of the entries is Global, and a VAR has the type of the symbols; the parameters of such a
+-- FUNC get names; the DATASEC is laid out anew; all others stay.
 abbrev pub stepped : Table → KsymsIds → ℕ → Option Kind → Record → Record
 stepped t ids id (Some Func) r = if names t ids id then with_linkage 1 r else r
 stepped t ids id (Some Var) r = if names t ids id then record r { third = symbol_type t ids.placeholder; tail = 1 ∷ [] } else r

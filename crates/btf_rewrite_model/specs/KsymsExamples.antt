@@ -36,7 +36,8 @@ variable_gets_a_type = refl
 int_is_named : (ksyms_table extern_variable (ids 2 None)).strings ≡ extern_variable.strings ++ codes "int" ++ 0 ∷ []
 int_is_named = refl
 
--- "int" at 1, "a" at 5, "b" at 7: INT 1, Extern VARs 2 and 3, and DATASEC 4 with both as entries: they are laid out 4 bytes apart
+-- "int" at 1, "a" at 5, "b" at 7: INT 1, Extern VARs 2 and 3, and DATASEC 4 with both as entries: they are laid out 4
+-- bytes apart
 abbrev two_variables : Table
 two_variables = named_table (codes "int" ∷ codes "a" ∷ codes "b" ∷ []) (int 1 ∷ var 5 0 2 ∷ var 7 0 2 ∷ record { name = 0; info = 0x0f000002; third = 0; tail = 2 ∷ 0 ∷ 0 ∷ 3 ∷ 0 ∷ 8 ∷ [] } ∷ [])
 
@@ -49,8 +50,8 @@ appended_int_is_unknown = refl
 
 -- ---- with a placeholder
 
--- "f" at 1, "ph" at 3, ".ksyms" at 6, "int" at 13: INT 1, FUNC_PROTO 2 with a parameter without a name, Extern FUNC 3 of it, Global
--- VAR 4 "ph" of 1, and DATASEC 5 with the FUNC as its entry
+-- "f" at 1, "ph" at 3, ".ksyms" at 6, "int" at 13: INT 1, FUNC_PROTO 2 with a parameter without a name, Extern FUNC 3
+-- of it, Global VAR 4 "ph" of 1, and DATASEC 5 with the FUNC as its entry
 abbrev extern_function : Table
 extern_function = named_table (codes "f" ∷ codes "ph" ∷ codes ".ksyms" ∷ codes "int" ∷ [])
     (int 13 ∷ record { name = 0; info = 0x0d000001; third = 1; tail = 0 ∷ 1 ∷ [] } ∷ func 1 2 2 ∷ var 3 1 1 ∷ one_entry 6 0 3 0 0 ∷ [])

@@ -1,5 +1,5 @@
--- Records that a rewrite makes, and the items of the records that it reads.
--- Source: the kernel's BTF documentation, "Type Encoding"; which record stands in for which is aya-obj's `fixup_and_sanitize`.
+-- Records that a rewrite makes, and the items of the records that it reads. Source: the kernel's BTF documentation,
+-- "Type Encoding"; which record stands in for which is aya-obj's `fixup_and_sanitize`.
 use Rattle.std.specs.Prelude.{ℕ, ◌+◌, ◌*◌, ◌^◌, ◌==◌, ◌&&◌, not, Bool, false, List, [], ◌∷◌, length, slice_index, slice_get, unwrap_or, Option}
 use Rattle.std.specs.List.{flat_map, range_with_len}
 use Rattle.btf_model.specs.Record.{Kind, Record, unknown, kind_of}

@@ -1,6 +1,6 @@
--- What each record asks of the kernel in a rewrite, and what it appends to the table.
--- Source: aya-obj's `fixup_and_sanitize`; that a feature is asked for where its answer is first wanted, and when DataSecZero is, is
--- this project's profile, as is the policy on DATASECs that have a size.
+-- What each record asks of the kernel in a rewrite, and what it appends to the table. Source: aya-obj's
+-- `fixup_and_sanitize`; that a feature is asked for where its answer is first wanted, and when DataSecZero is, is this
+-- project's profile, as is the policy on DATASECs that have a size.
 use Rattle.std.specs.Prelude.{ℕ, zero, suc, ◌+◌, ◌==◌, ◌&&◌, ◌||◌, not, Bool, true, false, if◌then◌else◌, List, [], ◌∷◌, ◌++◌, length, map, codes, Option, Some, None, Result, Ok, Err}
 use Rattle.std.specs.List.{list_any, filter, sum_by}
 use Rattle.std.specs.Option.{is_none}
@@ -21,8 +21,8 @@ pub record Layout : Type 0 where
   pub sections : List ℕ → Option ℕ
   pub symbols : List ℕ → Option ℕ
 
--- A pass over a table: the table as the pass begins, from which all names and ids are read, what becomes of DATASECs that have a size and
--- no entries, and the kernel's answers.
+-- A pass over a table: the table as the pass begins, from which all names and ids are read, what becomes of DATASECs
+-- that have a size and no entries, and the kernel's answers.
 pub record Pass : Type 0 where
   pub table : Table
   pub layout : Layout
@@ -64,8 +64,8 @@ underscore = 0x5f
 abbrev pub replaced : ℕ → ℕ → List ℕ → List ℕ
 replaced byte other name = map (λ b. if b == byte then other else b) name
 
--- The name that a DATASEC of this name gets: as a DATASEC with `.` for `/`, which kernels refuse; as a STRUCT with `_` for `.`,
--- which is in no C name.
+-- The name that a DATASEC of this name gets: as a DATASEC with `.` for `/`, which kernels refuse; as a STRUCT with `_`
+-- for `.`, which is in no C name.
 abbrev pub section_name : Pass → List ℕ → List ℕ
 section_name p name = if has p features.DataSec then replaced slash dot name else replaced dot underscore name
 
@@ -102,11 +102,13 @@ abbrev pub is_zero_or : Bool → Option ℕ → Bool
 is_zero_or other (Some size) = (size == 0) || other
 is_zero_or other None = false
 
--- One of size 0 without entries gets an entry of its own where its section has size 0, or the kernel takes no DATASEC without entries.
+-- One of size 0 without entries gets an entry of its own where its section has size 0, or the kernel takes no DATASEC
+-- without entries.
 abbrev pub fills_unsized : Pass → ℕ → Bool
 fills_unsized p id = is_unsized (kind_at p.table id) (record_at p.table id) && has_no_entries (record_at p.table id) && is_zero_or (not (has p features.DataSecZero)) (section_size p id)
 
--- One that has a size and no entries gets an entry where the policy has it filled, and the kernel takes no DATASEC without entries.
+-- One that has a size and no entries gets an entry where the policy has it filled, and the kernel takes no DATASEC
+-- without entries.
 abbrev pub fills_sized_one : Pass → ℕ → Bool
 fills_sized_one p id = fills_sized p.policy && is_sized_and_empty (kind_at p.table id) (record_at p.table id) && not (has p features.DataSecZero)
 

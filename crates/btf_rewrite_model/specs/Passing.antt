@@ -21,7 +21,8 @@ pub record IsAt (p : Pass) (id : ℕ) : Type 0 where
   pub asked : AreAnswersTo (asks_below p id) p.answers
   pub ruled : AreRuled p id
 
--- What a pass has made when it comes to an id: the bytes and records that are appended, the new records, and the length of all records.
+-- What a pass has made when it comes to an id: the bytes and records that are appended, the new records, and the length
+-- of all records.
 pub record HasMade (p : Pass) (id : ℕ) (strings : List ℕ) (types new : List Record) (type_len : ℕ) : Type 0 where
   pub strings_are : strings ≡ flat_map ended (texts_below p id)
   pub types_are : types ≡ added_below p id

@@ -64,7 +64,8 @@ granted_floats_stay = refl
 float_is_asked_once : Asked (floats []) ≡ features.Float ∷ []
 float_is_asked_once = refl
 
--- FLOAT 1, TYPE_TAG 2 to it, FLOAT 3, DECL_TAG 4 to 1 with component index -1; a signed ENUM 5; an unsigned one 6; PTR 7 with a name
+-- FLOAT 1, TYPE_TAG 2 to it, FLOAT 3, DECL_TAG 4 to 1 with component index -1; a signed ENUM 5; an unsigned one 6; PTR
+-- 7 with a name
 abbrev kept_and_replaced : Pass
 kept_and_replaced = record {
   table = table_of (record { name = 0; info = 0x10000000; third = 4; tail = [] }

@@ -30,8 +30,8 @@ AskedOnlyIfNeeded = (p : Pass) (id : ℕ) (f : Feature) → IsAmong f (asks p id
 abbrev pub IsGrantedOnce : List Answer → Feature → Type 0
 IsGrantedOnce answers f = map (λ (answer : Answer). answer.granted) (filter (λ (answer : Answer). same_feature answer.feature f) answers) ≡ true ∷ []
 
--- Where the answers are those to what the pass asks for, the features that the kernel needs for a record of the new table, one that was
--- appended among them, were asked for once each, and granted.
+-- Where the answers are those to what the pass asks for, the features that the kernel needs for a record of the new
+-- table, one that was appended among them, were asked for once each, and granted.
 abbrev pub GrantedFeaturesSuffice : Type 0
 GrantedFeaturesSuffice =
     (policy : FillPolicy) (old new : Table) (ids : Option KsymsIds) (layout : Layout) (answers : List Answer) → RewrittenWith policy old ids layout answers new → map (λ (answer : Answer). answer.feature) answers ≡ Asked (pass_with policy old ids layout answers)
@@ -80,8 +80,8 @@ VariantValueStays =
     (policy : FillPolicy) (old new : Table) (ids : Option KsymsIds) (layout : Layout) (answers : List Answer) → RewrittenWith policy old ids layout answers new
     → (id : ℕ) (name : List ℕ) (found : Option ℕ) → Value old id name (Ok found) → Value new id name (Ok found)
 
--- A pass appends three types at most: that of the members of UNIONs which were ENUM64s, and the two of the filler. The step of `.ksyms`
--- appends one at most, so a rewrite four. None is taken away.
+-- A pass appends three types at most: that of the members of UNIONs which were ENUM64s, and the two of the filler. The
+-- step of `.ksyms` appends one at most, so a rewrite four. None is taken away.
 pub record FewTypesAreAppended : Type 0 where
   pub in_a_pass : (p : Pass) (id : ℕ) → length (added_below p id) ≤ 3
   pub in_the_step : (t : Table) (ids : Option KsymsIds) → (length t.records ≤ length (begun t ids).records) × (length (begun t ids).records ≤ length t.records + 1)
@@ -104,15 +104,15 @@ pub record IsSameBelow (p : Pass) (answers : List Answer) (id : ℕ) : Type 0 wh
   pub growth : growth_below (with_answers p answers) id ≡ growth_below p id
   pub ruled : ruled_below (with_answers p answers) id ≡ ruled_below p id
 
--- What ids ask for, append and become, and why they are refused, depends on the answers to what they and lower ids ask for, and on no
--- others.
+-- What ids ask for, append and become, and why they are refused, depends on the answers to what they and lower ids ask
+-- for, and on no others.
 pub record OtherAnswersChangeNothing : Type 0 where
   pub below : (p : Pass) (answers : List Answer) (id : ℕ) → Agree p answers id → AreRuled p id → IsSameBelow p answers id
   pub asked : (p : Pass) (answers : List Answer) (id : ℕ) → Agree p answers (suc id) → AreRuled p id → asks (with_answers p answers) id ≡ asks p id
   pub refused : (p : Pass) (answers : List Answer) (id : ℕ) → Agree p answers (suc id) → AreRuled p id → fault (with_answers p answers) id ≡ fault p id
 
--- Where a rewrite without symbols of the kernel succeeds, of a table that has strings, and leaves no DATASEC of size 0, a second rewrite
--- changes nothing, under the same policy and a kernel that grants again what it granted.
+-- Where a rewrite without symbols of the kernel succeeds, of a table that has strings, and leaves no DATASEC of size 0,
+-- a second rewrite changes nothing, under the same policy and a kernel that grants again what it granted.
 abbrev pub SecondRewriteChangesNothing : Type 0
 SecondRewriteChangesNothing =
     (policy : FillPolicy) (old new : Table) (layout : Layout) (answers again : List Answer) → 0 < length old.strings → RewrittenWith policy old None layout answers new
@@ -120,8 +120,9 @@ SecondRewriteChangesNothing =
     → ((f : Feature) → IsAmong f (asks_below (pass_with policy new None layout again) (length new.records)) → grants answers f ≡ true → grants again f ≡ true)
     → RewrittenWith policy new None layout again new
 
--- Where DATASECs that have a size are kept, each definition says what it says without the policy: one that has a size needs and asks for
--- the one feature, gets no filler, and keeps all but its name, if that can be read and the new one has room.
+-- Where DATASECs that have a size are kept, each definition says what it says without the policy: one that has a size
+-- needs and asks for the one feature, gets no filler, and keeps all but its name, if that can be read and the new one
+-- has room.
 pub record SizedSectionsAreKept : Type 0 where
   pub needed : (before r : Record) → needs KeepSized before r ≡ needs_by (is_sized_and_empty (kind_of before.info) before) (kind_of r.info) r
   pub filled : (p : Pass) (id : ℕ) → p.policy ≡ KeepSized → gets_filler p id ≡ (has p features.DataSec && fills_unsized p id)

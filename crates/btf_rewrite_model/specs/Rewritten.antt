@@ -1,6 +1,6 @@
--- The whole rewrite: what it makes of a table for a kernel that gave these answers, or why it is refused.
--- Source: aya-obj's `fixup_and_sanitize`; that a refused rewrite leaves the table as it was, and that names and ids are read as the
--- pass began, is this project's profile (docs/DIFFERENCES.md).
+-- The whole rewrite: what it makes of a table for a kernel that gave these answers, or why it is refused. Source:
+-- aya-obj's `fixup_and_sanitize`; that a refused rewrite leaves the table as it was, and that names and ids are read as
+-- the pass began, is this project's profile (docs/DIFFERENCES.md).
 use Rattle.std.specs.Prelude.{◌≡◌, ◌⊎◌, ℕ, ◌<◌, List, [], ◌∷◌, ◌++◌, length, map, Option, Some, None}
 use Rattle.std.specs.List.{flat_map}
 use Rattle.btf_model.specs.Refusal.{Refusal}
@@ -36,7 +36,8 @@ old_count p = length p.table.records
 abbrev pub ended : List ℕ → List ℕ
 ended text = text ++ 0 ∷ []
 
--- What a pass makes of its table: each id has the record and the fallback of its rule, and strings and records are appended.
+-- What a pass makes of its table: each id has the record and the fallback of its rule, and strings and records are
+-- appended.
 abbrev pub rewritten : Pass → Table
 rewritten p = record p.table {
   strings = p.table.strings ++ flat_map ended (texts_below p (old_count p));

@@ -1,5 +1,5 @@
--- What a rewrite makes of each record.
--- Source: aya-obj's `fixup_and_sanitize`, kind by kind; that a member is named by the new name of a lower id is as there.
+-- What a rewrite makes of each record. Source: aya-obj's `fixup_and_sanitize`, kind by kind; that a member is named by
+-- the new name of a lower id is as there.
 use Rattle.std.specs.Prelude.{ℕ, zero, suc, ◌+◌, ◌*◌, nat_lt, max, ◌==◌, ◌&&◌, ◌||◌, not, if◌then◌else◌, List, [], ◌∷◌, ◌++◌, length, map, slice_get, Option, Some, None, Result, Ok, Err}
 use Rattle.std.specs.List.{flat_map}
 use Rattle.std.specs.Option.{unwrap_or}
@@ -65,7 +65,8 @@ placed p e = if is_static (record_at p.table e.type) then e else record e { offs
 abbrev pub filled : Pass → ℕ → ℕ → Record → Record
 filled p id size r = data_sec (new_name p id r) size 1 (record { type = filler_id p id; offset = 0; size = size } ∷ [])
 
--- A DATASEC of size 0 is completed: it gets the size of its section, and each entry its place; or the filler as its one entry.
+-- A DATASEC of size 0 is completed: it gets the size of its section, and each entry its place; or the filler as its one
+-- entry.
 abbrev pub completed : Pass → ℕ → ℕ → Record → Record
 completed p id size r = if gets_filler p id then filled p id (max size 1) r else data_sec (new_name p id r) size (vlen r.info) (map (placed p) (entries r.tail))
 

@@ -54,8 +54,8 @@ pub fn other_answers_change_nothing()
     ensures { OtherAnswersChangeNothing }
 {}
 
-/// Where a rewrite without symbols of the kernel succeeds, of a table that has strings, and leaves no DATASEC of size 0, a
-/// second rewrite changes nothing, under the same policy and a kernel that grants again what it granted.
+/// Where a rewrite without symbols of the kernel succeeds, of a table that has strings, and leaves no DATASEC of size
+/// 0, a second rewrite changes nothing, under the same policy and a kernel that grants again what it granted.
 pub fn second_rewrite_changes_nothing()
     ensures { SecondRewriteChangesNothing }
 {}

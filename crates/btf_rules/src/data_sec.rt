@@ -15,8 +15,8 @@ use btf_records::{BtfType, DataSec};
 use std::alloc::{AllocError, Global};
 use std::collections::HashMap;
 
-/// The name that a DATASEC of this name gets: as a DATASEC, where the kernel takes one, with `.` for each `/`, which kernels
-/// refuse there; or else as a STRUCT, with `_` for each `.`, which is in no C name.
+/// The name that a DATASEC of this name gets: as a DATASEC, where the kernel takes one, with `.` for each `/`, which
+/// kernels refuse there; or else as a STRUCT, with `_` for each `.`, which is in no C name.
 pub fn section_name(alloc: Global, name: &str, granted: bool) -> Result<String, AllocError>
     ensures { IfOk result (λ text. string_bytes text ≡ if granted then replaced slash dot name.now else replaced dot underscore name.now) }
 {
@@ -55,7 +55,8 @@ fn known_size(sections: &HashMap<String, (SectionIndex, u64)>, name: &str) -> Op
     to_word(*size)
 }
 
-/// The size of the section of this name; `UnknownSectionSize` of the name where it isn't known or has more than 32 bits.
+/// The size of the section of this name; `UnknownSectionSize` of the name where it isn't known or has more than 32
+/// bits.
 pub fn section_size(
     alloc: Global,
     sections: &HashMap<String, (SectionIndex, u64)>,

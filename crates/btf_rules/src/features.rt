@@ -29,7 +29,8 @@ pub enum BtfFeature {
     Enum64,
 }
 
-/// What a rewrite does with a DATASEC that has a size and no entries, for a kernel that takes no DATASEC without entries.
+/// What a rewrite does with a DATASEC that has a size and no entries, for a kernel that takes no DATASEC without
+/// entries.
 #[derive(Clone, Copy, Debug, Default, Eq, PartialEq)]
 pub enum FillPolicy {
     /// It stays without entries, and the kernel is not asked about it, as in aya.

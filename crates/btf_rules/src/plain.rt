@@ -19,7 +19,8 @@ use btf_plain::{BtfError, Const, Int, IntEncoding, Ptr};
 use btf_records::{BtfType, Struct};
 use std::alloc::{AllocError, Global};
 
-/// The feature that a type asks for, where it asks for one alone: all but FUNC and DATASEC. None where it asks for none.
+/// The feature that a type asks for, where it asks for one alone: all but FUNC and DATASEC. None where it asks for
+/// none.
 pub fn sole_feature(btf_type: &BtfType) -> Option<BtfFeature>
     ensures { option_map feature_of result ≡ sole.sole_feature (kind_of (record_of btf_type.now).info) (record_of btf_type.now) }
 {

@@ -84,7 +84,8 @@ pub record IsLike (old new : BtfType) : Type 0 where
 abbrev pub shape : Record → Option Kind × ℕ
 shape r = (kind_of r.info, length r.tail)
 
--- With these new types, the ids below a count have what they become in the step, fallbacks as they were, and their shapes.
+-- With these new types, the ids below a count have what they become in the step, fallbacks as they were, and their
+-- shapes.
 pub record AreStepped (t : Table) (ids : KsymsIds) (count : ℕ) (cs : List (ℕ × BtfType)) : Type 0 where
   pub inside : AreInside count cs
   pub records : put_all (each record_of cs) (take count t.records) ≡ map (λ id. becomes t ids id (record_at t id)) (range_with_len 0 count)

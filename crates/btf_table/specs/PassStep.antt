@@ -111,8 +111,8 @@ pub record IsMade (p : Pass) (id : ℕ) (m : Made) : Type 0 where
   pub filler : MadeBelow (gets_filler p) (λ k. free_id p k + 1) id m.filler
   pub room : HasRoom p.table m.changes
 
--- A whole pass: with the changes the table is the rewritten one; or it is refused at an id, and all that this and lower ids ask for is
--- answered.
+-- A whole pass: with the changes the table is the rewritten one; or it is refused at an id, and all that this and lower
+-- ids ask for is answered.
 abbrev pub Passes : Pass → Result Changes Refusal → Type 0
 Passes p (Ok changes) = IsAt p (length p.table.records) × AreOf p.table changes × (changed p.table changes ≡ rewritten p)
 Passes p (Err refusal) = (id : ℕ) × (id < length p.table.records) × AreRuled p id × (fault p id ≡ Some refusal) × AreAnswersTo (asks_below p (suc id)) p.answers

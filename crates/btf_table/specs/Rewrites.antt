@@ -27,8 +27,8 @@ ids_of ids = option_map (λ (k : KsymsIds). ksyms_ids k.datasec_id k.placeholder
 abbrev pub features_asked : List Answer → List Feature
 features_asked answers = map (λ (answer : Answer). answer.feature) answers
 
--- A rewrite is refused: in the step of `.ksyms`, before anything is asked; or at the least id that has a fault, where this and all
--- lower ids have been asked for.
+-- A rewrite is refused: in the step of `.ksyms`, before anything is asked; or at the least id that has a fault, where
+-- this and all lower ids have been asked for.
 abbrev pub Refuses : FillPolicy → Table → Option model.KsymsIds → Layout → List Answer → Refusal → Type 0
 Refuses policy old ids layout answers refusal =
     ((step_fault old ids ≡ Some refusal) × (answers ≡ []))
@@ -42,8 +42,8 @@ RewritesWith policy old ids layout answers new (Err refusal) = Refuses policy ol
 abbrev pub Rewrites : {X : Type 0} → Table → Option model.KsymsIds → Layout → List Answer → Table → Result X Refusal → Type 0
 Rewrites = RewritesWith KeepSized
 
--- The bytes stand for a table; it is rewritten, and these bytes are the new table's, or its rewrite is refused. Or the bytes stand for
--- no table, and nothing is asked.
+-- The bytes stand for a table; it is rewritten, and these bytes are the new table's, or its rewrite is refused. Or the
+-- bytes stand for no table, and nothing is asked.
 abbrev pub RewritesBytesWith : FillPolicy → Order → List ℕ → Option model.KsymsIds → Layout → List Answer → Result (List ℕ × List FeatureAnswer) Refusal → Type 0
 RewritesBytesWith policy order bytes ids layout answers (Ok (written, listed)) =
     (old : Table) × (new : Table) × IsTable order bytes old × RewrittenWith policy old ids layout answers new × (features_asked answers ≡ Asked (pass_with policy old ids layout answers)) × (written ≡ canon new) × IsTable order written (strip new)
@@ -81,7 +81,8 @@ KeepsValues old new = (id : ℕ) (name : List ℕ) (found : Option ℕ) → Valu
 abbrev pub AppendsAtMost : ℕ → Table → Table → Type 0
 AppendsAtMost n old new = (length old.records ≤ length new.records) × (length new.records ≤ length old.records + n)
 
--- Nothing was asked for; or the bytes stand for a table, and the answers are to the first features that its rewrite asks for.
+-- Nothing was asked for; or the bytes stand for a table, and the answers are to the first features that its rewrite
+-- asks for.
 abbrev pub BeginsAskedOfWith : FillPolicy → Order → List ℕ → Option model.KsymsIds → Layout → List Answer → Type 0
 BeginsAskedOfWith policy order bytes ids layout answers = (answers ≡ []) ⊎ ((old : Table) × IsTable order bytes old × BeginsAsked (pass_with policy old ids layout answers))
 

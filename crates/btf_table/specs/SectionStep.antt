@@ -33,7 +33,8 @@ filled name size id = data_sec name (max size 1) 1 (record { type = id; offset =
 abbrev pub final_size : Pass → ℕ → Record → Option ℕ
 final_size p id r = if r.third == 0 then section_size p id else Some r.third
 
--- a DATASEC that gets the filler where it needs an entry: it has none, and no size, but under a policy that fills others too
+-- a DATASEC that gets the filler where it needs an entry: it has none, and no size, but under a policy that fills
+-- others too
 abbrev pub is_fillable : FillPolicy → Record → Bool
 is_fillable policy r = (fills_sized policy || (r.third == 0)) && has_no_entries r
 

@@ -43,19 +43,20 @@ pub struct KsymsIds {
 }
 
 impl Btf {
-    /// Makes ordinary variables of the kernel's symbols: what the entries of the DATASEC of this id, `.ksyms`, stand for.
+    /// Makes ordinary variables of the kernel's symbols: what the entries of the DATASEC of this id, `.ksyms`, stand
+    /// for.
     ///
-    /// Each FUNC and VAR that an entry names becomes Global. A VAR gets the type of the placeholder, a VAR too; without one
-    /// it gets the first INT of 4 bytes, and a string `int` and such an INT are appended where there is none. With a
-    /// placeholder, each entry of a FUNC names it instead, and each unnamed parameter of the FUNC's prototype gets its name.
-    /// The entries take 4 bytes each, one after the other.
+    /// Each FUNC and VAR that an entry names becomes Global. A VAR gets the type of the placeholder, a VAR too; without
+    /// one it gets the first INT of 4 bytes, and a string `int` and such an INT are appended where there is none. With
+    /// a placeholder, each entry of a FUNC names it instead, and each unnamed parameter of the FUNC's prototype gets
+    /// its name. The entries take 4 bytes each, one after the other.
     ///
     /// The first cause is reported. Of the placeholder: `UnknownBtfType`, and `InvalidDatasec` where it is no VAR; or,
     /// without one, `InvalidStringOffset` and `InvalidTypeInfo` where strings or types have no room for the INT. Of the
-    /// DATASEC: `UnknownBtfType`, `InvalidDatasec` where it is another kind, and `InvalidStringOffset` where its name can't
-    /// be read. Of each entry in turn: `UnknownBtfType`, `InvalidDatasec` where it names neither a FUNC nor a VAR,
-    /// `InvalidStringOffset` where the name of that can't be read, and `UnknownBtfType` of a FUNC's prototype where there is
-    /// a placeholder. An error leaves the table as it was.
+    /// DATASEC: `UnknownBtfType`, `InvalidDatasec` where it is another kind, and `InvalidStringOffset` where its name
+    /// can't be read. Of each entry in turn: `UnknownBtfType`, `InvalidDatasec` where it names neither a FUNC nor a
+    /// VAR, `InvalidStringOffset` where the name of that can't be read, and `UnknownBtfType` of a FUNC's prototype
+    /// where there is a placeholder. An error leaves the table as it was.
     pub fn fixup_ksyms_datasec(
         &mut self,
         datasec_id: u32,
@@ -97,16 +98,17 @@ impl Btf {
 
     /// Rewrites the table for a kernel that has what the resolver's predicate says, and returns what it was asked.
     ///
-    /// `ksyms` makes ordinary variables of the kernel's symbols first, as `fixup_ksyms_datasec` does. Then each type becomes
-    /// what its kind's rule says: `sections` has the sizes of sections by name, beside an index that is not read, and
-    /// `symbols` the offsets of symbols by name. Ids stay, strings are only appended, and at most four types are.
+    /// `ksyms` makes ordinary variables of the kernel's symbols first, as `fixup_ksyms_datasec` does. Then each type
+    /// becomes what its kind's rule says: `sections` has the sizes of sections by name, beside an index that is not
+    /// read, and `symbols` the offsets of symbols by name. Ids stay, strings are only appended, and at most four types
+    /// are.
     ///
     /// The first cause is reported: those of `fixup_ksyms_datasec`, and then of the least id that has one:
-    /// `InvalidStringOffset` where the name of a FUNC or a DATASEC, or of a variable that a DATASEC names, can't be read, or
-    /// strings have no room for a name; `UnknownBtfType` of an entry's id; `InvalidDatasec` where an entry names no VAR;
-    /// `UnknownSectionSize` and `SymbolOffsetNotFound` of a name that the maps don't have, or with more than 32 bits; and
-    /// `InvalidTypeInfo` where types have no room, or a bit offset has more than 32 bits. An error leaves the table as it
-    /// was.
+    /// `InvalidStringOffset` where the name of a FUNC or a DATASEC, or of a variable that a DATASEC names, can't be
+    /// read, or strings have no room for a name; `UnknownBtfType` of an entry's id; `InvalidDatasec` where an entry
+    /// names no VAR; `UnknownSectionSize` and `SymbolOffsetNotFound` of a name that the maps don't have, or with more
+    /// than 32 bits; and `InvalidTypeInfo` where types have no room, or a bit offset has more than 32 bits. An error
+    /// leaves the table as it was.
     pub fn fixup_and_sanitize<F: FnMut(BtfFeature) -> bool>(
         &mut self,
         sections: &HashMap<String, (SectionIndex, u64)>,
@@ -131,7 +133,8 @@ impl Btf {
         ensures sizes { OnOk result (KeepsSizes self.old self.new) }
         // What an id stands for, but for a FUNC, it stands for still.
         ensures resolutions { OnOk result (KeepsResolutions self.old self.new) }
-        // The value that a name stands for in an ENUM or ENUM64 it stands for still, in a UNION that took its place too.
+        // The value that a name stands for in an ENUM or ENUM64 it stands for still, in a UNION that took its place
+        // too.
         ensures values { OnOk result (KeepsValues self.old self.new) }
         // No type is taken away, and at most four are appended.
         ensures appended { OnOk result (AppendsAtMost 4 self.old self.new) }
@@ -139,8 +142,8 @@ impl Btf {
         self.fixup_and_sanitize_with(sections, symbols, ksyms, FillPolicy::KeepSized, resolver)
     }
 
-    /// Rewrites the table as `fixup_and_sanitize` does, with the same errors, and with a policy for DATASECs that have a
-    /// size and no entries.
+    /// Rewrites the table as `fixup_and_sanitize` does, with the same errors, and with a policy for DATASECs that have
+    /// a size and no entries.
     ///
     /// Under `FillPolicy::FillSized` a kernel that takes DATASECs is asked whether it takes such a one; where it takes
     /// none without entries, the DATASEC keeps its size, and its one entry is the variable that DATASECs of size 0
@@ -171,7 +174,8 @@ impl Btf {
         ensures sizes { OnOk result (KeepsSizes self.old self.new) }
         // What an id stands for, but for a FUNC, it stands for still.
         ensures resolutions { OnOk result (KeepsResolutions self.old self.new) }
-        // The value that a name stands for in an ENUM or ENUM64 it stands for still, in a UNION that took its place too.
+        // The value that a name stands for in an ENUM or ENUM64 it stands for still, in a UNION that took its place
+        // too.
         ensures values { OnOk result (KeepsValues self.old self.new) }
         // No type is taken away, and at most four are appended.
         ensures appended { OnOk result (AppendsAtMost 4 self.old self.new) }
@@ -208,12 +212,12 @@ pub fn rewrite_bytes<F: FnMut(BtfFeature) -> bool>(
     ensures called { Called F.step resolver.old.0 resolver.new.1 resolver.new.0 }
     ensures rewrites { Answers (λ r. (r.0.items, r.1.items)) result (RewritesBytes (order_of endianness) «data».now (ids_of ksyms) (layout_of sections.now symbols.now) (answers_of resolver.new.1)) }
     ensures answers { IfOk result (λ r. r.1.items ≡ resolver.new.1) }
-    // In every outcome nothing was asked, or the bytes stand for a table, and the answers are to the first features that
-    // its rewrite asks for.
+    // In every outcome nothing was asked, or the bytes stand for a table, and the answers are to the first features
+    // that its rewrite asks for.
     ensures asked { BeginsAskedOf (order_of endianness) «data».now (ids_of ksyms)
         (layout_of sections.now symbols.now) (answers_of resolver.new.1) }
-    // Of the table that the bytes stand for, and the one that the written bytes stand for: what the kernel needs for the
-    // new one was asked for once, and granted;
+    // Of the table that the bytes stand for, and the one that the written bytes stand for: what the kernel needs for
+    // the new one was asked for once, and granted;
     ensures granted { IfOk result (λ r. OfTables (order_of endianness) «data».now r.0.items
         (λ old new. NeedsAreGranted old (ids_of ksyms) (answers_of resolver.new.1) new)) }
     // sizes that are found without VAR, FUNC, FUNC_PROTO, DATASEC or DECL_TAG stay;
@@ -229,8 +233,8 @@ pub fn rewrite_bytes<F: FnMut(BtfFeature) -> bool>(
     )
 }
 
-/// The bytes of a table that is parsed, rewritten by `fixup_and_sanitize_with`, and written in its own order, with what the
-/// predicate was asked. The errors are those of `Btf::parse` and of `fixup_and_sanitize_with`.
+/// The bytes of a table that is parsed, rewritten by `fixup_and_sanitize_with`, and written in its own order, with what
+/// the predicate was asked. The errors are those of `Btf::parse` and of `fixup_and_sanitize_with`.
 pub fn rewrite_bytes_with<F: FnMut(BtfFeature) -> bool>(
     alloc: Global,
     data: &[u8],
@@ -247,12 +251,12 @@ pub fn rewrite_bytes_with<F: FnMut(BtfFeature) -> bool>(
     ensures called { Called F.step resolver.old.0 resolver.new.1 resolver.new.0 }
     ensures rewrites { Answers (λ r. (r.0.items, r.1.items)) result (RewritesBytesWith (policy_of policy) (order_of endianness) «data».now (ids_of ksyms) (layout_of sections.now symbols.now) (answers_of resolver.new.1)) }
     ensures answers { IfOk result (λ r. r.1.items ≡ resolver.new.1) }
-    // In every outcome nothing was asked, or the bytes stand for a table, and the answers are to the first features that
-    // its rewrite asks for.
+    // In every outcome nothing was asked, or the bytes stand for a table, and the answers are to the first features
+    // that its rewrite asks for.
     ensures asked { BeginsAskedOfWith (policy_of policy) (order_of endianness) «data».now (ids_of ksyms)
         (layout_of sections.now symbols.now) (answers_of resolver.new.1) }
-    // Of the table that the bytes stand for, and the one that the written bytes stand for: what the kernel needs for the
-    // new one was asked for once, and granted;
+    // Of the table that the bytes stand for, and the one that the written bytes stand for: what the kernel needs for
+    // the new one was asked for once, and granted;
     ensures granted { IfOk result (λ r. OfTables (order_of endianness) «data».now r.0.items
         (λ old new. NeedsAreGrantedWith (policy_of policy) old (ids_of ksyms) (answers_of resolver.new.1) new)) }
     // sizes that are found without VAR, FUNC, FUNC_PROTO, DATASEC or DECL_TAG stay;

@@ -28,7 +28,8 @@ layout_is layout said sizes offsets =
     ap (λ (sections : List ℕ → Option ℕ). record { sections = sections; symbols = layout.symbols }) (fun_ext sizes)
     ∙ ap (λ (symbols : List ℕ → Option ℕ). record { sections = λ name. last_said (size_said name) said; symbols = symbols }) (fun_ext offsets)
 
--- What is known of a rewrite that was made for a request: its layout and its policy are those that were said, and its answers are the kernel's.
+-- What is known of a rewrite that was made for a request: its layout and its policy are those that were said, and its
+-- answers are the kernel's.
 pub record IsFor (request : Request) (layout : Layout) (policy : FillPolicy) (answers : List Answer) (said : List Saying) : Type 0 where
   pub is_said : IsSaid request said
   pub same_layout : layout ≡ layout_said said

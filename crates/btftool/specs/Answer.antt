@@ -26,7 +26,8 @@ abbrev pub Compares : Table → ℕ → ℕ → Result (Bool × ℕ) Refusal →
 Compares t id other (Ok found) = (starts : List Pair) × Plain t t [] (pair id other) (Ok found.0) starts × (found.1 ≡ length (firsts starts))
 Compares t id other (Err refusal) = (starts : List Pair) × Plain t t [] (pair id other) (Err refusal) starts
 
--- The table is rewritten as the words of a request say, for a kernel that has the features that they grant, under the policy that they choose; or is refused.
+-- The table is rewritten as the words of a request say, for a kernel that has the features that they grant, under the
+-- policy that they choose; or is refused.
 abbrev pub Rewrites : Request → Table → Result Table Refusal → Type 0
 Rewrites request t (Ok new) = (said : List Saying) × IsSaid request said × RewrittenWith (policy_said said) t (request_ids request) (layout_said said) (kernel_said said) new
 Rewrites request t (Err refusal) = (said : List Saying) × IsSaid request said × IsRefusedWith (policy_said said) t (request_ids request) (layout_said said) (kernel_said said) refusal

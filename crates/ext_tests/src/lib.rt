@@ -1,5 +1,5 @@
-//! Tests of the `.BTF.ext` section, and of sections that a compiler wrote. Their expected values are worked by hand from
-//! the format; what the compiler's sections hold is listed by other tools.
+//! Tests of the `.BTF.ext` section, and of sections that a compiler wrote. Their expected values are worked by hand
+//! from the format; what the compiler's sections hold is listed by other tools.
 #![tactic(auto)]
 
 #[cfg(test)]

@@ -138,8 +138,8 @@ impl FuncInfo {
     /// The records of a part's sections, each put under the name of its section as that is met. Of a name the last
     /// section counts.
     ///
-    /// Of each section in turn: `InvalidInfo` as `SecInfoIter` has it, and `InvalidStringOffset` where its name can't be
-    /// read.
+    /// Of each section in turn: `InvalidInfo` as `SecInfoIter` has it, and `InvalidStringOffset` where its name can't
+    /// be read.
     pub(crate) fn read(
         alloc: Global,
         part: &Part<'_>,

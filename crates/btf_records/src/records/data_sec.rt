@@ -15,7 +15,8 @@ use btf_plain::{BtfError, BtfKind, Endianness, MAX_VLEN};
 use std::alloc::AllocError;
 use std::marker::Model;
 
-/// A data section, the variables of which are its entries (the kernel's documentation, "BTF_KIND_DATASEC"). Contracts see it as the record of its words.
+/// A data section, the variables of which are its entries (the kernel's documentation, "BTF_KIND_DATASEC"). Contracts
+/// see it as the record of its words.
 #[derive(Debug, Drop)]
 pub struct DataSec {
     name_offset: u32,

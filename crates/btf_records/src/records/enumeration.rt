@@ -17,7 +17,8 @@ use btf_plain::{BtfError, BtfKind, Endianness, MAX_VLEN};
 use std::alloc::AllocError;
 use std::marker::Model;
 
-/// An enumeration of 32-bit values (the kernel's documentation, "BTF_KIND_ENUM"). Contracts see it as the record of its words.
+/// An enumeration of 32-bit values (the kernel's documentation, "BTF_KIND_ENUM"). Contracts see it as the record of its
+/// words.
 #[derive(Debug, Drop)]
 pub struct Enum {
     name_offset: u32,

@@ -15,7 +15,8 @@ use btf_plain::{BtfError, BtfKind, Endianness, MAX_VLEN};
 use std::alloc::AllocError;
 use std::marker::Model;
 
-/// A function prototype (the kernel's documentation, "BTF_KIND_FUNC_PROTO"). Contracts see it as the record of its words.
+/// A function prototype (the kernel's documentation, "BTF_KIND_FUNC_PROTO"). Contracts see it as the record of its
+/// words.
 #[derive(Debug, Drop)]
 pub struct FuncProto {
     name_offset: u32,

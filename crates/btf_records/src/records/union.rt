@@ -47,7 +47,8 @@ impl Model for Union {
 }
 
 impl Union {
-    /// A union of `size` bytes with these members, and the ENUM64 that it stands in for, if it does. There are at most `MAX_VLEN` of them.
+    /// A union of `size` bytes with these members, and the ENUM64 that it stands in for, if it does. There are at most
+    /// `MAX_VLEN` of them.
     pub fn new(
         name_offset: u32,
         size: u32,

@@ -61,8 +61,8 @@ fn as_struct(
 /// The DATASEC of this name and size, with each entry at the offset of its symbol, but for those of Static variables.
 ///
 /// Of each entry in turn: `UnknownBtfType` of an id that has no type, and `InvalidDatasec` where it is no VAR;
-/// `InvalidStringOffset` where its name can't be read; `SymbolOffsetNotFound` where no symbol has that name, or its offset has
-/// more than 32 bits.
+/// `InvalidStringOffset` where its name can't be read; `SymbolOffsetNotFound` where no symbol has that name, or its
+/// offset has more than 32 bits.
 fn laid_out(
     btf: &Btf,
     symbols: &HashMap<String, u64>,
@@ -80,8 +80,8 @@ fn laid_out(
 
 /// The size that a DATASEC has in the end: its own, or that of its section, by its name, where it has none.
 ///
-/// Of one of size 0: `InvalidStringOffset` where the name can't be read; `UnknownSectionSize` of the name where the size
-/// isn't known or has more than 32 bits.
+/// Of one of size 0: `InvalidStringOffset` where the name can't be read; `UnknownSectionSize` of the name where the
+/// size isn't known or has more than 32 bits.
 fn known_size(
     btf: &Btf,
     sections: &HashMap<String, (SectionIndex, u64)>,
@@ -99,8 +99,8 @@ fn known_size(
     section_size(btf.allocator(), sections, name.as_str())
 }
 
-/// Whether a DATASEC of this size in the end gets the filler for its entry: it has none, and that size is 0, or the kernel
-/// takes no DATASEC without entries. One that has a size of its own gets it only under a policy that fills such.
+/// Whether a DATASEC of this size in the end gets the filler for its entry: it has none, and that size is 0, or the
+/// kernel takes no DATASEC without entries. One that has a size of its own gets it only under a policy that fills such.
 fn wants_filler<F: FnMut(BtfFeature) -> bool>(
     data_sec: &DataSec,
     size: u32,
@@ -127,8 +127,8 @@ impl Made {
 
     /// The DATASEC of this name and size whose one entry is the filler. It has 12 bytes more than one without entries.
     ///
-    /// `InvalidStringOffset` and `InvalidTypeInfo` where strings or types have no room for the filler; `InvalidTypeInfo`
-    /// where types have none for the entry.
+    /// `InvalidStringOffset` and `InvalidTypeInfo` where strings or types have no room for the filler;
+    /// `InvalidTypeInfo` where types have none for the entry.
     fn filled(
         &mut self,
         btf: &Btf,

@@ -19,8 +19,8 @@ use btf_records::BtfType;
 use btf_rules::{BtfFeature, BtfFeatureResolver, is_builtin, made_static};
 use std::alloc::AllocError;
 
-/// What a FUNC becomes; None where it stays. A kernel that has no functions gets a TYPEDEF of the prototype; one that has
-/// no Global ones, or knows a Global one as its own, a Static one.
+/// What a FUNC becomes; None where it stays. A kernel that has no functions gets a TYPEDEF of the prototype; one that
+/// has no Global ones, or knows a Global one as its own, a Static one.
 ///
 /// `InvalidStringOffset` where its name can't be read, which is where its offset isn't below `readable_end`. The name
 /// itself is not read, however long it is.

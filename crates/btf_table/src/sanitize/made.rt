@@ -76,8 +76,8 @@ impl Made {
         Ok(id)
     }
 
-    /// The variable of DATASECs that have no other, which is appended where there is none yet. `InvalidStringOffset` and
-    /// `InvalidTypeInfo` where strings or types have no room for it.
+    /// The variable of DATASECs that have no other, which is appended where there is none yet. `InvalidStringOffset`
+    /// and `InvalidTypeInfo` where strings or types have no room for it.
     pub fn filler(&mut self, btf: &Btf) -> Result<u32, BtfError>
         requires { HasRoom btf.now self.old.changes }
         ensures there { (id : _) → self.old.filler ≡ Some id → (result ≡ Ok id) × (self.new ≡ self.old) }

@@ -25,8 +25,8 @@ use btf_records::BtfType;
 use btf_rules::{BtfFeature, BtfFeatureResolver, FillPolicy, sole_feature};
 use std::collections::HashMap;
 
-/// Whether the kernel has the one feature that a type asks for; true where it asks for none. The type is neither a FUNC nor
-/// a DATASEC.
+/// Whether the kernel has the one feature that a type asks for; true where it asks for none. The type is neither a FUNC
+/// nor a DATASEC.
 fn has_sole_feature<F: FnMut(BtfFeature) -> bool>(
     btf_type: &BtfType,
     resolver: &mut BtfFeatureResolver<F>,

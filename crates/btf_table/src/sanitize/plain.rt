@@ -32,8 +32,8 @@ impl Made {
     ghost use Rattle.btf_table.specs.PassStep.{pass_on};
     ghost use Rattle.btf_rules.specs.SoleFeature.{asks_one};
 
-    /// The rule of a FUNC_PROTO: its parameters get names, or it becomes an ENUM; None where it stays. `InvalidStringOffset`
-    /// where strings have no room for the names.
+    /// The rule of a FUNC_PROTO: its parameters get names, or it becomes an ENUM; None where it stays.
+    /// `InvalidStringOffset` where strings have no room for the names.
     fn rewrite_proto(
         &mut self,
         btf: &Btf,
@@ -56,8 +56,8 @@ impl Made {
         Ok(Some(BtfType::FuncProto(proto)))
     }
 
-    /// The rule of an ENUM64 for a kernel that has none: it becomes a UNION. `InvalidStringOffset` and `InvalidTypeInfo`
-    /// where strings or types have no room for the type of its members.
+    /// The rule of an ENUM64 for a kernel that has none: it becomes a UNION. `InvalidStringOffset` and
+    /// `InvalidTypeInfo` where strings or types have no room for the type of its members.
     fn rewrite_enum64(&mut self, btf: &Btf, enum64: &Enum64) -> Result<BtfType, BtfError>
         requires { HasRoom btf.now self.old.changes }
         ensures { (given : Given) (answers : List Answer) (id : ℕ) → IsType btf.now id (BtfType.Enum64 enum64.now) → IsHere (pass_on btf.now given answers) id self.old → grants answers features.Enum64 ≡ false
@@ -70,8 +70,8 @@ impl Made {
         Ok(BtfType::Union(as_union(btf.allocator(), enum64, member_type)?))
     }
 
-    /// The rule of a type that is neither a FUNC nor a DATASEC, where the kernel has the feature that it asks for, or where
-    /// it has not; None where it stays.
+    /// The rule of a type that is neither a FUNC nor a DATASEC, where the kernel has the feature that it asks for, or
+    /// where it has not; None where it stays.
     pub fn rewrite_by(
         &mut self,
         btf: &Btf,

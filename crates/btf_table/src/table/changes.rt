@@ -143,8 +143,8 @@ fn put_back_types(types: &mut [BtfType], old: &mut [(u32, BtfType)])
 }
 
 impl Btf {
-    /// Puts changes of this table into it, and returns what takes them out again. `OutOfMemory` is the only error, and leaves
-    /// the table as it was.
+    /// Puts changes of this table into it, and returns what takes them out again. `OutOfMemory` is the only error, and
+    /// leaves the table as it was.
     pub(crate) fn apply(&mut self, mut changes: Changes) -> Result<Undo, BtfError>
         requires { AreOf self.old changes }
         ensures memory { IfErr result (λ e. e ≡ BtfError.OutOfMemory) }

@@ -46,8 +46,8 @@ fn member(btf: &Btf, names: &[u32], entry: &DataSecEntry) -> Result<BtfMember, B
     })
 }
 
-/// The members of the STRUCT that a DATASEC becomes: one for each entry, at the bit of its offset, of the entry's type and
-/// its name. `names` are the string offsets of the names that all lower ids have by now.
+/// The members of the STRUCT that a DATASEC becomes: one for each entry, at the bit of its offset, of the entry's type
+/// and its name. `names` are the string offsets of the names that all lower ids have by now.
 ///
 /// `UnknownBtfType` of an entry's id that has no type; `InvalidTypeInfo` where an offset in bits has more than 32 bits.
 pub fn members(btf: &Btf, names: &[u32], data_sec: &DataSec) -> Result<Vec<BtfMember>, BtfError>
@@ -64,8 +64,8 @@ pub fn members(btf: &Btf, names: &[u32], data_sec: &DataSec) -> Result<Vec<BtfMe
 
 /// The entry of a variable, at the offset of its symbol; as it is, where the variable is Static.
 ///
-/// `UnknownBtfType` of an id that has no type, and `InvalidDatasec` where it is no VAR; `InvalidStringOffset` where its name
-/// can't be read; `SymbolOffsetNotFound` where no symbol has that name, or its offset has more than 32 bits.
+/// `UnknownBtfType` of an id that has no type, and `InvalidDatasec` where it is no VAR; `InvalidStringOffset` where its
+/// name can't be read; `SymbolOffsetNotFound` where no symbol has that name, or its offset has more than 32 bits.
 fn placed_entry(
     btf: &Btf,
     symbols: &HashMap<String, u64>,
@@ -99,8 +99,8 @@ fn placed_entry(
 /// The entries of a DATASEC, each at the offset of its symbol, but for those of Static variables.
 ///
 /// Of each entry in turn: `UnknownBtfType` of an id that has no type, and `InvalidDatasec` where it is no VAR;
-/// `InvalidStringOffset` where its name can't be read; `SymbolOffsetNotFound` where no symbol has that name, or its offset has
-/// more than 32 bits.
+/// `InvalidStringOffset` where its name can't be read; `SymbolOffsetNotFound` where no symbol has that name, or its
+/// offset has more than 32 bits.
 pub fn placed_entries(
     btf: &Btf,
     symbols: &HashMap<String, u64>,

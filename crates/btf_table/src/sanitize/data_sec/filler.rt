@@ -17,8 +17,8 @@ const FILLER_TYPE: &str = "__aya_datasec_filler_type";
 
 const FILLER: &str = "__aya_datasec_filler";
 
-/// Appends the filler, which a DATASEC without entries gets: an INT of one byte and a Static VAR of it, each with a text for
-/// its name. Returns the id of the VAR.
+/// Appends the filler, which a DATASEC without entries gets: an INT of one byte and a Static VAR of it, each with a
+/// text for its name. Returns the id of the VAR.
 ///
 /// `InvalidStringOffset` and `InvalidTypeInfo` where strings or types have no room.
 pub fn append_filler(btf: &Btf, changes: &mut Changes) -> Result<u32, BtfError>

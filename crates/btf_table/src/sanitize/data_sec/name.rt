@@ -16,8 +16,8 @@ use btf_records::DataSec;
 use btf_rules::section_name;
 use std::alloc::{AllocError, Global};
 
-/// The string offset of the name that a DATASEC gets: as a DATASEC, where the kernel takes one, with `.` for each `/`, or
-/// else as a STRUCT, with `_` for each `.`. A text is appended only where the name changes.
+/// The string offset of the name that a DATASEC gets: as a DATASEC, where the kernel takes one, with `.` for each `/`,
+/// or else as a STRUCT, with `_` for each `.`. A text is appended only where the name changes.
 ///
 /// `InvalidStringOffset` where the name can't be read, or the new one has no room.
 pub fn new_name(
