@@ -51,29 +51,29 @@ module _ (local target : Table) where
       let was = are p is at resolves owed to finds index lt at_index there in
       (was.0, was.1, still was.0 was.2)
 
-  module _ (root : Pair) (opened settled : PairSet) (top g : Frame) (below : List runs.Frame) (many : ℕ) (IsTold : List (ℕ × ℕ) → Type 0) (state : IsRunning local target root opened settled (frame_of top) below many IsTold) (ids : Pair) (past : GoesPast local target top g ids) where
+  module _ (root : Pair) (opened settled : PairSet) (top g : runs.Frame) (below : List runs.Frame) (many : ℕ) (IsTold : List (ℕ × ℕ) → Type 0) (state : IsRunning local target root opened settled top below many IsTold) (ids : Pair) (past : GoesPast local target top g ids) where
     -- the parameters had their turn, and so the prototypes are passed
     pub more_passed : (passed more : PairSet) → length past.owed ≤ top.parameter → Changes passed more ids true → ArePassed settled passed → ArePassed settled more
     more_passed passed more le changes are p is at resolves owed to finds index lt at_index there =
         elim (now_in passed more ids changes p is) [
           | inl was ↦ are p was at resolves owed to finds index lt at_index there
           | inr same ↦
-              let found : Finds local target (pair_of top.at) (Owes owed to) = found_alike local target at (pair_of top.at) p (Owes owed to) resolves (subst (λ (x : Pair). ResolvesPair local target (pair_of top.at) (Ok x)) same past.resolves) finds in
-              let few : length owed ≡ length past.owed = ap (λ (x : Position). length (owed_at x)) (one_position local target (pair_of top.at) (Owes owed to) (Owes past.owed past.to) found past.finds) in
+              let found : Finds local target (top.at) (Owes owed to) = found_alike local target at (top.at) p (Owes owed to) resolves (subst (λ (x : Pair). ResolvesPair local target (top.at) (Ok x)) same past.resolves) finds in
+              let few : length owed ≡ length past.owed = ap (λ (x : Position). length (owed_at x)) (one_position local target (top.at) (Owes owed to) (Owes past.owed past.to) found past.finds) in
               state.run.walks.paid owed to found index (omega (arith, lt, few, le)) at_index there
         ]
 
-    pub skips : (passed : PairSet) → IsIn passed ids → top.parameter ≡ 0 → ArePassed settled passed → IsRunning local target root opened settled (frame_of g) below many IsTold
+    pub skips : (passed : PairSet) → IsIn passed ids → top.parameter ≡ 0 → ArePassed settled passed → IsRunning local target root opened settled g below many IsTold
     skips passed is none are =
         subst (λ (x : runs.Frame). IsRunning local target root opened settled x below many IsTold) (sym past.is)
         (record {
           listed = state.listed;
           counts = state.counts;
           added = state.added;
-          run = run_passes local target (IsIn settled) root (length past.owed) (frame_of top) past.left past.owed past.to below state.listed state.run past.was past.finds (are ids is (pair_of top.at) past.resolves past.owed past.to past.finds) (omega (arith, none));
+          run = run_passes local target (IsIn settled) root (length past.owed) top past.left past.owed past.to below state.listed state.run past.was past.finds (are ids is (top.at) past.resolves past.owed past.to past.finds) (omega (arith, none));
           among = state.among;
           has_all = state.has_all;
         })
 
-    pub skips_less : (known w : ℕ) → left_to_do known many w (frame_of g) below < left_to_do known many w (frame_of top) below
-    skips_less known w = subst (λ (x : runs.Frame). left_to_do known many w x below < left_to_do known many w (frame_of top) below) (sym past.is) (less_passed local target known many w past.left (frame_of top) past.to below past.was)
+    pub skips_less : (known w : ℕ) → left_to_do known many w g below < left_to_do known many w top below
+    skips_less known w = subst (λ (x : runs.Frame). left_to_do known many w x below < left_to_do known many w top below) (sym past.is) (less_passed local target known many w past.left top past.to below past.was)

@@ -1,5 +1,5 @@
 -- Positions of the comparison of types.
-use Rattle.std.proofs.Common.{◌≡◌, ℕ, zero, suc, ◌≤◌, arith, nat_lt, slice_get, slice_index_or, None, List, [], ◌∷◌, length, refl, sym, ap, ◌∙◌, inl, inr, Bool, true, false, Some, Ok, Err, Result}
+use Rattle.std.proofs.Common.{◌≡◌, ℕ, zero, suc, ◌≤◌, arith, nat_lt, slice_get, slice_index_or, None, List, [], ◌∷◌, length, refl, sym, ap, subst, ◌∙◌, inl, inr, Bool, true, false, Some, Ok, Err, Result}
 use Rattle.std.specs.List.{flat_map}
 use Rattle.std.specs.Option.{option_map}
 use Rattle.std.proofs.lemmas.Bool.{eq-eqb, ne_eqb, ltb-true, ltb-false}
@@ -57,18 +57,18 @@ told_more (Err e) P Q more h = (h.0, h.1, more (Told (Err h.0)) h.2)
 position_more : (x : Position) (P Q : model.Position → Type 0) → ((y : model.Position) → P y → Q y) → PositionIs x P → PositionIs x Q
 position_more (positions.Told answer) P Q more h = told_more answer P Q more h
 position_more (positions.On next) P Q more h = more _ h
-position_more (positions.Owes params others next) P Q more h = more _ h
+position_more (positions.Owes found) P Q more h = more _ h
 
 pub found_behind : (local target : Table) (at : Pair) (found other : ℕ × Kind × Record) (x : Position) → IsResolved local at.local (Ok found) → IsResolved target at.target (Ok other) → PositionIs x (PositionFound found.0 found.1 other.1 found.2 other.2) → PositionIs x (Finds local target at)
 found_behind local target at found other x h g is =
     position_more x (PositionFound found.0 found.1 other.1 found.2 other.2) (Finds local target at)
     (λ y is. inr (record { local = found.0; target = other.0 }, found.1, other.1, found.2, other.2, (h.0, g.0), h.1, g.1, is)) is
 
--- what holds anyway, holds if there are parameters
-pub if_owed : (x : Position) (P : Type 0) → P → IfOwed x P
-if_owed (positions.Told answer) P h = tt
-if_owed (positions.On next) P h = tt
-if_owed (positions.Owes params others next) P h = h
+-- the ids that a pair resolves to are those of the prototypes that are found
+pub if_owed : (local target : Table) (at ids : Pair) (x : Position) → ResolvesPair local target at (Ok ids) → IfOwed x (λ owing. owing ≡ ids) → IfOwed x (λ owing. ResolvesPair local target at (Ok owing))
+if_owed local target at ids (positions.Told answer) h is = tt
+if_owed local target at ids (positions.On next) h is = tt
+if_owed local target at ids (positions.Owes found) h is = subst (λ (p : Pair). ResolvesPair local target at (Ok p)) (sym is) h
 
 -- ---- parameters by their index
 

@@ -9,12 +9,11 @@ use Rattle.btf_model.specs.Fields.{Pair}
 use Rattle.btf_model.specs.Compat.{Told, On, Owes, Finds, ResolvesPair}
 use Rattle.btf_model.specs.Run as runs
 use Rattle.btf_model.specs.Run.{IsNext}
-use Rattle.btf_words.specs.Error.{Tells}
+use Rattle.btf_words.specs.Error.{Tells, refusal_of}
 use Rattle.btf_words.specs.declared.error.BtfError.{BtfError}
 use Rattle.btf_compare.specs.declared.step.Frame.{Frame}
-use Rattle.btf_compare.specs.declared.step.Step.{Step}
-use Rattle.btf_compare.specs.declared.step.Step.TheVariants as steps
-use Rattle.btf_compare.specs.Compared.{StepIs, ParameterStepIs, GoesPast, frame_of}
+use Rattle.btf_compare.specs.declared.position.ProtoPair.{ProtoPair}
+use Rattle.btf_compare.specs.Compared.{AreAt, IsKept, IsStarted, GoesPast, frame_of, owed_by}
 use Rattle.btf_compare.specs.Pairs.{pair_of}
 
 pub one_more : (gone : ℕ) → gone < walk_limit → walk_limit - gone ≡ suc (walk_limit - (gone + 1))
@@ -28,7 +27,11 @@ module _ (local target : Table) (f : Frame) where
   told (Ok b) lt h = inr (walk_limit - (f.gone + 1), one_more f.gone lt, inl h)
   told (Err e) lt h = (h.0, h.1, inr (walk_limit - (f.gone + 1), one_more f.gone lt, inl h.2))
 
-  pub on : (g : Frame) (to : ℕ × ℕ) → f.gone < walk_limit → g ≡ record f { at = to; gone = f.gone + 1; parameter = 0 } → Finds local target (pair_of f.at) (On (pair_of to)) → IsNext local target (frame_of f) (runs.GoesOn (frame_of g))
+  -- the walk goes on to this position
+  abbrev pub GoesTo : Frame → ℕ × ℕ → Type 0
+  GoesTo g to = g ≡ record f { at = to; gone = f.gone + 1; owed = None; parameter = 0 }
+
+  pub on : (g : Frame) (to : ℕ × ℕ) → f.gone < walk_limit → GoesTo g to → Finds local target (pair_of f.at) (On (pair_of to)) → IsNext local target (frame_of f) (runs.GoesOn (frame_of g))
   on g to lt is found = (walk_limit - (f.gone + 1), pair_of to, one_more f.gone lt, ap frame_of is, inl found)
 
   past : (owed : List Pair) (j : ℕ) → None ≡ slice_get owed j → length owed ≤ j
@@ -38,35 +41,43 @@ module _ (local target : Table) (f : Frame) where
         | inr le ↦ le
       ]
 
-  pub returned : (g : Frame) (to : ℕ × ℕ) (owed : List Pair) → f.gone < walk_limit → g ≡ record f { at = to; gone = f.gone + 1; parameter = 0 } → Finds local target (pair_of f.at) (Owes owed (pair_of to)) → None ≡ slice_get owed f.parameter
-      → IsNext local target (frame_of f) (runs.GoesOn (frame_of g))
-  returned g to owed lt is found none = (walk_limit - (f.gone + 1), pair_of to, one_more f.gone lt, ap frame_of is, inr (owed, found, past owed f.parameter none))
+  -- ---- at two prototypes
 
-  refused : (answer : Result Bool BtfError) (at to : Pair) (owed : List Pair) → f.gone < walk_limit → Finds local target (pair_of f.at) (Owes owed to) → slice_get owed f.parameter ≡ Some at
-      → Tells (λ b. b) answer (λ a. (refusal : Refusal) × ResolvesPair local target at (Err refusal) × (a ≡ Err refusal)) → Tells (λ b. b) answer (λ a. IsNext local target (frame_of f) (runs.Ends a))
-  refused (Ok b) at to owed lt found is h = inr (walk_limit - (f.gone + 1), one_more f.gone lt, inr (owed, to, h.0, (found, (at, is, h.1)), h.2))
-  refused (Err e) at to owed lt found is h = (h.0, h.1, inr (walk_limit - (f.gone + 1), one_more f.gone lt, inr (owed, to, h.2.0, (found, (at, is, h.2.1)), h.2.2)))
+  module _ (found : ProtoPair) (here : AreAt local target f found) where
+    abbrev pub goes_past : (g : Frame) → GoesTo g found.returns → GoesPast local target (frame_of f) (frame_of g) (pair_of found.ids)
+    goes_past g is = record {
+      owed = owed_by found;
+      to = pair_of found.returns;
+      left = walk_limit - (f.gone + 1);
+      finds = here.finds;
+      resolves = here.resolves;
+      was = one_more f.gone here.within;
+      is = ap frame_of is;
+    }
 
-  abbrev pub past_all : (g : Frame) (ids to : ℕ × ℕ) (owed : List Pair) → f.gone < walk_limit → g ≡ record f { at = to; gone = f.gone + 1; parameter = 0 } → Finds local target (pair_of f.at) (Owes owed (pair_of to)) → ResolvesPair local target (pair_of f.at) (Ok (pair_of ids)) → GoesPast local target f g (pair_of ids)
-  past_all g ids to owed lt is found resolves = record {
-    owed = owed;
-    to = pair_of to;
-    left = walk_limit - (f.gone + 1);
-    finds = found;
-    resolves = resolves;
-    was = one_more f.gone lt;
-    is = ap frame_of is;
-  }
+    pub passes : (g : Frame) → GoesTo g found.returns → None ≡ slice_get (owed_by found) f.parameter → (past : GoesPast local target (frame_of f) (frame_of g) (pair_of found.ids)) × (length past.owed ≤ f.parameter)
+    passes g is none = (goes_past g is, past (owed_by found) f.parameter none)
 
-  pub passes : (g : Frame) (ids to : ℕ × ℕ) (owed : List Pair) → f.gone < walk_limit → g ≡ record f { at = to; gone = f.gone + 1; parameter = 0 } → Finds local target (pair_of f.at) (Owes owed (pair_of to)) → ResolvesPair local target (pair_of f.at) (Ok (pair_of ids)) → None ≡ slice_get owed f.parameter
-      → (past : GoesPast local target f g (pair_of ids)) × (length past.owed ≤ f.parameter)
-  passes g ids to owed lt is found resolves none = (past_all g ids to owed lt is found resolves, past owed f.parameter none)
+    pub returned : (g : Frame) → GoesTo g found.returns → None ≡ slice_get (owed_by found) f.parameter → IsNext local target (frame_of f) (runs.GoesOn (frame_of g))
+    returned g is none = (walk_limit - (f.gone + 1), pair_of found.returns, one_more f.gone here.within, ap frame_of is, inr (owed_by found, here.finds, past (owed_by found) f.parameter none))
 
-  pub waits : (passed : Pair → Bool) (step : Step) (at to : Pair) (owed : List Pair) → f.gone < walk_limit → Finds local target (pair_of f.at) (Owes owed to) → slice_get owed f.parameter ≡ Some at → ParameterStepIs local target f at step → StepIs local target passed f step
-  waits passed (steps.Ends answer) at to owed lt found is h = refused answer at to owed lt found is h
-  waits passed (steps.Passes ids g) at to owed lt found is h = elim h [ ]
-  waits passed (steps.Skips g) at to owed lt found is h = elim h [ ]
-  waits passed (steps.GoesOn g) at to owed lt found is h = elim h [ ]
-  waits passed (steps.Waits ids g) at to owed lt found is h =
-      let one : f.parameter + 1 ≡ suc f.parameter = omega arith in
-      (walk_limit - (f.gone + 1), owed, to, one_more f.gone lt, (found, (at, is, h.0)), ap frame_of h.1 ∙ ap (λ (j : ℕ). record { pair = pair_of f.pair; at = pair_of f.at; left = walk_limit - f.gone; parameter = j }) one)
+    pub refused : (e : BtfError) (at : Pair) → slice_get (owed_by found) f.parameter ≡ Some at → (h : (refusal : Refusal) × (refusal_of e ≡ Some refusal) × ResolvesPair local target at (Err refusal))
+        → (refusal : Refusal) × (refusal_of e ≡ Some refusal) × IsNext local target (frame_of f) (runs.Ends (Err refusal))
+    refused e at is h = (h.0, h.1, inr (walk_limit - (f.gone + 1), one_more f.gone here.within, inr (owed_by found, pair_of found.returns, h.0, (here.finds, (at, is, h.2)), refl)))
+
+    -- the open pair after a parameter's turn
+    abbrev pub PaysOne : Frame → Type 0
+    PaysOne g = g ≡ record f { parameter = f.parameter + 1 }
+
+    pub waits : (g : Frame) (at : Pair) (ids : ℕ × ℕ) → PaysOne g → slice_get (owed_by found) f.parameter ≡ Some at → ResolvesPair local target at (Ok (pair_of ids)) → IsNext local target (frame_of f) (runs.Waits (pair_of ids) (frame_of g))
+    waits g at ids is here_at resolves =
+        let one : f.parameter + 1 ≡ suc f.parameter = omega arith in
+        (walk_limit - (f.gone + 1), owed_by found, pair_of found.returns, one_more f.gone here.within, (here.finds, (at, here_at, resolves)), ap frame_of is ∙ ap (λ (j : ℕ). record { pair = pair_of f.pair; at = pair_of f.at; left = walk_limit - f.gone; parameter = j }) one)
+
+    pub still_kept : (g : Frame) → PaysOne g → f.owed ≡ Some found → IsKept local target g
+    still_kept g is owed =
+        rw (is, owed) (record { finds = here.finds; resolves = here.resolves; within = here.within })
+
+-- a pair whose walk begins keeps nothing
+pub begins_kept : (local target : Table) (p : Pair) (f : Frame) → IsStarted local target p (Some f) → IsKept local target f
+begins_kept local target p f h = rw h.2 (ap (λ (x : runs.Frame). x.parameter) h.1)

@@ -1,7 +1,7 @@
 -- What the parts of the comparison of types stand for.
 use Rattle.std.specs.BTreeSet as ordered
 use Rattle.std.specs.BTreeSet.{BTreeSet}
-use Rattle.std.specs.Prelude.{◌≡◌, ◌≢◌, ◌⊎◌, ◌≤◌, ℕ, suc, ◌+◌, ◌-◌, ◌*◌, length, All, Bool, true, false, List, ◌++◌, map, slice_get, Option, Some, None, Result, Ok, Err}
+use Rattle.std.specs.Prelude.{◌≡◌, ◌≢◌, ◌⊎◌, ◌<◌, ◌≤◌, ℕ, suc, ◌+◌, ◌-◌, ◌*◌, length, All, Bool, true, false, List, ◌++◌, map, slice_get, Option, Some, None, Result, Ok, Err, MatchOption}
 use Rattle.std.specs.List.{IsDistinct}
 use Rattle.btf_model.specs.Record.{Record, Kind, compared_kind}
 use Rattle.btf_model.specs.Refusal.{Refusal}
@@ -24,6 +24,7 @@ use Rattle.btf_compare.specs.declared.progress.Progress.TheVariants as progresse
 use Rattle.btf_compare.specs.PairMap.{known, ids_cmp}
 use Rattle.btf_compare.specs.declared.position.Position.{Position}
 use Rattle.btf_compare.specs.declared.position.Position.TheVariants as positions
+use Rattle.btf_compare.specs.declared.position.ProtoPair.{ProtoPair}
 use Rattle.btf_compare.specs.declared.step.Frame.{Frame}
 use Rattle.btf_compare.specs.declared.step.Step.{Step}
 use Rattle.btf_compare.specs.declared.step.Step.TheVariants as steps
@@ -33,15 +34,19 @@ use Rattle.btf_compare.specs.Pairs.{pair_of, ids_of}
 abbrev pub types_of : List BtfParam → List ℕ
 types_of params = map (λ p. p.btf_type) params
 
+-- the pairs of types of the parameters of two prototypes
+abbrev pub owed_by : ProtoPair → List Pair
+owed_by found = pairs (types_of found.params.now) (types_of found.others.now)
+
 -- the position is one of which P holds
 abbrev pub PositionIs : Position → (model.Position → Type 0) → Type 0
 PositionIs (positions.Told answer) P = Tells (λ b. b) answer (λ a. P (Told a))
 PositionIs (positions.On next) P = P (On (pair_of next))
-PositionIs (positions.Owes params others next) P = P (Owes (pairs (types_of params.now) (types_of others.now)) (pair_of next))
+PositionIs (positions.Owes found) P = P (Owes (owed_by found) (pair_of found.returns))
 
--- P holds, if there are parameters at the position
-abbrev pub IfOwed : Position → Type 0 → Type 0
-IfOwed (positions.Owes params others next) P = P
+-- P holds of the ids of the prototypes, if these are found
+abbrev pub IfOwed : Position → (Pair → Type 0) → Type 0
+IfOwed (positions.Owes found) P = P (pair_of found.ids)
 IfOwed x P = Unit {0}
 
 -- whether the set has the pair
@@ -53,30 +58,33 @@ abbrev pub frame_of : Frame → runs.Frame
 frame_of f = record { pair = pair_of f.pair; at = pair_of f.at; left = walk_limit - f.gone; parameter = f.parameter }
 
 -- The prototypes at an open pair's position have these ids and these parameters, and its walk goes on to g after them.
-pub record GoesPast (local target : Table) (f g : Frame) (ids : Pair) : Type 0 where
+pub record GoesPast (local target : Table) (f g : runs.Frame) (ids : Pair) : Type 0 where
   pub owed : List Pair
   pub to : Pair
   pub left : ℕ
-  pub finds : Finds local target (pair_of f.at) (Owes owed to)
-  pub resolves : ResolvesPair local target (pair_of f.at) (Ok ids)
-  pub was : (frame_of f).left ≡ suc left
-  pub is : frame_of g ≡ record { pair = pair_of f.pair; at = to; left = left; parameter = 0 }
+  pub finds : Finds local target f.at (Owes owed to)
+  pub resolves : ResolvesPair local target f.at (Ok ids)
+  pub was : f.left ≡ suc left
+  pub is : g ≡ record { pair = f.pair; at = to; left = left; parameter = 0 }
 
--- the step is what comes next for an open pair, where the parameters of the passed prototypes came out true
-abbrev pub StepIs : Table → Table → (Pair → Bool) → Frame → Step → Type 0
-StepIs local target passed f (steps.Ends answer) = Tells (λ b. b) answer (λ a. IsNext local target (frame_of f) (runs.Ends a))
-StepIs local target passed f (steps.GoesOn g) = IsNext local target (frame_of f) (runs.GoesOn (frame_of g))
-StepIs local target passed f (steps.Waits ids g) = IsNext local target (frame_of f) (runs.Waits (pair_of ids) (frame_of g))
-StepIs local target passed f (steps.Passes ids g) = (past : GoesPast local target f g (pair_of ids)) × (length past.owed ≤ f.parameter)
-StepIs local target passed f (steps.Skips g) = (ids : Pair) × GoesPast local target f g ids × (passed ids ≡ true) × (f.parameter ≡ 0)
+-- Two prototypes are what is found at an open pair's position, which is one of its walk.
+pub record AreAt (local target : Table) (f : Frame) (found : ProtoPair) : Type 0 where
+  pub finds : Finds local target (pair_of f.at) (Owes (owed_by found) (pair_of found.returns))
+  pub resolves : ResolvesPair local target (pair_of f.at) (Ok (pair_of found.ids))
+  pub within : f.gone < walk_limit
 
--- the step is what comes next where the parameters at their turn are this pair: it is resolved, and waited for
-abbrev pub ParameterStepIs : Table → Table → Frame → Pair → Step → Type 0
-ParameterStepIs local target f at (steps.Ends answer) = Tells (λ b. b) answer (λ a. (refusal : Refusal) × ResolvesPair local target at (Err refusal) × (a ≡ Err refusal))
-ParameterStepIs local target f at (steps.GoesOn g) = ⊥
-ParameterStepIs local target f at (steps.Passes ids g) = ⊥
-ParameterStepIs local target f at (steps.Skips g) = ⊥
-ParameterStepIs local target f at (steps.Waits ids g) = ResolvesPair local target at (Ok (pair_of ids)) × (g ≡ record f { parameter = f.parameter + 1 })
+-- What an open pair keeps of its position is what is found there; and before that no parameter has had its turn.
+abbrev pub IsKept : Table → Table → Frame → Type 0
+IsKept local target f = MatchOption f.owed (f.parameter ≡ 0) (AreAt local target f)
+
+-- The step is what comes next for the open pair f, where the parameters of the passed prototypes came out true, and
+-- makes it g.
+abbrev pub StepIs : Table → Table → (Pair → Bool) → runs.Frame → runs.Frame → Step → Type 0
+StepIs local target passed f g (steps.Ends answer) = Tells (λ b. b) answer (λ a. IsNext local target f (runs.Ends a))
+StepIs local target passed f g steps.GoesOn = IsNext local target f (runs.GoesOn g)
+StepIs local target passed f g (steps.Waits ids) = IsNext local target f (runs.Waits (pair_of ids) g)
+StepIs local target passed f g (steps.Passes ids) = (past : GoesPast local target f g (pair_of ids)) × (length past.owed ≤ f.parameter)
+StepIs local target passed f g steps.Skips = (ids : Pair) × GoesPast local target f g ids × (passed ids ≡ true) × (f.parameter ≡ 0)
 
 -- whether a run has a pair open, or knows it to be compatible
 abbrev pub tells_open : Option Progress → Bool
@@ -95,7 +103,7 @@ settled_in seen p = tells_settled (known seen (ids_of p))
 
 -- A pair that is started is known: its walk begins, or the kinds differ.
 abbrev pub IsStarted : Table → Table → Pair → Option Frame → Type 0
-IsStarted local target p (Some f) = Begins local target p × (frame_of f ≡ new_frame p)
+IsStarted local target p (Some f) = Begins local target p × (frame_of f ≡ new_frame p) × (f.owed ≡ None)
 IsStarted local target p None = (k q : Kind) × AreKnown local target p k q × (compared_kind k ≢ compared_kind q)
 
 -- Why a pair is not started: an id is not known, the local one first, or memory is refused.

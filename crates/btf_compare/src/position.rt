@@ -1,16 +1,20 @@
 //! What the comparison of types finds at a pair of types.
 
-ghost use Rattle.std.specs.Prelude.{◌≡◌, Ok};
+ghost use Rattle.std.specs.Prelude.{◌≡◌, ◌<◌, ◌^◌, Ok, slice_get, IsSome};
+ghost use Rattle.std.specs.Option.{option_map};
 ghost use Rattle.btf_model.specs.Record as model;
 ghost use Rattle.btf_model.specs.Compat.{Finds, PositionFound, ResolvesPair, position_by};
 ghost use Rattle.btf_records.specs.BtfType.{record_of, type_kind};
-ghost use Rattle.btf_compare.specs.Compared.{PositionIs, IfOwed};
+ghost use Rattle.btf_compare.specs.Compared.{PositionIs, IfOwed, owed_by};
 ghost use Rattle.btf_compare.specs.Pairs.{pair_of};
 
 use crate::resolved::resolved;
 use btf_plain::{Array, BtfError, Int, Ptr};
 use btf_records::{BtfParam, BtfType, FuncProto};
 use btf_table::Btf;
+
+/// Prototypes with more parameters are remembered once these came out true.
+const FEW_PARAMETERS: usize = 8;
 
 /// What is found at a pair of types.
 #[derive(Drop)]
@@ -19,34 +23,48 @@ pub enum Position<'a> {
     Told(Result<bool, BtfError>),
     /// The pair to go on to.
     On((u32, u32)),
-    /// The parameters of two prototypes, as many of the one as of the other, and the pair to go on to after them.
-    Owes(&'a [BtfParam], &'a [BtfParam], (u32, u32)),
+    /// Two prototypes, whose parameters come before what they return.
+    Owes(ProtoPair<'a>),
 }
 
-/// What is found at a pair of ids, and the ids of the types that are compared there. Both are resolved, the local one
-/// first; where one cannot be, the ids are those of the call.
-pub fn found_at<'a>(local: &'a Btf, target: &'a Btf, at: (u32, u32)) -> ((u32, u32), Position<'a>)
-    ensures position { PositionIs result.1 (Finds local.now target.now (pair_of at)) }
-    ensures ids { IfOwed result.1 (ResolvesPair local.now target.now (pair_of at) (Ok (pair_of result.0))) }
+/// Two prototypes with as many parameters.
+#[derive(Clone, Copy, Drop)]
+pub struct ProtoPair<'a> {
+    /// Their ids, the local one first.
+    pub ids: (u32, u32),
+    /// The parameters of the local one.
+    pub params: &'a [BtfParam],
+    /// The parameters of the target's.
+    pub others: &'a [BtfParam],
+    /// The types that they return.
+    pub returns: (u32, u32),
+}
+
+/// What is found at a pair of ids. Both are resolved, the local one first.
+pub fn found_at<'a>(local: &'a Btf, target: &'a Btf, at: (u32, u32)) -> Position<'a>
+    ensures position { PositionIs result (Finds local.now target.now (pair_of at)) }
+    ensures ids { IfOwed result (λ ids. ResolvesPair local.now target.now (pair_of at) (Ok ids)) }
 {
     let (local_id, local_type) = match resolved(local, at.0) {
         Ok(found) => found,
-        Err(e) => return (at, Position::Told(Err(e))),
+        Err(e) => return Position::Told(Err(e)),
     };
     match resolved(target, at.1) {
         Ok((target_id, target_type)) => {
-            (
-                (local_id, target_id),
-                compared(local_id, local_type, target_type),
-            )
+            types_at((local_id, target_id), local_type, target_type)
         }
-        Err(e) => (at, Position::Told(Err(e))),
+        Err(e) => Position::Told(Err(e)),
     }
 }
 
-/// What is found at two types that are no modifiers.
-fn compared<'a>(local_id: u32, local_type: &'a BtfType, target_type: &'a BtfType) -> Position<'a>
-    ensures { PositionIs result (PositionFound local_id (type_kind local_type.now) (type_kind target_type.now) (record_of local_type.now) (record_of target_type.now)) }
+/// What is found at two types that are no modifiers, and have these ids.
+fn types_at<'a>(
+    ids: (u32, u32),
+    local_type: &'a BtfType,
+    target_type: &'a BtfType,
+) -> Position<'a>
+    ensures position { PositionIs result (PositionFound ids.0 (type_kind local_type.now) (type_kind target_type.now) (record_of local_type.now) (record_of target_type.now)) }
+    ensures ids { IfOwed result (λ owing. owing ≡ pair_of ids) }
 {
     if !local_type.is_compatible(target_type) {
         return Position::Told(Ok(false));
@@ -55,7 +73,7 @@ fn compared<'a>(local_id: u32, local_type: &'a BtfType, target_type: &'a BtfType
         BtfType::Int(l) => ints(l, target_type),
         BtfType::Ptr(l) => pointers(l, target_type),
         BtfType::Array(l) => arrays(l, target_type),
-        BtfType::FuncProto(l) => prototypes(l, target_type),
+        BtfType::FuncProto(l) => prototypes(ids, l, target_type),
         BtfType::Unknown
         | BtfType::Struct(_)
         | BtfType::Union(_)
@@ -72,7 +90,7 @@ fn compared<'a>(local_id: u32, local_type: &'a BtfType, target_type: &'a BtfType
         | BtfType::DataSec(_)
         | BtfType::DeclTag(_)
         | BtfType::TypeTag(_) => {
-            Position::Told(Err(BtfError::UnexpectedBtfType { type_id: local_id }))
+            Position::Told(Err(BtfError::UnexpectedBtfType { type_id: ids.0 }))
         }
     }
 }
@@ -109,10 +127,15 @@ fn arrays<'a>(local: &Array, target_type: &BtfType) -> Position<'a>
     }
 }
 
-/// What is found at a prototype and another type: the parameters of both, if they are as many, and then what both
-/// return.
-fn prototypes<'a>(local: &'a FuncProto, target_type: &'a BtfType) -> Position<'a>
-    ensures { type_kind target_type.now ≡ model.FuncProto → PositionIs result (λ found. found ≡ position_by 0 model.FuncProto local.now (record_of target_type.now)) }
+/// What is found at a prototype and another type, which have these ids: the parameters of both, if they are as many,
+/// and then what both return.
+fn prototypes<'a>(
+    ids: (u32, u32),
+    local: &'a FuncProto,
+    target_type: &'a BtfType,
+) -> Position<'a>
+    ensures position { type_kind target_type.now ≡ model.FuncProto → PositionIs result (λ found. found ≡ position_by 0 model.FuncProto local.now (record_of target_type.now)) }
+    ensures ids { IfOwed result (λ owing. owing ≡ pair_of ids) }
 {
     let BtfType::FuncProto(target) = target_type else {
         return Position::Told(Ok(false));
@@ -122,5 +145,28 @@ fn prototypes<'a>(local: &'a FuncProto, target_type: &'a BtfType) -> Position<'a
     if params.len() != others.len() {
         return Position::Told(Ok(false));
     }
-    Position::Owes(params, others, (local.return_type(), target.return_type()))
+    Position::Owes(ProtoPair {
+        ids,
+        params,
+        others,
+        returns: (local.return_type(), target.return_type()),
+    })
+}
+
+impl ProtoPair<'_> {
+    /// Whether it is worth remembering that all parameters came out true: where they are few, to look each of them up
+    /// again costs no more than that.
+    pub fn are_long(&self) -> bool {
+        self.params.len() > FEW_PARAMETERS
+    }
+
+    /// The types of the parameters at an index, if both prototypes have one there.
+    pub fn parameters_at(&self, index: usize) -> Option<(u32, u32)>
+        ensures pair { option_map pair_of result ≡ slice_get (owed_by self.now) index }
+        ensures index { IsSome result → index < 2 ^ 63 }
+    {
+        let param = self.params.get(index)?;
+        let other = self.others.get(index)?;
+        Some((param.btf_type, other.btf_type))
+    }
 }

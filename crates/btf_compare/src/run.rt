@@ -20,18 +20,18 @@ use std::collections::BTreeSet;
 
 /// What a run remembers.
 #[derive(Drop)]
-struct Run {
+struct Run<'a> {
     /// The open pairs that wait for the one above them, the root first.
-    below: Vec<Frame>,
+    below: Vec<Frame<'a>>,
     /// The pairs that were started, each with its progress.
     seen: PairMap<Progress>,
     /// The long prototypes all of whose parameters came out true, which a walk that meets them again goes past.
     passed: BTreeSet<(u32, u32)>,
 }
 
-impl Run {
+impl<'a> Run<'a> {
     /// A run in which no pair is open or settled.
-    fn new(alloc: Global) -> Run
+    fn new(alloc: Global) -> Self
         ensures below { result.below.items ≡ [] }
         ensures seen { (ids : ℕ × ℕ) → known result.seen ids ≡ None }
         ensures counts { count result.seen ≡ 0 }
@@ -52,7 +52,7 @@ impl Run {
         target: &Btf,
         pair: (u32, u32),
         starts: &mut S,
-    ) -> Result<Option<Frame>, BtfError>
+    ) -> Result<Option<Frame<'a>>, BtfError>
         requires { known self.old.seen pair ≡ None }
         ensures started { IfOk result (IsStarted local.now target.now (pair_of pair)) }
         ensures opened { OnOk result (Learns self.old.seen self.new.seen pair Progress.Open) }
@@ -75,7 +75,7 @@ impl Run {
     }
 
     /// Settles an open pair that came out true, and returns the one below it, which goes on.
-    fn settle(&mut self, pair: (u32, u32)) -> Option<Frame>
+    fn settle(&mut self, pair: (u32, u32)) -> Option<Frame<'a>>
         requires { IsSome (known self.old.seen pair) }
         ensures next { MatchOption result (self.old.below.items ≡ []) (λ frame. self.old.below.items ≡ self.new.below.items ++ frame ∷ []) }
         ensures settled { Learns self.old.seen self.new.seen pair Progress.Compatible }
@@ -105,11 +105,10 @@ pub fn compare<S: Starts>(
     };
     'steps: loop {
         match top.step(local, target, &run.passed) {
-            Step::GoesOn(next) => top = next,
-            Step::Skips(next) => top = next,
-            Step::Passes(ids, next) => {
+            Step::GoesOn => {}
+            Step::Skips => {}
+            Step::Passes(ids) => {
                 run.passed.insert(ids)?;
-                top = next;
             }
             Step::Ends(answer) => {
                 if !answer? {
@@ -120,13 +119,13 @@ pub fn compare<S: Starts>(
                 };
                 top = next;
             }
-            Step::Waits(pair, next) => match run.seen.get(pair) {
+            Step::Waits(pair) => match run.seen.get(pair) {
                 Some(Progress::Open) => {
                     return Err(BtfError::MaximumTypeDepthReached { type_id: pair.0 });
                 }
-                Some(Progress::Compatible) => top = next,
+                Some(Progress::Compatible) => {}
                 None => {
-                    run.below.push(next)?;
+                    run.below.push(top)?;
                     let Some(new) = run.start(local, target, pair, starts)? else {
                         return Ok(false);
                     };

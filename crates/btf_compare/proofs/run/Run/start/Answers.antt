@@ -8,4 +8,4 @@ returns-then-is_compatible-clause-started g c =
     let b : BtfType = c.in_ok-target_type.target_type.now in
     let local = c.in_ok-local_type.ensures in
     let target = c.in_ok-target_type.ensures in
-    ((type_kind a, type_kind b, (record_of a, record_of b, (local.0, local.2), (target.0, target.2)), c.is_compatible.ensures.0 c.if-is_compatible.true), c.new.ensures.frame)
+    ((type_kind a, type_kind b, (record_of a, record_of b, (local.0, local.2), (target.0, target.2)), c.is_compatible.ensures.0 c.if-is_compatible.true), c.new.ensures.frame, c.new.ensures.owed)

@@ -3,11 +3,11 @@ use Rattle.btf_model.specs.Refusal.{UnexpectedBtfType}
 use Rattle.btf_model.specs.Compat.{Position, Told, position_by}
 use Rattle.btf_records.specs.BtfType.{record_of, type_kind}
 use Rattle.btf_records.specs.declared.btf_type.BtfType.{BtfType}
-use Rattle.btf_compare.proofs.position.compared.Goals as goal
+use Rattle.btf_compare.proofs.position.types_at.Goals as goal
 
-pub returns-in-Typedef : goal.returns-in-Typedef
-returns-in-Typedef c =
-    let id = c.args.local_id in
+pub returns-in-Typedef-clause-position : goal.returns-in-Typedef-clause-position
+returns-in-Typedef-clause-position c =
+    let id = c.args.ids.0 in
     let r = record_of c.args.local_type.now in
     let s = record_of c.args.target_type.now in
     let found : BtfType → Position = λ t. position_by id (type_kind t) r s in
