@@ -191,33 +191,35 @@ impl<'a> Bench<'a> {
         Ok(if found { took } else { 0 })
     }
 
-    /// A walk from an id, or the length of its name.
-    fn step(&self, name: &str, id: u32) -> Result<u64, BtfError> {
-        match name {
-            "resolve" => Ok(u64::from(self.btf.resolve_type(id)?)),
-            "size" => Ok(self.btf.type_size(id)? as u64),
-            _ => {
-                let record = self.btf.type_by_id(id)?;
-                Ok(self.btf.type_name(record)?.as_str().len() as u64)
-            }
-        }
+    /// The nanoseconds that a walk from each id takes. Only the walk is chosen by the work's name, and not each step.
+    fn walk(&self, rt: &HostRuntime, name: &str) -> Result<u64, Fail> {
+        let start = Instant::now(rt)?;
+        let all = match name {
+            "resolve" => self.sum(|btf, id| Ok(u64::from(btf.resolve_type(id)?))),
+            "size" => self.sum(|btf, id| Ok(btf.type_size(id)? as u64)),
+            _ => self.sum(name_len),
+        };
+        let took = since(rt, start)?;
+        // What was found is used, so that the loop is not left out.
+        Ok(if all == u64::MAX { 0 } else { took })
     }
 
-    /// What the steps from all ids come to together.
-    fn steps(&self, name: &str) -> u64 {
+    /// What is found at all ids, added up.
+    fn sum<F: Fn(&Btf, u32) -> Result<u64, BtfError>>(&self, found: F) -> u64
+        requires { F.IsAlwaysCallable found }
+    {
         let mut all = 0u64;
         let mut id = 0u32;
         for _ in self.btf.types() {
-            all = all.wrapping_add(self.step(name, id).unwrap_or(1));
+            all = all.wrapping_add(found(self.btf, id).unwrap_or(1));
             id = id.wrapping_add(1);
         }
         all
     }
+}
 
-    fn walk(&self, rt: &HostRuntime, name: &str) -> Result<u64, Fail> {
-        let start = Instant::now(rt)?;
-        let all = self.steps(name);
-        let took = since(rt, start)?;
-        Ok(if all == u64::MAX { 0 } else { took })
-    }
+/// The length of the name of a type.
+fn name_len(btf: &Btf, id: u32) -> Result<u64, BtfError> {
+    let record = btf.type_by_id(id)?;
+    Ok(btf.type_name(record)?.as_str().len() as u64)
 }

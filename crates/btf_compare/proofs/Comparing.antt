@@ -1,15 +1,16 @@
 -- The loop of the comparison of types, as a run of the definitions.
-use Rattle.std.proofs.Common.{◌≡◌, ℕ, ◌+◌, ◌<◌, List, [], ◌∷◌, ◌++◌, length, map, reverse, refl, sym, ap, subst, ◌∙◌, inl, inr, Bool, true, false, Some, None, Ok, Err, Result, Contains, arith}
+use Rattle.std.proofs.Common.{◌≡◌, ℕ, ◌+◌, ◌<◌, List, [], ◌∷◌, ◌++◌, length, map, reverse, refl, sym, ap, subst, ◌∙◌, inl, inr, Bool, true, false, Some, Ok, Err, Result, Contains, arith}
 use Rattle.std.specs.Prelude.{◌⊎◌, cond, IsErrAnd}
 use Rattle.std.specs.Result.{result_ok}
 use Rattle.std.proofs.lemmas.Bool.{false≢true}
 use Rattle.std.proofs.lemmas.List.{reverse-append, map-append, length-append}
 use Rattle.std.proofs.lemmas.Option.{none-some, same_Some}
 use Rattle.std.proofs.lemmas.Result.{err_from_is_err_and}
+use Rattle.btf_model.specs.Record.{Kind, compared_kind}
 use Rattle.btf_model.specs.Refusal.{Refusal, UnknownBtfType, MaximumTypeDepthReached}
 use Rattle.btf_model.specs.Table.{Table}
 use Rattle.btf_model.specs.Fields.{Pair, HaveKinds}
-use Rattle.btf_model.specs.Compat.{Plain, pair_eq, firsts}
+use Rattle.btf_model.specs.Compat.{Plain, AreKnown, pair_eq, firsts}
 use Rattle.btf_model.proofs.Firsts.{eq_itself, eq_same, eq_other}
 use Rattle.btf_model.proofs.Known.{Among, among_from_contains, contains_from_among, known_pairs}
 use Rattle.btf_model.proofs.PlainAnswers.{plain_answers}
@@ -109,6 +110,12 @@ still_in old new p changes q h = changes q ∙ in_cond (pair_eq p q) (old q) h
 pub itself_in : (old new : PairSet) (p : Pair) → Changes old new p true → IsIn new p
 itself_in old new p changes = changes p ∙ ap (λ (b : Bool). cond b true (old p)) (eq_itself p)
 
+-- ---- a pair that is started
+
+pub started : (local target : Table) (p : Pair) (k q : Kind) → AreKnown local target p k q → (b : Bool) → ((b ≡ true) → compared_kind k ≡ compared_kind q) → ((compared_kind k ≡ compared_kind q) → b ≡ true) → IsStarted local target p b
+started local target p k q known true same is = (k, q, known, same refl)
+started local target p k q known false same is = (k, q, known, λ alike. false≢true (is alike))
+
 -- ---- before the loop
 
 module _ (local target : Table) (root : ℕ × ℕ) where
@@ -128,19 +135,19 @@ module _ (local target : Table) (root : ℕ × ℕ) where
   root_refused ls ts e result IsTold (inr (inr h)) is added =
       answered local target none (pair_of root) (Err (UnknownBtfType root.1)) [] result IsTold ([], Plain.no_target [] (pair_of root) h.0 none_open h.1 h.2, refl) (tells_refusal result e (UnknownBtfType root.1) is (ap refusal_of h.3)) added
 
-  pub root_differs : (IsTold : List (ℕ × ℕ) → Type 0) → IsStarted local target (pair_of root) None → IsTold (root ∷ []) → Compares local target (pair_of root) (Ok false) IsTold
+  pub root_differs : (IsTold : List (ℕ × ℕ) → Type 0) → IsStarted local target (pair_of root) false → IsTold (root ∷ []) → Compares local target (pair_of root) (Ok false) IsTold
   root_differs IsTold h added = answered local target none (pair_of root) (Ok false) (pair_of root ∷ []) (Ok false) IsTold (pair_of root ∷ [], Plain.kinds_differ [] (pair_of root) h.0 h.1 none_open h.2 h.3, refl) refl added
 
-  pub root_started : (top : Frame) (begun opened settled : PairSet) (items : List Frame) (many : ℕ) (IsTold : List (ℕ × ℕ) → Type 0) → IsStarted local target (pair_of root) (Some top) → items ≡ [] → ((q : Pair) → begun q ≡ false) → ((q : Pair) → settled q ≡ false) → Changes begun opened (pair_of root) true → many ≡ 1 → IsTold (root ∷ [])
+  pub root_started : (top : Frame) (begun opened settled : PairSet) (items : List Frame) (many : ℕ) (IsTold : List (ℕ × ℕ) → Type 0) → IsStarted local target (pair_of root) true → frame_of top ≡ new_frame (pair_of root) → items ≡ [] → ((q : Pair) → begun q ≡ false) → ((q : Pair) → settled q ≡ false) → Changes begun opened (pair_of root) true → many ≡ 1 → IsTold (root ∷ [])
       → IsRunning local target (pair_of root) opened settled (frame_of top) (stack_of items) many IsTold
-  root_started top begun opened settled items many IsTold h below empty none_settled changes is_one added =
-      subst (λ (x : runs.Frame). IsRunning local target (pair_of root) opened settled x (stack_of items) many IsTold) (sym h.1)
+  root_started top begun opened settled items many IsTold h new below empty none_settled changes is_one added =
+      subst (λ (x : runs.Frame). IsRunning local target (pair_of root) opened settled x (stack_of items) many IsTold) (sym new)
       (subst (λ (xs : List Frame). IsRunning local target (pair_of root) opened settled (new_frame (pair_of root)) (stack_of xs) many IsTold) (sym below)
       (record {
         listed = pair_of root ∷ [];
         counts = is_one;
         added = added;
-        run = run_begun local target (IsIn settled) (pair_of root) h.0 (λ q is. false≢true (sym (none_settled q) ∙ is));
+        run = run_begun local target (IsIn settled) (pair_of root) h (λ q is. false≢true (sym (none_settled q) ∙ is));
         among = λ q is. elim (now_in begun opened (pair_of root) changes q is) [ inl was ↦ absurd (false≢true (sym (empty q) ∙ was)) | inr same ↦ inl same ];
         has_all = λ q. elim [ inl same ↦ subst (IsIn opened) same (itself_in begun opened (pair_of root) changes) | inr m ↦ absurd m ];
       }))
@@ -224,19 +231,19 @@ module _ (local target : Table) (root : Pair) (opened settled : PairSet) (top : 
       adds_one : (IsToldNow : List (ℕ × ℕ) → Type 0) → TellsOneMore IsTold IsToldNow (ids_of p) → IsToldNow (map ids_of (state.listed ++ p ∷ []))
       adds_one IsToldNow tells = subst IsToldNow (sym (map-append ids_of state.listed (p ∷ []))) (tells (map ids_of state.listed) state.added)
 
-      pub differs : (IsToldNow : List (ℕ × ℕ) → Type 0) → IsStarted local target p None → TellsOneMore IsTold IsToldNow (ids_of p) → Compares local target root (Ok false) IsToldNow
+      pub differs : (IsToldNow : List (ℕ × ℕ) → Type 0) → IsStarted local target p false → TellsOneMore IsTold IsToldNow (ids_of p) → Compares local target root (Ok false) IsToldNow
       differs IsToldNow h tells =
           answered local target (IsIn settled) root (Ok false) (state.listed ++ p ∷ []) (Ok false) IsToldNow
           (run_differs local target (IsIn settled) root top g p below state.listed state.run next new_pair unsettled (Ok false) (Plain.kinds_differ (top.pair ∷ open_pairs below) p h.0 h.1 not_above h.2 h.3) false_is_not_true) refl (adds_one IsToldNow tells)
 
-      pub starts : (f : Frame) (more_open : PairSet) (now : ℕ) (IsToldNow : List (ℕ × ℕ) → Type 0) → IsStarted local target p (Some f) → Changes opened more_open p true → now ≡ many + 1 → TellsOneMore IsTold IsToldNow (ids_of p) → IsRunning local target root more_open settled (frame_of f) (g ∷ below) now IsToldNow
-      starts f more_open now IsToldNow h changes one tells =
-          subst (λ (x : runs.Frame). IsRunning local target root more_open settled x (g ∷ below) now IsToldNow) (sym h.1)
+      pub starts : (f : Frame) (more_open : PairSet) (now : ℕ) (IsToldNow : List (ℕ × ℕ) → Type 0) → IsStarted local target p true → frame_of f ≡ new_frame p → Changes opened more_open p true → now ≡ many + 1 → TellsOneMore IsTold IsToldNow (ids_of p) → IsRunning local target root more_open settled (frame_of f) (g ∷ below) now IsToldNow
+      starts f more_open now IsToldNow h new changes one tells =
+          subst (λ (x : runs.Frame). IsRunning local target root more_open settled x (g ∷ below) now IsToldNow) (sym new)
           (record {
             listed = state.listed ++ p ∷ [];
             added = adds_one IsToldNow tells;
             counts = omega (arith, one, state.counts, length-append state.listed (p ∷ []));
-            run = run_starts local target (IsIn settled) root top g p below state.listed state.run next new_pair unsettled h.0;
+            run = run_starts local target (IsIn settled) root top g p below state.listed state.run next new_pair unsettled h;
             among = λ q m. elim (now_in opened more_open p changes q m) [
               | inl was ↦ inr (subst (λ (o : Pair). Among (o ∷ open_pairs below) q) same_pair (state.among q was))
               | inr same ↦ inl same

@@ -6,14 +6,14 @@ use Rattle.btf_model.specs.Refusal.{Refusal, MaximumTypeDepthReached}
 use Rattle.btf_model.specs.Table.{Table}
 use Rattle.btf_model.specs.Walk.{walk_limit}
 use Rattle.btf_model.specs.Fields.{Pair}
-use Rattle.btf_model.specs.Compat.{Told, On, Owes, Finds, ResolvesPair}
+use Rattle.btf_model.specs.Compat.{Told, On, Finds, ResolvesPair}
 use Rattle.btf_model.specs.Run as runs
-use Rattle.btf_model.specs.Run.{IsNext}
+use Rattle.btf_model.specs.Run.{IsNext, new_frame}
 use Rattle.btf_words.specs.Error.{Tells, refusal_of}
 use Rattle.btf_words.specs.declared.error.BtfError.{BtfError}
 use Rattle.btf_compare.specs.declared.step.Frame.{Frame}
 use Rattle.btf_compare.specs.declared.position.ProtoPair.{ProtoPair}
-use Rattle.btf_compare.specs.Compared.{AreAt, IsKept, IsStarted, GoesPast, frame_of, owed_by}
+use Rattle.btf_compare.specs.Compared.{AreAt, IsKept, GoesPast, frame_of, owed_by}
 use Rattle.btf_compare.specs.Pairs.{pair_of}
 
 pub one_more : (gone : ℕ) → gone < walk_limit → walk_limit - gone ≡ suc (walk_limit - (gone + 1))
@@ -79,5 +79,5 @@ module _ (local target : Table) (f : Frame) where
         rw (is, owed) (record { finds = here.finds; resolves = here.resolves; within = here.within })
 
 -- a pair whose walk begins keeps nothing
-pub begins_kept : (local target : Table) (p : Pair) (f : Frame) → IsStarted local target p (Some f) → IsKept local target f
-begins_kept local target p f h = rw h.2 (ap (λ (x : runs.Frame). x.parameter) h.1)
+pub begins_kept : (local target : Table) (p : Pair) (f : Frame) → frame_of f ≡ new_frame p → f.owed ≡ None → IsKept local target f
+begins_kept local target p f new none = rw none (ap (λ (x : runs.Frame). x.parameter) new)

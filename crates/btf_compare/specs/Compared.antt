@@ -1,7 +1,7 @@
 -- What the parts of the comparison of types stand for.
 use Rattle.std.specs.BTreeSet as ordered
 use Rattle.std.specs.BTreeSet.{BTreeSet}
-use Rattle.std.specs.Prelude.{◌≡◌, ◌≢◌, ◌⊎◌, ◌<◌, ◌≤◌, ℕ, suc, ◌+◌, ◌-◌, ◌*◌, length, All, Bool, true, false, List, ◌++◌, map, slice_get, Option, Some, None, Result, Ok, Err, MatchOption}
+use Rattle.std.specs.Prelude.{◌≡◌, ◌≢◌, ◌⊎◌, ◌<◌, ◌≤◌, ℕ, suc, ◌-◌, ◌*◌, length, All, Bool, true, false, List, ◌++◌, map, slice_get, Option, Some, None, Result, Ok, Err, MatchOption}
 use Rattle.std.specs.List.{IsDistinct}
 use Rattle.btf_model.specs.Record.{Record, Kind, compared_kind}
 use Rattle.btf_model.specs.Refusal.{Refusal}
@@ -102,9 +102,9 @@ abbrev pub settled_in : PairMap Progress → Pair → Bool
 settled_in seen p = tells_settled (known seen (ids_of p))
 
 -- A pair that is started is known: its walk begins, or the kinds differ.
-abbrev pub IsStarted : Table → Table → Pair → Option Frame → Type 0
-IsStarted local target p (Some f) = Begins local target p × (frame_of f ≡ new_frame p) × (f.owed ≡ None)
-IsStarted local target p None = (k q : Kind) × AreKnown local target p k q × (compared_kind k ≢ compared_kind q)
+abbrev pub IsStarted : Table → Table → Pair → Bool → Type 0
+IsStarted local target p true = Begins local target p
+IsStarted local target p false = (k q : Kind) × AreKnown local target p k q × (compared_kind k ≢ compared_kind q)
 
 -- Why a pair is not started: an id is not known, the local one first, or memory is refused.
 abbrev pub IsRefused : Table → Table → Pair → BtfError → Type 0

@@ -50,19 +50,13 @@ pub fn found_at<'a>(local: &'a Btf, target: &'a Btf, at: (u32, u32)) -> Position
         Err(e) => return Position::Told(Err(e)),
     };
     match resolved(target, at.1) {
-        Ok((target_id, target_type)) => {
-            types_at((local_id, target_id), local_type, target_type)
-        }
+        Ok((target_id, target_type)) => { types_at((local_id, target_id), local_type, target_type) }
         Err(e) => Position::Told(Err(e)),
     }
 }
 
 /// What is found at two types that are no modifiers, and have these ids.
-fn types_at<'a>(
-    ids: (u32, u32),
-    local_type: &'a BtfType,
-    target_type: &'a BtfType,
-) -> Position<'a>
+fn types_at<'a>(ids: (u32, u32), local_type: &'a BtfType, target_type: &'a BtfType) -> Position<'a>
     ensures position { PositionIs result (PositionFound ids.0 (type_kind local_type.now) (type_kind target_type.now) (record_of local_type.now) (record_of target_type.now)) }
     ensures ids { IfOwed result (λ owing. owing ≡ pair_of ids) }
 {
@@ -129,11 +123,7 @@ fn arrays<'a>(local: &Array, target_type: &BtfType) -> Position<'a>
 
 /// What is found at a prototype and another type, which have these ids: the parameters of both, if they are as many,
 /// and then what both return.
-fn prototypes<'a>(
-    ids: (u32, u32),
-    local: &'a FuncProto,
-    target_type: &'a BtfType,
-) -> Position<'a>
+fn prototypes<'a>(ids: (u32, u32), local: &'a FuncProto, target_type: &'a BtfType) -> Position<'a>
     ensures position { type_kind target_type.now ≡ model.FuncProto → PositionIs result (λ found. found ≡ position_by 0 model.FuncProto local.now (record_of target_type.now)) }
     ensures ids { IfOwed result (λ owing. owing ≡ pair_of ids) }
 {

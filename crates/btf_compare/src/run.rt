@@ -44,15 +44,15 @@ impl<'a> Run<'a> {
         }
     }
 
-    /// Starts a pair that this run has not listed: looks up both ids, opens the pair and lists it; None where the kinds
-    /// of the two types differ. An error leaves the list as it was.
+    /// Starts a pair that this run has not listed: looks up both ids, opens the pair and lists it. Whether its walk
+    /// begins, which it does where the two types are of compatible kinds. An error leaves the list as it was.
     fn start<S: Starts>(
         &mut self,
         local: &Btf,
         target: &Btf,
         pair: (u32, u32),
         starts: &mut S,
-    ) -> Result<Option<Frame<'a>>, BtfError>
+    ) -> Result<bool, BtfError>
         requires { known self.old.seen pair ≡ None }
         ensures started { IfOk result (IsStarted local.now target.now (pair_of pair)) }
         ensures opened { OnOk result (Learns self.old.seen self.new.seen pair Progress.Open) }
@@ -67,11 +67,7 @@ impl<'a> Run<'a> {
         let target_type = target.type_by_id(pair.1)?;
         self.seen.insert(pair, Progress::Open)?;
         starts.add(pair)?;
-        if local_type.is_compatible(target_type) {
-            Ok(Some(Frame::new(pair)))
-        } else {
-            Ok(None)
-        }
+        Ok(local_type.is_compatible(target_type))
     }
 
     /// Settles an open pair that came out true, and returns the one below it, which goes on.
@@ -100,9 +96,10 @@ pub fn compare<S: Starts>(
     let mut run = Run::new(allocator_of(local));
     // The contract speaks of an answer, which there is where each record has a kind, as a use of the tables shows.
     let _ = allocator_of(target);
-    let Some(mut top) = run.start(local, target, root, starts)? else {
+    if !run.start(local, target, root, starts)? {
         return Ok(false);
-    };
+    }
+    let mut top = Frame::new(root);
     'steps: loop {
         match top.step(local, target, &run.passed) {
             Step::GoesOn => {}
@@ -126,10 +123,10 @@ pub fn compare<S: Starts>(
                 Some(Progress::Compatible) => {}
                 None => {
                     run.below.push(top)?;
-                    let Some(new) = run.start(local, target, pair, starts)? else {
+                    if !run.start(local, target, pair, starts)? {
                         return Ok(false);
-                    };
-                    top = new;
+                    }
+                    top = Frame::new(pair);
                 }
             },
         }

@@ -58,12 +58,7 @@ impl<'a> Frame<'a> {
 
     /// Takes the next step, where all parameters of the `passed` prototypes came out true. At a position the two ids
     /// are looked up, after their modifiers, and a parameter's when its turn comes.
-    pub fn step(
-        &mut self,
-        local: &'a Btf,
-        target: &'a Btf,
-        passed: &BTreeSet<(u32, u32)>,
-    ) -> Step
+    pub fn step(&mut self, local: &'a Btf, target: &'a Btf, passed: &BTreeSet<(u32, u32)>) -> Step
         requires { IsKept local.now target.now self.old }
         ensures step { StepIs local.now target.now (passed_in passed.now) (frame_of self.old) (frame_of self.new) result }
         ensures kept { IsKept local.now target.now self.new }
