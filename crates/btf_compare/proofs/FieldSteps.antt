@@ -8,8 +8,8 @@ use Rattle.btf_model.specs.Walk.{Finding, Ends, Resolves}
 use Rattle.btf_model.specs.Fields.{Pair, IsAt, FieldsFound, FieldsFind}
 use Rattle.btf_words.specs.Error.{Answers, refusal_of}
 use Rattle.btf_words.specs.declared.error.BtfError.{BtfError}
-use Rattle.btf_compare.specs.declared.fields.Step.{Step}
-use Rattle.btf_compare.specs.declared.fields.Step.TheVariants as steps
+use Rattle.btf_compare.specs.declared.fields.FieldStep.{FieldStep}
+use Rattle.btf_compare.specs.declared.fields.FieldStep.TheVariants as steps
 use Rattle.btf_compare.specs.FieldStep.{StepIs}
 use Rattle.btf_compare.specs.Pairs.{pair}
 
@@ -21,12 +21,12 @@ answers_weaker : (r : Result Bool BtfError) (P Q : Result Bool Refusal → Type 
 answers_weaker (Ok b) P Q more h = more (Ok b) h
 answers_weaker (Err e) P Q more h = refused_weaker (refusal_of e) (λ f. P (Err f)) (λ f. Q (Err f)) (λ f p. more (Err f) p) h
 
-step_weaker : (step : Step) (P Q : Finding Pair Bool → Type 0) → ((f : Finding Pair Bool) → P f → Q f) → StepIs step P → StepIs step Q
+step_weaker : (step : FieldStep) (P Q : Finding Pair Bool → Type 0) → ((f : Finding Pair Bool) → P f → Q f) → StepIs step P → StepIs step Q
 step_weaker (steps.Ends answer) P Q more h = answers_weaker answer (λ a. P (Ends a)) (λ a. Q (Ends a)) (λ a p. more (Ends a) p) h
 step_weaker (steps.GoesOn l t) P Q more h = more _ h
 
 -- what is found at two resolved ids is found at the ids
-pub found_behind : (local target : Table) (l t id other : ℕ) (k q : Kind) (r s : Record) (step : Step) → Resolves local.records l (Ok id) → IsAt local id k r → Resolves target.records t (Ok other) → IsAt target other q s
+pub found_behind : (local target : Table) (l t id other : ℕ) (k q : Kind) (r s : Record) (step : FieldStep) → Resolves local.records l (Ok id) → IsAt local id k r → Resolves target.records t (Ok other) → IsAt target other q s
     → StepIs step (FieldsFound local target id k q r s) → StepIs step (FieldsFind local target (pair l t))
 found_behind local target l t id other k q r s step p at-id v at-other h =
     step_weaker step (FieldsFound local target id k q r s) (FieldsFind local target (pair l t)) (λ f found. inr (inr (id, other, k, q, r, s, p, v, at-id, at-other, found))) h

@@ -19,7 +19,7 @@ const FLAVOR_MARK: &[u8] = b"___";
 
 /// What the comparison finds at a pair of types.
 #[derive(Drop)]
-enum Step {
+enum FieldStep {
     /// The answer.
     Ends(Result<bool, BtfError>),
     /// The types to compare next, the local one first.
@@ -44,9 +44,9 @@ pub fn fields_are_compatible(
     let mut local_id = local_id;
     let mut target_id = target_id;
     for _ in 0..WALK_LIMIT {
-        match found_at(local, local_id, target, target_id) {
-            Step::Ends(answer) => return answer,
-            Step::GoesOn(local_next, target_next) => {
+        match step_at(local, local_id, target, target_id) {
+            FieldStep::Ends(answer) => return answer,
+            FieldStep::GoesOn(local_next, target_next) => {
                 local_id = local_next;
                 target_id = target_next;
             }
@@ -56,34 +56,34 @@ pub fn fields_are_compatible(
 }
 
 /// What the comparison finds at two ids.
-fn found_at(local: &Btf, local_id: u32, target: &Btf, target_id: u32) -> Step
+fn step_at(local: &Btf, local_id: u32, target: &Btf, target_id: u32) -> FieldStep
     ensures { StepIs result (FieldsFind local.now target.now (pair local_id target_id)) }
 {
     let (local_at, local_type) = match resolved(local, local_id) {
         Ok(found) => found,
-        Err(e) => return Step::Ends(Err(e)),
+        Err(e) => return FieldStep::Ends(Err(e)),
     };
     match resolved(target, target_id) {
-        Ok((_, target_type)) => compared(local, local_at, local_type, target, target_type),
-        Err(e) => Step::Ends(Err(e)),
+        Ok((_, target_type)) => step_of(local, local_at, local_type, target, target_type),
+        Err(e) => FieldStep::Ends(Err(e)),
     }
 }
 
 /// What the comparison finds at two types that are no modifiers.
-fn compared(
+fn step_of(
     local: &Btf,
     local_id: u32,
     local_type: &BtfType,
     target: &Btf,
     target_type: &BtfType,
-) -> Step
+) -> FieldStep
     ensures { StepIs result (FieldsFound local.now target.now local_id (type_kind local_type.now) (type_kind target_type.now) (record_of local_type.now) (record_of target_type.now)) }
 {
     if local_type.is_composite() && target_type.is_composite() {
-        return Step::Ends(Ok(true));
+        return FieldStep::Ends(Ok(true));
     }
     if !local_type.is_compatible(target_type) {
-        return Step::Ends(Ok(false));
+        return FieldStep::Ends(Ok(false));
     }
     by_kind(local, local_id, local_type, target, target_type)
 }
@@ -95,19 +95,21 @@ fn by_kind(
     local_type: &BtfType,
     target: &Btf,
     target_type: &BtfType,
-) -> Step
+) -> FieldStep
     ensures { StepIs result (λ found. found ≡ field_by local.now target.now local_id (type_kind local_type.now) (type_kind target_type.now) (record_of local_type.now) (record_of target_type.now)) }
 {
     match (local_type, target_type) {
-        (BtfType::Int(l), BtfType::Int(t)) => Step::Ends(Ok(l.offset() == 0 && t.offset() == 0)),
+        (BtfType::Int(l), BtfType::Int(t)) => FieldStep::Ends(Ok(
+            l.offset() == 0 && t.offset() == 0,
+        )),
         (BtfType::Array(l), BtfType::Array(t)) => {
-            Step::GoesOn(l.array().element_type, t.array().element_type)
+            FieldStep::GoesOn(l.array().element_type, t.array().element_type)
         }
-        (BtfType::Ptr(_) | BtfType::Float(_), _) => Step::Ends(Ok(true)),
+        (BtfType::Ptr(_) | BtfType::Float(_), _) => FieldStep::Ends(Ok(true)),
         (BtfType::Fwd(_) | BtfType::Enum(_) | BtfType::Enum64(_), _) => {
-            Step::Ends(named_alike(local, local_type, target, target_type))
+            FieldStep::Ends(named_alike(local, local_type, target, target_type))
         }
-        _ => Step::Ends(Err(BtfError::UnexpectedBtfType { type_id: local_id })),
+        _ => FieldStep::Ends(Err(BtfError::UnexpectedBtfType { type_id: local_id })),
     }
 }
 
