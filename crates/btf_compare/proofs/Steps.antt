@@ -8,12 +8,12 @@ use Rattle.btf_model.specs.Walk.{walk_limit}
 use Rattle.btf_model.specs.Fields.{Pair}
 use Rattle.btf_model.specs.Compat.{Told, On, Finds, ResolvesPair}
 use Rattle.btf_model.specs.Run as runs
-use Rattle.btf_model.specs.Run.{IsNext, new_frame}
+use Rattle.btf_model.specs.Run.{IsNext}
 use Rattle.btf_words.specs.Error.{Tells, refusal_of}
 use Rattle.btf_words.specs.declared.error.BtfError.{BtfError}
 use Rattle.btf_compare.specs.declared.step.Frame.{Frame}
 use Rattle.btf_compare.specs.declared.position.ProtoPair.{ProtoPair}
-use Rattle.btf_compare.specs.Compared.{AreAt, IsKept, GoesPast, frame_of, owed_by}
+use Rattle.btf_compare.specs.Compared.{AreAt, GoesPast, frame_of, owed_by}
 use Rattle.btf_compare.specs.Pairs.{pair_of}
 
 pub one_more : (gone : ℕ) → gone < walk_limit → walk_limit - gone ≡ suc (walk_limit - (gone + 1))
@@ -29,7 +29,7 @@ module _ (local target : Table) (f : Frame) where
 
   -- the walk goes on to this position
   abbrev pub GoesTo : Frame → ℕ × ℕ → Type 0
-  GoesTo g to = g ≡ record f { at = to; gone = f.gone + 1; owed = None; parameter = 0 }
+  GoesTo g to = g ≡ record f { at = to; gone = f.gone + 1; parameter = 0 }
 
   pub on : (g : Frame) (to : ℕ × ℕ) → f.gone < walk_limit → GoesTo g to → Finds local target (pair_of f.at) (On (pair_of to)) → IsNext local target (frame_of f) (runs.GoesOn (frame_of g))
   on g to lt is found = (walk_limit - (f.gone + 1), pair_of to, one_more f.gone lt, ap frame_of is, inl found)
@@ -73,11 +73,3 @@ module _ (local target : Table) (f : Frame) where
     waits g at ids is here_at resolves =
         let one : f.parameter + 1 ≡ suc f.parameter = omega arith in
         (walk_limit - (f.gone + 1), owed_by found, pair_of found.returns, one_more f.gone here.within, (here.finds, (at, here_at, resolves)), ap frame_of is ∙ ap (λ (j : ℕ). record { pair = pair_of f.pair; at = pair_of f.at; left = walk_limit - f.gone; parameter = j }) one)
-
-    pub still_kept : (g : Frame) → PaysOne g → f.owed ≡ Some found → IsKept local target g
-    still_kept g is owed =
-        rw (is, owed) (record { finds = here.finds; resolves = here.resolves; within = here.within })
-
--- a pair whose walk begins keeps nothing
-pub begins_kept : (local target : Table) (p : Pair) (f : Frame) → frame_of f ≡ new_frame p → f.owed ≡ None → IsKept local target f
-begins_kept local target p f new none = rw none (ap (λ (x : runs.Frame). x.parameter) new)

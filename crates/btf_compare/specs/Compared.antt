@@ -1,7 +1,7 @@
 -- What the parts of the comparison of types stand for.
 use Rattle.std.specs.BTreeSet as ordered
 use Rattle.std.specs.BTreeSet.{BTreeSet}
-use Rattle.std.specs.Prelude.{◌≡◌, ◌≢◌, ◌⊎◌, ◌<◌, ◌≤◌, ℕ, suc, ◌-◌, ◌*◌, length, All, Bool, true, false, List, ◌++◌, map, slice_get, Option, Some, None, Result, Ok, Err, MatchOption}
+use Rattle.std.specs.Prelude.{◌≡◌, ◌≢◌, ◌⊎◌, ◌<◌, ◌≤◌, ℕ, suc, ◌-◌, ◌*◌, length, All, Bool, true, false, List, ◌++◌, map, slice_get, Option, Some, None, Result, Ok, Err}
 use Rattle.std.specs.List.{IsDistinct}
 use Rattle.btf_model.specs.Record.{Record, Kind, compared_kind}
 use Rattle.btf_model.specs.Refusal.{Refusal}
@@ -72,10 +72,6 @@ pub record AreAt (local target : Table) (f : Frame) (found : ProtoPair) : Type 0
   pub finds : Finds local target (pair_of f.at) (Owes (owed_by found) (pair_of found.returns))
   pub resolves : ResolvesPair local target (pair_of f.at) (Ok (pair_of found.ids))
   pub within : f.gone < walk_limit
-
--- What an open pair keeps of its position is what is found there; and before that no parameter has had its turn.
-abbrev pub IsKept : Table → Table → Frame → Type 0
-IsKept local target f = MatchOption f.owed (f.parameter ≡ 0) (AreAt local target f)
 
 -- The step is what comes next for the open pair f, where the parameters of the passed prototypes came out true, and
 -- makes it g.

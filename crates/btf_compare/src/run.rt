@@ -20,16 +20,16 @@ use std::collections::BTreeSet;
 
 /// What a run remembers.
 #[derive(Drop)]
-struct Run<'a> {
+struct Run {
     /// The open pairs that wait for the one above them, the root first.
-    below: Vec<Frame<'a>>,
+    below: Vec<Frame>,
     /// The pairs that were started, each with its progress.
     seen: PairMap<Progress>,
     /// The long prototypes all of whose parameters came out true, which a walk that meets them again goes past.
     passed: BTreeSet<(u32, u32)>,
 }
 
-impl<'a> Run<'a> {
+impl Run {
     /// A run in which no pair is open or settled.
     fn new(alloc: Global) -> Self
         ensures below { result.below.items ≡ [] }
@@ -71,7 +71,7 @@ impl<'a> Run<'a> {
     }
 
     /// Settles an open pair that came out true, and returns the one below it, which goes on.
-    fn settle(&mut self, pair: (u32, u32)) -> Option<Frame<'a>>
+    fn settle(&mut self, pair: (u32, u32)) -> Option<Frame>
         requires { IsSome (known self.old.seen pair) }
         ensures next { MatchOption result (self.old.below.items ≡ []) (λ frame. self.old.below.items ≡ self.new.below.items ++ frame ∷ []) }
         ensures settled { Learns self.old.seen self.new.seen pair Progress.Compatible }

@@ -1,11 +1,11 @@
 //! An open pair of the comparison of types, and the steps of its walk.
 
-ghost use Rattle.std.specs.Prelude.{◌≡◌, ◌+◌, ◌<◌, Bool, None, Some};
+ghost use Rattle.std.specs.Prelude.{◌≡◌, ◌+◌, ◌<◌, Bool};
 ghost use Rattle.btf_model.specs.Fields.{Pair};
 ghost use Rattle.btf_model.specs.Compat.{ResolvesPair};
 ghost use Rattle.btf_model.specs.Run.{new_frame};
 ghost use Rattle.btf_words.specs.Error.{Tells};
-ghost use Rattle.btf_compare.specs.Compared.{StepIs, AreAt, IsKept, frame_of, passed_in};
+ghost use Rattle.btf_compare.specs.Compared.{StepIs, AreAt, frame_of, passed_in};
 ghost use Rattle.btf_compare.specs.Pairs.{pair_of};
 
 use crate::position::{Position, ProtoPair, found_at};
@@ -15,13 +15,11 @@ use std::collections::BTreeSet;
 
 /// A pair of ids that is open: where its walk is, how many positions it has passed, and which parameter comes next.
 #[derive(Clone, Copy, Drop)]
-pub struct Frame<'a> {
+pub struct Frame {
     /// The pair, the local id first.
     pub pair: (u32, u32),
     at: (u32, u32),
     gone: usize,
-    /// The prototypes at the position, once they were found: each is looked up once, however many parameters it has.
-    owed: Option<ProtoPair<'a>>,
     parameter: usize,
 }
 
@@ -40,33 +38,26 @@ pub enum Step {
     Skips,
 }
 
-impl<'a> Frame<'a> {
+impl Frame {
     /// The pair before its first step.
     pub fn new(pair: (u32, u32)) -> Self
         ensures frame { frame_of result ≡ new_frame (pair_of pair) }
         ensures pair { result.pair ≡ pair }
-        ensures owed { result.owed ≡ None }
     {
         Frame {
             pair,
             at: pair,
             gone: 0,
-            owed: None,
             parameter: 0,
         }
     }
 
     /// Takes the next step, where all parameters of the `passed` prototypes came out true. At a position the two ids
     /// are looked up, after their modifiers, and a parameter's when its turn comes.
-    pub fn step(&mut self, local: &'a Btf, target: &'a Btf, passed: &BTreeSet<(u32, u32)>) -> Step
-        requires { IsKept local.now target.now self.old }
+    pub fn step(&mut self, local: &Btf, target: &Btf, passed: &BTreeSet<(u32, u32)>) -> Step
         ensures step { StepIs local.now target.now (passed_in passed.now) (frame_of self.old) (frame_of self.new) result }
-        ensures kept { IsKept local.now target.now self.new }
         ensures pair { self.new.pair ≡ self.old.pair }
     {
-        if let Some(found) = self.owed {
-            return self.pay(local, target, found);
-        }
         if self.gone >= WALK_LIMIT {
             return Step::Ends(Err(BtfError::MaximumTypeDepthReached { type_id: self.at.0 }));
         }
@@ -77,22 +68,19 @@ impl<'a> Frame<'a> {
                 Step::GoesOn
             }
             Position::Owes(found) => {
-                if found.are_long() && passed.contains(&found.ids) {
+                if self.parameter == 0 && found.are_long() && passed.contains(&found.ids) {
                     self.go_on(found.returns);
                     return Step::Skips;
                 }
-                self.owed = Some(found);
-                self.pay(local, target, found)
+                self.pay(local, target, &found)
             }
         }
     }
 
     /// Looks the parameters at their turn up, or goes on to what the prototypes return after the last.
-    fn pay(&mut self, local: &Btf, target: &Btf, found: ProtoPair<'a>) -> Step
-        requires owed { self.old.owed ≡ Some found }
-        requires at { AreAt local.now target.now self.old found }
+    fn pay(&mut self, local: &Btf, target: &Btf, found: &ProtoPair<'_>) -> Step
+        requires { AreAt local.now target.now self.old found.now }
         ensures step { (passed : Pair → Bool) → StepIs local.now target.now passed (frame_of self.old) (frame_of self.new) result }
-        ensures kept { IsKept local.now target.now self.new }
         ensures pair { self.new.pair ≡ self.old.pair }
     {
         let Some(at) = found.parameters_at(self.parameter) else {
@@ -115,11 +103,10 @@ impl<'a> Frame<'a> {
     /// Goes on to a position.
     fn go_on(&mut self, at: (u32, u32))
         requires { self.old.gone < WALK_LIMIT }
-        ensures { self.new ≡ record self.old { at = at; gone = self.old.gone + 1; owed = None; parameter = 0 } }
+        ensures { self.new ≡ record self.old { at = at; gone = self.old.gone + 1; parameter = 0 } }
     {
         self.at = at;
         self.gone += 1;
-        self.owed = None;
         self.parameter = 0;
     }
 }

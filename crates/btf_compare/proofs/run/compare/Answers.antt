@@ -1,4 +1,4 @@
-use Rattle.std.proofs.Common.{◌≡◌, inl, inr, refl, ℕ, ◌+◌, [], ◌∷◌, ◌++◌, Some, Bool, true, Result, Ok, ◌∙◌, sym, ap, subst, length}
+use Rattle.std.proofs.Common.{◌≡◌, inl, inr, refl, ℕ, ◌+◌, [], ◌∷◌, Some, Bool, true, Result, Ok, ◌∙◌, sym, ap, subst, length}
 use Rattle.btf_model.proofs.Known.{known_pairs}
 use Rattle.std.specs.BTreeSet.{BTreeSet}
 use Rattle.btf_model.specs.Fields.{Pair}
@@ -11,10 +11,8 @@ use Rattle.btf_words.specs.Error.{Tells}
 use Rattle.btf_compare.specs.declared.progress.Progress.{Progress}
 use Rattle.btf_compare.specs.declared.progress.Progress.TheVariants.{Open, Compatible}
 use Rattle.btf_compare.specs.PairMap.{known, count}
-use Rattle.btf_compare.specs.Compared.{IsKept, frame_of, tells_open, tells_settled, opened_in, settled_in, passed_in, IsStarted}
+use Rattle.btf_compare.specs.Compared.{frame_of, tells_open, tells_settled, opened_in, settled_in, passed_in, IsStarted}
 use Rattle.btf_compare.specs.Pairs.{pair_of, ids_of}
-use Rattle.std.proofs.lemmas.List.Elements.{All-nil, All-same, All-push, All-pop}
-use Rattle.btf_compare.proofs.Steps.{begins_kept}
 use Rattle.btf_compare.proofs.Progresses.{learned, learned_nothing, known_if_open}
 use Rattle.btf_compare.proofs.Comparing.{IsRunning, handed, stack_of, stack_push, root_refused, root_differs, root_started, no_memory, ends_refused, ends_false, ends_true, goes_on, pays, is_open, is_refused, differs, starts, settles, told_on, still_in, less_by_start}
 use Rattle.btf_compare.proofs.Passed.{ArePassed, none_passed, nothing_in, still_passed, inserted, more_passed, skips, skips_less}
@@ -42,8 +40,6 @@ steps-init g c =
           (ap (λ v. v.items) c.start.ensures.below ∙ c.new-run.ensures.below) (λ q. ap tells_open (empty (ids_of q))) (λ q. ap (λ (f : Pair → Bool). f q) settles ∙ ap tells_settled (empty (ids_of q))) opens (c.in_ok-start.ensures.counts ∙ ap (λ (n : ℕ). n + 1) c.new-run.ensures.counts)
           (c.in_ok-start.ensures.listed c.args.starts.now [] c.requires),
       none_passed c.args.local.now c.args.target.now (settled_in c.start.new.self.seen) (passed_in c.start.new.self.passed) (λ p. ap (λ (set : BTreeSet (ℕ × ℕ)). passed_in set p) c.start.ensures.passed ∙ nothing_in c.new-run.result.passed c.new-run.ensures.passed p),
-      begins_kept c.args.local.now c.args.target.now (pair_of c.args.root) c.new-top.result c.new-top.ensures.frame c.new-top.ensures.owed,
-      All-same (IsKept c.args.local.now c.args.target.now) c.start.new.self.below.items [] (ap (λ v. v.items) c.start.ensures.below ∙ c.new-run.ensures.below) (All-nil (IsKept c.args.local.now c.args.target.now)),
     )
 
 pub steps-smaller-in-GoesOn : goal.steps-smaller-in-GoesOn
@@ -57,8 +53,6 @@ steps-preserved-in-GoesOn g c = (
   goes_on c.args.local.now c.args.target.now (pair_of c.args.root) (opened_in c.steps.run.seen) (settled_in c.steps.run.seen) (frame_of c.steps.top) (stack_of c.steps.run.below.items) (count c.steps.run.seen) (g.S.Starts.has_added c.args.starts.now c.steps.starts) c.steps.invariant.0
       (frame_of c.step.new.self) c.in-GoesOn.ensures.step,
   c.steps.invariant.1,
-  c.step.ensures.kept,
-  c.steps.invariant.3,
 )
 
 pub steps-smaller-in-Skips : goal.steps-smaller-in-Skips
@@ -73,8 +67,6 @@ steps-preserved-in-Skips g c =
       skips c.args.local.now c.args.target.now (pair_of c.args.root) (opened_in c.steps.run.seen) (settled_in c.steps.run.seen) (frame_of c.steps.top) (frame_of c.step.new.self) (stack_of c.steps.run.below.items) (count c.steps.run.seen) (g.S.Starts.has_added c.args.starts.now c.steps.starts) c.steps.invariant.0
           past.0 past.1 (passed_in c.steps.run.passed) past.2 past.3 c.steps.invariant.1,
       c.steps.invariant.1,
-      c.step.ensures.kept,
-      c.steps.invariant.3,
     )
 
 pub returns-in_err-insert-in-Passes : goal.returns-in_err-insert-in-Passes
@@ -90,8 +82,6 @@ steps-preserved-in_ok-insert-in-Passes g c =
       more_passed c.args.local.now c.args.target.now (pair_of c.args.root) (opened_in c.steps.run.seen) (settled_in c.steps.run.seen) (frame_of c.steps.top) (frame_of c.step.new.self) (stack_of c.steps.run.below.items) (count c.steps.run.seen) (g.S.Starts.has_added c.args.starts.now c.steps.starts) c.steps.invariant.0
           (pair_of c.in-Passes.ids) past.0 (passed_in c.steps.run.passed) (passed_in c.insert.new.self) past.1
           (inserted c.steps.run.passed c.insert.new.self (pair_of c.in-Passes.ids) c.in_ok-insert-in-Passes.ensures.updates.0) c.steps.invariant.1,
-      c.step.ensures.kept,
-      c.steps.invariant.3,
     )
 
 pub returns-in_err-answer-in-Ends : goal.returns-in_err-answer-in-Ends
@@ -121,7 +111,6 @@ steps-smaller-in-Ends g c =
 pub steps-preserved-in-Ends : goal.steps-preserved-in-Ends
 steps-preserved-in-Ends g c =
     let stack : stack_of c.steps.run.below.items ≡ frame_of c.in-Some.next ∷ stack_of c.settle.new.self.below.items = stack_push c.settle.new.self.below.items c.steps.run.below.items c.in-Some.next (rw c.in-Some.is at c.settle.ensures.next) in
-    let kept = All-pop (IsKept c.args.local.now c.args.target.now) c.steps.run.below.items c.settle.new.self.below.items (Some c.in-Some.next) (rw c.in-Some.is at c.settle.ensures.next) c.steps.invariant.3 in
     let learns = rw c.step.ensures.pair at c.settle.ensures.settled in
     let settles_one = learned c.steps.run.seen c.settle.new.self.seen c.steps.top.pair Compatible learns tells_settled in (
       rw c.settle.ensures.counts (settles c.args.local.now c.args.target.now (pair_of c.args.root) (opened_in c.steps.run.seen) (settled_in c.steps.run.seen) (frame_of c.steps.top) (frame_of c.in-Some.next) (stack_of c.settle.new.self.below.items) (count c.steps.run.seen) (g.S.Starts.has_added c.args.starts.now c.steps.starts)
@@ -130,8 +119,6 @@ steps-preserved-in-Ends g c =
           settles_one (learned c.steps.run.seen c.settle.new.self.seen c.steps.top.pair Compatible learns tells_open)),
       rw c.settle.ensures.passed (still_passed c.args.local.now c.args.target.now (settled_in c.steps.run.seen) (settled_in c.settle.new.self.seen) (passed_in c.steps.run.passed)
           (still_in (settled_in c.steps.run.seen) (settled_in c.settle.new.self.seen) (pair_of c.steps.top.pair) settles_one) c.steps.invariant.1),
-      kept.1,
-      kept.0,
     )
 
 pub returns-in-Some-Open : goal.returns-in-Some-Open
@@ -150,8 +137,6 @@ steps-preserved-in-Some-Compatible g c = (
   pays c.args.local.now c.args.target.now (pair_of c.args.root) (opened_in c.steps.run.seen) (settled_in c.steps.run.seen) (frame_of c.steps.top) (stack_of c.steps.run.below.items) (count c.steps.run.seen) (g.S.Starts.has_added c.args.starts.now c.steps.starts) c.steps.invariant.0
       (pair_of c.in-Waits.pair) (frame_of c.step.new.self) c.in-Waits.ensures.step (ap tells_settled (sym c.get.ensures ∙ (c.in-Some-Compatible.is ∙ ap (λ (p : Progress). Some p) c.in-Some-Compatible.field-0-is))),
   c.steps.invariant.1,
-  c.step.ensures.kept,
-  c.steps.invariant.3,
 )
 
 pub returns-in_err-push-in-None : goal.returns-in_err-push-in-None
@@ -199,13 +184,7 @@ steps-preserved g c =
     let nothing = learned_nothing c.steps.run.seen c.start-in-None.new.self.seen c.in-Waits.pair Open c.in_ok-start-in-None.ensures.opened tells_settled (ap tells_settled (sym c.get.ensures ∙ c.in-None.is)) in (
       rw (new_stack g c) (started g c),
       rw c.start-in-None.ensures.passed (subst (λ (settled : Pair → Bool). ArePassed c.args.local.now c.args.target.now settled (passed_in c.steps.run.passed)) (sym nothing) c.steps.invariant.1),
-      begins_kept c.args.local.now c.args.target.now (pair_of c.in-Waits.pair) c.new-top-in-None.result c.new-top-in-None.ensures.frame c.new-top-in-None.ensures.owed,
-      All-same (IsKept c.args.local.now c.args.target.now) c.start-in-None.new.self.below.items (c.steps.run.below.items ++ c.step.new.self ∷ []) (ap (λ v. v.items) c.start-in-None.ensures.below ∙ c.in_ok-push-in-None.ensures.items)
-          (All-push (IsKept c.args.local.now c.args.target.now) c.steps.run.below.items c.step.new.self c.steps.invariant.3 c.step.ensures.kept),
     )
 
 pub settle-requires : goal.settle-requires
 settle-requires g c = rw c.step.ensures.pair (known_if_open (known c.steps.run.seen c.steps.top.pair) (c.steps.invariant.0.has_all (pair_of c.steps.top.pair) (inl refl)))
-
-pub step-requires : goal.step-requires
-step-requires g c = c.steps.invariant.2
