@@ -4,12 +4,11 @@ use Rattle.std.specs.HashMap.{get_by_text}
 use Rattle.btf_model.specs.Ext.{Part, Named, Records, AreNamed, records_named}
 use Rattle.btf_model.specs.Refusal.{Refusal}
 use Rattle.btf_model.specs.Word.{Order}
+use Rattle.btf_ext.specs.declared.info.by_section.BySection.{BySection}
 use Rattle.btf_ext.specs.declared.info.func.bpf_func_info.{bpf_func_info}
 use Rattle.btf_ext.specs.declared.info.func.FuncSecInfo.{FuncSecInfo}
-use Rattle.btf_ext.specs.declared.info.func.FuncInfo.{FuncInfo}
 use Rattle.btf_ext.specs.declared.info.line.bpf_line_info.{bpf_line_info}
 use Rattle.btf_ext.specs.declared.info.line.LineSecInfo.{LineSecInfo}
-use Rattle.btf_ext.specs.declared.info.line.LineInfo.{LineInfo}
 
 abbrev pub func_words : bpf_func_info → List ℕ
 func_words r = r.insn_off ∷ r.type_id ∷ []
@@ -17,18 +16,21 @@ func_words r = r.insn_off ∷ r.type_id ∷ []
 abbrev pub func_records : FuncSecInfo → Records
 func_records s = record { count = s.num_info; words = map func_words s.func_info.items }
 
--- the records under each name
-abbrev pub funcs_by_name : FuncInfo → List ℕ → Option Records
-funcs_by_name f name = option_map func_records (get_by_text f.sections name)
-
 abbrev pub line_words : bpf_line_info → List ℕ
 line_words r = r.insn_off ∷ r.file_name_off ∷ r.line_off ∷ r.line_col ∷ []
 
 abbrev pub line_records : LineSecInfo → Records
 line_records s = record { count = s.num_info; words = map line_words s.line_info.items }
 
-abbrev pub lines_by_name : LineInfo → List ℕ → Option Records
-lines_by_name f name = option_map line_records (get_by_text f.sections name)
+-- the records under each name, where this is what those of a section say
+abbrev pub by_name : {S : Type 0} → (S → Records) → BySection S → List ℕ → Option Records
+by_name records b name = option_map records (get_by_text b.sections name)
+
+abbrev pub funcs_by_name : BySection FuncSecInfo → List ℕ → Option Records
+funcs_by_name = by_name func_records
+
+abbrev pub lines_by_name : BySection LineSecInfo → List ℕ → Option Records
+lines_by_name = by_name line_records
 
 -- What reading named sections of a part returns: the records under each name, of so many words each, or the refusal.
 abbrev pub AreByName : Order → ℕ → List ℕ → Part → Result (List ℕ → Option Records) Refusal → Type 0

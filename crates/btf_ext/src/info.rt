@@ -1,5 +1,6 @@
 //! Function and line records, by the sections of a program.
 
+mod by_section;
 mod func;
 mod line;
 pub mod records;

@@ -1,23 +1,16 @@
 //! Function records.
 
-ghost use Rattle.std.specs.Prelude.{◌≡◌, ℕ, ◌<◌, ◌≤◌, List, length, map, option_map, None, Ok, IfOk, unwrap_or};
-ghost use Rattle.std.specs.List.{AllByRecursion};
-ghost use Rattle.btf_model.specs.Ext.{IsSection, instruction_records, little_bytes, no_records, section_named, sections_of};
-ghost use Rattle.btf_words.specs.Error.{Answers, Gives};
-ghost use Rattle.btf_words.specs.Endianness.{order_of};
-ghost use Rattle.btf_ext.specs.SecInfo.{section_of};
-ghost use Rattle.btf_ext.specs.ExtHeader.{part as part_of};
-ghost use Rattle.btf_ext.specs.Info.{func_words, func_records, funcs_by_name, AreByName};
+ghost use Rattle.std.specs.Prelude.{◌≡◌, length, map, Ok};
+ghost use Rattle.btf_model.specs.Ext.{little_bytes, no_records};
+ghost use Rattle.btf_words.specs.Error.{Gives};
+ghost use Rattle.btf_ext.specs.Info.{func_words, func_records};
 
-use crate::ext::header::Part;
-use crate::ext::read::name_at;
-use crate::ext::{SecInfo, SecInfoIter};
+use crate::ext::SecInfo;
+use crate::info::by_section::{BySection, SectionRecords};
 use crate::info::records::{INSTRUCTION_LEN, Record, read_records};
 use crate::words::{push_little, split_word};
 use btf_plain::{BtfError, Endianness};
-use btf_table::Btf;
 use std::alloc::{AllocError, Global};
-use std::collections::HashMap;
 
 /// Where a function begins, and its type (the kernel's documentation, ".BTF.ext section", `struct bpf_func_info`).
 #[derive(Copy, Clone, Debug)]
@@ -69,23 +62,6 @@ impl FuncSecInfo {
         }
     }
 
-    /// The records of a section, which have so many bytes each.
-    pub(crate) fn read(
-        alloc: Global,
-        section: &SecInfo<'_>,
-        rec_size: usize,
-        endianness: Endianness,
-    ) -> Result<Self, AllocError>
-        requires whole { IsSection rec_size (section_of section.now) }
-        requires wide { 8 ≤ rec_size }
-        ensures { IfOk result (λ f. func_records f ≡ instruction_records (order_of endianness) rec_size 2 (section_of section.now)) }
-    {
-        Ok(Self {
-            num_info: section.num_info,
-            func_info: read_records(alloc, section, rec_size, endianness)?,
-        })
-    }
-
     /// The number of records that there are.
     pub fn len(&self) -> usize
         ensures { result ≡ length self.now.func_info.items }
@@ -115,68 +91,33 @@ impl FuncSecInfo {
     }
 }
 
-/// The function records of a program, by the names of its sections.
-#[derive(Debug, Drop)]
-pub struct FuncInfo {
-    /// The records of each section, under its name.
-    pub sections: HashMap<String, FuncSecInfo>,
-    /// The map does not lend its own.
-    alloc: Global,
-}
+impl SectionRecords for FuncSecInfo {
+    ghost use Rattle.btf_ext.specs.Info.{func_records};
 
-impl FuncInfo {
-    /// No section. No memory is taken.
-    fn new(alloc: Global) -> Self
-        ensures { (name : List ℕ) → funcs_by_name result name ≡ None }
-    {
-        Self {
-            sections: HashMap::new(alloc),
-            alloc,
-        }
+    ghost width = { 2 };
+
+    ghost records = { func_records };
+
+    fn empty(alloc: Global) -> Self {
+        Self::new(alloc)
     }
 
-    /// The records of a part's sections, each put under the name of its section as that is met. Of a name the last
-    /// section counts.
-    ///
-    /// Of each section in turn: `InvalidInfo` as `SecInfoIter` has it, and `InvalidStringOffset` where its name can't
-    /// be read.
-    pub(crate) fn read(
+    fn read(
         alloc: Global,
-        part: &Part<'_>,
+        section: &SecInfo<'_>,
+        rec_size: usize,
         endianness: Endianness,
-        btf: &Btf,
-    ) -> Result<Self, BtfError>
-        requires { 0 < part.now.rec_size → 8 ≤ part.now.rec_size }
-        ensures { Answers funcs_by_name result (AreByName (order_of endianness) 2 btf.now.strings (part_of part.now)) }
-    {
-        let mut info = Self::new(alloc);
-        for section in SecInfoIter::new(part.sections, part.rec_size, endianness) {
-            let section = section?;
-            let name = name_at(alloc, btf, section.name_offset)?;
-            let records = FuncSecInfo::read(alloc, &section, part.rec_size, endianness)?;
-            info.sections.insert(name, records)?;
-        }
-        Ok(info)
+    ) -> Result<Self, AllocError> {
+        Ok(Self {
+            num_info: section.num_info,
+            func_info: read_records(alloc, section, rec_size, endianness)?,
+        })
     }
 
-    /// A copy of the records under a name, or of none. `OutOfMemory` is the only error.
-    pub fn get(&self, name: &str) -> Result<FuncSecInfo, BtfError>
-        ensures { Gives func_records result (Ok (unwrap_or (funcs_by_name self.now name.now) no_records)) }
-    {
-        match self.sections.get(name) {
-            Some(section) => section.try_clone(),
-            None => Ok(FuncSecInfo::new(self.alloc)),
-        }
-    }
-
-    /// Equal records under equal names. `OutOfMemory` is the only error.
-    pub fn try_clone(&self) -> Result<Self, BtfError>
-        ensures { Gives funcs_by_name result (Ok (funcs_by_name self.now)) }
-    {
-        let mut copy = Self::new(self.alloc);
-        for (name, section) in &self.sections {
-            copy.sections.insert(name.clone()?, section.try_clone()?)?;
-        }
-        Ok(copy)
+    fn copied(&self) -> Result<Self, BtfError> {
+        self.try_clone()
     }
 }
+
+/// The function records of a program, by the names of its sections.
+pub type FuncInfo = BySection<FuncSecInfo>;

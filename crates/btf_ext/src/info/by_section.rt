@@ -1,0 +1,114 @@
+//! Records under the names of sections.
+
+ghost use Rattle.std.specs.Prelude.{◌≡◌, ℕ, ◌*◌, ◌<◌, ◌≤◌, List, None, Ok, IfOk, unwrap_or};
+ghost use Rattle.btf_model.specs.Ext.{Records, IsSection, instruction_records, no_records};
+ghost use Rattle.btf_words.specs.Error.{Answers, Gives};
+ghost use Rattle.btf_words.specs.Endianness.{order_of};
+ghost use Rattle.btf_ext.specs.SecInfo.{section_of};
+ghost use Rattle.btf_ext.specs.ExtHeader.{part as part_of};
+ghost use Rattle.btf_ext.specs.Info.{by_name, AreByName};
+
+use crate::ext::header::Part;
+use crate::ext::read::name_at;
+use crate::ext::{SecInfo, SecInfoIter};
+use btf_plain::{BtfError, Endianness};
+use btf_table::Btf;
+use std::alloc::{AllocError, Global};
+use std::collections::HashMap;
+
+/// The records of one section of a program: its function records, or its line records.
+pub trait SectionRecords: Sized + Drop {
+    /// How many words of a record are read.
+    ghost width: { ℕ };
+
+    /// What the records say.
+    ghost records: { Self → Records };
+
+    /// No records. No memory is taken.
+    fn empty(alloc: Global) -> Self
+        ensures { records result ≡ no_records };
+
+    /// The records of a section, which have so many bytes each.
+    fn read(
+        alloc: Global,
+        section: &SecInfo<'_>,
+        rec_size: usize,
+        endianness: Endianness,
+    ) -> Result<Self, AllocError>
+        requires whole { IsSection rec_size (section_of section.now) }
+        requires wide { 4 * width ≤ rec_size }
+        ensures { IfOk result (λ s. records s
+            ≡ instruction_records (order_of endianness) rec_size width (section_of section.now)) };
+
+    /// Equal records. `OutOfMemory` is the only error.
+    fn copied(&self) -> Result<Self, BtfError>
+        ensures { Gives records result (Ok (records self.now)) };
+}
+
+/// The records of a program, by the names of its sections.
+#[derive(Debug, Drop)]
+pub struct BySection<S> {
+    /// The records of each section, under its name.
+    pub sections: HashMap<String, S>,
+    /// The map does not lend its own.
+    alloc: Global,
+}
+
+impl<S: SectionRecords> BySection<S> {
+    /// No section. No memory is taken.
+    fn new(alloc: Global) -> Self
+        ensures { (name : List ℕ) → by_name S.records result name ≡ None }
+    {
+        Self {
+            sections: HashMap::new(alloc),
+            alloc,
+        }
+    }
+
+    /// The records of a part's sections, each put under the name of its section as that is met. Of a name the last
+    /// section counts.
+    ///
+    /// Of each section in turn: `InvalidInfo` as `SecInfoIter` has it, and `InvalidStringOffset` where its name can't
+    /// be read.
+    pub(crate) fn read(
+        alloc: Global,
+        part: &Part<'_>,
+        endianness: Endianness,
+        btf: &Btf,
+    ) -> Result<Self, BtfError>
+        requires { 0 < part.now.rec_size → 4 * S.width ≤ part.now.rec_size }
+        ensures { Answers (by_name S.records) result
+            (AreByName (order_of endianness) S.width btf.now.strings (part_of part.now)) }
+    {
+        let mut info = Self::new(alloc);
+        for section in SecInfoIter::new(part.sections, part.rec_size, endianness) {
+            let section = section?;
+            let name = name_at(alloc, btf, section.name_offset)?;
+            let records = S::read(alloc, &section, part.rec_size, endianness)?;
+            info.sections.insert(name, records)?;
+        }
+        Ok(info)
+    }
+
+    /// A copy of the records under a name, or of none. `OutOfMemory` is the only error.
+    pub fn get(&self, name: &str) -> Result<S, BtfError>
+        ensures { Gives S.records result
+            (Ok (unwrap_or (by_name S.records self.now name.now) no_records)) }
+    {
+        match self.sections.get(name) {
+            Some(section) => section.copied(),
+            None => Ok(S::empty(self.alloc)),
+        }
+    }
+
+    /// Equal records under equal names. `OutOfMemory` is the only error.
+    pub fn try_clone(&self) -> Result<Self, BtfError>
+        ensures { Gives (by_name S.records) result (Ok (by_name S.records self.now)) }
+    {
+        let mut copy = Self::new(self.alloc);
+        for (name, section) in &self.sections {
+            copy.sections.insert(name.clone()?, section.copied()?)?;
+        }
+        Ok(copy)
+    }
+}
