@@ -79,8 +79,10 @@ abbrev pub StepIs : Table → Table → (Pair → Bool) → runs.Frame → runs.
 StepIs local target passed f g (steps.Ends answer) = Tells (λ b. b) answer (λ a. IsNext local target f (runs.Ends a))
 StepIs local target passed f g steps.GoesOn = IsNext local target f (runs.GoesOn g)
 StepIs local target passed f g (steps.Waits ids) = IsNext local target f (runs.Waits (pair_of ids) g)
-StepIs local target passed f g (steps.Passes ids) = (past : GoesPast local target f g (pair_of ids)) × (length past.owed ≤ f.parameter)
-StepIs local target passed f g steps.Skips = (ids : Pair) × GoesPast local target f g ids × (passed ids ≡ true) × (f.parameter ≡ 0)
+StepIs local target passed f g (steps.Passes ids) =
+    (past : GoesPast local target f g (pair_of ids)) × (length past.owed ≤ f.parameter)
+StepIs local target passed f g steps.Skips =
+    (ids : Pair) × GoesPast local target f g ids × (passed ids ≡ true) × (f.parameter ≡ 0)
 
 -- whether a run has a pair open, or knows it to be compatible
 abbrev pub tells_open : Option Progress → Bool
@@ -107,19 +109,22 @@ abbrev pub IsRefused : Table → Table → Pair → BtfError → Type 0
 IsRefused local target p e =
     (e ≡ errors.OutOfMemory)
     ⊎ (((slice_get local.records p.local ≡ None) × (e ≡ errors.UnknownBtfType p.local))
-    ⊎ ((r : Record) × (slice_get local.records p.local ≡ Some r) × (slice_get target.records p.target ≡ None) × (e ≡ errors.UnknownBtfType p.target)))
+    ⊎ ((r : Record) × (slice_get local.records p.local ≡ Some r) × (slice_get target.records p.target ≡ None)
+    × (e ≡ errors.UnknownBtfType p.target)))
 
 -- The call returns this, and these pairs were reported, by IsTold; or memory is refused after a beginning of them.
 abbrev pub TracesBy : (List (ℕ × ℕ) → Type 0) → Result Bool BtfError → Result Bool Refusal → List Pair → Type 0
 TracesBy IsTold result answer listed =
     (Tells (λ b. b) result (λ a. a ≡ answer) × IsTold (map ids_of listed))
-    ⊎ ((result ≡ Err errors.OutOfMemory) × (front rest : List Pair) × (listed ≡ front ++ rest) × IsTold (map ids_of front))
+    ⊎ ((result ≡ Err errors.OutOfMemory) × (front rest : List Pair) × (listed ≡ front ++ rest)
+    × IsTold (map ids_of front))
 
 -- The call returns this, and adds these pairs to the list, at its end; or memory is refused after a beginning of them.
 abbrev pub Traces : Result Bool BtfError → Result Bool Refusal → List (ℕ × ℕ) → List (ℕ × ℕ) → List Pair → Type 0
 Traces result answer old new listed =
     (Tells (λ b. b) result (λ a. a ≡ answer) × (new ≡ old ++ map ids_of listed))
-    ⊎ ((result ≡ Err errors.OutOfMemory) × (front rest : List Pair) × (listed ≡ front ++ rest) × (new ≡ old ++ map ids_of front))
+    ⊎ ((result ≡ Err errors.OutOfMemory) × (front rest : List Pair) × (listed ≡ front ++ rest)
+    × (new ≡ old ++ map ids_of front))
 
 -- Pairs of known ids, none of which stands there twice: so they are at most as many as a local and a target type make.
 pub record AreStarts (local target : Table) (ps : List Pair) : Type 0 where

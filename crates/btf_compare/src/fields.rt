@@ -77,7 +77,8 @@ fn step_of(
     target: &Btf,
     target_type: &BtfType,
 ) -> FieldStep
-    ensures { StepIs result (FieldsFound local.now target.now local_id (type_kind local_type.now) (type_kind target_type.now) (record_of local_type.now) (record_of target_type.now)) }
+    ensures { StepIs result (FieldsFound local.now target.now local_id (type_kind local_type.now)
+        (type_kind target_type.now) (record_of local_type.now) (record_of target_type.now)) }
 {
     if local_type.is_composite() && target_type.is_composite() {
         return FieldStep::Ends(Ok(true));
@@ -96,7 +97,9 @@ fn by_kind(
     target: &Btf,
     target_type: &BtfType,
 ) -> FieldStep
-    ensures { StepIs result (λ found. found ≡ field_by local.now target.now local_id (type_kind local_type.now) (type_kind target_type.now) (record_of local_type.now) (record_of target_type.now)) }
+    ensures { StepIs result (λ found. found ≡ field_by local.now target.now local_id
+        (type_kind local_type.now) (type_kind target_type.now) (record_of local_type.now)
+        (record_of target_type.now)) }
 {
     match (local_type, target_type) {
         (BtfType::Int(l), BtfType::Int(t)) => FieldStep::Ends(Ok(
@@ -120,7 +123,9 @@ fn named_alike(
     target: &Btf,
     target_type: &BtfType,
 ) -> Result<bool, BtfError>
-    ensures { Answers (λ b. b) result (λ answer. answer ≡ same_names (text_at local.now.strings (record_of local_type.now).name) (text_at target.now.strings (record_of target_type.now).name)) }
+    ensures { Answers (λ b. b) result
+        (λ answer. answer ≡ same_names (text_at local.now.strings (record_of local_type.now).name)
+        (text_at target.now.strings (record_of target_type.now).name)) }
 {
     let name = local.type_name(local_type)?;
     let other = target.type_name(target_type)?;

@@ -57,7 +57,9 @@ pub fn found_at<'a>(local: &'a Btf, target: &'a Btf, at: (u32, u32)) -> Position
 
 /// What is found at two types that are no modifiers, and have these ids.
 fn types_at<'a>(ids: (u32, u32), local_type: &'a BtfType, target_type: &'a BtfType) -> Position<'a>
-    ensures position { PositionIs result (PositionFound ids.0 (type_kind local_type.now) (type_kind target_type.now) (record_of local_type.now) (record_of target_type.now)) }
+    ensures position { PositionIs result
+        (PositionFound ids.0 (type_kind local_type.now) (type_kind target_type.now)
+        (record_of local_type.now) (record_of target_type.now)) }
     ensures ids { IfOwed result (λ owing. owing ≡ pair_of ids) }
 {
     if !local_type.is_compatible(target_type) {
@@ -91,7 +93,9 @@ fn types_at<'a>(ids: (u32, u32), local_type: &'a BtfType, target_type: &'a BtfTy
 
 /// What is found at an integer and another type: whether that is an integer, and both begin at bit 0.
 fn ints<'a>(local: &Int, target_type: &BtfType) -> Position<'a>
-    ensures { type_kind target_type.now ≡ model.Int → PositionIs result (λ found. found ≡ position_by 0 model.Int local.now (record_of target_type.now)) }
+    ensures { type_kind target_type.now ≡ model.Int
+        → PositionIs result (λ found. found ≡ position_by 0 model.Int local.now
+        (record_of target_type.now)) }
 {
     match target_type {
         BtfType::Int(target) => Position::Told(Ok(local.offset() == 0 && target.offset() == 0)),
@@ -101,7 +105,9 @@ fn ints<'a>(local: &Int, target_type: &BtfType) -> Position<'a>
 
 /// What is found at a pointer and another type: the types that both point to.
 fn pointers<'a>(local: &Ptr, target_type: &BtfType) -> Position<'a>
-    ensures { type_kind target_type.now ≡ model.Ptr → PositionIs result (λ found. found ≡ position_by 0 model.Ptr local.now (record_of target_type.now)) }
+    ensures { type_kind target_type.now ≡ model.Ptr
+        → PositionIs result (λ found. found ≡ position_by 0 model.Ptr local.now
+        (record_of target_type.now)) }
 {
     match target_type {
         BtfType::Ptr(target) => Position::On((local.btf_type(), target.btf_type())),
@@ -111,7 +117,9 @@ fn pointers<'a>(local: &Ptr, target_type: &BtfType) -> Position<'a>
 
 /// What is found at an array and another type: the types of the elements of both.
 fn arrays<'a>(local: &Array, target_type: &BtfType) -> Position<'a>
-    ensures { type_kind target_type.now ≡ model.Array → PositionIs result (λ found. found ≡ position_by 0 model.Array local.now (record_of target_type.now)) }
+    ensures { type_kind target_type.now ≡ model.Array
+        → PositionIs result (λ found. found ≡ position_by 0 model.Array local.now
+        (record_of target_type.now)) }
 {
     match target_type {
         BtfType::Array(target) => {
@@ -124,7 +132,9 @@ fn arrays<'a>(local: &Array, target_type: &BtfType) -> Position<'a>
 /// What is found at a prototype and another type, which have these ids: the parameters of both, if they are as many,
 /// and then what both return.
 fn prototypes<'a>(ids: (u32, u32), local: &'a FuncProto, target_type: &'a BtfType) -> Position<'a>
-    ensures position { type_kind target_type.now ≡ model.FuncProto → PositionIs result (λ found. found ≡ position_by 0 model.FuncProto local.now (record_of target_type.now)) }
+    ensures position { type_kind target_type.now ≡ model.FuncProto
+        → PositionIs result (λ found. found ≡ position_by 0 model.FuncProto local.now
+        (record_of target_type.now)) }
     ensures ids { IfOwed result (λ owing. owing ≡ pair_of ids) }
 {
     let BtfType::FuncProto(target) = target_type else {

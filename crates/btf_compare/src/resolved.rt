@@ -10,7 +10,8 @@ use btf_table::Btf;
 
 /// The id and the type that an id resolves to.
 pub fn resolved(table: &Btf, type_id: u32) -> Result<(u32, &BtfType), BtfError>
-    ensures { Tells (λ found. (found.0, type_kind found.1.now, record_of found.1.now)) result (IsResolved table.now type_id) }
+    ensures { Tells (λ found. (found.0, type_kind found.1.now, record_of found.1.now)) result
+        (IsResolved table.now type_id) }
 {
     let id = table.resolve_type(type_id)?;
     let btf_type = table.type_by_id(id)?;

@@ -57,9 +57,12 @@ impl Run {
         ensures started { IfOk result (IsStarted local.now target.now (pair_of pair)) }
         ensures opened { OnOk result (Learns self.old.seen self.new.seen pair Progress.Open) }
         ensures counts { OnOk result (count self.new.seen ≡ count self.old.seen + 1) }
-        ensures listed { OnOk result ((first : S) → (ids : List (ℕ × ℕ)) → S.has_added first starts.old ids → S.has_added first starts.new (ids ++ pair ∷ [])) }
+        ensures listed { OnOk result ((first : S) → (ids : List (ℕ × ℕ))
+            → S.has_added first starts.old ids → S.has_added first starts.new (ids ++ pair ∷ [])) }
         ensures refused { IfErr result (IsRefused local.now target.now (pair_of pair)) }
-        ensures not_listed { OnErr result ((first : S) → (ids : List (ℕ × ℕ)) → S.has_added first starts.old ids → S.has_added first starts.new ids) }
+        ensures not_listed { OnErr result
+            ((first : S) → (ids : List (ℕ × ℕ)) → S.has_added first starts.old ids
+            → S.has_added first starts.new ids) }
         ensures below { self.new.below ≡ self.old.below }
         ensures passed { self.new.passed ≡ self.old.passed }
     {
@@ -73,7 +76,8 @@ impl Run {
     /// Settles an open pair that came out true, and returns the one below it, which goes on.
     fn settle(&mut self, pair: (u32, u32)) -> Option<Frame>
         requires { IsSome (known self.old.seen pair) }
-        ensures next { MatchOption result (self.old.below.items ≡ []) (λ frame. self.old.below.items ≡ self.new.below.items ++ frame ∷ []) }
+        ensures next { MatchOption result (self.old.below.items ≡ [])
+            (λ frame. self.old.below.items ≡ self.new.below.items ++ frame ∷ []) }
         ensures settled { Learns self.old.seen self.new.seen pair Progress.Compatible }
         ensures counts { count self.new.seen ≡ count self.old.seen }
         ensures passed { self.new.passed ≡ self.old.passed }
@@ -91,7 +95,9 @@ pub fn compare<S: Starts>(
     starts: &mut S,
 ) -> Result<bool, BtfError>
     requires { S.has_added starts.old starts.old [] }
-    ensures { (answer : Result Bool Refusal) × (listed : List Pair) × Plain local.now target.now [] (pair_of root) answer listed × TracesBy (S.has_added starts.old starts.new) result answer (firsts listed) }
+    ensures { (answer : Result Bool Refusal) × (listed : List Pair)
+        × Plain local.now target.now [] (pair_of root) answer listed
+        × TracesBy (S.has_added starts.old starts.new) result answer (firsts listed) }
 {
     let mut run = Run::new(allocator_of(local));
     // The contract speaks of an answer, which there is where each record has a kind, as a use of the tables shows.

@@ -55,7 +55,8 @@ impl Frame {
     /// Takes the next step, where all parameters of the `passed` prototypes came out true. At a position the two ids
     /// are looked up, after their modifiers, and a parameter's when its turn comes.
     pub fn step(&mut self, local: &Btf, target: &Btf, passed: &BTreeSet<(u32, u32)>) -> Step
-        ensures step { StepIs local.now target.now (passed_in passed.now) (frame_of self.old) (frame_of self.new) result }
+        ensures step { StepIs local.now target.now (passed_in passed.now) (frame_of self.old)
+            (frame_of self.new) result }
         ensures pair { self.new.pair ≡ self.old.pair }
     {
         if self.gone >= WALK_LIMIT {
@@ -80,7 +81,8 @@ impl Frame {
     /// Looks the parameters at their turn up, or goes on to what the prototypes return after the last.
     fn pay(&mut self, local: &Btf, target: &Btf, found: &ProtoPair<'_>) -> Step
         requires { AreAt local.now target.now self.old found.now }
-        ensures step { (passed : Pair → Bool) → StepIs local.now target.now passed (frame_of self.old) (frame_of self.new) result }
+        ensures step { (passed : Pair → Bool)
+            → StepIs local.now target.now passed (frame_of self.old) (frame_of self.new) result }
         ensures pair { self.new.pair ≡ self.old.pair }
     {
         let Some(at) = found.parameters_at(self.parameter) else {

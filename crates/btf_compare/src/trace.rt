@@ -11,8 +11,10 @@ pub trait Starts {
 
     /// Reports a pair.
     fn add(&mut self, pair: (u32, u32)) -> Result<(), AllocError>
-        ensures added { OnOk result ((first : Self) → (ids : List (ℕ × ℕ)) → has_added first self.old ids → has_added first self.new (ids ++ pair ∷ [])) }
-        ensures refused { OnErr result ((first : Self) → (ids : List (ℕ × ℕ)) → has_added first self.old ids → has_added first self.new ids) };
+        ensures added { OnOk result ((first : Self) → (ids : List (ℕ × ℕ))
+            → has_added first self.old ids → has_added first self.new (ids ++ pair ∷ [])) }
+        ensures refused { OnErr result ((first : Self) → (ids : List (ℕ × ℕ))
+            → has_added first self.old ids → has_added first self.new ids) };
 }
 
 /// A list to which they are added.

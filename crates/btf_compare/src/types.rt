@@ -36,7 +36,9 @@ pub fn types_are_compatible(
     target: &Btf,
     target_id: u32,
 ) -> Result<bool, BtfError>
-    ensures { Answers (λ b. b) result (λ answer. (listed : List Pair) × Plain local.now target.now [] (pair local_id target_id) answer listed) }
+    ensures { Answers (λ b. b) result
+        (λ answer. (listed : List Pair)
+        × Plain local.now target.now [] (pair local_id target_id) answer listed) }
 {
     compare(local, target, (local_id, target_id), &mut Untraced)
 }
@@ -55,7 +57,9 @@ pub fn types_are_compatible_traced(
     starts: &mut Vec<(u32, u32)>,
 ) -> Result<bool, BtfError>
     // The answer of the recursion that remembers nothing, and what it starts, each pair at its first place.
-    ensures traces { (answer : Result Bool Refusal) × (listed : List Pair) × Plain local.now target.now [] (pair local_id target_id) answer listed × Traces result answer starts.old.items starts.new.items (firsts listed) }
+    ensures traces { (answer : Result Bool Refusal) × (listed : List Pair)
+        × Plain local.now target.now [] (pair local_id target_id) answer listed
+        × Traces result answer starts.old.items starts.new.items (firsts listed) }
     // In every outcome: each added pair has known ids, and none is added twice.
     ensures starts { GainsStarts local.now target.now starts.old.items starts.new.items }
 {

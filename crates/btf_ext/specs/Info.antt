@@ -35,5 +35,6 @@ lines_by_name = by_name line_records
 -- What reading named sections of a part returns: the records under each name, of so many words each, or the refusal.
 abbrev pub AreByName : Order → ℕ → List ℕ → Part → Result (List ℕ → Option Records) Refusal → Type 0
 AreByName order width strings p (Ok found) =
-    (sections : List Named) × AreNamed order p.size strings p.bytes (Ok sections) × ((name : List ℕ) → found name ≡ records_named order width p sections name)
+    (sections : List Named) × AreNamed order p.size strings p.bytes (Ok sections)
+    × ((name : List ℕ) → found name ≡ records_named order width p sections name)
 AreByName order width strings p (Err refusal) = AreNamed order p.size strings p.bytes (Err refusal)

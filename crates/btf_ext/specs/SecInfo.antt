@@ -12,6 +12,10 @@ section_of s = record { name = s.name_offset; count = s.num_info; bytes = s.byte
 -- section, and then no byte is left.
 abbrev pub GivesSection : SectionBytes → Option (Result SecInfo BtfError) → SectionBytes → Type 0
 GivesSection before None after = (before.bytes ≡ []) × (after ≡ before)
-GivesSection before (Some (Ok s)) after = IsSection before.size (section_of s) × (before ≡ record after { bytes = section_bytes before.order (section_of s) ++ after.bytes })
+GivesSection before (Some (Ok s)) after =
+    IsSection before.size (section_of s)
+    × (before ≡ record after { bytes = section_bytes before.order (section_of s) ++ after.bytes })
 GivesSection before (Some (Err e)) after =
-    (before.bytes ≢ []) × BeginsNoSection before.order before.size before.bytes × (refusal_of e ≡ Some (cut_refusal before.order before.size before.bytes)) × (after ≡ record before { bytes = [] })
+    (before.bytes ≢ []) × BeginsNoSection before.order before.size before.bytes
+    × (refusal_of e ≡ Some (cut_refusal before.order before.size before.bytes))
+    × (after ≡ record before { bytes = [] })

@@ -6,5 +6,8 @@ use Rattle.btf_model.specs.Refusal.{Refusal, InvalidTypeInfo}
 
 -- so many items of so many words each, read from the front of bytes; refused where the bytes end before them
 abbrev pub ReadsItems : {X : Type 0} → ℕ → (X → List ℕ) → Order → List ℕ → ℕ → Result (List X) Refusal → Type 0
-ReadsItems width item_words order bytes count (Ok items) = (4 * (width * count) ≤ length bytes) × (length items ≡ count) × (flat_map item_words items ≡ words_at order (width * count) bytes)
-ReadsItems width item_words order bytes count (Err refusal) = (length bytes < 4 * (width * count)) × (refusal ≡ InvalidTypeInfo)
+ReadsItems width item_words order bytes count (Ok items) =
+    (4 * (width * count) ≤ length bytes) × (length items ≡ count)
+    × (flat_map item_words items ≡ words_at order (width * count) bytes)
+ReadsItems width item_words order bytes count (Err refusal) =
+    (length bytes < 4 * (width * count)) × (refusal ≡ InvalidTypeInfo)

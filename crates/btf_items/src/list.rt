@@ -27,7 +27,8 @@ pub trait Item: Sized + Drop {
 
     /// Writes the item at the end of bytes.
     fn append_to(&self, out: &mut Vec<u8>, endianness: Endianness) -> Result<(), AllocError>
-        ensures written { OnOk result (out.new.items ≡ out.old.items ++ flat_map (word (order_of endianness)) (item_words self.now)) }
+        ensures written { OnOk result (out.new.items ≡ out.old.items
+            ++ flat_map (word (order_of endianness)) (item_words self.now)) }
         ensures words_fit { AllByRecursion (λ w. w < 2 ^ 32) (item_words self.now) };
 
     /// An equal item.
@@ -41,8 +42,10 @@ pub fn push_items<T: Item>(
     endianness: Endianness,
     items: &[T],
 ) -> Result<(), AllocError>
-    ensures written { OnOk result (out.new.items ≡ out.old.items ++ flat_map (word (order_of endianness)) (flat_map T.item_words items.now)) }
-    ensures words_fit { OnOk result (AllByRecursion (λ w. w < 2 ^ 32) (flat_map T.item_words items.now)) }
+    ensures written { OnOk result (out.new.items ≡ out.old.items
+        ++ flat_map (word (order_of endianness)) (flat_map T.item_words items.now)) }
+    ensures words_fit { OnOk result
+        (AllByRecursion (λ w. w < 2 ^ 32) (flat_map T.item_words items.now)) }
 {
     for item in items {
         item.append_to(out, endianness)?;
@@ -52,7 +55,8 @@ pub fn push_items<T: Item>(
 
 /// Equal items, in a vector of just their number.
 pub fn clone_items<T: Item>(items: &Vec<T>) -> Result<Vec<T>, AllocError>
-    ensures { IfOk result (λ v. (flat_map T.item_words v.items ≡ flat_map T.item_words items.now.items) × (length v.items ≡ length items.now.items)) }
+    ensures { IfOk result (λ v. (flat_map T.item_words v.items
+        ≡ flat_map T.item_words items.now.items) × (length v.items ≡ length items.now.items)) }
 {
     let mut copies = Vec::with_capacity(*items.allocator(), items.len())?;
     for item in items.as_slice() {
@@ -69,7 +73,8 @@ pub fn read_items<T: Item>(
     endianness: Endianness,
     count: usize,
 ) -> Result<Vec<T>, BtfError>
-    ensures { Answers (λ v. v.items) result (ReadsItems T.width T.item_words (order_of endianness) bytes.now count) }
+    ensures { Answers (λ v. v.items) result
+        (ReadsItems T.width T.item_words (order_of endianness) bytes.now count) }
 {
     let mut items = Vec::with_capacity(alloc, count)?;
     let mut rest = bytes;

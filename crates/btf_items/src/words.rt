@@ -22,7 +22,8 @@ pub fn split_word(bytes: &[u8], endianness: Endianness) -> Result<(u32, &[u8]), 
 
 /// Writes words at the end of bytes.
 pub fn push(out: &mut Vec<u8>, endianness: Endianness, words: &[u32]) -> Result<(), AllocError>
-    ensures written { OnOk result (out.new.items ≡ out.old.items ++ flat_map (word (order_of endianness)) words.now) }
+    ensures written { OnOk result (out.new.items ≡ out.old.items
+        ++ flat_map (word (order_of endianness)) words.now) }
     ensures words_fit { AllByRecursion (λ w. w < 2 ^ 32) words.now }
 {
     for value in words {

@@ -45,7 +45,8 @@ header_of order bytes = record {
 
 abbrev pub header_bytes : Order → Header → List ℕ
 header_bytes order h =
-    half order h.magic ++ h.version ∷ h.flags ∷ flat_map (word order) (h.hdr_len ∷ h.type_off ∷ h.type_len ∷ h.str_off ∷ h.str_len ∷ [])
+    half order h.magic ++ h.version ∷ h.flags
+    ∷ flat_map (word order) (h.hdr_len ∷ h.type_off ∷ h.type_len ∷ h.str_off ∷ h.str_len ∷ [])
 
 -- where the string section ends, and where the type section does
 abbrev pub strings_end : Header → ℕ
@@ -63,7 +64,8 @@ type_section h bytes = slice (h.hdr_len + h.type_off) h.type_len bytes
 -- The bytes are cut whole into spellings of these records, one after another.
 abbrev pub AreRecords : Order → List ℕ → List Record → Type 0
 AreRecords order bytes [] = bytes ≡ []
-AreRecords order bytes (r ∷ rs) = (front rest : List ℕ) × (bytes ≡ front ++ rest) × IsRecord order front r × AreRecords order rest rs
+AreRecords order bytes (r ∷ rs) =
+    (front rest : List ℕ) × (bytes ≡ front ++ rest) × IsRecord order front r × AreRecords order rest rs
 
 -- The bytes stand for the table: the header names two slices of them, which are the string section and the spellings of
 -- the records from id 1 on. Magic, version and flags are the header's. There are no fallbacks.
@@ -76,7 +78,8 @@ pub record IsTable (order : Order) (bytes : List ℕ) (t : Table) : Type 0 where
   pub version : t.version ≡ (header_of order bytes).version
   pub flags : t.flags ≡ (header_of order bytes).flags
   pub strings : t.strings ≡ string_section (header_of order bytes) bytes
-  pub records : (rs : List Record) × (t.records ≡ unknown ∷ rs) × AreRecords order (type_section (header_of order bytes) bytes) rs
+  pub records : (rs : List Record) × (t.records ≡ unknown ∷ rs)
+      × AreRecords order (type_section (header_of order bytes) bytes) rs
   pub fallbacks : t.fallbacks ≡ no_fallbacks t.records
 
 -- No spelling begins the bytes.
@@ -87,7 +90,8 @@ BeginsNoRecord order bytes = (front rest : List ℕ) (r : Record) → bytes ≡ 
 abbrev pub rest_refusal : Order → List ℕ → Refusal
 rest_refusal order rest =
     let kind = kind_number (word_at order 4 rest) in
-    if nat_lt (length rest) 12 then InvalidTypeInfo else (if nat_lt highest_kind kind then InvalidTypeKind kind else InvalidTypeInfo)
+    if nat_lt (length rest) 12 then InvalidTypeInfo
+    else (if nat_lt highest_kind kind then InvalidTypeKind kind else InvalidTypeInfo)
 
 -- What reading one record returns: the record of which the bytes begin with a spelling, else why they begin with none.
 abbrev pub ReadsFront : Order → List ℕ → Result Record Refusal → Type 0
@@ -99,16 +103,20 @@ pub record IsRest (order : Order) (bytes rest : List ℕ) : Type 0 where
   pub front : List ℕ
   pub whole : bytes ≡ front ++ rest
   pub cut : (rs : List Record) × AreRecords order front rs
-  pub longest : (other more : List ℕ) (rs : List Record) → bytes ≡ other ++ more → AreRecords order other rs → length other ≤ length front
+  pub longest : (other more : List ℕ) (rs : List Record) → bytes ≡ other ++ more → AreRecords order other rs
+      → length other ≤ length front
 
 -- The first cause for which bytes are refused: a cut header, strings that don't fit, types that don't fit, and then
 -- what stays after the longest front of records.
 pub record IsRefusal (order : Order) (bytes : List ℕ) (refusal : Refusal) : Type 0 where
   pub header : length bytes < header_len → refusal ≡ InvalidHeader
   pub strings : header_len ≤ length bytes → length bytes < strings_end (header_of order bytes) → refusal ≡ InvalidHeader
-  pub types : header_len ≤ length bytes → strings_end (header_of order bytes) ≤ length bytes → length bytes < types_end (header_of order bytes) → refusal ≡ InvalidTypeInfo
-  pub record_at : header_len ≤ length bytes → strings_end (header_of order bytes) ≤ length bytes → types_end (header_of order bytes) ≤ length bytes
-      → (rest : List ℕ) × IsRest order (type_section (header_of order bytes) bytes) rest × (rest ≢ []) × (refusal ≡ rest_refusal order rest)
+  pub types : header_len ≤ length bytes → strings_end (header_of order bytes) ≤ length bytes
+      → length bytes < types_end (header_of order bytes) → refusal ≡ InvalidTypeInfo
+  pub record_at : header_len ≤ length bytes → strings_end (header_of order bytes) ≤ length bytes
+      → types_end (header_of order bytes) ≤ length bytes
+      → (rest : List ℕ) × IsRest order (type_section (header_of order bytes) bytes) rest × (rest ≢ [])
+      × (refusal ≡ rest_refusal order rest)
 
 -- What parsing returns: the table that the bytes stand for, else the first cause of refusal.
 abbrev pub Parses : Order → List ℕ → Result Table Refusal → Type 0

@@ -32,7 +32,8 @@ pub record IsSection (size : ℕ) (s : Section) : Type 0 where
 
 -- The bytes are these sections, one after another, and then a rest.
 abbrev pub BeginsWith : Order → ℕ → List ℕ → List Section → List ℕ → Type 0
-BeginsWith order size bytes sections rest = AllByRecursion (IsSection size) sections × (bytes ≡ flat_map (section_bytes order) sections ++ rest)
+BeginsWith order size bytes sections rest =
+    AllByRecursion (IsSection size) sections × (bytes ≡ flat_map (section_bytes order) sections ++ rest)
 
 -- The sections that bytes begin with, as many as there are, and the rest after them.
 pub record Sections (order : Order) (size : ℕ) (bytes : List ℕ) (sections : List Section) (rest : List ℕ) : Type 0 where
@@ -41,7 +42,8 @@ pub record Sections (order : Order) (size : ℕ) (bytes : List ℕ) (sections : 
 
 -- No section begins the bytes.
 abbrev pub BeginsNoSection : Order → ℕ → List ℕ → Type 0
-BeginsNoSection order size bytes = (s : Section) (more : List ℕ) → IsSection size s → bytes ≡ section_bytes order s ++ more → ⊥
+BeginsNoSection order size bytes =
+    (s : Section) (more : List ℕ) → IsSection size s → bytes ≡ section_bytes order s ++ more → ⊥
 
 -- the largest number of bytes that is reported
 abbrev pub largest_len : ℕ
@@ -49,7 +51,9 @@ largest_len = 18446744073709551615
 
 -- Why a rest begins with no section: it is cut in its first two words, or there are no records, or they are cut.
 abbrev pub cut_refusal : Order → ℕ → List ℕ → Refusal
-cut_refusal order size rest = if nat_lt (length rest) 8 then InvalidInfo 0 8 (length rest) else InvalidInfo 8 (min (size * word_at order 4 rest) largest_len) (length rest)
+cut_refusal order size rest =
+    if nat_lt (length rest) 8 then InvalidInfo 0 8 (length rest)
+    else InvalidInfo 8 (min (size * word_at order 4 rest) largest_len) (length rest)
 
 -- Bytes whose sections are read one after another: the order of their words, the size of a record, and what is left.
 pub record SectionBytes : Type 0 where
@@ -60,7 +64,9 @@ pub record SectionBytes : Type 0 where
 -- What reading all sections returns, where names are not read: the sections, or why the rest after them is refused.
 abbrev pub AreSections : Order → ℕ → List ℕ → Result (List Section) Refusal → Type 0
 AreSections order size bytes (Ok sections) = BeginsWith order size bytes sections []
-AreSections order size bytes (Err refusal) = (sections : List Section) × (rest : List ℕ) × Sections order size bytes sections rest × (rest ≢ []) × (refusal ≡ cut_refusal order size rest)
+AreSections order size bytes (Err refusal) =
+    (sections : List Section) × (rest : List ℕ) × Sections order size bytes sections rest × (rest ≢ [])
+    × (refusal ≡ cut_refusal order size rest)
 
 -- ---- named sections
 
@@ -79,25 +85,31 @@ sections_of named = map (λ n. n.section) named
 -- After these named sections stands one whose name cannot be read.
 abbrev pub IsUnnamedBehind : Order → ℕ → List ℕ → List ℕ → List Named → Refusal → Type 0
 IsUnnamedBehind order size strings bytes named refusal =
-    (s : Section) × (more : List ℕ) × BeginsWith order size bytes (sections_of named ++ s ∷ []) more × (text_at strings s.name ≡ Err refusal)
+    (s : Section) × (more : List ℕ) × BeginsWith order size bytes (sections_of named ++ s ∷ []) more
+    × (text_at strings s.name ≡ Err refusal)
 
 -- After these named sections stands a rest that is cut.
 abbrev pub IsCutBehind : Order → ℕ → List ℕ → List Named → Refusal → Type 0
-IsCutBehind order size bytes named refusal = (rest : List ℕ) × Sections order size bytes (sections_of named) rest × (rest ≢ []) × (refusal ≡ cut_refusal order size rest)
+IsCutBehind order size bytes named refusal =
+    (rest : List ℕ) × Sections order size bytes (sections_of named) rest × (rest ≢ [])
+    × (refusal ≡ cut_refusal order size rest)
 
 -- What reading all sections returns, where the name of each is read after it: the named sections, or what is refused
 -- after the first of them.
 abbrev pub AreNamed : Order → ℕ → List ℕ → List ℕ → Result (List Named) Refusal → Type 0
-AreNamed order size strings bytes (Ok named) = BeginsWith order size bytes (sections_of named) [] × HaveNames strings named
+AreNamed order size strings bytes (Ok named) =
+    BeginsWith order size bytes (sections_of named) [] × HaveNames strings named
 AreNamed order size strings bytes (Err refusal) =
-    (named : List Named) × HaveNames strings named × (IsUnnamedBehind order size strings bytes named refusal ⊎ IsCutBehind order size bytes named refusal)
+    (named : List Named) × HaveNames strings named
+    × (IsUnnamedBehind order size strings bytes named refusal ⊎ IsCutBehind order size bytes named refusal)
 
 -- ---- records
 
 -- the first words of each of so many records of this size, one after another
 abbrev pub record_words : Order → ℕ → ℕ → ℕ → List ℕ → List (List ℕ)
 record_words order size width zero bytes = []
-record_words order size width (suc count) bytes = words_at order width bytes ∷ record_words order size width count (drop size bytes)
+record_words order size width (suc count) bytes =
+    words_at order width bytes ∷ record_words order size width count (drop size bytes)
 
 -- the bytes of an instruction
 abbrev pub instruction_len : ℕ
@@ -123,7 +135,10 @@ little_bytes records = flat_map (flat_map (word Little)) records
 
 -- function and line records: of each so many words
 abbrev pub instruction_records : Order → ℕ → ℕ → Section → Records
-instruction_records order size width s = record { count = s.count; words = map in_instructions (record_words order size width s.count s.bytes) }
+instruction_records order size width s = record {
+  count = s.count;
+  words = map in_instructions (record_words order size width s.count s.bytes);
+}
 
 -- The section of a name: the last that has it.
 abbrev pub section_named : List Named → List ℕ → Option Section
@@ -149,11 +164,16 @@ full_header = 32
 
 -- The bytes of the header: as many of the first 32 as its length says, and zeros in place of the others.
 abbrev pub header_bytes : Order → List ℕ → List ℕ
-header_bytes order bytes = let given = take (min (word_at order 4 bytes) full_header) bytes in given ++ replicate (full_header - length given) 0
+header_bytes order bytes = let given = take (min (word_at order 4 bytes) full_header) bytes in given
+    ++ replicate (full_header - length given) 0
 
 -- a range by the two words at a place: its offset after the header, whose length is the second word, and its length
 abbrev pub range_at : Order → ℕ → ℕ → List ℕ → Range
-range_at order at least bytes = record { start = word_at order 4 bytes + word_at order at bytes; len = word_at order (at + 4) bytes; least = least }
+range_at order at least bytes = record {
+  start = word_at order 4 bytes + word_at order at bytes;
+  len = word_at order (at + 4) bytes;
+  least = least;
+}
 
 -- A function record has two words at least, a line record and a relocation record have four.
 abbrev pub header_words : Order → List ℕ → Header
@@ -165,8 +185,10 @@ header_words order bytes = record {
 
 -- The header stands there up to its length, which is its second word, or is cut.
 abbrev pub HasHeader : Order → List ℕ → Result Header Refusal → Type 0
-HasHeader order bytes (Ok h) = (8 ≤ length bytes) × (word_at order 4 bytes ≤ length bytes) × (h ≡ header_words order (header_bytes order bytes))
-HasHeader order bytes (Err refusal) = ((length bytes < 8) ⊎ (length bytes < word_at order 4 bytes)) × (refusal ≡ InvalidHeader)
+HasHeader order bytes (Ok h) =
+    (8 ≤ length bytes) × (word_at order 4 bytes ≤ length bytes) × (h ≡ header_words order (header_bytes order bytes))
+HasHeader order bytes (Err refusal) =
+    ((length bytes < 8) ⊎ (length bytes < word_at order 4 bytes)) × (refusal ≡ InvalidHeader)
 
 -- A range lies in the bytes. If it is not empty, it begins with a word, the size of its records, which is not below the
 -- least.
@@ -182,7 +204,9 @@ pub record Part : Type 0 where
 
 -- An empty range has records of size 0; another its first word as their size, and the sections after it.
 abbrev pub part_of : Order → List ℕ → Range → Part
-part_of order bytes r = if r.len == 0 then record { size = 0; bytes = [] } else record { size = word_at order r.start bytes; bytes = slice (r.start + 4) (r.len - 4) bytes }
+part_of order bytes r =
+    if r.len == 0 then record { size = 0; bytes = [] }
+    else record { size = word_at order r.start bytes; bytes = slice (r.start + 4) (r.len - 4) bytes }
 
 -- What a range says, or that it is none.
 abbrev pub HasPart : Order → List ℕ → Range → Result Part Refusal → Type 0
@@ -199,7 +223,8 @@ pub record Ext : Type 0 where
   pub relocations : List (ℕ × List (List ℕ))
 
 abbrev pub records_named : Order → ℕ → Part → List Named → List ℕ → Option Records
-records_named order width part named name = option_map (instruction_records order part.size width) (section_named named name)
+records_named order width part named name =
+    option_map (instruction_records order part.size width) (section_named named name)
 
 abbrev pub relocation_section : Order → ℕ → Section → ℕ × List (List ℕ)
 relocation_section order size s = (s.name, record_words order size 4 s.count s.bytes)
@@ -214,7 +239,8 @@ ext_of order func funcs line lines core relocations = record {
 }
 
 -- One thing is read, and then another by it: what the second returns, or the refusal of the first that is refused.
-abbrev pub Then : {A B : Type 0} → (Result A Refusal → Type 0) → (A → Result B Refusal → Type 0) → Result B Refusal → Type 0
+abbrev pub Then : {A B : Type 0} → (Result A Refusal → Type 0) → (A → Result B Refusal → Type 0) → Result B Refusal
+    → Type 0
 Then first second (Ok b) = (a : _) × first (Ok a) × second a (Ok b)
 Then first second (Err refusal) = first (Err refusal) ⊎ ((a : _) × first (Ok a) × second a (Err refusal))
 

@@ -73,11 +73,15 @@ HaveKinds t = (id : ℕ) (r : Record) → slice_get t.records id ≡ Some r → 
 abbrev pub FieldsFind : Table → Table → Pair → Finding Pair Bool → Type 0
 FieldsFind local target at found =
     ((refusal : Refusal) × Resolves local.records at.local (Err refusal) × (found ≡ Ends (Err refusal)))
-    ⊎ (((id : ℕ) × (refusal : Refusal) × Resolves local.records at.local (Ok id) × Resolves target.records at.target (Err refusal) × (found ≡ Ends (Err refusal)))
-    ⊎ ((id other : ℕ) × (k q : Kind) × (r s : Record) × Resolves local.records at.local (Ok id) × Resolves target.records at.target (Ok other)
+    ⊎ (((id : ℕ) × (refusal : Refusal) × Resolves local.records at.local (Ok id)
+    × Resolves target.records at.target (Err refusal) × (found ≡ Ends (Err refusal)))
+    ⊎ ((id other : ℕ) × (k q : Kind) × (r s : Record) × Resolves local.records at.local (Ok id)
+    × Resolves target.records at.target (Ok other)
     × IsAt local id k r × IsAt target other q s × FieldsFound local target id k q r s found))
 
 -- Whether the types of two fields are compatible, or why there is no answer: what is found after ARRAYs of which each
 -- leads to its elements.
 abbrev pub Fields : Table → ℕ → Table → ℕ → Result Bool Refusal → Type 0
-Fields local id target other = WalkAnswers (FieldsFind local target) (record { local = id; target = other }) (λ at. MaximumTypeDepthReached at.local)
+Fields local id target other =
+    WalkAnswers (FieldsFind local target) (record { local = id; target = other })
+    (λ at. MaximumTypeDepthReached at.local)

@@ -19,13 +19,16 @@ use Rattle.btf_model.specs.Blob.{IsTable, IsRefusal, IsValid, canon, header_len,
 -- No spelling is a proper beginning of another, and bytes spell one record.
 abbrev pub NoSpellingBeginsAnother : Type 0
 NoSpellingBeginsAnother =
-    (order : Order) (bytes more : List ℕ) (r q : Record) → IsRecord order bytes r → IsRecord order (bytes ++ more) q → (more ≡ []) × (r ≡ q)
+    (order : Order) (bytes more : List ℕ) (r q : Record) → IsRecord order bytes r → IsRecord order (bytes ++ more) q
+    → (more ≡ []) × (r ≡ q)
 
 -- Bytes stand for one table at most, or are refused for one cause at most, and never both.
 pub record BlobIsDetermined : Type 0 where
   pub one_table : (order : Order) (bytes : List ℕ) (t u : Table) → IsTable order bytes t → IsTable order bytes u → t ≡ u
-  pub one_refusal : (order : Order) (bytes : List ℕ) (f g : Refusal) → IsRefusal order bytes f → IsRefusal order bytes g → f ≡ g
-  pub not_both : (order : Order) (bytes : List ℕ) (t : Table) (f : Refusal) → IsTable order bytes t → IsRefusal order bytes f → ⊥
+  pub one_refusal : (order : Order) (bytes : List ℕ) (f g : Refusal) → IsRefusal order bytes f → IsRefusal order bytes g
+      → f ≡ g
+  pub not_both : (order : Order) (bytes : List ℕ) (t : Table) (f : Refusal) → IsTable order bytes t
+      → IsRefusal order bytes f → ⊥
 
 -- What is written stands for the table without its fallbacks, in the table's order.
 abbrev pub WrittenParsesBack : Type 0
@@ -41,7 +44,9 @@ IsWrittenAsRead k w = Unit {0}
 
 -- The bytes are cut whole into the words of records that are written as they stand.
 abbrev pub AreWrittenAsRead : Order → List ℕ → Type 0
-AreWrittenAsRead order bytes = (rs : List Record) × AllByRecursion (λ w. (k : Kind) × HasKind k w × IsWrittenAsRead k w) rs × (bytes ≡ flat_map (spell order) rs)
+AreWrittenAsRead order bytes =
+    (rs : List Record) × AllByRecursion (λ w. (k : Kind) × HasKind k w × IsWrittenAsRead k w) rs
+    × (bytes ≡ flat_map (spell order) rs)
 
 -- The bytes have the one written form of a table: the usual header, the strings right after the types, nothing after
 -- the strings, and no word that reading drops.
@@ -55,57 +60,75 @@ pub record IsUsual (order : Order) (bytes : List ℕ) : Type 0 where
 -- A blob that stands for a table is written as it was read exactly if it has the written form.
 abbrev pub ParsedWritesBack : Type 0
 ParsedWritesBack =
-    (order : Order) (bytes : List ℕ) (t : Table) → All (λ byte. byte < 2 ^ 8) bytes → IsTable order bytes t → (canon t ≡ bytes) ↔ IsUsual order bytes
+    (order : Order) (bytes : List ℕ) (t : Table) → All (λ byte. byte < 2 ^ 8) bytes → IsTable order bytes t
+    → (canon t ≡ bytes) ↔ IsUsual order bytes
 
 -- The type that was added is found under the old number of types, and each old id keeps its record.
 abbrev pub AddedTypeIsFound : Type 0
 AddedTypeIsFound =
-    (t : Table) (r : Record) (fallback : Option Fallback) → (slice_get (with_type r fallback t).records (length t.records) ≡ Some r)
+    (t : Table) (r : Record) (fallback : Option Fallback)
+    → (slice_get (with_type r fallback t).records (length t.records) ≡ Some r)
     × ((id : ℕ) → id < length t.records → slice_get (with_type r fallback t).records id ≡ slice_get t.records id)
 
 -- The text that was added, if no zero byte stands in it, is read at the offset that it got; and each offset that was
 -- read as a text is read as the same one.
 pub record AddedStringReadsBack : Type 0 where
-  pub added : (t : Table) (text : List ℕ) → IsUtf8 text → ¬ (Contains text 0) → text_at (with_string text t).strings (length t.strings) ≡ Ok text
-  pub old : (t : Table) (text other : List ℕ) (offset : ℕ) → text_at t.strings offset ≡ Ok other → text_at (with_string text t).strings offset ≡ Ok other
+  pub added : (t : Table) (text : List ℕ) → IsUtf8 text → ¬ (Contains text 0)
+      → text_at (with_string text t).strings (length t.strings) ≡ Ok text
+  pub old : (t : Table) (text other : List ℕ) (offset : ℕ) → text_at t.strings offset ≡ Ok other
+      → text_at (with_string text t).strings offset ≡ Ok other
 
 -- A name finds one type, or for one cause none.
 abbrev pub NameFindsOne : Type 0
-NameFindsOne = (strings : List ℕ) (records : List Record) (k : Kind) (name : List ℕ) (a b : Result ℕ Refusal) → FindsName strings records k name a → FindsName strings records k name b → a ≡ b
+NameFindsOne =
+    (strings : List ℕ) (records : List Record) (k : Kind) (name : List ℕ) (a b : Result ℕ Refusal)
+    → FindsName strings records k name a → FindsName strings records k name b → a ≡ b
 
 -- A walk has one answer: so an id resolves to one type or for one cause to none, and a type has one size or for one
 -- cause none.
 pub record WalksAreDetermined : Type 0 where
-  pub resolving : (records : List Record) (id : ℕ) (a b : Result ℕ Refusal) → Resolves records id a → Resolves records id b → a ≡ b
-  pub size : (records : List Record) (id : ℕ) (a b : Result ℕ Refusal) → HasSize records id a → HasSize records id b → a ≡ b
+  pub resolving : (records : List Record) (id : ℕ) (a b : Result ℕ Refusal) → Resolves records id a
+      → Resolves records id b → a ≡ b
+  pub size : (records : List Record) (id : ℕ) (a b : Result ℕ Refusal) → HasSize records id a → HasSize records id b
+      → a ≡ b
 
 -- What an id resolves to resolves to itself.
 abbrev pub ResolvingTwiceIsOnce : Type 0
-ResolvingTwiceIsOnce = (records : List Record) (id end : ℕ) → Resolves records id (Ok end) → Resolves records end (Ok end)
+ResolvingTwiceIsOnce =
+    (records : List Record) (id end : ℕ) → Resolves records id (Ok end) → Resolves records end (Ok end)
 
 -- A name stands for one value among the variants of a type, or for none, or is refused for one cause.
 abbrev pub VariantValuesAreDetermined : Type 0
-VariantValuesAreDetermined = (t : Table) (id : ℕ) (name : List ℕ) (a b : Result (Option ℕ) Refusal) → Value t id name a → Value t id name b → a ≡ b
+VariantValuesAreDetermined =
+    (t : Table) (id : ℕ) (name : List ℕ) (a b : Result (Option ℕ) Refusal) → Value t id name a → Value t id name b
+    → a ≡ b
 
 -- The relocation records under a name are one list, or are refused for one cause.
 abbrev pub RelocationWordsAreDetermined : Type 0
-RelocationWordsAreDetermined = (strings : List ℕ) (sections : List RelocationSection) (name : List ℕ) (a b : Result (List (List ℕ)) Refusal) → Words strings sections name a → Words strings sections name b → a ≡ b
+RelocationWordsAreDetermined =
+    (strings : List ℕ) (sections : List RelocationSection) (name : List ℕ) (a b : Result (List (List ℕ)) Refusal)
+    → Words strings sections name a → Words strings sections name b → a ≡ b
 
 -- The sections that bytes begin with, and the rest after them, are determined.
 abbrev pub SectionsAreDetermined : Type 0
 SectionsAreDetermined =
-    (order : Order) (size : ℕ) (bytes : List ℕ) (a b : List Section) (x y : List ℕ) → Sections order size bytes a x → Sections order size bytes b y → (a ≡ b) × (x ≡ y)
+    (order : Order) (size : ℕ) (bytes : List ℕ) (a b : List Section) (x y : List ℕ) → Sections order size bytes a x
+    → Sections order size bytes b y → (a ≡ b) × (x ≡ y)
 
 -- A comparison has one answer, and that of types one list of starts, whatever pairs are open above it.
 pub record ComparisonsAreDetermined : Type 0 where
-  pub fields : (local : Table) (id : ℕ) (target : Table) (other : ℕ) (a b : Result Bool Refusal) → Fields local id target other a → Fields local id target other b → a ≡ b
-  pub types : (local target : Table) (above : List Pair) (p : Pair) (a b : Result Bool Refusal) (s t : List Pair) → Plain local target above p a s → Plain local target above p b t → (a ≡ b) × (s ≡ t)
+  pub fields : (local : Table) (id : ℕ) (target : Table) (other : ℕ) (a b : Result Bool Refusal)
+      → Fields local id target other a → Fields local id target other b → a ≡ b
+  pub types : (local target : Table) (above : List Pair) (p : Pair) (a b : Result Bool Refusal) (s t : List Pair)
+      → Plain local target above p a s → Plain local target above p b t → (a ≡ b) × (s ≡ t)
 
 -- In tables whose records have kinds, as in each that can be written, a comparison has an answer: that of types ends
 -- also where the types lead back to themselves.
 pub record ComparisonsHaveAnswers : Type 0 where
-  pub fields : (local target : Table) → HaveKinds local → HaveKinds target → (id other : ℕ) → (answer : Result Bool Refusal) × Fields local id target other answer
-  pub types : (local target : Table) → HaveKinds local → HaveKinds target → (above : List Pair) (p : Pair) → (answer : Result Bool Refusal) × (starts : List Pair) × Plain local target above p answer starts
+  pub fields : (local target : Table) → HaveKinds local → HaveKinds target → (id other : ℕ)
+      → (answer : Result Bool Refusal) × Fields local id target other answer
+  pub types : (local target : Table) → HaveKinds local → HaveKinds target → (above : List Pair) (p : Pair)
+      → (answer : Result Bool Refusal) × (starts : List Pair) × Plain local target above p answer starts
   pub kinds : (t : Table) → IsValid t → HaveKinds t
 
 -- both ids of a pair have a record
@@ -115,9 +138,11 @@ AreIds local target p = (p.local < length local.records) × (p.target < length t
 -- What a comparison starts are pairs of known ids. Without repeats no pair stands there twice, so there are at most as
 -- many as a local and a target type make.
 pub record StartsAreFew : Type 0 where
-  pub known : (local target : Table) (above : List Pair) (p : Pair) (answer : Result Bool Refusal) (starts : List Pair) → Plain local target above p answer starts → All (AreIds local target) starts
+  pub known : (local target : Table) (above : List Pair) (p : Pair) (answer : Result Bool Refusal) (starts : List Pair)
+      → Plain local target above p answer starts → All (AreIds local target) starts
   pub once : (starts : List Pair) → IsDistinct pair_eq (firsts starts)
-  pub few : (local target : Table) (above : List Pair) (p : Pair) (answer : Result Bool Refusal) (starts : List Pair) → Plain local target above p answer starts
+  pub few : (local target : Table) (above : List Pair) (p : Pair) (answer : Result Bool Refusal) (starts : List Pair)
+      → Plain local target above p answer starts
       → length (firsts starts) ≤ length local.records * length target.records
 
 -- the pair with its two sides exchanged
@@ -128,8 +153,14 @@ exchanged p = record { local = p.target; target = p.local }
 -- whose records have kinds a refusal is a refusal from there too, but may name another id or cause: the local side is
 -- looked at first.
 pub record ComparisonsAreSymmetric : Type 0 where
-  pub fields : (local target : Table) (id other : ℕ) (b : Bool) → Fields local id target other (Ok b) → Fields target other local id (Ok b)
-  pub types : (local target : Table) (above : List Pair) (p : Pair) (b : Bool) (starts : List Pair) → Plain local target above p (Ok b) starts → Plain target local (map exchanged above) (exchanged p) (Ok b) (map exchanged starts)
-  pub refused_fields : (local target : Table) → HaveKinds local → HaveKinds target → (id other : ℕ) (refusal : Refusal) → Fields local id target other (Err refusal) → (f : Refusal) × Fields target other local id (Err f)
-  pub refused_types : (local target : Table) → HaveKinds local → HaveKinds target → (above : List Pair) (p : Pair) (refusal : Refusal) (starts : List Pair) → Plain local target above p (Err refusal) starts
+  pub fields : (local target : Table) (id other : ℕ) (b : Bool) → Fields local id target other (Ok b)
+      → Fields target other local id (Ok b)
+  pub types : (local target : Table) (above : List Pair) (p : Pair) (b : Bool) (starts : List Pair)
+      → Plain local target above p (Ok b) starts
+      → Plain target local (map exchanged above) (exchanged p) (Ok b) (map exchanged starts)
+  pub refused_fields : (local target : Table) → HaveKinds local → HaveKinds target → (id other : ℕ) (refusal : Refusal)
+      → Fields local id target other (Err refusal) → (f : Refusal) × Fields target other local id (Err f)
+  pub refused_types : (local target : Table) → HaveKinds local → HaveKinds target
+      → (above : List Pair) (p : Pair) (refusal : Refusal) (starts : List Pair)
+      → Plain local target above p (Err refusal) starts
       → (f : Refusal) × (others : List Pair) × Plain target local (map exchanged above) (exchanged p) (Err f) others

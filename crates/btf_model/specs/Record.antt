@@ -27,7 +27,9 @@ pub data Kind : Type 0 where
 
 -- the kinds in the order of their numbers, from 0 to 19
 abbrev pub kinds : List Kind
-kinds = Unknown ∷ Int ∷ Ptr ∷ Array ∷ Struct ∷ Union ∷ Enum ∷ Fwd ∷ Typedef ∷ Volatile ∷ Const ∷ Restrict ∷ Func ∷ FuncProto ∷ Var ∷ DataSec ∷ Float ∷ DeclTag ∷ TypeTag ∷ Enum64 ∷ []
+kinds =
+    Unknown ∷ Int ∷ Ptr ∷ Array ∷ Struct ∷ Union ∷ Enum ∷ Fwd ∷ Typedef ∷ Volatile ∷ Const ∷ Restrict ∷ Func ∷ FuncProto
+    ∷ Var ∷ DataSec ∷ Float ∷ DeclTag ∷ TypeTag ∷ Enum64 ∷ []
 
 -- the highest kind that is read
 abbrev pub highest_kind : ℕ

@@ -29,18 +29,24 @@ pub data Next : Type 0 where
 module _ (local target : Table) where
   -- the parameters that come next resolve to a, and then next is the position
   abbrev pub OwesNext : Frame → List Pair → Pair → Result Pair Refusal → Type 0
-  OwesNext f owed to a = Finds local target f.at (Owes owed to) × ((at : Pair) × (slice_get owed f.parameter ≡ Some at) × ResolvesPair local target at a)
+  OwesNext f owed to a =
+      Finds local target f.at (Owes owed to)
+      × ((at : Pair) × (slice_get owed f.parameter ≡ Some at) × ResolvesPair local target at a)
 
   -- What comes next for an open pair.
   abbrev pub IsNext : Frame → Next → Type 0
   IsNext f (Ends answer) =
       ((f.left ≡ zero) × (answer ≡ Err (MaximumTypeDepthReached f.at.local)))
-      ⊎ ((n : ℕ) × (f.left ≡ suc n) × (Finds local target f.at (Told answer) ⊎ ((owed : List Pair) × (to : Pair) × (refusal : Refusal) × OwesNext f owed to (Err refusal) × (answer ≡ Err refusal))))
+      ⊎ ((n : ℕ) × (f.left ≡ suc n) × (Finds local target f.at (Told answer)
+      ⊎ ((owed : List Pair) × (to : Pair) × (refusal : Refusal) × OwesNext f owed to (Err refusal)
+      × (answer ≡ Err refusal))))
   IsNext f (GoesOn g) =
       (n : ℕ) × (to : Pair) × (f.left ≡ suc n) × (g ≡ record { pair = f.pair; at = to; left = n; parameter = zero })
-      × (Finds local target f.at (On to) ⊎ ((owed : List Pair) × Finds local target f.at (Owes owed to) × (length owed ≤ f.parameter)))
+      × (Finds local target f.at (On to)
+      ⊎ ((owed : List Pair) × Finds local target f.at (Owes owed to) × (length owed ≤ f.parameter)))
   IsNext f (Waits p g) =
-      (n : ℕ) × (owed : List Pair) × (to : Pair) × (f.left ≡ suc n) × OwesNext f owed to (Ok p) × (g ≡ record f { parameter = suc f.parameter })
+      (n : ℕ) × (owed : List Pair) × (to : Pair) × (f.left ≡ suc n) × OwesNext f owed to (Ok p)
+      × (g ≡ record f { parameter = suc f.parameter })
 
   -- the pair is known, and of compatible kinds
   abbrev pub Begins : Pair → Type 0

@@ -52,7 +52,15 @@ section_limit = 4294967295
 
 -- A new table: one string byte, which is zero, and one type, Unknown.
 abbrev pub empty_table : Table
-empty_table = record { order = Little; magic = 0xeb9f; version = 1; flags = 0; strings = 0 ∷ []; records = unknown ∷ []; fallbacks = None ∷ [] }
+empty_table = record {
+  order = Little;
+  magic = 0xeb9f;
+  version = 1;
+  flags = 0;
+  strings = 0 ∷ [];
+  records = unknown ∷ [];
+  fallbacks = None ∷ [];
+}
 
 -- the table with a text and a zero byte at the end of its strings
 abbrev pub with_string : List ℕ → Table → Table
@@ -64,8 +72,12 @@ with_type r fallback t = record t { records = t.records ++ r ∷ []; fallbacks =
 
 -- The string offset that a text gets at the end of the strings, where it has room there with its zero byte.
 abbrev pub string_place : List ℕ → Table → Result ℕ Refusal
-string_place text t = if nat_le (length t.strings + (length text + 1)) section_limit then Ok (length t.strings) else Err (InvalidStringOffset (length t.strings))
+string_place text t =
+    if nat_le (length t.strings + (length text + 1)) section_limit then Ok (length t.strings)
+    else Err (InvalidStringOffset (length t.strings))
 
 -- The id that a record gets at the end of the types, where it has room there.
 abbrev pub type_place : Record → Table → Result ℕ Refusal
-type_place r t = if nat_le (length (type_bytes t) + length (spell t.order r)) section_limit then Ok (length t.records) else Err InvalidTypeInfo
+type_place r t =
+    if nat_le (length (type_bytes t) + length (spell t.order r)) section_limit then Ok (length t.records)
+    else Err InvalidTypeInfo

@@ -35,20 +35,24 @@ text_at strings offset = text_of offset (bytes_at strings offset)
 -- A record that the search for a type of this kind and name goes past: one of another kind, or of another name that can
 -- be read.
 abbrev pub IsPassed : List ℕ → Kind → List ℕ → Record → Type 0
-IsPassed strings k name r = (kind_of r.info ≢ Some k) ⊎ ((other : List ℕ) × (text_at strings r.name ≡ Ok other) × (other ≢ name))
+IsPassed strings k name r =
+    (kind_of r.info ≢ Some k) ⊎ ((other : List ℕ) × (text_at strings r.name ≡ Ok other) × (other ≢ name))
 
 -- All ids below this one are gone past.
 abbrev pub ArePassed : List ℕ → List Record → Kind → List ℕ → ℕ → Type 0
-ArePassed strings records k name id = (low : ℕ) (r : Record) → low < id → slice_get records low ≡ Some r → IsPassed strings k name r
+ArePassed strings records k name id =
+    (low : ℕ) (r : Record) → low < id → slice_get records low ≡ Some r → IsPassed strings k name r
 
 -- The search comes to an id: its record is r, which has this kind, and all lower ids are gone past.
 abbrev pub IsReached : List ℕ → List Record → Kind → List ℕ → ℕ → Record → Type 0
-IsReached strings records k name id r = ArePassed strings records k name id × (slice_get records id ≡ Some r) × (kind_of r.info ≡ Some k)
+IsReached strings records k name id r =
+    ArePassed strings records k name id × (slice_get records id ≡ Some r) × (kind_of r.info ≡ Some k)
 
 -- The id of the type of a kind and a name: the least. A name of that kind that cannot be read, at a lower id, is why
 -- there is none; or no record has the kind and the name.
 abbrev pub FindsName : List ℕ → List Record → Kind → List ℕ → Result ℕ Refusal → Type 0
-FindsName strings records k name (Ok id) = (r : Record) × IsReached strings records k name id r × (text_at strings r.name ≡ Ok name)
+FindsName strings records k name (Ok id) =
+    (r : Record) × IsReached strings records k name id r × (text_at strings r.name ≡ Ok name)
 FindsName strings records k name (Err refusal) =
     ((id : ℕ) × (r : Record) × IsReached strings records k name id r × (text_at strings r.name ≡ Err refusal))
     ⊎ (ArePassed strings records k name (length records) × (refusal ≡ UnknownBtfTypeName name))

@@ -37,7 +37,8 @@ variants_by id k r fallback = Err (UnexpectedBtfType id)
 -- The variants of the type of an id, or that it is a type without variants.
 abbrev pub HasVariants : Table → ℕ → Result (List Variant) Refusal → Type 0
 HasVariants t id answer =
-    (r : Record) × (fallback : Option Fallback) × (slice_get t.records id ≡ Some r) × (slice_get t.fallbacks id ≡ Some fallback) × (answer ≡ variants_by id (kind_of r.info) r fallback)
+    (r : Record) × (fallback : Option Fallback) × (slice_get t.records id ≡ Some r)
+    × (slice_get t.fallbacks id ≡ Some fallback) × (answer ≡ variants_by id (kind_of r.info) r fallback)
 
 -- ---- the variant of a name
 
@@ -47,14 +48,17 @@ HaveOtherNames strings name vs = AllByRecursion (λ v. (other : List ℕ) × (te
 
 -- This variant is one of these, and all before it have other names.
 abbrev pub IsAfterOthers : List ℕ → List ℕ → List Variant → Variant → Type 0
-IsAfterOthers strings name vs v = (before after : List Variant) × (vs ≡ before ++ v ∷ after) × HaveOtherNames strings name before
+IsAfterOthers strings name vs v =
+    (before after : List Variant) × (vs ≡ before ++ v ∷ after) × HaveOtherNames strings name before
 
 -- The value of the first variant whose text is the name, or that no variant has the name, where the texts up to that
 -- variant, or all of them, can be read; or the first text that cannot be read, where those before it are other names.
 abbrev pub FindsVariant : List ℕ → List ℕ → List Variant → Result (Option ℕ) Refusal → Type 0
-FindsVariant strings name vs (Ok (Some value)) = (v : Variant) × IsAfterOthers strings name vs v × (text_at strings v.name ≡ Ok name) × (v.value ≡ value)
+FindsVariant strings name vs (Ok (Some value)) =
+    (v : Variant) × IsAfterOthers strings name vs v × (text_at strings v.name ≡ Ok name) × (v.value ≡ value)
 FindsVariant strings name vs (Ok None) = HaveOtherNames strings name vs
-FindsVariant strings name vs (Err refusal) = (v : Variant) × IsAfterOthers strings name vs v × (text_at strings v.name ≡ Err refusal)
+FindsVariant strings name vs (Err refusal) =
+    (v : Variant) × IsAfterOthers strings name vs v × (text_at strings v.name ≡ Err refusal)
 
 -- The value of the variant of a name, or that there is none, in the type that an id resolves to; or the first cause of
 -- refusal: of resolving, of a type without variants, of a text.

@@ -20,7 +20,8 @@ walk_limit = 32
 
 -- The answer of a walk: that of its end, after fewer than 32 places that go on; or it is too deep, by the place that
 -- would come next.
-abbrev pub WalkAnswers : {Place Answer : Type 0} → (Place → Finding Place Answer → Type 0) → Place → (Place → Refusal) → Result Answer Refusal → Type 0
+abbrev pub WalkAnswers : {Place Answer : Type 0} → (Place → Finding Place Answer → Type 0) → Place → (Place → Refusal)
+    → Result Answer Refusal → Type 0
 WalkAnswers Finds start too_deep answer =
     ((n : ℕ) × (end : _) × (n < walk_limit) × Leads Finds n start end × Finds end (Ends answer))
     ⊎ ((end : _) × Leads Finds walk_limit start end × (answer ≡ Err (too_deep end)))
@@ -56,7 +57,8 @@ unmodified_in id None = Ends (Err (UnknownBtfType id))
 
 -- What an id resolves to: the first type that is no modifier, or why there is none.
 abbrev pub Resolves : List Record → ℕ → Result ℕ Refusal → Type 0
-Resolves records id = WalkAnswers (By (λ at. unmodified_in at (slice_get records at))) id (λ _. MaximumTypeDepthReached id)
+Resolves records id =
+    WalkAnswers (By (λ at. unmodified_in at (slice_get records at))) id (λ _. MaximumTypeDepthReached id)
 
 -- ---- sizes
 
@@ -100,8 +102,11 @@ pub record Elements : Type 0 where
 
 -- the walk ends with a size or goes on to another type, where the product has 32 bits
 abbrev pub size_by : Elements → Extent → Finding Elements ℕ
-size_by at (Bytes bytes) = if nat_lt (bytes * at.count) (2 ^ 32) then Ends (Ok (bytes * at.count)) else Ends (Err InvalidTypeInfo)
-size_by at (Times count type) = if nat_lt (at.count * count) (2 ^ 32) then GoesOn (record { count = at.count * count; type = type }) else Ends (Err InvalidTypeInfo)
+size_by at (Bytes bytes) =
+    if nat_lt (bytes * at.count) (2 ^ 32) then Ends (Ok (bytes * at.count)) else Ends (Err InvalidTypeInfo)
+size_by at (Times count type) =
+    if nat_lt (at.count * count) (2 ^ 32) then GoesOn (record { count = at.count * count; type = type })
+    else Ends (Err InvalidTypeInfo)
 size_by at NoExtent = Ends (Err (UnexpectedBtfType at.type))
 
 -- what it finds in the record of a type, if there is one
@@ -111,4 +116,6 @@ size_in at None = Ends (Err (UnknownBtfType at.type))
 
 -- The size of one of a type in bytes, or why it has none.
 abbrev pub HasSize : List Record → ℕ → Result ℕ Refusal → Type 0
-HasSize records id = WalkAnswers (By (λ at. size_in at (slice_get records at.type))) (record { count = 1; type = id }) (λ _. MaximumTypeDepthReached id)
+HasSize records id =
+    WalkAnswers (By (λ at. size_in at (slice_get records at.type))) (record { count = 1; type = id })
+    (λ _. MaximumTypeDepthReached id)

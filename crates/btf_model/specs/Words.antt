@@ -28,4 +28,5 @@ words_named strings name sections = flat_map (λ s. s.1) (filter (λ s. is_name 
 abbrev pub Words : List ℕ → List RelocationSection → List ℕ → Result (List (List ℕ)) Refusal → Type 0
 Words strings sections name (Ok words) = HaveNames strings sections × (words ≡ words_named strings name sections)
 Words strings sections name (Err refusal) =
-    (before after : List RelocationSection) × (s : RelocationSection) × (sections ≡ before ++ s ∷ after) × HaveNames strings before × (text_at strings s.0 ≡ Err refusal)
+    (before after : List RelocationSection) × (s : RelocationSection) × (sections ≡ before ++ s ∷ after)
+    × HaveNames strings before × (text_at strings s.0 ≡ Err refusal)

@@ -14,7 +14,8 @@ encoding_number Unknown = 5
 
 -- the encoding that a number has: each number but those four is Unknown
 abbrev pub encoding_of : ℕ → IntEncoding
-encoding_of n = if n == 0 then None else (if n == 1 then Signed else (if n == 2 then Char else (if n == 4 then Bool else Unknown)))
+encoding_of n =
+    if n == 0 then None else (if n == 1 then Signed else (if n == 2 then Char else (if n == 4 then Bool else Unknown)))
 
 -- The data word: bits 24 to 27 the encoding, 16 to 23 the bit offset, 0 to 7 the number of bits.
 abbrev pub int_data : ℕ → ℕ → ℕ → ℕ

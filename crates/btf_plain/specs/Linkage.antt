@@ -15,7 +15,8 @@ func_linkage_number func.Unknown = 3
 
 -- the linkage of a function that a number has: each number but 0, 1 and 2 is Unknown
 abbrev pub func_linkage_of : ℕ → FuncLinkage
-func_linkage_of n = if n == 0 then func.Static else (if n == 1 then func.Global else (if n == 2 then func.Extern else func.Unknown))
+func_linkage_of n =
+    if n == 0 then func.Static else (if n == 1 then func.Global else (if n == 2 then func.Extern else func.Unknown))
 
 -- the number of a variable's linkage
 abbrev pub var_linkage_number : VarLinkage → ℕ
@@ -26,4 +27,5 @@ var_linkage_number var.Unknown = 3
 
 -- the linkage of a variable that a number has: each number but 0, 1 and 2 is Unknown
 abbrev pub var_linkage_of : ℕ → VarLinkage
-var_linkage_of n = if n == 0 then var.Static else (if n == 1 then var.Global else (if n == 2 then var.Extern else var.Unknown))
+var_linkage_of n =
+    if n == 0 then var.Static else (if n == 1 then var.Global else (if n == 2 then var.Extern else var.Unknown))

@@ -16,9 +16,13 @@ pub record IsHead (order : Order) (bytes : List ℕ) (head : Head) (rest : List 
 
 -- the record of the head and of the first words after it
 abbrev pub record_behind : Order → Head → ℕ → List ℕ → Record
-record_behind order head n rest = record { name = head.name; info = head.info; third = head.third; tail = words_at order n rest }
+record_behind order head n rest =
+    record { name = head.name; info = head.info; third = head.third; tail = words_at order n rest }
 
 -- what is kept of the record of the head and of the words after it; refused where those words are cut
 abbrev pub ReadsTail : Order → Head → Kind → List ℕ → Result Record Refusal → Type 0
-ReadsTail order head k rest (Ok r) = (4 * tail_words k (vlen head.info) ≤ length rest) × (r ≡ kept k (record_behind order head (tail_words k (vlen head.info)) rest))
-ReadsTail order head k rest (Err refusal) = (length rest < 4 * tail_words k (vlen head.info)) × (refusal ≡ InvalidTypeInfo)
+ReadsTail order head k rest (Ok r) =
+    (4 * tail_words k (vlen head.info) ≤ length rest)
+    × (r ≡ kept k (record_behind order head (tail_words k (vlen head.info)) rest))
+ReadsTail order head k rest (Err refusal) =
+    (length rest < 4 * tail_words k (vlen head.info)) × (refusal ≡ InvalidTypeInfo)

@@ -229,14 +229,17 @@ impl BtfType {
 
     /// Whether the kinds are equal, or one is ENUM and the other ENUM64.
     pub fn is_compatible(&self, other: &BtfType) -> bool
-        ensures { IsTrue result ↔ (compared_kind (type_kind self.now) ≡ compared_kind (type_kind other.now)) }
+        ensures { IsTrue result ↔ (compared_kind (type_kind self.now) ≡ compared_kind
+            (type_kind other.now)) }
     {
         compared(self.kind()) == compared(other.kind())
     }
 
     /// The members of a STRUCT or a UNION, in order; None for the other kinds.
     pub fn members(&self) -> Option<Iter<'_, BtfMember>>
-        ensures { option_map (λ it. flat_map member_words (iter_rest it)) result ≡ (if model.is_composite (type_kind self.now) then Some (record_of self.now).tail else None) }
+        ensures { option_map (λ it. flat_map member_words (iter_rest it)) result
+            ≡ (if model.is_composite (type_kind self.now) then Some (record_of self.now).tail
+            else None) }
     {
         match self {
             BtfType::Struct(t) => Some(t.members().iter()),
@@ -247,7 +250,8 @@ impl BtfType {
 
     /// The bit at which a member of this STRUCT or UNION begins; None for the other kinds.
     pub fn member_bit_offset(&self, member: &BtfMember) -> Option<usize>
-        ensures { result ≡ (if model.is_composite (type_kind self.now) then Some (member_bit_offset (record_of self.now).info member.now.offset) else None) }
+        ensures { result ≡ (if model.is_composite (type_kind self.now)
+            then Some (member_bit_offset (record_of self.now).info member.now.offset) else None) }
     {
         match self {
             BtfType::Struct(t) => Some(t.member_bit_offset(member)),
@@ -258,7 +262,9 @@ impl BtfType {
 
     /// The number of bits of a member of this STRUCT or UNION that is a bit-field, else 0; None for the other kinds.
     pub fn member_bit_field_size(&self, member: &BtfMember) -> Option<usize>
-        ensures { result ≡ (if model.is_composite (type_kind self.now) then Some (member_bit_field_size (record_of self.now).info member.now.offset) else None) }
+        ensures { result ≡ (if model.is_composite (type_kind self.now)
+            then Some (member_bit_field_size (record_of self.now).info member.now.offset)
+            else None) }
     {
         match self {
             BtfType::Struct(t) => Some(t.member_bit_field_size(member)),

@@ -77,7 +77,8 @@ fn read_var(head: Head, rest: &[u8], endianness: Endianness) -> Result<Var, BtfE
 /// A DECL_TAG of this head.
 fn read_decl_tag(head: Head, rest: &[u8], endianness: Endianness) -> Result<DeclTag, BtfError>
     requires { kind_of head.info ≡ Some model.DeclTag }
-    ensures { Answers (λ r. r) result (ReadsTail (order_of endianness) head model.DeclTag rest.now) }
+    ensures { Answers (λ r. r) result
+        (ReadsTail (order_of endianness) head model.DeclTag rest.now) }
 {
     let (index, _) = split_word(rest, endianness)?;
     Ok(DeclTag::new(head.name, head.third, index.cast_signed()).with_info(head.info))
@@ -116,7 +117,8 @@ fn read_union(
     endianness: Endianness,
 ) -> Result<Union, BtfError>
     requires { kind_of head.info ≡ Some model.Union }
-    ensures front { Answers (λ r. r.words) result (ReadsTail (order_of endianness) head model.Union rest.now) }
+    ensures front { Answers (λ r. r.words) result
+        (ReadsTail (order_of endianness) head model.Union rest.now) }
     ensures no_fallback { IfOk result (λ u. u.fallback ≡ None) }
 {
     let items = read_items(alloc, rest, endianness, head.vlen())?;
@@ -145,7 +147,8 @@ fn read_func_proto(
     endianness: Endianness,
 ) -> Result<FuncProto, BtfError>
     requires { kind_of head.info ≡ Some model.FuncProto }
-    ensures { Answers (λ r. r) result (ReadsTail (order_of endianness) head model.FuncProto rest.now) }
+    ensures { Answers (λ r. r) result
+        (ReadsTail (order_of endianness) head model.FuncProto rest.now) }
 {
     let items = read_items(alloc, rest, endianness, head.vlen())?;
     Ok(FuncProto::from_parts(head.name, head.info, head.third, items))
@@ -159,7 +162,8 @@ fn read_data_sec(
     endianness: Endianness,
 ) -> Result<DataSec, BtfError>
     requires { kind_of head.info ≡ Some model.DataSec }
-    ensures { Answers (λ r. r) result (ReadsTail (order_of endianness) head model.DataSec rest.now) }
+    ensures { Answers (λ r. r) result
+        (ReadsTail (order_of endianness) head model.DataSec rest.now) }
 {
     let items = read_items(alloc, rest, endianness, head.vlen())?;
     Ok(DataSec::from_parts(head.name, head.info, head.third, items))
@@ -231,7 +235,8 @@ impl BtfType {
     /// Writes the record at the end of bytes, in this order. Only memory can be wanting, and then some of the
     /// record's words may stand at the end.
     pub fn append_to(&self, out: &mut Vec<u8>, order: Endianness) -> Result<(), AllocError>
-        ensures written { OnOk result (out.new.items ≡ out.old.items ++ spell (order_of order) (record_of self.now)) }
+        ensures written { OnOk result (out.new.items ≡ out.old.items
+            ++ spell (order_of order) (record_of self.now)) }
         // What is written is read as the record.
         ensures whole { OnOk result (IsWhole (record_of self.now)) }
     {
@@ -277,9 +282,11 @@ impl BtfType {
 
     /// The bytes of the record, in this order. `OutOfMemory` is the only error.
     pub fn to_bytes(&self, alloc: Global, endianness: Endianness) -> Result<Vec<u8>, BtfError>
-        ensures written { Gives (λ v. v.items) result (Ok (spell (order_of endianness) (record_of self.now))) }
+        ensures written { Gives (λ v. v.items) result
+            (Ok (spell (order_of endianness) (record_of self.now))) }
         // What is written is read as the record.
-        ensures read_again { IfOk result (λ v. IsRecord (order_of endianness) v.items (record_of self.now)) }
+        ensures read_again { IfOk result
+            (λ v. IsRecord (order_of endianness) v.items (record_of self.now)) }
     {
         let mut out = Vec::with_capacity(alloc, self.type_info_size())?;
         self.append_to(&mut out, endianness)?;
@@ -289,7 +296,8 @@ impl BtfType {
 
 /// Writes an ARRAY at the end of bytes, its third word as 0.
 fn append_array(t: &Array, out: &mut Vec<u8>, endianness: Endianness) -> Result<(), AllocError>
-    ensures written { OnOk result (out.new.items ≡ out.old.items ++ spell (order_of endianness) t.now) }
+    ensures written { OnOk result (out.new.items ≡ out.old.items
+        ++ spell (order_of endianness) t.now) }
     ensures whole { IsWhole t.now }
 {
     let array = t.array();

@@ -17,7 +17,8 @@ use Rattle.btf_reference.specs.declared.plain_comparison.Position.TheVariants as
 abbrev pub PositionIs : Position → (model.Position → Type 0) → Type 0
 PositionIs (positions.Told answer) P = Tells (λ b. b) answer (λ a. P (Told a))
 PositionIs (positions.On next) P = P (On (pair_of next))
-PositionIs (positions.Owes params others next) P = P (Owes (pairs (types_of params.now) (types_of others.now)) (pair_of next))
+PositionIs (positions.Owes params others next) P =
+    P (Owes (pairs (types_of params.now) (types_of others.now)) (pair_of next))
 
 -- both ids of the pair are known, and their kinds are compatible or not; or the first one that is not known
 abbrev pub AreStarted : Table → Table → Pair → Result Bool Refusal → Type 0
@@ -25,8 +26,11 @@ AreStarted local target p (Ok true) = (k q : Kind) × AreKnown local target p k 
 AreStarted local target p (Ok false) = (k q : Kind) × AreKnown local target p k q × (compared_kind k ≢ compared_kind q)
 AreStarted local target p (Err refusal) =
     ((slice_get local.records p.local ≡ None) × (refusal ≡ UnknownBtfType p.local))
-    ⊎ ((r : Record) × (slice_get local.records p.local ≡ Some r) × (slice_get target.records p.target ≡ None) × (refusal ≡ UnknownBtfType p.target))
+    ⊎ ((r : Record) × (slice_get local.records p.local ≡ Some r) × (slice_get target.records p.target ≡ None)
+    × (refusal ≡ UnknownBtfType p.target))
 
 -- An answer, and pairs after those of a list, of which P holds.
-abbrev pub Lists : (Result Bool Refusal → List Pair → Type 0) → Result Bool BtfError → List (ℕ × ℕ) → List (ℕ × ℕ) → Type 0
-Lists P result old new = Tells (λ b. b) result (λ answer. (listed : List Pair) × P answer listed × (new ≡ old ++ map ids_of listed))
+abbrev pub Lists : (Result Bool Refusal → List Pair → Type 0) → Result Bool BtfError → List (ℕ × ℕ) → List (ℕ × ℕ)
+    → Type 0
+Lists P result old new =
+    Tells (λ b. b) result (λ answer. (listed : List Pair) × P answer listed × (new ≡ old ++ map ids_of listed))

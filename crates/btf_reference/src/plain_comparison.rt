@@ -61,7 +61,8 @@ pub fn compare_plainly(
     pair: (u32, u32),
     starts: &mut Vec<(u32, u32)>,
 ) -> Result<Result<bool, BtfError>, Stop>
-    ensures { IfOk result (λ answer. Lists (Plain local.now target.now [] (pair_of pair)) answer starts.old.items starts.new.items) }
+    ensures { IfOk result (λ answer. Lists
+        (Plain local.now target.now [] (pair_of pair)) answer starts.old.items starts.new.items) }
 {
     compared(local, target, &[], pair, starts, MOST_OPEN)
 }
@@ -76,7 +77,9 @@ fn compared(
     starts: &mut Vec<(u32, u32)>,
     depth: u32,
 ) -> Result<Result<bool, BtfError>, Stop>
-    ensures { IfOk result (λ answer. Lists (Plain local.now target.now (map pair_of above.now) (pair_of pair)) answer starts.old.items starts.new.items) }
+    ensures { IfOk result (λ answer. Lists
+        (Plain local.now target.now (map pair_of above.now)
+        (pair_of pair)) answer starts.old.items starts.new.items) }
 {
     if is_open(above, pair) {
         return Ok(Err(BtfError::MaximumTypeDepthReached { type_id: pair.0 }));
@@ -139,7 +142,9 @@ fn walked(
     depth: u32,
 ) -> Result<Result<bool, BtfError>, Stop>
     requires { left ≤ walk_limit }
-    ensures { IfOk result (λ answer. Lists (Walked local.now target.now (map pair_of above.now) left (pair_of at)) answer starts.old.items starts.new.items) }
+    ensures { IfOk result (λ answer. Lists
+        (Walked local.now target.now (map pair_of above.now) left
+        (pair_of at)) answer starts.old.items starts.new.items) }
 {
     if left == 0 {
         return Ok(Err(BtfError::MaximumTypeDepthReached { type_id: at.0 }));
@@ -168,7 +173,10 @@ fn paid(
     starts: &mut Vec<(u32, u32)>,
     depth: u32,
 ) -> Result<Result<bool, BtfError>, Stop>
-    ensures { IfOk result (λ answer. Lists (Paid local.now target.now (map pair_of above.now) (pairs (types_of params.now) (types_of others.now))) answer starts.old.items starts.new.items) }
+    ensures { IfOk result (λ answer. Lists
+        (Paid local.now target.now (map pair_of above.now)
+        (pairs (types_of params.now) (types_of others.now))) answer starts.old.items
+        starts.new.items) }
 {
     let Some((param, params)) = params.split_first() else {
         return Ok(Ok(true));
@@ -219,7 +227,8 @@ fn found_at<'a>(local: &'a Btf, target: &'a Btf, at: (u32, u32)) -> Position<'a>
 
 /// The id and the type that an id resolves to.
 fn resolved(table: &Btf, type_id: u32) -> Result<(u32, &BtfType), BtfError>
-    ensures { Tells (λ found. (found.0, type_kind found.1.now, record_of found.1.now)) result (IsResolved table.now type_id) }
+    ensures { Tells (λ found. (found.0, type_kind found.1.now, record_of found.1.now)) result
+        (IsResolved table.now type_id) }
 {
     let id = table.resolve_type(type_id)?;
     let btf_type = table.type_by_id(id)?;
@@ -230,7 +239,8 @@ fn resolved(table: &Btf, type_id: u32) -> Result<(u32, &BtfType), BtfError>
 
 /// What is found at two types that are no modifiers.
 fn found_in<'a>(local_id: u32, local_type: &'a BtfType, target_type: &'a BtfType) -> Position<'a>
-    ensures { PositionIs result (PositionFound local_id (type_kind local_type.now) (type_kind target_type.now) (record_of local_type.now) (record_of target_type.now)) }
+    ensures { PositionIs result (PositionFound local_id (type_kind local_type.now)
+        (type_kind target_type.now) (record_of local_type.now) (record_of target_type.now)) }
 {
     if !local_type.is_compatible(target_type) {
         return Position::Told(Ok(false));
@@ -263,7 +273,9 @@ fn found_in<'a>(local_id: u32, local_type: &'a BtfType, target_type: &'a BtfType
 
 /// What is found at an integer and another type: whether that is an integer, and both begin at bit 0.
 fn ints<'a>(local: &Int, target_type: &BtfType) -> Position<'a>
-    ensures { type_kind target_type.now ≡ model.Int → PositionIs result (λ found. found ≡ position_by 0 model.Int local.now (record_of target_type.now)) }
+    ensures { type_kind target_type.now ≡ model.Int
+        → PositionIs result (λ found. found ≡ position_by 0 model.Int local.now
+        (record_of target_type.now)) }
 {
     match target_type {
         BtfType::Int(target) => Position::Told(Ok(local.offset() == 0 && target.offset() == 0)),
@@ -273,7 +285,9 @@ fn ints<'a>(local: &Int, target_type: &BtfType) -> Position<'a>
 
 /// What is found at a pointer and another type: the types that both point to.
 fn pointers<'a>(local: &Ptr, target_type: &BtfType) -> Position<'a>
-    ensures { type_kind target_type.now ≡ model.Ptr → PositionIs result (λ found. found ≡ position_by 0 model.Ptr local.now (record_of target_type.now)) }
+    ensures { type_kind target_type.now ≡ model.Ptr
+        → PositionIs result (λ found. found ≡ position_by 0 model.Ptr local.now
+        (record_of target_type.now)) }
 {
     match target_type {
         BtfType::Ptr(target) => Position::On((local.btf_type(), target.btf_type())),
@@ -283,7 +297,9 @@ fn pointers<'a>(local: &Ptr, target_type: &BtfType) -> Position<'a>
 
 /// What is found at an array and another type: the types of the elements of both.
 fn arrays<'a>(local: &Array, target_type: &BtfType) -> Position<'a>
-    ensures { type_kind target_type.now ≡ model.Array → PositionIs result (λ found. found ≡ position_by 0 model.Array local.now (record_of target_type.now)) }
+    ensures { type_kind target_type.now ≡ model.Array
+        → PositionIs result (λ found. found ≡ position_by 0 model.Array local.now
+        (record_of target_type.now)) }
 {
     match target_type {
         BtfType::Array(target) => {
@@ -296,7 +312,9 @@ fn arrays<'a>(local: &Array, target_type: &BtfType) -> Position<'a>
 /// What is found at a prototype and another type: the parameters of both, if they are as many, and then what both
 /// return.
 fn prototypes<'a>(local: &'a FuncProto, target_type: &'a BtfType) -> Position<'a>
-    ensures { type_kind target_type.now ≡ model.FuncProto → PositionIs result (λ found. found ≡ position_by 0 model.FuncProto local.now (record_of target_type.now)) }
+    ensures { type_kind target_type.now ≡ model.FuncProto
+        → PositionIs result (λ found. found ≡ position_by 0 model.FuncProto local.now
+        (record_of target_type.now)) }
 {
     let BtfType::FuncProto(target) = target_type else {
         return Position::Told(Ok(false));

@@ -29,7 +29,13 @@ impl Model for Ptr {
 impl Ptr {
     /// A pointer to the type of id `btf_type`.
     pub fn new(name_offset: u32, btf_type: u32) -> Self
-        ensures { result ≡ record { name = name_offset; info = 2 * 2 ^ 24; third = btf_type; tail = [] } }
+        ensures { result ≡ record {
+          name = name_offset;
+          info = 2 * 2 ^ 24;
+          third = btf_type;
+          tail =
+              [];
+        } }
     {
         Self {
             name_offset,

@@ -31,7 +31,8 @@ is_known t id = is_record id (slice_get t.records id)
 
 -- a text has room, with its zero byte, after so many bytes of strings
 abbrev pub has_room : ℕ → List ℕ → Check
-has_room offset text = if nat_le (offset + length text + 1) section_limit then None else Some (InvalidStringOffset offset)
+has_room offset text =
+    if nat_le (offset + length text + 1) section_limit then None else Some (InvalidStringOffset offset)
 
 -- texts have room, one after the other
 abbrev pub have_room : ℕ → List (List ℕ) → List Check

@@ -15,7 +15,8 @@ use Rattle.btf_rewrite_model.specs.Pass.{Pass, has, name_of, name_checks, sectio
 
 -- an entry that becomes a member: its type is there, and its bit has 32 bits
 abbrev pub member_checks : Pass → Entry → List Check
-member_checks p e = is_known p.table e.type ∷ (if nat_lt (e.offset * 8) (2 ^ 32) then None else Some InvalidTypeInfo) ∷ []
+member_checks p e =
+    is_known p.table e.type ∷ (if nat_lt (e.offset * 8) (2 ^ 32) then None else Some InvalidTypeInfo) ∷ []
 
 -- the size of its section is known, by a name that can be read
 abbrev pub is_sized : Option ℕ → Result (List ℕ) Refusal → Check
@@ -30,13 +31,16 @@ is_placed offset name = None
 -- an entry that is completed: its type is there, is a VAR, has a name, and a symbol, but for a Static one
 abbrev pub entry_checks : Pass → Entry → List Check
 entry_checks p e =
-    is_known p.table e.type ∷ is_var (kind_at p.table e.type) ∷ is_read (name_of p e.type) ∷ (if is_static (record_at p.table e.type) then None else is_placed (symbol_offset p e.type) (name_of p e.type)) ∷ []
+    is_known p.table e.type ∷ is_var (kind_at p.table e.type) ∷ is_read (name_of p e.type)
+    ∷ (if is_static (record_at p.table e.type) then None else is_placed (symbol_offset p e.type) (name_of p e.type))
+    ∷ []
 
 -- room for the filler: for its texts and its records in turn
 abbrev pub filler_checks : Pass → ℕ → List Check
 filler_checks p id =
     has_room (filler_offset p id) filler_type_text ∷ fits (type_len_at p id) (record_len (byte_int 0))
-    ∷ has_room (filler_offset p id + length filler_type_text + 1) filler_text ∷ fits (type_len_at p id + record_len (byte_int 0)) (record_len (static_var 0 0)) ∷ []
+    ∷ has_room (filler_offset p id + length filler_type_text + 1) filler_text
+    ∷ fits (type_len_at p id + record_len (byte_int 0)) (record_len (static_var 0 0)) ∷ []
 
 -- room for the entry of the filler, after what was added
 abbrev pub growth_checks : Pass → ℕ → List Check
@@ -50,7 +54,8 @@ filling_checks p id = (if makes_filler p id then filler_checks p id else []) ++ 
 -- the tests of a DATASEC of size 0, once its name is read
 abbrev pub completing_checks : Pass → ℕ → Record → List Check
 completing_checks p id r =
-    is_sized (section_size p id) (name_of p id) ∷ (if makes_filler p id then filler_checks p id else []) ++ flat_map (entry_checks p) (entries r.tail) ++ growth_checks p id
+    is_sized (section_size p id) (name_of p id) ∷ (if makes_filler p id then filler_checks p id else [])
+    ++ flat_map (entry_checks p) (entries r.tail) ++ growth_checks p id
 
 -- ---- the tests of each kind
 
@@ -63,9 +68,12 @@ all_fit used (r ∷ rs) = fits used (record_len r) ∷ all_fit (used + record_le
 abbrev pub checks_by : Pass → ℕ → Option Kind → Record → List Check
 checks_by p id (Some kinds.Func) r = is_read (name_of p id) ∷ []
 checks_by p id (Some kinds.FuncProto) r = have_room (offset_at p id) (texts p id)
-checks_by p id (Some kinds.Enum64) r = have_room (offset_at p id) (texts p id) ++ all_fit (type_len_at p id) (added p id)
+checks_by p id (Some kinds.Enum64) r =
+    have_room (offset_at p id) (texts p id) ++ all_fit (type_len_at p id) (added p id)
 checks_by p id (Some kinds.DataSec) r =
-    name_checks p id ++ (if has p features.DataSec then (if r.third == 0 then completing_checks p id r else filling_checks p id) else flat_map (member_checks p) (entries r.tail))
+    name_checks p id ++ (if has p features.DataSec
+    then (if r.third == 0 then completing_checks p id r else filling_checks p id)
+    else flat_map (member_checks p) (entries r.tail))
 checks_by p id k r = []
 
 -- Why a rewrite is refused at this id, if it is.

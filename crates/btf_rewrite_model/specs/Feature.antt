@@ -75,7 +75,8 @@ abbrev pub needs_by : Bool → Option Kind → Record → List Feature
 needs_by is_exempt (Some kinds.Func) r = if is_global r then Func ∷ FuncGlobal ∷ [] else Func ∷ []
 needs_by is_exempt (Some kinds.FuncProto) r = Func ∷ []
 needs_by is_exempt (Some kinds.Var) r = DataSec ∷ []
-needs_by is_exempt (Some kinds.DataSec) r = if has_no_entries r && not is_exempt then DataSec ∷ DataSecZero ∷ [] else DataSec ∷ []
+needs_by is_exempt (Some kinds.DataSec) r =
+    if has_no_entries r && not is_exempt then DataSec ∷ DataSecZero ∷ [] else DataSec ∷ []
 needs_by is_exempt (Some kinds.Float) r = Float ∷ []
 needs_by is_exempt (Some kinds.DeclTag) r = DeclTag ∷ []
 needs_by is_exempt (Some kinds.TypeTag) r = TypeTag ∷ []

@@ -81,10 +81,15 @@ laid_out t placeholder offset (e ∷ es) = record { type = entry_type t placehol
 -- FUNC get names; the DATASEC is laid out anew; all others stay.
 abbrev pub stepped : Table → KsymsIds → ℕ → Option Kind → Record → Record
 stepped t ids id (Some Func) r = if names t ids id then with_linkage 1 r else r
-stepped t ids id (Some Var) r = if names t ids id then record r { third = symbol_type t ids.placeholder; tail = 1 ∷ [] } else r
-stepped t ids id (Some FuncProto) r = if is_prototype t ids id then record r { tail = with_names t ids.placeholder r.tail } else r
+stepped t ids id (Some Var) r =
+    if names t ids id then record r { third = symbol_type t ids.placeholder; tail = 1 ∷ [] } else r
+stepped t ids id (Some FuncProto) r =
+    if is_prototype t ids id then record r { tail = with_names t ids.placeholder r.tail } else r
 stepped t ids id (Some DataSec) r =
-    if id == ids.datasec then record r { third = 4 * length (symbols t ids); tail = flat_map entry_words (laid_out t ids.placeholder 0 (symbols t ids)) } else r
+    if id == ids.datasec then record r {
+      third = 4 * length (symbols t ids);
+      tail = flat_map entry_words (laid_out t ids.placeholder 0 (symbols t ids));
+    } else r
 stepped t ids id k r = r
 
 -- ---- the tests, in order
@@ -102,14 +107,17 @@ is_data_sec k = Some InvalidDatasec
 abbrev pub placeholder_checks : Table → Option ℕ → List Check
 placeholder_checks t (Some id) = is_known t id ∷ is_var (kind_at t id) ∷ []
 placeholder_checks t None =
-    if appends_int t None then has_room (length t.strings) int_text ∷ fits (length (type_bytes t)) (record_len (c_int 0)) ∷ [] else []
+    if appends_int t None then has_room (length t.strings) int_text
+    ∷ fits (length (type_bytes t)) (record_len (c_int 0)) ∷ [] else []
 
 abbrev pub data_sec_checks : Table → ℕ → List Check
-data_sec_checks t id = is_known t id ∷ is_data_sec (kind_at t id) ∷ is_read (text_at t.strings (record_at t id).name) ∷ []
+data_sec_checks t id =
+    is_known t id ∷ is_data_sec (kind_at t id) ∷ is_read (text_at t.strings (record_at t id).name) ∷ []
 
 -- what is wanted of an entry's type, by its kind: a name, and of a FUNC that a placeholder stands for a prototype
 abbrev pub symbol_checks : Table → Option ℕ → Option Kind → Record → List Check
-symbol_checks t placeholder (Some Func) r = is_read (text_at t.strings r.name) ∷ (if is_some placeholder then is_known t r.third ∷ [] else [])
+symbol_checks t placeholder (Some Func) r =
+    is_read (text_at t.strings r.name) ∷ (if is_some placeholder then is_known t r.third ∷ [] else [])
 symbol_checks t placeholder (Some Var) r = is_read (text_at t.strings r.name) ∷ []
 symbol_checks t placeholder k r = Some InvalidDatasec ∷ []
 
@@ -118,7 +126,9 @@ entry_checks t placeholder e = is_known t e.type ∷ symbol_checks t placeholder
 
 -- Why the step is refused, if it is.
 abbrev pub ksyms_fault : Table → KsymsIds → Option Refusal
-ksyms_fault t ids = first_fault (placeholder_checks t ids.placeholder ++ data_sec_checks t ids.datasec ++ flat_map (entry_checks t ids.placeholder) (symbols t ids))
+ksyms_fault t ids =
+    first_fault (placeholder_checks t ids.placeholder ++ data_sec_checks t ids.datasec
+    ++ flat_map (entry_checks t ids.placeholder) (symbols t ids))
 
 -- ---- the table
 
@@ -128,4 +138,6 @@ each_stepped t ids = record t { records = map (λ id. stepped t ids id (kind_at 
 
 -- The table after the step, where it is not refused: each record by itself, and then the INT, if it is appended.
 abbrev pub ksyms_table : Table → KsymsIds → Table
-ksyms_table t ids = if appends_int t ids.placeholder then with_type (c_int (length t.strings)) None (with_string int_text (each_stepped t ids)) else each_stepped t ids
+ksyms_table t ids =
+    if appends_int t ids.placeholder
+    then with_type (c_int (length t.strings)) None (with_string int_text (each_stepped t ids)) else each_stepped t ids

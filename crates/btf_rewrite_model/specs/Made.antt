@@ -76,7 +76,12 @@ enum name count variants = record { name = name; info = 6 * 2 ^ 24 + count; thir
 
 -- a DATASEC of so many entries
 abbrev pub data_sec : ℕ → ℕ → ℕ → List Entry → Record
-data_sec name size count es = record { name = name; info = 15 * 2 ^ 24 + count; third = size; tail = flat_map entry_words es }
+data_sec name size count es = record {
+  name = name;
+  info = 15 * 2 ^ 24 + count;
+  third = size;
+  tail = flat_map entry_words es;
+}
 
 -- a FUNC with another linkage, which is its vlen
 abbrev pub with_linkage : ℕ → Record → Record

@@ -110,7 +110,9 @@ fills_unsized p id = is_unsized (kind_at p.table id) (record_at p.table id) && h
 -- One that has a size and no entries gets an entry where the policy has it filled, and the kernel takes no DATASEC
 -- without entries.
 abbrev pub fills_sized_one : Pass → ℕ → Bool
-fills_sized_one p id = fills_sized p.policy && is_sized_and_empty (kind_at p.table id) (record_at p.table id) && not (has p features.DataSecZero)
+fills_sized_one p id =
+    fills_sized p.policy && is_sized_and_empty (kind_at p.table id) (record_at p.table id)
+    && not (has p features.DataSecZero)
 
 -- A DATASEC that gets an entry of its own.
 abbrev pub gets_filler : Pass → ℕ → Bool
@@ -151,14 +153,16 @@ param_text k = codes "param" ++ decimal k
 
 -- a name for each parameter that wants one, by its place among all, which count from k
 abbrev pub param_texts : ℕ → List ℕ → List (List ℕ)
-param_texts k (name ∷ type ∷ words) = (if wants_name name type then param_text k ∷ [] else []) ++ param_texts (k + 1) words
+param_texts k (name ∷ type ∷ words) =
+    (if wants_name name type then param_text k ∷ [] else []) ++ param_texts (k + 1) words
 param_texts k words = []
 
 -- The texts that an id appends to the strings, in order.
 abbrev pub texts_by : Pass → ℕ → Option Kind → Record → List (List ℕ)
 texts_by p id (Some kinds.FuncProto) r = if has p features.Func then param_texts 0 r.tail else []
 texts_by p id (Some kinds.Enum64) r = if makes_placeholder p id then placeholder_text ∷ [] else []
-texts_by p id (Some kinds.DataSec) r = renaming p (name_of p id) ++ (if makes_filler p id then filler_type_text ∷ filler_text ∷ [] else [])
+texts_by p id (Some kinds.DataSec) r =
+    renaming p (name_of p id) ++ (if makes_filler p id then filler_type_text ∷ filler_text ∷ [] else [])
 texts_by p id k r = []
 
 abbrev pub texts : Pass → ℕ → List (List ℕ)
@@ -240,7 +244,9 @@ name_checks p id = is_read (name_of p id) ∷ have_room (offset_at p id) (renami
 
 -- It matters whether the kernel takes a DATASEC without entries: of one of size 0 whose section has a size above 0,
 abbrev pub unsized_asks_zero : Pass → ℕ → Record → Bool
-unsized_asks_zero p id r = (r.third == 0) && has_no_entries r && is_none (first_fault (have_room (offset_at p id) (renaming p (name_of p id)))) && is_positive (section_size p id)
+unsized_asks_zero p id r =
+    (r.third == 0) && has_no_entries r && is_none (first_fault (have_room (offset_at p id) (renaming p (name_of p id))))
+    && is_positive (section_size p id)
 
 -- and of one that has a size, where the policy has it filled; of both once the new name has room.
 abbrev pub sized_asks_zero : Pass → ℕ → Record → Bool
@@ -249,7 +255,8 @@ sized_asks_zero p id r = fills_sized p.policy && not (r.third == 0) && has_no_en
 -- DataSec first; then DataSecZero, where that matters.
 abbrev pub data_sec_asks : Pass → ℕ → Record → List Feature
 data_sec_asks p id r =
-    if has p features.DataSec && (sized_asks_zero p id r || unsized_asks_zero p id r) then features.DataSec ∷ features.DataSecZero ∷ [] else features.DataSec ∷ []
+    if has p features.DataSec && (sized_asks_zero p id r || unsized_asks_zero p id r) then features.DataSec
+    ∷ features.DataSecZero ∷ [] else features.DataSec ∷ []
 
 -- The features that an id asks for, in order, by its kind.
 abbrev pub asks_by : Pass → ℕ → Option Kind → Record → List Feature

@@ -24,30 +24,42 @@ IsAmong f fs = list_any (same_feature f) fs ≡ true
 
 -- A feature is asked for of a record only if the kernel needs it for that record.
 abbrev pub AskedOnlyIfNeeded : Type 0
-AskedOnlyIfNeeded = (p : Pass) (id : ℕ) (f : Feature) → IsAmong f (asks p id) → IsAmong f (needs p.policy (record_at p.table id) (record_at p.table id))
+AskedOnlyIfNeeded =
+    (p : Pass) (id : ℕ) (f : Feature) → IsAmong f (asks p id)
+    → IsAmong f (needs p.policy (record_at p.table id) (record_at p.table id))
 
 -- one of the answers is for this feature, and it is yes
 abbrev pub IsGrantedOnce : List Answer → Feature → Type 0
-IsGrantedOnce answers f = map (λ (answer : Answer). answer.granted) (filter (λ (answer : Answer). same_feature answer.feature f) answers) ≡ true ∷ []
+IsGrantedOnce answers f =
+    map (λ (answer : Answer). answer.granted)
+    (filter (λ (answer : Answer). same_feature answer.feature f) answers) ≡ true ∷ []
 
 -- Where the answers are those to what the pass asks for, the features that the kernel needs for a record of the new
 -- table, one that was appended among them, were asked for once each, and granted.
 abbrev pub GrantedFeaturesSuffice : Type 0
 GrantedFeaturesSuffice =
-    (policy : FillPolicy) (old new : Table) (ids : Option KsymsIds) (layout : Layout) (answers : List Answer) → RewrittenWith policy old ids layout answers new → map (λ (answer : Answer). answer.feature) answers ≡ Asked (pass_with policy old ids layout answers)
-    → (id : ℕ) (r : Record) → slice_get new.records id ≡ Some r → (f : Feature) → IsAmong f (needs policy (record_at (begun old ids) id) r) → IsGrantedOnce answers f
+    (policy : FillPolicy) (old new : Table) (ids : Option KsymsIds) (layout : Layout) (answers : List Answer)
+    → RewrittenWith policy old ids layout answers new
+    → map (λ (answer : Answer). answer.feature) answers ≡ Asked (pass_with policy old ids layout answers)
+    → (id : ℕ) (r : Record) → slice_get new.records id ≡ Some r → (f : Feature)
+    → IsAmong f (needs policy (record_at (begun old ids) id) r) → IsGrantedOnce answers f
 
 -- The record of an id keeps its length in bytes, but for a DATASEC that gets a filler.
 pub record RecordLengthsStay : Type 0 where
-  pub others : (p : Pass) (id : ℕ) (k : Kind) → HasKind k (record_at p.table id) → gets_filler p id ≡ false → record_len (becomes p id) ≡ record_len (record_at p.table id)
-  pub filled : (p : Pass) (id : ℕ) (k : Kind) → HasKind k (record_at p.table id) → gets_filler p id ≡ true → (record_len (record_at p.table id) ≡ 12) × (record_len (becomes p id) ≡ 24)
+  pub others : (p : Pass) (id : ℕ) (k : Kind) → HasKind k (record_at p.table id) → gets_filler p id ≡ false
+      → record_len (becomes p id) ≡ record_len (record_at p.table id)
+  pub filled : (p : Pass) (id : ℕ) (k : Kind) → HasKind k (record_at p.table id) → gets_filler p id ≡ true
+      → (record_len (record_at p.table id) ≡ 12) × (record_len (becomes p id) ≡ 24)
 
 -- An ENUM64 that becomes a UNION leaves its sign, and of each variant in order its name and its value.
 abbrev pub Enum64KeepsItsValues : Type 0
 Enum64KeepsItsValues =
-    (policy : FillPolicy) (old new : Table) (ids : Option KsymsIds) (layout : Layout) (answers : List Answer) → RewrittenWith policy old ids layout answers new
-    → (id : ℕ) → id < length (begun old ids).records → kind_at (begun old ids) id ≡ Some kinds.Enum64 → grants answers features.Enum64 ≡ false
-    → (kind_at new id ≡ Some kinds.Union) × (slice_get new.fallbacks id ≡ Some (Some (fallback_of (record_at (begun old ids) id))))
+    (policy : FillPolicy) (old new : Table) (ids : Option KsymsIds) (layout : Layout) (answers : List Answer)
+    → RewrittenWith policy old ids layout answers new
+    → (id : ℕ) → id < length (begun old ids).records → kind_at (begun old ids) id ≡ Some kinds.Enum64
+    → grants answers features.Enum64 ≡ false
+    → (kind_at new id ≡ Some kinds.Union)
+    × (slice_get new.fallbacks id ≡ Some (Some (fallback_of (record_at (begun old ids) id))))
 
 -- Records of these kinds may change their size, or what they lead to.
 abbrev pub keeps_size : Option Kind → Bool
@@ -65,27 +77,34 @@ FindsKept t at found = (keeps_size (kind_at t at.type) ≡ true) × (size_in at 
 -- The size of a type, by such a walk, is its size in the new table.
 abbrev pub SizesStay : Type 0
 SizesStay =
-    (policy : FillPolicy) (old new : Table) (ids : Option KsymsIds) (layout : Layout) (answers : List Answer) → RewrittenWith policy old ids layout answers new
-    → (id size : ℕ) → WalkAnswers (FindsKept old) (record { count = 1; type = id }) (λ _. MaximumTypeDepthReached id) (Ok size) → HasSize new.records id (Ok size)
+    (policy : FillPolicy) (old new : Table) (ids : Option KsymsIds) (layout : Layout) (answers : List Answer)
+    → RewrittenWith policy old ids layout answers new
+    → (id size : ℕ) → WalkAnswers (FindsKept old) (record { count = 1; type = id }) (λ _. MaximumTypeDepthReached id)
+    (Ok size) → HasSize new.records id (Ok size)
 
 -- What an id resolves to, but for a FUNC, it resolves to in the new table.
 abbrev pub ResolutionsStay : Type 0
 ResolutionsStay =
-    (policy : FillPolicy) (old new : Table) (ids : Option KsymsIds) (layout : Layout) (answers : List Answer) → RewrittenWith policy old ids layout answers new
-    → (id end : ℕ) → Resolves old.records id (Ok end) → kind_at old end ≢ Some kinds.Func → Resolves new.records id (Ok end)
+    (policy : FillPolicy) (old new : Table) (ids : Option KsymsIds) (layout : Layout) (answers : List Answer)
+    → RewrittenWith policy old ids layout answers new
+    → (id end : ℕ) → Resolves old.records id (Ok end) → kind_at old end ≢ Some kinds.Func
+    → Resolves new.records id (Ok end)
 
 -- The value of a variant that is found by a name, or that none has the name, is found in the new table.
 abbrev pub VariantValueStays : Type 0
 VariantValueStays =
-    (policy : FillPolicy) (old new : Table) (ids : Option KsymsIds) (layout : Layout) (answers : List Answer) → RewrittenWith policy old ids layout answers new
+    (policy : FillPolicy) (old new : Table) (ids : Option KsymsIds) (layout : Layout) (answers : List Answer)
+    → RewrittenWith policy old ids layout answers new
     → (id : ℕ) (name : List ℕ) (found : Option ℕ) → Value old id name (Ok found) → Value new id name (Ok found)
 
 -- A pass appends three types at most: that of the members of UNIONs which were ENUM64s, and the two of the filler. The
 -- step of `.ksyms` appends one at most, so a rewrite four. None is taken away.
 pub record FewTypesAreAppended : Type 0 where
   pub in_a_pass : (p : Pass) (id : ℕ) → length (added_below p id) ≤ 3
-  pub in_the_step : (t : Table) (ids : Option KsymsIds) → (length t.records ≤ length (begun t ids).records) × (length (begun t ids).records ≤ length t.records + 1)
-  pub in_a_rewrite : (policy : FillPolicy) (old new : Table) (ids : Option KsymsIds) (layout : Layout) (answers : List Answer) → RewrittenWith policy old ids layout answers new
+  pub in_the_step : (t : Table) (ids : Option KsymsIds) → (length t.records ≤ length (begun t ids).records)
+      × (length (begun t ids).records ≤ length t.records + 1)
+  pub in_a_rewrite : (policy : FillPolicy) (old new : Table) (ids : Option KsymsIds) (layout : Layout)
+      (answers : List Answer) → RewrittenWith policy old ids layout answers new
       → (length old.records ≤ length new.records) × (length new.records ≤ length old.records + 4)
 
 -- the same pass under other answers
@@ -107,28 +126,38 @@ pub record IsSameBelow (p : Pass) (answers : List Answer) (id : ℕ) : Type 0 wh
 -- What ids ask for, append and become, and why they are refused, depends on the answers to what they and lower ids ask
 -- for, and on no others.
 pub record OtherAnswersChangeNothing : Type 0 where
-  pub below : (p : Pass) (answers : List Answer) (id : ℕ) → Agree p answers id → AreRuled p id → IsSameBelow p answers id
-  pub asked : (p : Pass) (answers : List Answer) (id : ℕ) → Agree p answers (suc id) → AreRuled p id → asks (with_answers p answers) id ≡ asks p id
-  pub refused : (p : Pass) (answers : List Answer) (id : ℕ) → Agree p answers (suc id) → AreRuled p id → fault (with_answers p answers) id ≡ fault p id
+  pub below : (p : Pass) (answers : List Answer) (id : ℕ) → Agree p answers id → AreRuled p id
+      → IsSameBelow p answers id
+  pub asked : (p : Pass) (answers : List Answer) (id : ℕ) → Agree p answers (suc id) → AreRuled p id
+      → asks (with_answers p answers) id ≡ asks p id
+  pub refused : (p : Pass) (answers : List Answer) (id : ℕ) → Agree p answers (suc id) → AreRuled p id
+      → fault (with_answers p answers) id ≡ fault p id
 
 -- Where a rewrite without symbols of the kernel succeeds, of a table that has strings, and leaves no DATASEC of size 0,
 -- a second rewrite changes nothing, under the same policy and a kernel that grants again what it granted.
 abbrev pub SecondRewriteChangesNothing : Type 0
 SecondRewriteChangesNothing =
-    (policy : FillPolicy) (old new : Table) (layout : Layout) (answers again : List Answer) → 0 < length old.strings → RewrittenWith policy old None layout answers new
+    (policy : FillPolicy) (old new : Table) (layout : Layout) (answers again : List Answer) → 0 < length old.strings
+    → RewrittenWith policy old None layout answers new
     → ((id : ℕ) → kind_at new id ≡ Some kinds.DataSec → (record_at new id).third ≢ 0)
-    → ((f : Feature) → IsAmong f (asks_below (pass_with policy new None layout again) (length new.records)) → grants answers f ≡ true → grants again f ≡ true)
+    → ((f : Feature) → IsAmong f (asks_below (pass_with policy new None layout again) (length new.records))
+    → grants answers f ≡ true → grants again f ≡ true)
     → RewrittenWith policy new None layout again new
 
 -- Where DATASECs that have a size are kept, each definition says what it says without the policy: one that has a size
 -- needs and asks for the one feature, gets no filler, and keeps all but its name, if that can be read and the new one
 -- has room.
 pub record SizedSectionsAreKept : Type 0 where
-  pub needed : (before r : Record) → needs KeepSized before r ≡ needs_by (is_sized_and_empty (kind_of before.info) before) (kind_of r.info) r
-  pub filled : (p : Pass) (id : ℕ) → p.policy ≡ KeepSized → gets_filler p id ≡ (has p features.DataSec && fills_unsized p id)
+  pub needed : (before r : Record)
+      → needs KeepSized before r ≡ needs_by (is_sized_and_empty (kind_of before.info) before) (kind_of r.info) r
+  pub filled : (p : Pass) (id : ℕ) → p.policy ≡ KeepSized
+      → gets_filler p id ≡ (has p features.DataSec && fills_unsized p id)
   pub asked : (p : Pass) (id : ℕ) (r : Record) → p.policy ≡ KeepSized
-      → data_sec_asks p id r ≡ (if has p features.DataSec && unsized_asks_zero p id r then features.DataSec ∷ features.DataSecZero ∷ [] else features.DataSec ∷ [])
-  pub kept : (p : Pass) (id : ℕ) → p.policy ≡ KeepSized → kind_at p.table id ≡ Some kinds.DataSec → (record_at p.table id).third ≢ 0 → has p features.DataSec ≡ true
+      → data_sec_asks p id r ≡ (if has p features.DataSec && unsized_asks_zero p id r then features.DataSec
+      ∷ features.DataSecZero ∷ [] else features.DataSec ∷ [])
+  pub kept : (p : Pass) (id : ℕ) → p.policy ≡ KeepSized → kind_at p.table id ≡ Some kinds.DataSec
+      → (record_at p.table id).third ≢ 0 → has p features.DataSec ≡ true
       → becomes p id ≡ record (record_at p.table id) { name = new_name p id (record_at p.table id) }
-  pub tested : (p : Pass) (id : ℕ) → p.policy ≡ KeepSized → kind_at p.table id ≡ Some kinds.DataSec → (record_at p.table id).third ≢ 0 → has p features.DataSec ≡ true
+  pub tested : (p : Pass) (id : ℕ) → p.policy ≡ KeepSized → kind_at p.table id ≡ Some kinds.DataSec
+      → (record_at p.table id).third ≢ 0 → has p features.DataSec ≡ true
       → fault p id ≡ first_fault (name_checks p id)

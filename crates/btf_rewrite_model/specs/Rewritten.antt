@@ -22,7 +22,8 @@ step_fault t (Some ids) = ksyms_fault t ids
 step_fault t None = None
 
 abbrev pub pass_with : FillPolicy → Table → Option KsymsIds → Layout → List Answer → Pass
-pass_with policy t ids layout answers = record { table = begun t ids; layout = layout; policy = policy; answers = answers }
+pass_with policy t ids layout answers =
+    record { table = begun t ids; layout = layout; policy = policy; answers = answers }
 
 -- one that keeps DATASECs which have a size, as aya-obj does
 abbrev pub pass_of : Table → Option KsymsIds → Layout → List Answer → Pass
@@ -50,7 +51,8 @@ abbrev pub AreRuled : Pass → ℕ → Type 0
 AreRuled p end = (id : ℕ) → id < end → fault p id ≡ None
 
 -- The table is rewritten as the new one, under this policy.
-pub record RewrittenWith (policy : FillPolicy) (old : Table) (ids : Option KsymsIds) (layout : Layout) (answers : List Answer) (new : Table) : Type 0 where
+pub record RewrittenWith (policy : FillPolicy) (old : Table) (ids : Option KsymsIds) (layout : Layout)
+    (answers : List Answer) (new : Table) : Type 0 where
   pub step : step_fault old ids ≡ None
   pub ruled : AreRuled (pass_with policy old ids layout answers) (old_count (pass_with policy old ids layout answers))
   pub table : new ≡ rewritten (pass_with policy old ids layout answers)
@@ -65,7 +67,8 @@ FaultsAt p id refusal = (id < old_count p) × AreRuled p id × (fault p id ≡ S
 -- The rewrite is refused: in the step of `.ksyms`, or else in the pass.
 abbrev pub IsRefusedWith : FillPolicy → Table → Option KsymsIds → Layout → List Answer → Refusal → Type 0
 IsRefusedWith policy old ids layout answers refusal =
-    (step_fault old ids ≡ Some refusal) ⊎ ((step_fault old ids ≡ None) × ((id : ℕ) × FaultsAt (pass_with policy old ids layout answers) id refusal))
+    (step_fault old ids ≡ Some refusal)
+    ⊎ ((step_fault old ids ≡ None) × ((id : ℕ) × FaultsAt (pass_with policy old ids layout answers) id refusal))
 
 abbrev pub IsRefused : Table → Option KsymsIds → Layout → List Answer → Refusal → Type 0
 IsRefused = IsRefusedWith KeepSized

@@ -22,7 +22,8 @@ known_func p r (Err refusal) = r
 -- the parameters, those without names named by texts one after the other from this offset on; they count from k
 abbrev pub named_params : ℕ → ℕ → List ℕ → List ℕ
 named_params k offset (name ∷ type ∷ words) =
-    if wants_name name type then offset ∷ type ∷ named_params (k + 1) (offset + length (param_text k) + 1) words else name ∷ type ∷ named_params (k + 1) offset words
+    if wants_name name type then offset ∷ type ∷ named_params (k + 1) (offset + length (param_text k) + 1) words
+    else name ∷ type ∷ named_params (k + 1) offset words
 named_params k offset words = words
 
 -- ---- ENUM64
@@ -59,7 +60,9 @@ filler_id p id = free_id p (least (gets_filler p) id) + 1
 
 -- the entry of a variable, at the offset of its symbol, but for a Static one
 abbrev pub placed : Pass → Entry → Entry
-placed p e = if is_static (record_at p.table e.type) then e else record e { offset = unwrap_or (symbol_offset p e.type) e.offset }
+placed p e =
+    if is_static (record_at p.table e.type) then e
+    else record e { offset = unwrap_or (symbol_offset p e.type) e.offset }
 
 -- a DATASEC of this size with the filler as its one entry
 abbrev pub filled : Pass → ℕ → ℕ → Record → Record
@@ -68,7 +71,9 @@ filled p id size r = data_sec (new_name p id r) size 1 (record { type = filler_i
 -- A DATASEC of size 0 is completed: it gets the size of its section, and each entry its place; or the filler as its one
 -- entry.
 abbrev pub completed : Pass → ℕ → ℕ → Record → Record
-completed p id size r = if gets_filler p id then filled p id (max size 1) r else data_sec (new_name p id r) size (vlen r.info) (map (placed p) (entries r.tail))
+completed p id size r =
+    if gets_filler p id then filled p id (max size 1) r
+    else data_sec (new_name p id r) size (vlen r.info) (map (placed p) (entries r.tail))
 
 -- One that has a size stays, but for its name; or it keeps its size, and gets the filler.
 abbrev pub sized : Pass → ℕ → Record → Record
@@ -84,11 +89,17 @@ becomes_by p lower id (Some kinds.Float) r = if has p features.Float then r else
 becomes_by p lower id (Some kinds.DeclTag) r = if has p features.DeclTag then r else byte_int r.name
 becomes_by p lower id (Some kinds.TypeTag) r = if has p features.TypeTag then r else const r.third
 becomes_by p lower id (Some kinds.Enum) r = if is_signed r && not (has p features.Enum64) then unsigned r else r
-becomes_by p lower id (Some kinds.Enum64) r = if has p features.Enum64 then r else union r.name r.third (vlen r.info) (variant_members (placeholder_id p id) (variants r.tail))
-becomes_by p lower id (Some kinds.Func) r = if has p features.Func then known_func p r (name_of p id) else typedef r.name r.third
-becomes_by p lower id (Some kinds.FuncProto) r = if has p features.Func then record r { tail = named_params 0 (offset_at p id) r.tail } else enum r.name (vlen r.info) r.tail
+becomes_by p lower id (Some kinds.Enum64) r =
+    if has p features.Enum64 then r
+    else union r.name r.third (vlen r.info) (variant_members (placeholder_id p id) (variants r.tail))
+becomes_by p lower id (Some kinds.Func) r =
+    if has p features.Func then known_func p r (name_of p id) else typedef r.name r.third
+becomes_by p lower id (Some kinds.FuncProto) r =
+    if has p features.Func then record r { tail = named_params 0 (offset_at p id) r.tail }
+    else enum r.name (vlen r.info) r.tail
 becomes_by p lower id (Some kinds.DataSec) r =
-    if has p features.DataSec then (if r.third == 0 then completed p id (unwrap_or (section_size p id) 0) r else sized p id r)
+    if has p features.DataSec then (if r.third == 0 then completed p id (unwrap_or (section_size p id) 0) r
+    else sized p id r)
     else struct (new_name p id r) (vlen r.info) (vlen r.info) (entry_members p lower id (entries r.tail))
 becomes_by p lower id k r = r
 
@@ -110,4 +121,5 @@ falls_back_by p (Some kinds.Enum64) r old = if has p features.Enum64 then old el
 falls_back_by p k r old = old
 
 abbrev pub falls_back : Pass → ℕ → Option Fallback
-falls_back p id = falls_back_by p (kind_at p.table id) (record_at p.table id) (unwrap_or (slice_get p.table.fallbacks id) None)
+falls_back p id =
+    falls_back_by p (kind_at p.table id) (record_at p.table id) (unwrap_or (slice_get p.table.fallbacks id) None)

@@ -32,7 +32,9 @@ answers_of answers = map answer_of answers
 
 -- the answer for a feature: what the first answer that is for it says
 abbrev pub told : List FeatureAnswer → Feature → Option Bool
-told answers feature = option_map (λ (a : FeatureAnswer). a.granted) (find (λ (a : FeatureAnswer). same_feature (feature_of a.feature) feature) answers)
+told answers feature =
+    option_map (λ (a : FeatureAnswer). a.granted)
+    (find (λ (a : FeatureAnswer). same_feature (feature_of a.feature) feature) answers)
 
 -- the places of the features that are answered
 abbrev pub numbers : List FeatureAnswer → List ℕ
@@ -44,18 +46,22 @@ AreDistinct answers = IsDistinct eqb (numbers answers)
 
 -- Asking for a feature: one that was answered has that answer, and nothing changes; another is one call of the
 -- predicate as it is now, whose answer is put after the others.
-abbrev pub AsksFor : {F : Type 0} → (F → BtfFeature → Bool → F → Type 0) → BtfFeature → Option Bool → F × List FeatureAnswer → Bool → F × List FeatureAnswer → Type 0
+abbrev pub AsksFor : {F : Type 0} → (F → BtfFeature → Bool → F → Type 0) → BtfFeature → Option Bool → F
+    × List FeatureAnswer → Bool → F × List FeatureAnswer → Type 0
 AsksFor step feature (Some told) old answer new = (answer ≡ told) × (new ≡ old)
-AsksFor step feature None old answer new = step old.0 feature answer new.0 × (new.1 ≡ old.1 ++ record { feature = feature; granted = answer } ∷ [])
+AsksFor step feature None old answer new =
+    step old.0 feature answer new.0 × (new.1 ≡ old.1 ++ record { feature = feature; granted = answer } ∷ [])
 
-abbrev pub Asks : {F : Type 0} → (F → BtfFeature → Bool → F → Type 0) → BtfFeature → F × List FeatureAnswer → Bool → F × List FeatureAnswer → Type 0
+abbrev pub Asks : {F : Type 0} → (F → BtfFeature → Bool → F → Type 0) → BtfFeature → F × List FeatureAnswer → Bool → F
+    × List FeatureAnswer → Type 0
 Asks step feature old answer new = AsksFor step feature (told old.1 (feature_of feature)) old answer new
 
 -- The predicate was called for these features, in order, and gave these answers; that and nothing else led from one
 -- state to the other.
 abbrev pub Called : {F : Type 0} → (F → BtfFeature → Bool → F → Type 0) → F → List FeatureAnswer → F → Type 0
 Called step before [] after = after ≡ before
-Called {F} step before (a ∷ answers) after = (mid : F) × step before a.feature a.granted mid × Called step mid answers after
+Called {F} step before (a ∷ answers) after =
+    (mid : F) × step before a.feature a.granted mid × Called step mid answers after
 
 -- these answers, and others after them
 abbrev pub IsFurther : List FeatureAnswer → List FeatureAnswer → Type 0

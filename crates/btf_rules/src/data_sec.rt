@@ -18,7 +18,8 @@ use std::collections::HashMap;
 /// The name that a DATASEC of this name gets: as a DATASEC, where the kernel takes one, with `.` for each `/`, which
 /// kernels refuse there; or else as a STRUCT, with `_` for each `.`, which is in no C name.
 pub fn section_name(alloc: Global, name: &str, granted: bool) -> Result<String, AllocError>
-    ensures { IfOk result (λ text. string_bytes text ≡ if granted then replaced slash dot name.now else replaced dot underscore name.now) }
+    ensures { IfOk result (λ text. string_bytes text ≡ if granted then replaced slash dot name.now
+        else replaced dot underscore name.now) }
 {
     if granted {
         name.replace(alloc, '/', ".")
@@ -29,8 +30,10 @@ pub fn section_name(alloc: Global, name: &str, granted: bool) -> Result<String, 
 
 /// The DATASEC with this name; None where it has it.
 pub fn renamed(data_sec: &DataSec, name_offset: u32) -> Result<Option<BtfType>, BtfError>
-    ensures answer { Gives (λ new. record_of (unwrap_or new (BtfType.DataSec data_sec.now))) result (Ok (record data_sec.now { name = name_offset })) }
-    ensures fallback { IfOk result (λ new. fallback_of (unwrap_or new (BtfType.DataSec data_sec.now)) ≡ None) }
+    ensures answer { Gives (λ new. record_of (unwrap_or new (BtfType.DataSec data_sec.now))) result
+        (Ok (record data_sec.now { name = name_offset })) }
+    ensures fallback { IfOk result (λ new. fallback_of
+        (unwrap_or new (BtfType.DataSec data_sec.now)) ≡ None) }
 {
     if name_offset == data_sec.name_offset() {
         return Ok(None);
@@ -62,7 +65,9 @@ pub fn section_size(
     sections: &HashMap<String, (SectionIndex, u64)>,
     name: &str,
 ) -> Result<u32, BtfError>
-    ensures { Gives (λ n. n) result (checked (is_sized (in_a_word (sizes_of sections.now name.now)) (Ok name.now)) (unwrap_or (in_a_word (sizes_of sections.now name.now)) 0)) }
+    ensures { Gives (λ n. n) result
+        (checked (is_sized (in_a_word (sizes_of sections.now name.now)) (Ok name.now))
+        (unwrap_or (in_a_word (sizes_of sections.now name.now)) 0)) }
 {
     let Some(size) = known_size(sections, name) else {
         return Err(BtfError::UnknownSectionSize {

@@ -20,7 +20,8 @@ fn variant_members(
     variants: &[BtfEnum64],
     member_type: u32,
 ) -> Result<Vec<BtfMember>, AllocError>
-    ensures words { IfOk result (λ v. flat_map member_words v.items ≡ variant_members member_type (model.variants (flat_map enum64_words variants.now))) }
+    ensures words { IfOk result (λ v. flat_map member_words v.items ≡ variant_members member_type
+        (model.variants (flat_map enum64_words variants.now))) }
     ensures count { IfOk result (λ v. length v.items ≡ length variants.now) }
 {
     let mut members = Vec::with_capacity(alloc, variants.len())?;
@@ -46,7 +47,8 @@ fn kept_variants(
     alloc: Global,
     variants: &[BtfEnum64],
 ) -> Result<Vec<Enum64VariantFallback>, AllocError>
-    ensures { IfOk result (λ v. map variant_of v.items ≡ model.variants (flat_map enum64_words variants.now)) }
+    ensures { IfOk result (λ v. map variant_of v.items ≡ model.variants
+        (flat_map enum64_words variants.now)) }
 {
     let mut kept = Vec::with_capacity(alloc, variants.len())?;
     for variant in variants {
@@ -60,7 +62,13 @@ fn kept_variants(
 
 /// The ENUM64 as a UNION with a member for each variant, all of one type, and the variants' values kept beside it.
 pub fn as_union(alloc: Global, enum64: &Enum64, member_type: u32) -> Result<Union, BtfError>
-    ensures { Gives (λ u. u) result (Ok (record { words = union enum64.now.name enum64.now.third (vlen enum64.now.info) (variant_members member_type (model.variants enum64.now.tail)); fallback = Some (fallback_of enum64.now) })) }
+    ensures { Gives (λ u. u) result
+        (Ok (record {
+          words = union enum64.now.name enum64.now.third (vlen enum64.now.info)
+              (variant_members member_type (model.variants enum64.now.tail));
+          fallback = Some
+              (fallback_of enum64.now);
+        })) }
 {
     let members = variant_members(alloc, enum64.variants(), member_type)?;
     let fallback = Enum64Fallback {

@@ -22,7 +22,8 @@ pub fn param_text(alloc: Global, index: usize) -> Result<String, AllocError>
 
 /// A variant for each parameter, of its name, whose value is its type.
 fn param_variants(alloc: Global, params: &[BtfParam]) -> Result<Vec<BtfEnum>, AllocError>
-    ensures words { IfOk result (λ v. flat_map enum_words v.items ≡ flat_map param_words params.now) }
+    ensures words { IfOk result (λ v. flat_map enum_words v.items
+        ≡ flat_map param_words params.now) }
     ensures count { IfOk result (λ v. length v.items ≡ length params.now) }
 {
     let mut variants = Vec::with_capacity(alloc, params.len())?;
@@ -34,7 +35,8 @@ fn param_variants(alloc: Global, params: &[BtfParam]) -> Result<Vec<BtfEnum>, Al
 
 /// The prototype as an ENUM without sign: each parameter a variant, of its name, whose value is its type.
 pub fn as_enum(alloc: Global, proto: &FuncProto) -> Result<Enum, BtfError>
-    ensures { Gives (λ r. r) result (Ok (enum proto.now.name (vlen proto.now.info) proto.now.tail)) }
+    ensures { Gives (λ r. r) result
+        (Ok (enum proto.now.name (vlen proto.now.info) proto.now.tail)) }
 {
     let variants = param_variants(alloc, proto.params())?;
     Ok(Enum::new(proto.name_offset(), false, variants))
@@ -42,7 +44,8 @@ pub fn as_enum(alloc: Global, proto: &FuncProto) -> Result<Enum, BtfError>
 
 /// The string offset of the name that a parameter gets: this one, where it has a type and no name.
 fn param_name(param: &BtfParam, name_offset: u32) -> u32
-    ensures { result ≡ if wants_name param.now.name_offset param.now.btf_type then name_offset else param.now.name_offset }
+    ensures { result ≡ if wants_name param.now.name_offset param.now.btf_type then name_offset
+        else param.now.name_offset }
 {
     if param.name_offset == 0 && param.btf_type != 0 {
         name_offset
@@ -53,7 +56,8 @@ fn param_name(param: &BtfParam, name_offset: u32) -> u32
 
 /// The prototype, with a name for each parameter that has a type and no name.
 pub fn with_names(proto: &FuncProto, name_offset: u32) -> Result<FuncProto, BtfError>
-    ensures { Gives (λ r. r) result (Ok (record proto.now { tail = named name_offset proto.now.tail })) }
+    ensures { Gives (λ r. r) result
+        (Ok (record proto.now { tail = named name_offset proto.now.tail })) }
 {
     let mut with_names = proto.try_clone()?;
     for (index, param) in proto.params().iter().enumerate() {

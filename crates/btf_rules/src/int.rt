@@ -10,7 +10,8 @@ use btf_records::BtfType;
 
 /// Whether a type is an INT of 4 bytes.
 fn is_int_of_4(btf_type: &BtfType) -> bool
-    ensures { result ≡ model.is_int_of_4 (kind_of (record_of btf_type.now).info) (record_of btf_type.now) }
+    ensures { result ≡ model.is_int_of_4 (kind_of (record_of btf_type.now).info)
+        (record_of btf_type.now) }
 {
     // The contract speaks of the kind in the info word, which a use of it shows.
     let _ = btf_type.info();
@@ -23,7 +24,8 @@ fn is_int_of_4(btf_type: &BtfType) -> bool
 /// The id of the first INT of 4 bytes, or the number of types where there is none.
 pub fn int_of_4(types: &[BtfType]) -> usize
     ensures bound { result ≤ length types.now }
-    ensures first { result ≡ position_or_len (λ r. model.is_int_of_4 (kind_of r.info) r) (map record_of types.now) }
+    ensures first { result ≡ position_or_len (λ r. model.is_int_of_4 (kind_of r.info) r)
+        (map record_of types.now) }
 {
     for (id, btf_type) in types.iter().enumerate() {
         if is_int_of_4(btf_type) {

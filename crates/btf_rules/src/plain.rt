@@ -22,7 +22,8 @@ use std::alloc::{AllocError, Global};
 /// The feature that a type asks for, where it asks for one alone: all but FUNC and DATASEC. None where it asks for
 /// none.
 pub fn sole_feature(btf_type: &BtfType) -> Option<BtfFeature>
-    ensures { option_map feature_of result ≡ sole.sole_feature (kind_of (record_of btf_type.now).info) (record_of btf_type.now) }
+    ensures { option_map feature_of result ≡ sole.sole_feature
+        (kind_of (record_of btf_type.now).info) (record_of btf_type.now) }
 {
     // The contract speaks of the kind in the info word, which a use of it shows.
     let _ = btf_type.info();
@@ -62,10 +63,14 @@ pub fn replaced(
     btf_type: &BtfType,
     granted: bool,
 ) -> Result<Option<BtfType>, BtfError>
-    ensures words { (p : Pass) (lower : List Record) (id : ℕ) → IsGranted p (sole.sole_feature (kind_of (record_of btf_type.now).info) (record_of btf_type.now)) granted → is_quiet (kind_of (record_of btf_type.now).info) ≡ true
+    ensures words { (p : Pass) (lower : List Record) (id : ℕ)
+        → IsGranted p (sole.sole_feature (kind_of (record_of btf_type.now).info)
+        (record_of btf_type.now)) granted → is_quiet (kind_of (record_of btf_type.now).info) ≡ true
         → Gives (λ new. record_of (unwrap_or new btf_type.now)) result (Ok (becomes_by p lower id (kind_of (record_of btf_type.now).info) (record_of btf_type.now))) }
-    ensures len { IfOk result (λ new. length (record_of (unwrap_or new btf_type.now)).tail ≡ length (record_of btf_type.now).tail) }
-    ensures fallback { IfOk result (λ new. fallback_of (unwrap_or new btf_type.now) ≡ fallback_of btf_type.now) }
+    ensures len { IfOk result (λ new. length (record_of (unwrap_or new btf_type.now)).tail ≡ length
+        (record_of btf_type.now).tail) }
+    ensures fallback { IfOk result (λ new. fallback_of
+        (unwrap_or new btf_type.now) ≡ fallback_of btf_type.now) }
 {
     // The contract speaks of the kind in the info word, which a use of it shows.
     let _ = btf_type.info();

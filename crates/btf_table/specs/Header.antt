@@ -4,4 +4,13 @@ use Rattle.btf_table.specs.declared.table.header.Header.{Header}
 
 -- the header as the definitions have it
 abbrev pub header : Header → blob.Header
-header h = record { magic = h.magic; version = h.version; flags = h.flags; hdr_len = h.hdr_len; type_off = h.type_off; type_len = h.type_len; str_off = h.str_off; str_len = h.str_len }
+header h = record {
+  magic = h.magic;
+  version = h.version;
+  flags = h.flags;
+  hdr_len = h.hdr_len;
+  type_off = h.type_off;
+  type_len = h.type_len;
+  str_off = h.str_off;
+  str_len = h.str_len;
+}

@@ -32,7 +32,10 @@ target_of t placeholder = record {
 
 -- a DATASEC with its entries laid out anew
 abbrev pub laid_out_anew : Table → Option ℕ → Record → Record
-laid_out_anew t placeholder r = record r { third = 4 * length (entries r.tail); tail = flat_map entry_words (laid_out t placeholder 0 (entries r.tail)) }
+laid_out_anew t placeholder r = record r {
+  third = 4 * length (entries r.tail);
+  tail = flat_map entry_words (laid_out t placeholder 0 (entries r.tail));
+}
 
 abbrev pub entry : DataSecEntry → Entry
 entry e = record { type = e.btf_type; offset = e.offset; size = e.size }
@@ -52,11 +55,13 @@ has set id = hash.contains nat_eq set id
 -- the sets have what these entries name, and the prototypes of the functions among them
 pub record HasSymbols (t : Table) (es : List Entry) (symbols : Symbols) : Type 0 where
   pub ids : (id : ℕ) → has symbols.ids id ≡ list_any (λ (e : Entry). e.type == id) es
-  pub prototypes : (id : ℕ) → has symbols.prototypes id ≡ list_any (λ (e : Entry). is_func (kind_at t e.type) && ((record_at t e.type).third == id)) es
+  pub prototypes : (id : ℕ) → has symbols.prototypes id ≡ list_any
+      (λ (e : Entry). is_func (kind_at t e.type) && ((record_at t e.type).third == id)) es
 
 -- The entries pass their tests, and the sets have what they name; or they do not pass.
 abbrev pub FindsSymbols : Table → Option ℕ → List Entry → Result Symbols Refusal → Type 0
-FindsSymbols t placeholder es (Ok symbols) = (first_fault (flat_map (entry_checks t placeholder) es) ≡ None) × HasSymbols t es symbols
+FindsSymbols t placeholder es (Ok symbols) =
+    (first_fault (flat_map (entry_checks t placeholder) es) ≡ None) × HasSymbols t es symbols
 FindsSymbols t placeholder es (Err refusal) = first_fault (flat_map (entry_checks t placeholder) es) ≡ Some refusal
 
 -- the step is the one over this table: it knows what the symbols become, and which they are
@@ -88,7 +93,8 @@ shape r = (kind_of r.info, length r.tail)
 -- shapes.
 pub record AreStepped (t : Table) (ids : KsymsIds) (count : ℕ) (cs : List (ℕ × BtfType)) : Type 0 where
   pub inside : AreInside count cs
-  pub records : put_all (each record_of cs) (take count t.records) ≡ map (λ id. becomes t ids id (record_at t id)) (range_with_len 0 count)
+  pub records : put_all (each record_of cs) (take count t.records) ≡ map (λ id. becomes t ids id (record_at t id))
+      (range_with_len 0 count)
   pub fallbacks : put_all (each fallback_of cs) (take count t.fallbacks) ≡ take count t.fallbacks
   pub shapes : map shape (put_all (each record_of cs) (take count t.records)) ≡ map shape (take count t.records)
 

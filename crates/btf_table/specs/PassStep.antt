@@ -64,7 +64,8 @@ growth p id = if gets_filler p id then 12 else 0
 pub record IsGrown (p : Pass) (id : ℕ) (old new : Made) : Type 0 where
   pub strings : new.changes.new_strings.items ≡ old.changes.new_strings.items ++ flat_map ended (texts p id)
   pub records : map record_of new.changes.new_types.items ≡ map record_of old.changes.new_types.items ++ added p id
-  pub fallbacks : map fallback_of new.changes.new_types.items ≡ map fallback_of old.changes.new_types.items ++ no_fallbacks (added p id)
+  pub fallbacks : map fallback_of new.changes.new_types.items ≡ map fallback_of old.changes.new_types.items
+      ++ no_fallbacks (added p id)
   pub types : new.changes.types ≡ old.changes.types
   pub type_len : new.changes.type_len ≡ old.changes.type_len + sum_by record_len (added p id) + growth p id
   pub names : new.names ≡ old.names
@@ -92,16 +93,20 @@ pub record HasAsked (p : Pass) (id : ℕ) (some : List Feature) (answers : List 
 
 -- Some of what an id asks for is answered, the first of it, and then these are left.
 abbrev pub AsksUpTo : Pass → ℕ → List Answer → List Feature → Type 0
-AsksUpTo p id answers left = (some : List Feature) × HasAsked p id some answers × (asks (record p { answers = answers }) id ≡ some ++ left)
+AsksUpTo p id answers left =
+    (some : List Feature) × HasAsked p id some answers × (asks (record p { answers = answers }) id ≡ some ++ left)
 
 -- All that an id asks for is answered, and its rule is kept under all answers.
 abbrev pub Steps : Pass → ℕ → List FeatureAnswer → BtfType → Made → Made → Result BtfType Refusal → Type 0
-Steps p id answers old before after result = AsksUpTo p id (answers_of answers) [] × Rules (record p { answers = answers_of answers }) id old before after result
+Steps p id answers old before after result =
+    AsksUpTo p id (answers_of answers) [] × Rules (record p { answers = answers_of answers }) id old before after result
 
 -- What a pass has made when it comes to an id.
 pub record IsMade (p : Pass) (id : ℕ) (m : Made) : Type 0 where
-  pub has_made : HasMade p id m.changes.new_strings.items (map record_of m.changes.new_types.items) (put_all (each record_of m.changes.types.items) (take id p.table.records)) m.changes.type_len
-  pub fallbacks : put_all (each fallback_of m.changes.types.items) (take id p.table.fallbacks) ≡ map (falls_back p) (range_with_len 0 id)
+  pub has_made : HasMade p id m.changes.new_strings.items (map record_of m.changes.new_types.items)
+      (put_all (each record_of m.changes.types.items) (take id p.table.records)) m.changes.type_len
+  pub fallbacks : put_all (each fallback_of m.changes.types.items) (take id p.table.fallbacks) ≡ map (falls_back p)
+      (range_with_len 0 id)
   pub new_fallbacks : map fallback_of m.changes.new_types.items ≡ no_fallbacks (map record_of m.changes.new_types.items)
   pub names : m.names.items ≡ map (λ (r : Record). r.name) (ruled_below p id)
   pub inside : AreInside id m.changes.types.items
@@ -114,8 +119,11 @@ pub record IsMade (p : Pass) (id : ℕ) (m : Made) : Type 0 where
 -- A whole pass: with the changes the table is the rewritten one; or it is refused at an id, and all that this and lower
 -- ids ask for is answered.
 abbrev pub Passes : Pass → Result Changes Refusal → Type 0
-Passes p (Ok changes) = IsAt p (length p.table.records) × AreOf p.table changes × (changed p.table changes ≡ rewritten p)
-Passes p (Err refusal) = (id : ℕ) × (id < length p.table.records) × AreRuled p id × (fault p id ≡ Some refusal) × AreAnswersTo (asks_below p (suc id)) p.answers
+Passes p (Ok changes) =
+    IsAt p (length p.table.records) × AreOf p.table changes × (changed p.table changes ≡ rewritten p)
+Passes p (Err refusal) =
+    (id : ℕ) × (id < length p.table.records) × AreRuled p id × (fault p id ≡ Some refusal)
+    × AreAnswersTo (asks_below p (suc id)) p.answers
 
 -- The answers are those to the first features that a pass asks for.
 abbrev pub BeginsAsked : Pass → Type 0

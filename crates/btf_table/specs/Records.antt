@@ -10,5 +10,8 @@ use Rattle.btf_records.specs.declared.btf_type.BtfType.{BtfType}
 
 -- the types of a type section, Unknown first, or why its rest is refused
 abbrev pub ReadsTypes : Order → List ℕ → Result (List BtfType) Refusal → Type 0
-ReadsTypes order bytes (Ok types) = (rs : List Record) × (map record_of types ≡ unknown ∷ rs) × AreRecords order bytes rs × (map fallback_of types ≡ no_fallbacks (map record_of types))
-ReadsTypes order bytes (Err refusal) = (rest : List ℕ) × IsRest order bytes rest × (rest ≢ []) × (refusal ≡ rest_refusal order rest)
+ReadsTypes order bytes (Ok types) =
+    (rs : List Record) × (map record_of types ≡ unknown ∷ rs) × AreRecords order bytes rs
+    × (map fallback_of types ≡ no_fallbacks (map record_of types))
+ReadsTypes order bytes (Err refusal) =
+    (rest : List ℕ) × IsRest order bytes rest × (rest ≢ []) × (refusal ≡ rest_refusal order rest)

@@ -32,50 +32,68 @@ features_asked answers = map (λ (answer : Answer). answer.feature) answers
 abbrev pub Refuses : FillPolicy → Table → Option model.KsymsIds → Layout → List Answer → Refusal → Type 0
 Refuses policy old ids layout answers refusal =
     ((step_fault old ids ≡ Some refusal) × (answers ≡ []))
-    ⊎ ((step_fault old ids ≡ None) × ((id : ℕ) × FaultsAt (pass_with policy old ids layout answers) id refusal × (features_asked answers ≡ each_once (asks_below (pass_with policy old ids layout answers) (suc id)))))
+    ⊎ ((step_fault old ids ≡ None) × ((id : ℕ) × FaultsAt (pass_with policy old ids layout answers) id refusal
+    × (features_asked answers ≡ each_once (asks_below (pass_with policy old ids layout answers) (suc id)))))
 
 -- The table is rewritten, and what the rewrite asks for is answered; or it is refused.
-abbrev pub RewritesWith : {X : Type 0} → FillPolicy → Table → Option model.KsymsIds → Layout → List Answer → Table → Result X Refusal → Type 0
-RewritesWith policy old ids layout answers new (Ok x) = RewrittenWith policy old ids layout answers new × (features_asked answers ≡ Asked (pass_with policy old ids layout answers))
+abbrev pub RewritesWith : {X : Type 0} → FillPolicy → Table → Option model.KsymsIds → Layout → List Answer → Table
+    → Result X Refusal → Type 0
+RewritesWith policy old ids layout answers new (Ok x) =
+    RewrittenWith policy old ids layout answers new
+    × (features_asked answers ≡ Asked (pass_with policy old ids layout answers))
 RewritesWith policy old ids layout answers new (Err refusal) = Refuses policy old ids layout answers refusal
 
-abbrev pub Rewrites : {X : Type 0} → Table → Option model.KsymsIds → Layout → List Answer → Table → Result X Refusal → Type 0
+abbrev pub Rewrites : {X : Type 0} → Table → Option model.KsymsIds → Layout → List Answer → Table → Result X Refusal
+    → Type 0
 Rewrites = RewritesWith KeepSized
 
 -- The bytes stand for a table; it is rewritten, and these bytes are the new table's, or its rewrite is refused. Or the
 -- bytes stand for no table, and nothing is asked.
-abbrev pub RewritesBytesWith : FillPolicy → Order → List ℕ → Option model.KsymsIds → Layout → List Answer → Result (List ℕ × List FeatureAnswer) Refusal → Type 0
+abbrev pub RewritesBytesWith : FillPolicy → Order → List ℕ → Option model.KsymsIds → Layout → List Answer
+    → Result (List ℕ × List FeatureAnswer) Refusal → Type 0
 RewritesBytesWith policy order bytes ids layout answers (Ok (written, listed)) =
-    (old : Table) × (new : Table) × IsTable order bytes old × RewrittenWith policy old ids layout answers new × (features_asked answers ≡ Asked (pass_with policy old ids layout answers)) × (written ≡ canon new) × IsTable order written (strip new)
+    (old : Table) × (new : Table) × IsTable order bytes old × RewrittenWith policy old ids layout answers new
+    × (features_asked answers ≡ Asked (pass_with policy old ids layout answers)) × (written ≡ canon new)
+    × IsTable order written (strip new)
 RewritesBytesWith policy order bytes ids layout answers (Err refusal) =
-    (IsRefusal order bytes refusal × (answers ≡ [])) ⊎ ((old : Table) × IsTable order bytes old × Refuses policy old ids layout answers refusal)
+    (IsRefusal order bytes refusal × (answers ≡ []))
+    ⊎ ((old : Table) × IsTable order bytes old × Refuses policy old ids layout answers refusal)
 
-abbrev pub RewritesBytes : Order → List ℕ → Option model.KsymsIds → Layout → List Answer → Result (List ℕ × List FeatureAnswer) Refusal → Type 0
+abbrev pub RewritesBytes : Order → List ℕ → Option model.KsymsIds → Layout → List Answer
+    → Result (List ℕ × List FeatureAnswer) Refusal → Type 0
 RewritesBytes = RewritesBytesWith KeepSized
 
 -- A pass without the step: the rewritten table, or why it is refused.
 abbrev pub Sanitizes : {X : Type 0} → Pass → Table → Result X Refusal → Type 0
 Sanitizes p new (Ok x) = AreRuled p (old_count p) × (new ≡ rewritten p) × (features_asked p.answers ≡ Asked p)
-Sanitizes p new (Err refusal) = (id : ℕ) × FaultsAt p id refusal × (features_asked p.answers ≡ each_once (asks_below p (suc id)))
+Sanitizes p new (Err refusal) =
+    (id : ℕ) × FaultsAt p id refusal × (features_asked p.answers ≡ each_once (asks_below p (suc id)))
 
 -- What the kernel needs for the new table was asked for once each, and granted.
 abbrev pub NeedsAreGrantedWith : FillPolicy → Table → Option model.KsymsIds → List Answer → Table → Type 0
-NeedsAreGrantedWith policy old ids answers new = (id : ℕ) (r : Record) → slice_get new.records id ≡ Some r → (f : Feature) → IsAmong f (needs policy (record_at (begun old ids) id) r) → IsGrantedOnce answers f
+NeedsAreGrantedWith policy old ids answers new =
+    (id : ℕ) (r : Record) → slice_get new.records id ≡ Some r → (f : Feature)
+    → IsAmong f (needs policy (record_at (begun old ids) id) r) → IsGrantedOnce answers f
 
 abbrev pub NeedsAreGranted : Table → Option model.KsymsIds → List Answer → Table → Type 0
 NeedsAreGranted = NeedsAreGrantedWith KeepSized
 
 -- Sizes of types, on walks that meet no VAR, FUNC, FUNC_PROTO, DATASEC or DECL_TAG, are those that they were.
 abbrev pub KeepsSizes : Table → Table → Type 0
-KeepsSizes old new = (id size : ℕ) → WalkAnswers (FindsKept old) (record { count = 1; type = id }) (λ _. MaximumTypeDepthReached id) (Ok size) → HasSize new.records id (Ok size)
+KeepsSizes old new =
+    (id size : ℕ) → WalkAnswers (FindsKept old) (record { count = 1; type = id }) (λ _. MaximumTypeDepthReached id)
+    (Ok size) → HasSize new.records id (Ok size)
 
 -- What ids stand for, but for a FUNC, is what they stood for.
 abbrev pub KeepsResolutions : Table → Table → Type 0
-KeepsResolutions old new = (id end : ℕ) → Resolves old.records id (Ok end) → kind_at old end ≢ Some kinds.Func → Resolves new.records id (Ok end)
+KeepsResolutions old new =
+    (id end : ℕ) → Resolves old.records id (Ok end) → kind_at old end ≢ Some kinds.Func
+    → Resolves new.records id (Ok end)
 
 -- The value of a variant that is found by a name, or that none has the name, is what it was.
 abbrev pub KeepsValues : Table → Table → Type 0
-KeepsValues old new = (id : ℕ) (name : List ℕ) (found : Option ℕ) → Value old id name (Ok found) → Value new id name (Ok found)
+KeepsValues old new =
+    (id : ℕ) (name : List ℕ) (found : Option ℕ) → Value old id name (Ok found) → Value new id name (Ok found)
 
 -- No type is taken away, and at most so many are appended.
 abbrev pub AppendsAtMost : ℕ → Table → Table → Type 0
@@ -84,7 +102,8 @@ AppendsAtMost n old new = (length old.records ≤ length new.records) × (length
 -- Nothing was asked for; or the bytes stand for a table, and the answers are to the first features that its rewrite
 -- asks for.
 abbrev pub BeginsAskedOfWith : FillPolicy → Order → List ℕ → Option model.KsymsIds → Layout → List Answer → Type 0
-BeginsAskedOfWith policy order bytes ids layout answers = (answers ≡ []) ⊎ ((old : Table) × IsTable order bytes old × BeginsAsked (pass_with policy old ids layout answers))
+BeginsAskedOfWith policy order bytes ids layout answers =
+    (answers ≡ []) ⊎ ((old : Table) × IsTable order bytes old × BeginsAsked (pass_with policy old ids layout answers))
 
 abbrev pub BeginsAskedOf : Order → List ℕ → Option model.KsymsIds → Layout → List Answer → Type 0
 BeginsAskedOf = BeginsAskedOfWith KeepSized

@@ -62,8 +62,10 @@ impl Btf {
         datasec_id: u32,
         placeholder_id: Option<u32>,
     ) -> Result<(), BtfError>
-        ensures answer { Gives (λ u. u) result (checked (ksyms_fault self.old (ksyms_ids datasec_id placeholder_id)) tt) }
-        ensures ok { OnOk result (self.new ≡ ksyms_table self.old (ksyms_ids datasec_id placeholder_id)) }
+        ensures answer { Gives (λ u. u) result
+            (checked (ksyms_fault self.old (ksyms_ids datasec_id placeholder_id)) tt) }
+        ensures ok { OnOk result (self.new ≡ ksyms_table self.old
+            (ksyms_ids datasec_id placeholder_id)) }
         ensures err { OnErr result (self.new ≡ self.old) }
         // No type is taken away, and the INT is the only one that may be appended.
         ensures appended { OnOk result (AppendsAtMost 1 self.old self.new) }
@@ -85,8 +87,11 @@ impl Btf {
         requires unasked { resolver.old.1 ≡ [] }
         ensures callable { F.IsAlwaysCallable resolver.new.0 }
         ensures called { Called F.step resolver.old.0 resolver.new.1 resolver.new.0 }
-        ensures asked { BeginsAsked (pass_on self.old (under policy (layout_of sections.now symbols.now)) (answers_of resolver.new.1)) }
-        ensures sanitizes { Answers (λ a. a.items) result (Sanitizes (pass_on self.old (under policy (layout_of sections.now symbols.now)) (answers_of resolver.new.1)) self.new) }
+        ensures asked { BeginsAsked (pass_on self.old
+            (under policy (layout_of sections.now symbols.now)) (answers_of resolver.new.1)) }
+        ensures sanitizes { Answers (λ a. a.items) result
+            (Sanitizes (pass_on self.old (under policy (layout_of sections.now symbols.now))
+            (answers_of resolver.new.1)) self.new) }
         ensures answers { IfOk result (λ a. a.items ≡ resolver.new.1) }
         ensures err { OnErr result (self.new ≡ self.old) }
     {
@@ -122,13 +127,17 @@ impl Btf {
         // One call of the predicate for each answer, in order, and no other.
         ensures called { Called F.step resolver.old.0 resolver.new.1 resolver.new.0 }
         // In every outcome the answers are to the first features that the rewrite asks for.
-        ensures asked { BeginsAsked (pass_of self.old (ids_of ksyms) (layout_of sections.now symbols.now) (answers_of resolver.new.1)) }
+        ensures asked { BeginsAsked (pass_of self.old (ids_of ksyms)
+            (layout_of sections.now symbols.now) (answers_of resolver.new.1)) }
         // The table is the rewritten one, and all is asked for; or the first cause of refusal.
-        ensures rewrites { Answers (λ a. a.items) result (Rewrites self.old (ids_of ksyms) (layout_of sections.now symbols.now) (answers_of resolver.new.1) self.new) }
+        ensures rewrites { Answers (λ a. a.items) result
+            (Rewrites self.old (ids_of ksyms) (layout_of sections.now symbols.now)
+            (answers_of resolver.new.1) self.new) }
         ensures answers { IfOk result (λ a. a.items ≡ resolver.new.1) }
         ensures err { OnErr result (self.new ≡ self.old) }
         // What the kernel needs for the new table was asked for once, and granted.
-        ensures granted { OnOk result (NeedsAreGranted self.old (ids_of ksyms) (answers_of resolver.new.1) self.new) }
+        ensures granted { OnOk result (NeedsAreGranted self.old (ids_of ksyms)
+            (answers_of resolver.new.1) self.new) }
         // A walk that meets no VAR, FUNC, FUNC_PROTO, DATASEC or DECL_TAG finds the size that it found.
         ensures sizes { OnOk result (KeepsSizes self.old self.new) }
         // What an id stands for, but for a FUNC, it stands for still.
@@ -163,13 +172,17 @@ impl Btf {
         // One call of the predicate for each answer, in order, and no other.
         ensures called { Called F.step resolver.old.0 resolver.new.1 resolver.new.0 }
         // In every outcome the answers are to the first features that the rewrite asks for.
-        ensures asked { BeginsAsked (pass_with (policy_of policy) self.old (ids_of ksyms) (layout_of sections.now symbols.now) (answers_of resolver.new.1)) }
+        ensures asked { BeginsAsked (pass_with (policy_of policy) self.old (ids_of ksyms)
+            (layout_of sections.now symbols.now) (answers_of resolver.new.1)) }
         // The table is the rewritten one, and all is asked for; or the first cause of refusal.
-        ensures rewrites { Answers (λ a. a.items) result (RewritesWith (policy_of policy) self.old (ids_of ksyms) (layout_of sections.now symbols.now) (answers_of resolver.new.1) self.new) }
+        ensures rewrites { Answers (λ a. a.items) result
+            (RewritesWith (policy_of policy) self.old (ids_of ksyms)
+            (layout_of sections.now symbols.now) (answers_of resolver.new.1) self.new) }
         ensures answers { IfOk result (λ a. a.items ≡ resolver.new.1) }
         ensures err { OnErr result (self.new ≡ self.old) }
         // What the kernel needs for the new table was asked for once, and granted.
-        ensures granted { OnOk result (NeedsAreGrantedWith (policy_of policy) self.old (ids_of ksyms) (answers_of resolver.new.1) self.new) }
+        ensures granted { OnOk result (NeedsAreGrantedWith (policy_of policy) self.old
+            (ids_of ksyms) (answers_of resolver.new.1) self.new) }
         // A walk that meets no VAR, FUNC, FUNC_PROTO, DATASEC or DECL_TAG finds the size that it found.
         ensures sizes { OnOk result (KeepsSizes self.old self.new) }
         // What an id stands for, but for a FUNC, it stands for still.
@@ -210,7 +223,9 @@ pub fn rewrite_bytes<F: FnMut(BtfFeature) -> bool>(
     requires unasked { resolver.old.1 ≡ [] }
     ensures callable { F.IsAlwaysCallable resolver.new.0 }
     ensures called { Called F.step resolver.old.0 resolver.new.1 resolver.new.0 }
-    ensures rewrites { Answers (λ r. (r.0.items, r.1.items)) result (RewritesBytes (order_of endianness) «data».now (ids_of ksyms) (layout_of sections.now symbols.now) (answers_of resolver.new.1)) }
+    ensures rewrites { Answers (λ r. (r.0.items, r.1.items)) result
+        (RewritesBytes (order_of endianness) «data».now (ids_of ksyms)
+        (layout_of sections.now symbols.now) (answers_of resolver.new.1)) }
     ensures answers { IfOk result (λ r. r.1.items ≡ resolver.new.1) }
     // In every outcome nothing was asked, or the bytes stand for a table, and the answers are to the first features
     // that its rewrite asks for.
@@ -221,11 +236,14 @@ pub fn rewrite_bytes<F: FnMut(BtfFeature) -> bool>(
     ensures granted { IfOk result (λ r. OfTables (order_of endianness) «data».now r.0.items
         (λ old new. NeedsAreGranted old (ids_of ksyms) (answers_of resolver.new.1) new)) }
     // sizes that are found without VAR, FUNC, FUNC_PROTO, DATASEC or DECL_TAG stay;
-    ensures sizes { IfOk result (λ r. OfTables (order_of endianness) «data».now r.0.items KeepsSizes) }
+    ensures sizes { IfOk result (λ r. OfTables
+        (order_of endianness) «data».now r.0.items KeepsSizes) }
     // what an id stands for, but for a FUNC, it stands for still;
-    ensures resolutions { IfOk result (λ r. OfTables (order_of endianness) «data».now r.0.items KeepsResolutions) }
+    ensures resolutions { IfOk result
+        (λ r. OfTables (order_of endianness) «data».now r.0.items KeepsResolutions) }
     // and no type is taken away, and at most four are appended.
-    ensures appended { IfOk result (λ r. OfTables (order_of endianness) «data».now r.0.items (AppendsAtMost 4)) }
+    ensures appended { IfOk result (λ r. OfTables (order_of endianness) «data».now r.0.items
+        (AppendsAtMost 4)) }
 {
     let policy = FillPolicy::KeepSized;
     rewrite_bytes_with(
@@ -249,22 +267,28 @@ pub fn rewrite_bytes_with<F: FnMut(BtfFeature) -> bool>(
     requires unasked { resolver.old.1 ≡ [] }
     ensures callable { F.IsAlwaysCallable resolver.new.0 }
     ensures called { Called F.step resolver.old.0 resolver.new.1 resolver.new.0 }
-    ensures rewrites { Answers (λ r. (r.0.items, r.1.items)) result (RewritesBytesWith (policy_of policy) (order_of endianness) «data».now (ids_of ksyms) (layout_of sections.now symbols.now) (answers_of resolver.new.1)) }
+    ensures rewrites { Answers (λ r. (r.0.items, r.1.items)) result
+        (RewritesBytesWith (policy_of policy) (order_of endianness) «data».now (ids_of ksyms)
+        (layout_of sections.now symbols.now) (answers_of resolver.new.1)) }
     ensures answers { IfOk result (λ r. r.1.items ≡ resolver.new.1) }
     // In every outcome nothing was asked, or the bytes stand for a table, and the answers are to the first features
     // that its rewrite asks for.
-    ensures asked { BeginsAskedOfWith (policy_of policy) (order_of endianness) «data».now (ids_of ksyms)
+    ensures asked { BeginsAskedOfWith (policy_of policy) (order_of endianness) «data».now
+        (ids_of ksyms)
         (layout_of sections.now symbols.now) (answers_of resolver.new.1) }
     // Of the table that the bytes stand for, and the one that the written bytes stand for: what the kernel needs for
     // the new one was asked for once, and granted;
     ensures granted { IfOk result (λ r. OfTables (order_of endianness) «data».now r.0.items
         (λ old new. NeedsAreGrantedWith (policy_of policy) old (ids_of ksyms) (answers_of resolver.new.1) new)) }
     // sizes that are found without VAR, FUNC, FUNC_PROTO, DATASEC or DECL_TAG stay;
-    ensures sizes { IfOk result (λ r. OfTables (order_of endianness) «data».now r.0.items KeepsSizes) }
+    ensures sizes { IfOk result (λ r. OfTables
+        (order_of endianness) «data».now r.0.items KeepsSizes) }
     // what an id stands for, but for a FUNC, it stands for still;
-    ensures resolutions { IfOk result (λ r. OfTables (order_of endianness) «data».now r.0.items KeepsResolutions) }
+    ensures resolutions { IfOk result
+        (λ r. OfTables (order_of endianness) «data».now r.0.items KeepsResolutions) }
     // and no type is taken away, and at most four are appended.
-    ensures appended { IfOk result (λ r. OfTables (order_of endianness) «data».now r.0.items (AppendsAtMost 4)) }
+    ensures appended { IfOk result (λ r. OfTables (order_of endianness) «data».now r.0.items
+        (AppendsAtMost 4)) }
 {
     let mut btf = Btf::parse(alloc, data, endianness)?;
     let answers = btf.fixup_and_sanitize_with(sections, symbols, ksyms, policy, resolver)?;

@@ -120,7 +120,8 @@ impl Btf {
     /// `InvalidTypeInfo` where the records would pass 4,294,967,295 bytes. An error leaves the table as it was.
     pub fn add_type(&mut self, btf_type: BtfType) -> Result<u32, BtfError>
         ensures answer { Gives (λ id. id) result (type_place (record_of btf_type) self.old) }
-        ensures ok { OnOk result (self.new ≡ with_type (record_of btf_type) (fallback_of btf_type) self.old) }
+        ensures ok { OnOk result (self.new ≡ with_type (record_of btf_type)
+            (fallback_of btf_type) self.old) }
         ensures err { OnErr result (self.new ≡ self.old) }
     {
         let size = btf_type.type_info_size();
@@ -146,8 +147,10 @@ impl Btf {
         // What the bytes stand for, or the first cause of refusal.
         ensures parsed { Answers (λ b. b) result (Parses (order_of endianness) «data».now) }
         // Bytes that stand for a table are not refused, and no others stand for one.
-        ensures only_table { (t : Table) → IsTable (order_of endianness) «data».now t → Gives (λ b. b) result (Ok t) }
-        ensures only_refusal { (f : Refusal) → IsRefusal (order_of endianness) «data».now f → Gives (λ b. b) result (Err f) }
+        ensures only_table { (t : Table) → IsTable (order_of endianness) «data».now t
+            → Gives (λ b. b) result (Ok t) }
+        ensures only_refusal { (f : Refusal) → IsRefusal (order_of endianness) «data».now f
+            → Gives (λ b. b) result (Err f) }
     {
         read_table(alloc, data, endianness)
     }
@@ -183,15 +186,18 @@ impl Btf {
     /// the bytes are not UTF-8.
     pub fn string_at(&self, offset: u32) -> Result<BtfStr<'_>, BtfError>
         ensures text { Gives text_bytes result (model.text_at self.now.strings offset) }
-        ensures no_memory { IfSome (model.bytes_at self.now.strings offset) IsUtf8 → Tells text_bytes result (λ answer. answer ≡ model.text_at self.now.strings offset) }
+        ensures no_memory { IfSome (model.bytes_at self.now.strings offset) IsUtf8
+            → Tells text_bytes result (λ answer. answer ≡ model.text_at self.now.strings offset) }
     {
         text_at(*self.strings.allocator(), &self.strings, offset)
     }
 
     /// The name of a type, as `string_at` reads it; the name of an `Unknown` is at offset 0.
     pub fn type_name(&self, btf_type: &BtfType) -> Result<BtfStr<'_>, BtfError>
-        ensures text { Gives text_bytes result (model.text_at self.now.strings (record_of btf_type.now).name) }
-        ensures no_memory { IfSome (model.bytes_at self.now.strings (record_of btf_type.now).name) IsUtf8
+        ensures text { Gives text_bytes result
+            (model.text_at self.now.strings (record_of btf_type.now).name) }
+        ensures no_memory { IfSome (model.bytes_at self.now.strings
+            (record_of btf_type.now).name) IsUtf8
             → Tells text_bytes result (λ answer. answer ≡ model.text_at self.now.strings (record_of btf_type.now).name) }
     {
         self.string_at(btf_type.name_offset())
@@ -199,7 +205,8 @@ impl Btf {
 
     /// The name of a type for a message; None where it can't be read. `OutOfMemory` is the only error.
     pub fn err_type_name(&self, btf_type: &BtfType) -> Result<Option<String>, BtfError>
-        ensures { Gives (option_map string_bytes) result (Ok (result_ok (model.text_at self.now.strings (record_of btf_type.now).name))) }
+        ensures { Gives (option_map string_bytes) result
+            (Ok (result_ok (model.text_at self.now.strings (record_of btf_type.now).name))) }
     {
         match self.type_name(btf_type) {
             Ok(BtfStr::Borrowed(text)) => Ok(Some(text.to_string(*self.strings.allocator())?)),
@@ -214,7 +221,8 @@ impl Btf {
     /// `InvalidStringOffset` where a type of this kind with a lower id has a name that can't be read, and
     /// `UnknownBtfTypeName` where no type has the kind and the name.
     pub fn id_by_type_name_kind(&self, name: &str, kind: BtfKind) -> Result<u32, BtfError>
-        ensures { Answers (λ id. id) result (FindsName self.now.strings self.now.records (kinds.kind kind) name.now) }
+        ensures { Answers (λ id. id) result
+            (FindsName self.now.strings self.now.records (kinds.kind kind) name.now) }
     {
         find_named(
             *self.strings.allocator(),

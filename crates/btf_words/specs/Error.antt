@@ -24,7 +24,8 @@ refusal_of errors.InvalidDatasec = Some refusals.InvalidDatasec
 refusal_of (errors.UnknownSectionSize section_name) = Some (refusals.UnknownSectionSize (string_bytes section_name))
 refusal_of errors.InvalidSymbolName = Some refusals.InvalidSymbolName
 refusal_of (errors.InnerMapCannotBePinned name) = Some (refusals.InnerMapCannotBePinned (string_bytes name))
-refusal_of (errors.MultiLevelMapInMapNotSupported name) = Some (refusals.MultiLevelMapInMapNotSupported (string_bytes name))
+refusal_of (errors.MultiLevelMapInMapNotSupported name) =
+    Some (refusals.MultiLevelMapInMapNotSupported (string_bytes name))
 refusal_of (errors.InvalidValuesSpec name) = Some (refusals.InvalidValuesSpec (string_bytes name))
 refusal_of errors.OutOfMemory = None
 

@@ -23,21 +23,27 @@ use Rattle.btftool.specs.Listing.{listing, size_line, comparison_lines}
 
 -- The comparison of two types of a table returns this, with so many pairs that it starts; or is refused.
 abbrev pub Compares : Table → ℕ → ℕ → Result (Bool × ℕ) Refusal → Type 0
-Compares t id other (Ok found) = (starts : List Pair) × Plain t t [] (pair id other) (Ok found.0) starts × (found.1 ≡ length (firsts starts))
+Compares t id other (Ok found) =
+    (starts : List Pair) × Plain t t [] (pair id other) (Ok found.0) starts × (found.1 ≡ length (firsts starts))
 Compares t id other (Err refusal) = (starts : List Pair) × Plain t t [] (pair id other) (Err refusal) starts
 
 -- The table is rewritten as the words of a request say, for a kernel that has the features that they grant, under the
 -- policy that they choose; or is refused.
 abbrev pub Rewrites : Request → Table → Result Table Refusal → Type 0
-Rewrites request t (Ok new) = (said : List Saying) × IsSaid request said × RewrittenWith (policy_said said) t (request_ids request) (layout_said said) (kernel_said said) new
-Rewrites request t (Err refusal) = (said : List Saying) × IsSaid request said × IsRefusedWith (policy_said said) t (request_ids request) (layout_said said) (kernel_said said) refusal
+Rewrites request t (Ok new) =
+    (said : List Saying) × IsSaid request said
+    × RewrittenWith (policy_said said) t (request_ids request) (layout_said said) (kernel_said said) new
+Rewrites request t (Err refusal) =
+    (said : List Saying) × IsSaid request said
+    × IsRefusedWith (policy_said said) t (request_ids request) (layout_said said) (kernel_said said) refusal
 
 -- what a command writes of a table
 abbrev pub Writes : Command → Table → List ℕ → Type 0
 Writes (Ask Copy) t written = written ≡ canon t
 Writes (Ask Types) t written = written ≡ listing t
 Writes (Ask (Size id)) t written = (n : ℕ) × HasSize t.records id (Ok n) × (written ≡ size_line n)
-Writes (Ask (Compat id other)) t written = (b : Bool) × (n : ℕ) × Compares t id other (Ok (b, n)) × (written ≡ comparison_lines b n)
+Writes (Ask (Compat id other)) t written =
+    (b : Bool) × (n : ℕ) × Compares t id other (Ok (b, n)) × (written ≡ comparison_lines b n)
 Writes (Rewrite request) t written = (new : Table) × Rewrites request t (Ok new) × (written ≡ canon new)
 
 -- why a command refuses a table
@@ -58,7 +64,8 @@ IsAnswer line bytes written = (t : Table) × IsTable (order_of line.endianness) 
 
 -- The bytes stand for no table, or for one that the command refuses.
 pub record IsDeclined (line : Line) (bytes : List ℕ) (refusal : Refusal) : Type 0 where
-  pub cause : IsRefusal (order_of line.endianness) bytes refusal ⊎ ((t : Table) × IsTable (order_of line.endianness) bytes t × Declines line.command t refusal)
+  pub cause : IsRefusal (order_of line.endianness) bytes refusal
+      ⊎ ((t : Table) × IsTable (order_of line.endianness) bytes t × Declines line.command t refusal)
 
 -- A writer whose bytes are known has gained the answer to these bytes, and nothing else.
 abbrev pub IsWritten : Option (List ℕ) → Option (List ℕ) → Line → List ℕ → Type 0

@@ -22,7 +22,8 @@ abbrev pub AsksQuery : List (List ℕ) → Query → Type 0
 AsksQuery words Copy = words ≡ codes "copy" ∷ []
 AsksQuery words Types = words ≡ codes "types" ∷ []
 AsksQuery words (Size id) = (word : List ℕ) × (words ≡ codes "size" ∷ word ∷ []) × IsId word id
-AsksQuery words (Compat id other) = (word second : List ℕ) × (words ≡ codes "compat" ∷ word ∷ second ∷ []) × IsId word id × IsId second other
+AsksQuery words (Compat id other) =
+    (word second : List ℕ) × (words ≡ codes "compat" ∷ word ∷ second ∷ []) × IsId word id × IsId second other
 
 -- the words ask for this command
 abbrev pub AsksCommand : List (List ℕ) → Command → Type 0
@@ -31,7 +32,9 @@ AsksCommand words (Rewrite request) = (rest : List (List ℕ)) × (words ≡ cod
 
 -- The words ask for this: an order, and then a command
 abbrev pub Asks : List (String Global) → Line → Type 0
-Asks words line = (rest : List (List ℕ)) × (texts words ≡ order_word (order_of line.endianness) ∷ rest) × AsksCommand rest line.command
+Asks words line =
+    (rest : List (List ℕ)) × (texts words ≡ order_word (order_of line.endianness) ∷ rest)
+    × AsksCommand rest line.command
 
 -- some words ask for this
 abbrev pub IsAsked : Line → Type 0

@@ -21,7 +21,8 @@ kind_part None = []
 
 -- The line of a type: its id, its kind, and its name.
 abbrev pub type_line : List ℕ → ℕ → Record → List ℕ
-type_line strings id r = decimal id ++ codes " " ++ kind_part (kind_of r.info) ++ name_part (text_at strings r.name) ++ codes "\n"
+type_line strings id r =
+    decimal id ++ codes " " ++ kind_part (kind_of r.info) ++ name_part (text_at strings r.name) ++ codes "\n"
 
 -- the lines of types that have ids from this one on
 abbrev pub lines_from : List ℕ → ℕ → List Record → List ℕ

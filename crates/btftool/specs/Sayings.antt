@@ -21,7 +21,8 @@ is_grant f saying = false
 
 abbrev pub all_features : List Feature
 all_features =
-    features.Func ∷ features.FuncGlobal ∷ features.DataSec ∷ features.DataSecZero ∷ features.Float ∷ features.DeclTag ∷ features.TypeTag ∷ features.Enum64 ∷ []
+    features.Func ∷ features.FuncGlobal ∷ features.DataSec ∷ features.DataSecZero ∷ features.Float ∷ features.DeclTag
+    ∷ features.TypeTag ∷ features.Enum64 ∷ []
 
 -- the kernel has a feature if a word grants it
 abbrev pub answer_said : List Saying → Feature → Answer
@@ -58,7 +59,10 @@ last_said number [] = None
 last_said number (saying ∷ said) = option_or (last_said number said) (number saying)
 
 abbrev pub layout_said : List Saying → Layout
-layout_said said = record { sections = λ name. last_said (size_said name) said; symbols = λ name. last_said (offset_said name) said }
+layout_said said = record {
+  sections = λ name. last_said (size_said name) said;
+  symbols = λ name. last_said (offset_said name) said;
+}
 
 -- ---- the ids of `.ksyms`
 
@@ -72,5 +76,7 @@ placeholder_said saying = None
 
 -- One word says the id of `.ksyms`, and one at most that of the placeholder; or none says either.
 abbrev pub SayIds : List Saying → Option KsymsIds → Type 0
-SayIds said (Some ids) = (filter_map ksyms_said said ≡ ids.datasec ∷ []) × (filter_map placeholder_said said ≡ option_to_list ids.placeholder)
+SayIds said (Some ids) =
+    (filter_map ksyms_said said ≡ ids.datasec ∷ [])
+    × (filter_map placeholder_said said ≡ option_to_list ids.placeholder)
 SayIds said None = (filter_map ksyms_said said ≡ []) × (filter_map placeholder_said said ≡ [])

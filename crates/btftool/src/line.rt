@@ -92,7 +92,8 @@ impl<'a> Command<'a> {
     /// The command that the words after the order make.
     fn read(words: &'a [String]) -> Option<Command<'a>>
         ensures some { IfSome result (AsksCommand (texts words.now)) }
-        ensures none { IfNone result ((command : Command) → AsksCommand (texts words.now) command → ⊥) }
+        ensures none { IfNone result ((command : Command) → AsksCommand (texts words.now) command
+            → ⊥) }
     {
         let (word, rest) = words.split_first()?;
         if word.as_str() == "rewrite" {

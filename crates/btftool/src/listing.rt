@@ -26,7 +26,8 @@ fn push_text(out: &mut String, name: &str) -> Result<(), AllocError>
 
 /// Adds a space and the name of a type, where it can be read and is not empty.
 fn push_name(out: &mut String, table: &Btf, btf_type: &BtfType) -> Result<(), BtfError>
-    ensures text { OnOk result (string_bytes out.new ≡ string_bytes out.old ++ name_part (text_at table.now.strings (record_of btf_type.now).name)) }
+    ensures text { OnOk result (string_bytes out.new ≡ string_bytes out.old
+        ++ name_part (text_at table.now.strings (record_of btf_type.now).name)) }
     ensures only_memory { Gives (λ done. done) result (Ok tt) }
 {
     let name = match table.type_name(btf_type) {
@@ -40,7 +41,8 @@ fn push_name(out: &mut String, table: &Btf, btf_type: &BtfType) -> Result<(), Bt
 
 /// Adds the line of a type: its id, its kind, and its name where it can be read and is not empty.
 fn push_line(out: &mut String, table: &Btf, id: usize, btf_type: &BtfType) -> Result<(), BtfError>
-    ensures text { OnOk result (string_bytes out.new ≡ string_bytes out.old ++ type_line table.now.strings id (record_of btf_type.now)) }
+    ensures text { OnOk result (string_bytes out.new ≡ string_bytes out.old
+        ++ type_line table.now.strings id (record_of btf_type.now)) }
     ensures only_memory { Gives (λ done. done) result (Ok tt) }
 {
     // The contract speaks of the kind in the info word, which a use of it shows.
@@ -54,7 +56,8 @@ fn push_line(out: &mut String, table: &Btf, id: usize, btf_type: &BtfType) -> Re
 
 /// Adds a line for each of these types, of which the first has id 1.
 fn push_lines(out: &mut String, table: &Btf, types: &[BtfType]) -> Result<(), BtfError>
-    ensures text { OnOk result (string_bytes out.new ≡ string_bytes out.old ++ lines_from table.now.strings 1 (map record_of types.now)) }
+    ensures text { OnOk result (string_bytes out.new ≡ string_bytes out.old
+        ++ lines_from table.now.strings 1 (map record_of types.now)) }
     ensures only_memory { Gives (λ done. done) result (Ok tt) }
 {
     for (place, btf_type) in types.iter().enumerate() {

@@ -34,7 +34,8 @@ impl<'a> Request<'a> {
     /// The request that the words make, or None where they can't be read.
     pub fn read(words: &'a [String]) -> Option<Request<'a>>
         ensures some { IfSome result (Requests (texts words.now)) }
-        ensures none { IfNone result ((request : Request) → Requests (texts words.now) request → ⊥) }
+        ensures none { IfNone result ((request : Request) → Requests (texts words.now) request
+            → ⊥) }
     {
         let mut ksyms = None;
         let mut placeholder = None;

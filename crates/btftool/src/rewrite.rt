@@ -79,7 +79,8 @@ pub fn rewritten(
     blob: &[u8],
 ) -> Result<Vec<u8>, BtfError>
     requires { (said : List Saying) × IsSaid request said }
-    ensures made { IfOk result (λ v. IsAnswer (rewriting endianness request.entry) blob.now v.items) }
+    ensures made { IfOk result (λ v. IsAnswer
+        (rewriting endianness request.entry) blob.now v.items) }
     ensures told { IfErr result (λ e. IfSome (refusal_of e)
         (IsDeclined (rewriting endianness request.entry) blob.now)) }
 {

@@ -79,7 +79,8 @@ fn carry_out<R: Read, W: Write>(
     requires { IsAsked line }
     ensures written { OnOk result (IfSome (R.remaining input.old) (λ bytes.
         IsWritten (W.contents out.old) (W.contents out.new) line.entry bytes)) }
-    ensures refused { (bytes : List ℕ) (f : Refusal) → R.remaining input.old ≡ Some bytes → IsDeclined line.entry bytes f
+    ensures refused { (bytes : List ℕ) (f : Refusal) → R.remaining input.old ≡ Some bytes
+        → IsDeclined line.entry bytes f
         → IsErr result × Keeps (W.contents out.old) (W.contents out.new) }
     // A refusal is reported for its cause alone.
     ensures told { IfErr result (λ fault. IfSome (R.remaining input.old) (λ bytes.
@@ -106,13 +107,15 @@ pub fn run<R: Read, W: Write, E: Write>(
     ensures usage { (result ≡ 2) ↔ ((line : Line) → Asks words.now line → ⊥) }
     ensures usage_alone { result ≡ 2 → (input.new ≡ input.old) × (out.new ≡ out.old) }
     // On success the input stands for a table, and what the command makes of it is written.
-    ensures written { (line : Line) → Asks words.now line → result ≡ 0 → IfSome (R.remaining input.old) (λ bytes.
+    ensures written { (line : Line) → Asks words.now line → result ≡ 0
+        → IfSome (R.remaining input.old) (λ bytes.
         IsWritten (W.contents out.old) (W.contents out.new) line bytes) }
     // Then the input has been read to its end.
     ensures end { result ≡ 0 → IsAtEnd (R.remaining input.new) }
     // Input that stands for no table, or for one that the command refuses, ends so, and nothing is written on standard
     // output.
-    ensures refused { (line : Line) (bytes : List ℕ) (f : Refusal) → Asks words.now line → R.remaining input.old ≡ Some bytes
+    ensures refused { (line : Line) (bytes : List ℕ) (f : Refusal) → Asks words.now line
+        → R.remaining input.old ≡ Some bytes
         → IsDeclined line bytes f → (result ≡ 1) × Keeps (W.contents out.old) (W.contents out.new) }
 {
     let Some(line) = Line::read(words) else {

@@ -32,7 +32,8 @@ pub fn read_sections<'a>(
     part: &Part<'a>,
     endianness: Endianness,
 ) -> Result<Vec<SecInfo<'a>>, BtfError>
-    ensures { Answers (λ v. map section_of v.items) result (AreSections (order_of endianness) part.now.rec_size part.now.sections.now) }
+    ensures { Answers (λ v. map section_of v.items) result
+        (AreSections (order_of endianness) part.now.rec_size part.now.sections.now) }
 {
     let mut sections = Vec::new(alloc);
     for section in SecInfoIter::new(part.sections, part.rec_size, endianness) {
@@ -50,7 +51,8 @@ pub fn read_relocations(
 ) -> Result<Vec<(u32, Vec<[u32; 4]>)>, AllocError>
     requires whole { AllByRecursion (IsSection rec_size) (map section_of sections.now) }
     requires wide { 0 < length sections.now → 16 ≤ rec_size }
-    ensures { IfOk result (λ v. map relocation v.items ≡ map (relocation_section (order_of endianness) rec_size) (map section_of sections.now)) }
+    ensures { IfOk result (λ v. map relocation v.items ≡ map
+        (relocation_section (order_of endianness) rec_size) (map section_of sections.now)) }
 {
     let mut relocations = Vec::with_capacity(alloc, sections.len())?;
     for section in sections {

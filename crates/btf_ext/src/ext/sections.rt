@@ -48,7 +48,12 @@ impl<'a> Model for SecInfoIter<'a> {
 impl<'a> SecInfoIter<'a> {
     /// The sections of bytes, whose words are in this order, with records of so many bytes.
     pub fn new(data: &'a [u8], rec_size: usize, endianness: Endianness) -> Self
-        ensures { result ≡ record { order = order_of endianness; size = rec_size; bytes = «data».now } }
+        ensures { result ≡ record {
+          order = order_of endianness;
+          size = rec_size;
+          bytes =
+              «data».now;
+        } }
     {
         SecInfoIter {
             bytes: data,

@@ -71,7 +71,8 @@ impl FuncSecInfo {
 
     /// The words of the records in little-endian order. `OutOfMemory` is the only error.
     pub fn func_info_bytes(&self) -> Result<Vec<u8>, BtfError>
-        ensures { Gives (λ v. v.items) result (Ok (little_bytes (map func_words self.now.func_info.items))) }
+        ensures { Gives (λ v. v.items) result
+            (Ok (little_bytes (map func_words self.now.func_info.items))) }
     {
         let mut out = Vec::new(*self.func_info.allocator());
         for record in &self.func_info {

@@ -77,7 +77,8 @@ impl LineSecInfo {
 
     /// The words of the records in little-endian order. `OutOfMemory` is the only error.
     pub fn line_info_bytes(&self) -> Result<Vec<u8>, BtfError>
-        ensures { Gives (λ v. v.items) result (Ok (little_bytes (map line_words self.now.line_info.items))) }
+        ensures { Gives (λ v. v.items) result
+            (Ok (little_bytes (map line_words self.now.line_info.items))) }
     {
         let mut out = Vec::new(*self.line_info.allocator());
         for record in &self.line_info {

@@ -53,7 +53,9 @@ pub fn read_records<T: Record>(
 ) -> Result<Vec<T>, AllocError>
     requires whole { IsSection rec_size (section_of section.now) }
     requires wide { 4 * T.width ≤ rec_size }
-    ensures { IfOk result (λ v. map T.words v.items ≡ map T.read_as (record_words (order_of endianness) rec_size T.width section.now.num_info section.now.bytes.now)) }
+    ensures { IfOk result (λ v. map T.words v.items ≡ map T.read_as
+        (record_words (order_of endianness) rec_size T.width section.now.num_info
+        section.now.bytes.now)) }
 {
     let mut records = Vec::with_capacity(alloc, section.num_info as usize)?;
     let mut rest = section.bytes;

@@ -67,7 +67,13 @@ impl DataSec {
     ) -> Self
         requires kind { kind_of info ≡ Some model.DataSec }
         requires count { vlen info ≡ vec_len entries }
-        ensures { result ≡ record { name = name_offset; info = info; third = size; tail = flat_map entry_words entries.items } }
+        ensures { result ≡ record {
+          name = name_offset;
+          info = info;
+          third = size;
+          tail = flat_map
+              entry_words entries.items;
+        } }
     {
         Self {
             name_offset,
@@ -163,7 +169,8 @@ impl DataSec {
         out: &mut Vec<u8>,
         endianness: Endianness,
     ) -> Result<(), AllocError>
-        ensures written { OnOk result (out.new.items ≡ out.old.items ++ spell (order_of endianness) self.now) }
+        ensures written { OnOk result (out.new.items ≡ out.old.items
+            ++ spell (order_of endianness) self.now) }
         ensures whole { OnOk result (IsWhole self.now) }
     {
         let words = [self.name_offset, self.info, self.size];

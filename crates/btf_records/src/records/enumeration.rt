@@ -64,7 +64,13 @@ impl Enum {
     pub(crate) fn from_parts(name_offset: u32, info: u32, size: u32, variants: Vec<BtfEnum>) -> Self
         requires kind { kind_of info ≡ Some model.Enum }
         requires count { vlen info ≡ vec_len variants }
-        ensures { result ≡ record { name = name_offset; info = info; third = size; tail = flat_map enum_words variants.items } }
+        ensures { result ≡ record {
+          name = name_offset;
+          info = info;
+          third = size;
+          tail = flat_map
+              enum_words variants.items;
+        } }
     {
         Self {
             name_offset,
@@ -150,7 +156,8 @@ impl Enum {
         out: &mut Vec<u8>,
         endianness: Endianness,
     ) -> Result<(), AllocError>
-        ensures written { OnOk result (out.new.items ≡ out.old.items ++ spell (order_of endianness) self.now) }
+        ensures written { OnOk result (out.new.items ≡ out.old.items
+            ++ spell (order_of endianness) self.now) }
         ensures whole { OnOk result (IsWhole self.now) }
     {
         let words = [self.name_offset, self.info, self.size];

@@ -69,7 +69,13 @@ impl Enum64 {
     ) -> Self
         requires kind { kind_of info ≡ Some model.Enum64 }
         requires count { vlen info ≡ vec_len variants }
-        ensures { result ≡ record { name = name_offset; info = info; third = size; tail = flat_map enum64_words variants.items } }
+        ensures { result ≡ record {
+          name = name_offset;
+          info = info;
+          third = size;
+          tail = flat_map
+              enum64_words variants.items;
+        } }
     {
         Self {
             name_offset,
@@ -148,7 +154,8 @@ impl Enum64 {
         out: &mut Vec<u8>,
         endianness: Endianness,
     ) -> Result<(), AllocError>
-        ensures written { OnOk result (out.new.items ≡ out.old.items ++ spell (order_of endianness) self.now) }
+        ensures written { OnOk result (out.new.items ≡ out.old.items
+            ++ spell (order_of endianness) self.now) }
         ensures whole { OnOk result (IsWhole self.now) }
     {
         let words = [self.name_offset, self.info, self.size];

@@ -67,7 +67,13 @@ impl FuncProto {
     ) -> Self
         requires kind { kind_of info ≡ Some model.FuncProto }
         requires count { vlen info ≡ vec_len params }
-        ensures { result ≡ record { name = name_offset; info = info; third = return_type; tail = flat_map param_words params.items } }
+        ensures { result ≡ record {
+          name = name_offset;
+          info = info;
+          third = return_type;
+          tail =
+              flat_map param_words params.items;
+        } }
     {
         Self {
             name_offset,
@@ -149,7 +155,8 @@ impl FuncProto {
         out: &mut Vec<u8>,
         endianness: Endianness,
     ) -> Result<(), AllocError>
-        ensures written { OnOk result (out.new.items ≡ out.old.items ++ spell (order_of endianness) self.now) }
+        ensures written { OnOk result (out.new.items ≡ out.old.items
+            ++ spell (order_of endianness) self.now) }
         ensures whole { OnOk result (IsWhole self.now) }
     {
         let words = [self.name_offset, self.info, self.return_type];

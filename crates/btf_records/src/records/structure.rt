@@ -66,7 +66,13 @@ impl Struct {
     ) -> Self
         requires kind { kind_of info ≡ Some model.Struct }
         requires count { vlen info ≡ vec_len members }
-        ensures { result ≡ record { name = name_offset; info = info; third = size; tail = flat_map member_words members.items } }
+        ensures { result ≡ record {
+          name = name_offset;
+          info = info;
+          third = size;
+          tail = flat_map
+              member_words members.items;
+        } }
     {
         Self {
             name_offset,
@@ -160,7 +166,8 @@ impl Struct {
         out: &mut Vec<u8>,
         endianness: Endianness,
     ) -> Result<(), AllocError>
-        ensures written { OnOk result (out.new.items ≡ out.old.items ++ spell (order_of endianness) self.now) }
+        ensures written { OnOk result (out.new.items ≡ out.old.items
+            ++ spell (order_of endianness) self.now) }
         ensures whole { OnOk result (IsWhole self.now) }
     {
         let words = [self.name_offset, self.info, self.size];

@@ -80,7 +80,17 @@ impl Union {
     ) -> Self
         requires kind { kind_of info ≡ Some model.Union }
         requires count { vlen info ≡ vec_len members }
-        ensures { result ≡ record { words = record { name = name_offset; info = info; third = size; tail = flat_map member_words members.items }; fallback = None } }
+        ensures { result ≡ record {
+          words =
+              record {
+                name = name_offset;
+                info = info;
+                third = size;
+                tail = flat_map member_words
+                    members.items;
+              };
+          fallback = None;
+        } }
     {
         Self {
             name_offset,
@@ -183,7 +193,8 @@ impl Union {
         out: &mut Vec<u8>,
         endianness: Endianness,
     ) -> Result<(), AllocError>
-        ensures written { OnOk result (out.new.items ≡ out.old.items ++ spell (order_of endianness) self.now.words) }
+        ensures written { OnOk result (out.new.items ≡ out.old.items
+            ++ spell (order_of endianness) self.now.words) }
         ensures whole { OnOk result (IsWhole self.now.words) }
     {
         let words = [self.name_offset, self.info, self.size];

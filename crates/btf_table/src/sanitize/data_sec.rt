@@ -49,9 +49,11 @@ fn as_struct(
     data_sec: &DataSec,
     name_offset: u32,
 ) -> Result<Option<BtfType>, BtfError>
-    ensures answer { (p : Pass) (lower : List Record) → p.table ≡ btf.now → names.now ≡ map (λ (r : Record). r.name) lower
+    ensures answer { (p : Pass) (lower : List Record) → p.table ≡ btf.now
+        → names.now ≡ map (λ (r : Record). r.name) lower
         → Gives (λ new. record_of (unwrap_or new (BtfType.DataSec data_sec.now))) result (checked (first_fault (flat_map (member_checks p) (entries data_sec.now.tail))) (model.struct name_offset (vlen data_sec.now.info) (vlen data_sec.now.info) (entry_members p lower (length lower) (entries data_sec.now.tail)))) }
-    ensures fallback { IfOk result (λ new. fallback_of (unwrap_or new (BtfType.DataSec data_sec.now)) ≡ None) }
+    ensures fallback { IfOk result (λ new. fallback_of
+        (unwrap_or new (BtfType.DataSec data_sec.now)) ≡ None) }
 {
     let members = members(btf, names, data_sec)?;
     let size = members.len() as u32;
@@ -72,7 +74,8 @@ fn laid_out(
 ) -> Result<Option<BtfType>, BtfError>
     ensures answer { (p : Pass) → p.table ≡ btf.now → p.layout.symbols ≡ offsets_of symbols.now
         → Gives (λ new. record_of (unwrap_or new (BtfType.DataSec data_sec.now))) result (checked (first_fault (flat_map (entry_checks p) (entries data_sec.now.tail))) (model.data_sec name_offset size (vlen data_sec.now.info) (map (placed p) (entries data_sec.now.tail)))) }
-    ensures fallback { IfOk result (λ new. fallback_of (unwrap_or new (BtfType.DataSec data_sec.now)) ≡ None) }
+    ensures fallback { IfOk result (λ new. fallback_of
+        (unwrap_or new (BtfType.DataSec data_sec.now)) ≡ None) }
 {
     let entries = placed_entries(btf, symbols, data_sec)?;
     Ok(Some(BtfType::DataSec(DataSec::new(name_offset, entries, size))))
@@ -88,7 +91,8 @@ fn known_size(
     data_sec: &DataSec,
 ) -> Result<u32, BtfError>
     ensures own { (data_sec.now.third == 0) ≡ false → result ≡ Ok data_sec.now.third }
-    ensures section { (data_sec.now.third == 0) ≡ true → (p : Pass) → p.table ≡ btf.now → p.layout.sections ≡ sizes_of sections.now
+    ensures section { (data_sec.now.third == 0) ≡ true → (p : Pass) → p.table ≡ btf.now
+        → p.layout.sections ≡ sizes_of sections.now
         → Gives (λ n. n) result (checked (first_fault (is_read (text_at btf.now.strings data_sec.now.name) ∷ is_sized (size_by_name p (text_at btf.now.strings data_sec.now.name)) (text_at btf.now.strings data_sec.now.name) ∷ []))
         (unwrap_or (size_by_name p (text_at btf.now.strings data_sec.now.name)) 0)) }
 {
@@ -109,8 +113,10 @@ fn wants_filler<F: FnMut(BtfFeature) -> bool>(
 ) -> bool
     requires { F.IsAlwaysCallable resolver.old.0 }
     ensures callable { F.IsAlwaysCallable resolver.new.0 }
-    ensures quiet { asks_zero (policy_of policy) data_sec.now size ≡ false → (resolver.new ≡ resolver.old) × (result ≡ is_fillable (policy_of policy) data_sec.now) }
-    ensures asks { asks_zero (policy_of policy) data_sec.now size ≡ true → Asks F.step BtfFeature.DataSecZero resolver.old (not result) resolver.new }
+    ensures quiet { asks_zero (policy_of policy) data_sec.now size ≡ false
+        → (resolver.new ≡ resolver.old) × (result ≡ is_fillable (policy_of policy) data_sec.now) }
+    ensures asks { asks_zero (policy_of policy) data_sec.now size ≡ true
+        → Asks F.step BtfFeature.DataSecZero resolver.old (not result) resolver.new }
 {
     let is_kept = match policy {
         FillPolicy::KeepSized => data_sec.size() != 0,
@@ -136,7 +142,8 @@ impl Made {
         size: u32,
     ) -> Result<Option<BtfType>, BtfError>
         requires { HasRoom btf.now self.old.changes }
-        ensures { (given : Given) (answers : List Answer) (id : ℕ) (r : Record) (before : Made) → HasNewName (pass_on btf.now given answers) id r name_offset before self.old
+        ensures { (given : Given) (answers : List Answer) (id : ℕ) (r : Record) (before : Made)
+            → HasNewName (pass_on btf.now given answers) id r name_offset before self.old
             → gets_filler (pass_on btf.now given answers) id ≡ true → final_size (pass_on btf.now given answers) id r ≡ Some size
             → Answers (λ new. unwrap_or new (BtfType.DataSec r)) result (Rules (pass_on btf.now given answers) id (BtfType.DataSec r) before self.new) }
     {
@@ -178,11 +185,22 @@ impl Made {
         requires room { HasRoom btf.now self.old.changes }
         requires callable { F.IsAlwaysCallable resolver.old.0 }
         ensures callable { F.IsAlwaysCallable resolver.new.0 }
-        ensures called { (first : F) → Called F.step first resolver.old.1 resolver.old.0 → Called F.step first resolver.new.1 resolver.new.0 }
+        ensures called { (first : F) → Called F.step first resolver.old.1 resolver.old.0
+            → Called F.step first resolver.new.1 resolver.new.0 }
         ensures further { IsFurther resolver.old.1 resolver.new.1 }
-        ensures asks { (given : Given) (id : ℕ) → given.policy ≡ policy_of policy → given.layout.sections ≡ sizes_of sections.now → IsType btf.now id (BtfType.DataSec data_sec.now) → IsHere (pass_on btf.now given (answers_of resolver.new.1)) id self.old → AreAnswersTo (asks_below (pass_on btf.now given (answers_of resolver.old.1)) id) (answers_of resolver.old.1)
+        ensures asks { (given : Given) (id : ℕ) → given.policy ≡ policy_of policy
+            → given.layout.sections ≡ sizes_of sections.now
+            → IsType btf.now id (BtfType.DataSec data_sec.now)
+            → IsHere (pass_on btf.now given (answers_of resolver.new.1)) id self.old
+            → AreAnswersTo (asks_below (pass_on btf.now given (answers_of resolver.old.1)) id)
+            (answers_of resolver.old.1)
             → (left : List Feature) × AsksUpTo (pass_on btf.now given (answers_of resolver.old.1)) id (answers_of resolver.new.1) left }
-        ensures steps { (given : Given) (id : ℕ) → given.policy ≡ policy_of policy → given.layout.sections ≡ sizes_of sections.now → given.layout.symbols ≡ offsets_of symbols.now → IsType btf.now id (BtfType.DataSec data_sec.now) → AreAnswersTo (asks_below (pass_on btf.now given (answers_of resolver.old.1)) id) (answers_of resolver.old.1)
+        ensures steps { (given : Given) (id : ℕ) → given.policy ≡ policy_of policy
+            → given.layout.sections ≡ sizes_of sections.now
+            → given.layout.symbols ≡ offsets_of symbols.now
+            → IsType btf.now id (BtfType.DataSec data_sec.now)
+            → AreAnswersTo (asks_below (pass_on btf.now given (answers_of resolver.old.1)) id)
+            (answers_of resolver.old.1)
             → IsHere (pass_on btf.now given (answers_of resolver.new.1)) id self.old
             → Answers (λ new. unwrap_or new (BtfType.DataSec data_sec.now)) result (Steps (pass_on btf.now given (answers_of resolver.old.1)) id resolver.new.1 (BtfType.DataSec data_sec.now) self.old self.new) }
     {

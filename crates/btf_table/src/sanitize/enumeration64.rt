@@ -29,8 +29,12 @@ const PLACEHOLDER: &str = "enum64_placeholder";
 /// Returns its id. `InvalidStringOffset` and `InvalidTypeInfo` where strings or types have no room for it.
 pub fn append_placeholder(btf: &Btf, changes: &mut Changes) -> Result<u32, BtfError>
     requires { HasRoom btf.now changes.old }
-    ensures answer { Gives (λ id. id) result (checked (first_fault (have_room (strings_end btf.now changes.old) (placeholder_text ∷ []) ++ all_fit changes.old.type_len (byte_int (strings_end btf.now changes.old) ∷ []))) (next_id btf.now changes.old)) }
-    ensures adds { OnOk result (Adds btf.now changes.old changes.new (placeholder_text ∷ []) (byte_int (strings_end btf.now changes.old) ∷ [])) }
+    ensures answer { Gives (λ id. id) result
+        (checked (first_fault (have_room (strings_end btf.now changes.old) (placeholder_text ∷ [])
+        ++ all_fit changes.old.type_len (byte_int (strings_end btf.now changes.old) ∷ [])))
+        (next_id btf.now changes.old)) }
+    ensures adds { OnOk result (Adds btf.now changes.old changes.new (placeholder_text ∷ [])
+        (byte_int (strings_end btf.now changes.old) ∷ [])) }
 {
     let name_offset = changes.append_text(btf, PLACEHOLDER)?;
     let int = Int::new(name_offset, 1, IntEncoding::None, 0);

@@ -33,11 +33,17 @@ pub fn rewrite_func<F: FnMut(BtfFeature) -> bool>(
     requires callable { F.IsAlwaysCallable resolver.old.0 }
     requires readable { IsReadableEnd btf.now.strings readable_end }
     ensures callable { F.IsAlwaysCallable resolver.new.0 }
-    ensures called { (first : F) → Called F.step first resolver.old.1 resolver.old.0 → Called F.step first resolver.new.1 resolver.new.0 }
+    ensures called { (first : F) → Called F.step first resolver.old.1 resolver.old.0
+        → Called F.step first resolver.new.1 resolver.new.0 }
     ensures further { IsFurther resolver.old.1 resolver.new.1 }
-    ensures asks { (given : Given) (id : ℕ) → IsType btf.now id (BtfType.Func func.now) → AreAnswersTo (asks_below (pass_on btf.now given (answers_of resolver.old.1)) id) (answers_of resolver.old.1)
+    ensures asks { (given : Given) (id : ℕ) → IsType btf.now id (BtfType.Func func.now)
+        → AreAnswersTo (asks_below (pass_on btf.now given (answers_of resolver.old.1)) id)
+        (answers_of resolver.old.1)
         → (left : List Feature) × AsksUpTo (pass_on btf.now given (answers_of resolver.old.1)) id (answers_of resolver.new.1) left }
-    ensures steps { (given : Given) (id : ℕ) (made : made.Made) → IsType btf.now id (BtfType.Func func.now) → AreAnswersTo (asks_below (pass_on btf.now given (answers_of resolver.old.1)) id) (answers_of resolver.old.1)
+    ensures steps { (given : Given) (id : ℕ) (made : made.Made)
+        → IsType btf.now id (BtfType.Func func.now)
+        → AreAnswersTo (asks_below (pass_on btf.now given (answers_of resolver.old.1)) id)
+        (answers_of resolver.old.1)
         → IsHere (pass_on btf.now given (answers_of resolver.new.1)) id made
         → Answers (λ new. unwrap_or new (BtfType.Func func.now)) result (Steps (pass_on btf.now given (answers_of resolver.old.1)) id resolver.new.1 (BtfType.Func func.now) made made) }
 {

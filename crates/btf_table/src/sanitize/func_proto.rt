@@ -50,8 +50,13 @@ fn param_name(
     param: &BtfParam,
 ) -> Result<u32, BtfError>
     requires { HasRoom btf.now changes.old }
-    ensures answer { Gives (λ offset. offset) result (checked (first_fault (have_room (strings_end btf.now changes.old) (param_texts index (param_words param.now)))) (if wants_name param.now.name_offset param.now.btf_type then strings_end btf.now changes.old else param.now.name_offset)) }
-    ensures adds { OnOk result (Adds btf.now changes.old changes.new (param_texts index (param_words param.now)) []) }
+    ensures answer { Gives (λ offset. offset) result
+        (checked (first_fault (have_room (strings_end btf.now changes.old)
+        (param_texts index (param_words param.now))))
+        (if wants_name param.now.name_offset param.now.btf_type then strings_end btf.now changes.old
+        else param.now.name_offset)) }
+    ensures adds { OnOk result (Adds btf.now changes.old changes.new
+        (param_texts index (param_words param.now)) []) }
 {
     if is_unnamed(param) {
         let text = param_text(btf.allocator(), index)?;
@@ -69,8 +74,15 @@ pub fn with_param_names(
     proto: &FuncProto,
 ) -> Result<FuncProto, BtfError>
     requires { HasRoom btf.now changes.old }
-    ensures answer { Gives (λ r. r) result (checked (first_fault (have_room (strings_end btf.now changes.old) (param_texts 0 proto.now.tail))) (record proto.now { tail = named_params 0 (strings_end btf.now changes.old) proto.now.tail })) }
-    ensures adds { OnOk result (Adds btf.now changes.old changes.new (param_texts 0 proto.now.tail) []) }
+    ensures answer { Gives (λ r. r) result
+        (checked (first_fault (have_room (strings_end btf.now changes.old)
+        (param_texts 0 proto.now.tail)))
+        (record proto.now {
+          tail = named_params 0
+              (strings_end btf.now changes.old) proto.now.tail;
+        })) }
+    ensures adds { OnOk result (Adds btf.now changes.old changes.new
+        (param_texts 0 proto.now.tail) []) }
 {
     let mut with_names = proto.try_clone()?;
     for (index, param) in proto.params().iter().enumerate() {

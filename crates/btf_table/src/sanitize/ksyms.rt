@@ -69,8 +69,11 @@ impl Symbols {
 
     /// Adds an id, and the prototype that it has if it is a function.
     fn add(&mut self, id: u32, prototype: Option<u32>) -> Result<(), AllocError>
-        ensures ids { OnOk result ((q : _) → has self.new.ids q ≡ cond (id == q) true (has self.old.ids q)) }
-        ensures prototypes { OnOk result ((q : _) → has self.new.prototypes q ≡ cond (is_this prototype q) true (has self.old.prototypes q)) }
+        ensures ids { OnOk result ((q : _)
+            → has self.new.ids q ≡ cond (id == q) true (has self.old.ids q)) }
+        ensures prototypes { OnOk result
+            ((q : _) → has self.new.prototypes q ≡ cond (is_this prototype q) true
+            (has self.old.prototypes q)) }
     {
         self.ids.insert(id)?;
         if let Some(prototype) = prototype {
@@ -82,7 +85,8 @@ impl Symbols {
 
 /// What symbols become without a placeholder.
 fn find_int(btf: &Btf) -> Result<Target, BtfError>
-    ensures { Gives (λ t. t) result (checked (first_fault (placeholder_checks btf.now None)) (target_of btf.now None)) }
+    ensures { Gives (λ t. t) result
+        (checked (first_fault (placeholder_checks btf.now None)) (target_of btf.now None)) }
 {
     let types = btf.as_slice();
     let id = int_of_4(types);
@@ -100,7 +104,9 @@ fn find_int(btf: &Btf) -> Result<Target, BtfError>
 
 /// What symbols become.
 fn find_target(btf: &Btf, placeholder_id: Option<u32>) -> Result<Target, BtfError>
-    ensures { Gives (λ t. t) result (checked (first_fault (placeholder_checks btf.now placeholder_id)) (target_of btf.now placeholder_id)) }
+    ensures { Gives (λ t. t) result
+        (checked (first_fault (placeholder_checks btf.now placeholder_id))
+        (target_of btf.now placeholder_id)) }
 {
     let Some(id) = placeholder_id else {
         return find_int(btf);
@@ -124,7 +130,8 @@ fn find_target(btf: &Btf, placeholder_id: Option<u32>) -> Result<Target, BtfErro
 /// The DATASEC of an id, whose name can be read. Names can be read at the offsets below `readable_end`.
 fn named_data_sec(btf: &Btf, id: u32, readable_end: usize) -> Result<&DataSec, BtfError>
     requires { IsReadableEnd btf.now.strings readable_end }
-    ensures { Gives (λ s. s.now) result (checked (first_fault (data_sec_checks btf.now id)) (record_at btf.now id)) }
+    ensures { Gives (λ s. s.now) result
+        (checked (first_fault (data_sec_checks btf.now id)) (record_at btf.now id)) }
 {
     let btf_type = btf.type_by_id(id)?;
     // The contract speaks of the kind in the info word, which a use of it shows.
@@ -144,7 +151,9 @@ fn symbol_prototype(
     readable_end: usize,
 ) -> Result<Option<u32>, BtfError>
     requires { IsReadableEnd btf.now.strings readable_end }
-    ensures { (e : Entry) → e.type ≡ id → Gives (λ p. p) result (checked (first_fault (entry_checks btf.now placeholder_id e)) (prototype_of btf.now id)) }
+    ensures { (e : Entry) → e.type ≡ id
+        → Gives (λ p. p) result (checked (first_fault (entry_checks btf.now placeholder_id e))
+        (prototype_of btf.now id)) }
 {
     let symbol = btf.type_by_id(id)?;
     // The contract speaks of the kind in the info word, which a use of it shows.
@@ -173,7 +182,8 @@ fn find_symbols(
     readable_end: usize,
 ) -> Result<Symbols, BtfError>
     requires { IsReadableEnd btf.now.strings readable_end }
-    ensures { Answers (λ s. s) result (FindsSymbols btf.now placeholder_id (entries data_sec.now.tail)) }
+    ensures { Answers (λ s. s) result
+        (FindsSymbols btf.now placeholder_id (entries data_sec.now.tail)) }
 {
     let mut symbols = Symbols::new(btf.allocator());
     for entry in data_sec.entries() {
@@ -192,7 +202,8 @@ impl Target {
 
     /// The type that an entry of this one gets: the placeholder in place of a FUNC, where there is one.
     fn entry_type(&self, btf: &Btf, type_id: u32) -> u32
-        ensures { (placeholder : Option ℕ) → self.now ≡ target_of btf.now placeholder → result ≡ entry_type btf.now placeholder type_id }
+        ensures { (placeholder : Option ℕ) → self.now ≡ target_of btf.now placeholder
+            → result ≡ entry_type btf.now placeholder type_id }
     {
         let Some(placeholder) = self.placeholder else {
             return type_id;
@@ -223,8 +234,10 @@ impl Target {
 
     /// The DATASEC, with 4 bytes for each entry, one after the other.
     fn laid_out(&self, btf: &Btf, data_sec: &DataSec) -> Result<DataSec, BtfError>
-        ensures like { (placeholder : Option ℕ) → self.now ≡ target_of btf.now placeholder → IfOk result (λ s. IsLike (BtfType.DataSec data_sec.now) (BtfType.DataSec s)) }
-        ensures words { (placeholder : Option ℕ) → self.now ≡ target_of btf.now placeholder → Gives (λ s. s) result (Ok (laid_out_anew btf.now placeholder data_sec.now)) }
+        ensures like { (placeholder : Option ℕ) → self.now ≡ target_of btf.now placeholder
+            → IfOk result (λ s. IsLike (BtfType.DataSec data_sec.now) (BtfType.DataSec s)) }
+        ensures words { (placeholder : Option ℕ) → self.now ≡ target_of btf.now placeholder
+            → Gives (λ s. s) result (Ok (laid_out_anew btf.now placeholder data_sec.now)) }
     {
         let mut laid_out = data_sec.try_clone()?;
         for (index, entry) in data_sec.entries().iter().enumerate() {
@@ -256,7 +269,8 @@ impl Step {
 
     /// The step over a table, or why it is refused.
     fn new(btf: &Btf, datasec_id: u32, placeholder_id: Option<u32>) -> Result<Step, BtfError>
-        ensures { Answers (λ s. s) result (StepsWith btf.now (ksyms_ids datasec_id placeholder_id)) }
+        ensures { Answers (λ s. s) result
+            (StepsWith btf.now (ksyms_ids datasec_id placeholder_id)) }
     {
         let target = find_target(btf, placeholder_id)?;
         let readable_end = btf.readable_end();
@@ -272,8 +286,11 @@ impl Step {
     /// The type that the one of an id becomes; None where it stays.
     fn new_type(&self, btf: &Btf, id: u32, btf_type: &BtfType) -> Result<Option<BtfType>, BtfError>
         requires { slice_get btf.now.records id ≡ Some (record_of btf_type.now) }
-        ensures words { (ids : KsymsIds) → IsStep btf.now ids self.now → Gives (λ new. record_of (unwrap_or new btf_type.now)) result (Ok (becomes btf.now ids id (record_of btf_type.now))) }
-        ensures like { (ids : KsymsIds) → IsStep btf.now ids self.now → IfOk result (λ new. IfSome new (IsLike btf_type.now)) }
+        ensures words { (ids : KsymsIds) → IsStep btf.now ids self.now
+            → Gives (λ new. record_of (unwrap_or new btf_type.now)) result
+            (Ok (becomes btf.now ids id (record_of btf_type.now))) }
+        ensures like { (ids : KsymsIds) → IsStep btf.now ids self.now
+            → IfOk result (λ new. IfSome new (IsLike btf_type.now)) }
     {
         // The contract speaks of the kind in the info word, which a use of it shows.
         let _ = btf_type.info();
@@ -296,7 +313,8 @@ impl Step {
 
     /// The types that change, by their ids.
     fn new_types(&self, btf: &Btf) -> Result<Vec<(u32, BtfType)>, BtfError>
-        ensures { (ids : KsymsIds) → IsStep btf.now ids self.now → Answers (λ v. v.items) result (StepsAll btf.now ids) }
+        ensures { (ids : KsymsIds) → IsStep btf.now ids self.now
+            → Answers (λ v. v.items) result (StepsAll btf.now ids) }
     {
         let types = btf.as_slice();
         let mut new_types = Vec::new(btf.allocator());

@@ -61,10 +61,19 @@ impl Made {
     /// `InvalidStringOffset` and `InvalidTypeInfo` where strings or types have no room for it.
     pub fn placeholder(&mut self, btf: &Btf) -> Result<u32, BtfError>
         requires { HasRoom btf.now self.old.changes }
-        ensures there { (id : _) → self.old.placeholder ≡ Some id → (result ≡ Ok id) × (self.new ≡ self.old) }
-        ensures answer { self.old.placeholder ≡ None → Gives (λ id. id) result (checked (first_fault (have_room (strings_end btf.now self.old.changes) (placeholder_text ∷ []) ++ all_fit self.old.changes.type_len (byte_int (strings_end btf.now self.old.changes) ∷ []))) (next_id btf.now self.old.changes)) }
-        ensures adds { self.old.placeholder ≡ None → OnOk result (Adds btf.now self.old.changes self.new.changes (placeholder_text ∷ []) (byte_int (strings_end btf.now self.old.changes) ∷ [])) }
-        ensures made { self.old.placeholder ≡ None → OnOk result (self.new.placeholder ≡ Some (next_id btf.now self.old.changes)) }
+        ensures there { (id : _) → self.old.placeholder ≡ Some id → (result ≡ Ok id)
+            × (self.new ≡ self.old) }
+        ensures answer { self.old.placeholder ≡ None
+            → Gives (λ id. id) result (checked
+            (first_fault (have_room (strings_end btf.now self.old.changes) (placeholder_text ∷ [])
+            ++ all_fit self.old.changes.type_len
+            (byte_int (strings_end btf.now self.old.changes) ∷ [])))
+            (next_id btf.now self.old.changes)) }
+        ensures adds { self.old.placeholder ≡ None
+            → OnOk result (Adds btf.now self.old.changes self.new.changes (placeholder_text ∷ [])
+            (byte_int (strings_end btf.now self.old.changes) ∷ [])) }
+        ensures made { self.old.placeholder ≡ None
+            → OnOk result (self.new.placeholder ≡ Some (next_id btf.now self.old.changes)) }
         ensures names { self.new.names ≡ self.old.names }
         ensures filler { self.new.filler ≡ self.old.filler }
     {
@@ -80,10 +89,21 @@ impl Made {
     /// and `InvalidTypeInfo` where strings or types have no room for it.
     pub fn filler(&mut self, btf: &Btf) -> Result<u32, BtfError>
         requires { HasRoom btf.now self.old.changes }
-        ensures there { (id : _) → self.old.filler ≡ Some id → (result ≡ Ok id) × (self.new ≡ self.old) }
-        ensures answer { self.old.filler ≡ None → Gives (λ id. id) result (checked (first_fault (has_room (strings_end btf.now self.old.changes) filler_type_text ∷ fits self.old.changes.type_len (record_len (byte_int 0)) ∷ has_room (strings_end btf.now self.old.changes + length filler_type_text + 1) filler_text ∷ fits (self.old.changes.type_len + record_len (byte_int 0)) (record_len (static_var 0 0)) ∷ [])) (next_id btf.now self.old.changes + 1)) }
-        ensures adds { self.old.filler ≡ None → OnOk result (Adds btf.now self.old.changes self.new.changes (filler_type_text ∷ filler_text ∷ []) (filler (strings_end btf.now self.old.changes) (next_id btf.now self.old.changes))) }
-        ensures made { self.old.filler ≡ None → OnOk result (self.new.filler ≡ Some (next_id btf.now self.old.changes + 1)) }
+        ensures there { (id : _) → self.old.filler ≡ Some id → (result ≡ Ok id)
+            × (self.new ≡ self.old) }
+        ensures answer { self.old.filler ≡ None
+            → Gives (λ id. id) result (checked
+            (first_fault (has_room (strings_end btf.now self.old.changes) filler_type_text
+            ∷ fits self.old.changes.type_len (record_len (byte_int 0))
+            ∷ has_room (strings_end btf.now self.old.changes + length filler_type_text + 1)
+            filler_text ∷ fits (self.old.changes.type_len + record_len (byte_int 0))
+            (record_len (static_var 0 0)) ∷ [])) (next_id btf.now self.old.changes + 1)) }
+        ensures adds { self.old.filler ≡ None
+            → OnOk result (Adds btf.now self.old.changes self.new.changes
+            (filler_type_text ∷ filler_text ∷ [])
+            (filler (strings_end btf.now self.old.changes) (next_id btf.now self.old.changes))) }
+        ensures made { self.old.filler ≡ None
+            → OnOk result (self.new.filler ≡ Some (next_id btf.now self.old.changes + 1)) }
         ensures names { self.new.names ≡ self.old.names }
         ensures placeholder { self.new.placeholder ≡ self.old.placeholder }
     {
@@ -102,14 +122,17 @@ impl Made {
         btf_type: &BtfType,
         new_type: Option<BtfType>,
     ) -> Result<(), AllocError>
-        ensures types { OnOk result (self.new.changes.types.items ≡ kept_changes self.old.changes.types.items id new_type) }
-        ensures names { OnOk result (self.new.names.items ≡ self.old.names.items ++ (record_of (unwrap_or new_type btf_type.now)).name ∷ []) }
+        ensures types { OnOk result (self.new.changes.types.items
+            ≡ kept_changes self.old.changes.types.items id new_type) }
+        ensures names { OnOk result (self.new.names.items ≡ self.old.names.items
+            ++ (record_of (unwrap_or new_type btf_type.now)).name ∷ []) }
         ensures strings { self.new.changes.new_strings ≡ self.old.changes.new_strings }
         ensures new_types { self.new.changes.new_types ≡ self.old.changes.new_types }
         ensures type_len { self.new.changes.type_len ≡ self.old.changes.type_len }
         ensures placeholder { self.new.placeholder ≡ self.old.placeholder }
         ensures filler { self.new.filler ≡ self.old.filler }
-        ensures kind { OnOk result ((k : Kind) × (kind_of (record_of (unwrap_or new_type btf_type.now)).info ≡ Some k)) }
+        ensures kind { OnOk result ((k : Kind)
+            × (kind_of (record_of (unwrap_or new_type btf_type.now)).info ≡ Some k)) }
     {
         // The contract speaks of the kind in the info word, which a use of it shows.
         let _ = btf_type.info();

@@ -33,11 +33,17 @@ fn has_sole_feature<F: FnMut(BtfFeature) -> bool>(
 ) -> bool
     requires { F.IsAlwaysCallable resolver.old.0 }
     ensures callable { F.IsAlwaysCallable resolver.new.0 }
-    ensures called { (first : F) → Called F.step first resolver.old.1 resolver.old.0 → Called F.step first resolver.new.1 resolver.new.0 }
+    ensures called { (first : F) → Called F.step first resolver.old.1 resolver.old.0
+        → Called F.step first resolver.new.1 resolver.new.0 }
     ensures further { IsFurther resolver.old.1 resolver.new.1 }
-    ensures asks { (t : Table) (given : Given) (id : ℕ) → IsType t id btf_type.now → asks_one (kind_of (record_of btf_type.now).info) ≡ true → AreAnswersTo (asks_below (pass_on t given (answers_of resolver.old.1)) id) (answers_of resolver.old.1)
+    ensures asks { (t : Table) (given : Given) (id : ℕ) → IsType t id btf_type.now
+        → asks_one (kind_of (record_of btf_type.now).info) ≡ true
+        → AreAnswersTo (asks_below (pass_on t given (answers_of resolver.old.1)) id)
+        (answers_of resolver.old.1)
         → AsksUpTo (pass_on t given (answers_of resolver.old.1)) id (answers_of resolver.new.1) [] }
-    ensures granted { (t : Table) (given : Given) (id : ℕ) → AreAnswersTo (asks_below (pass_on t given (answers_of resolver.old.1)) id) (answers_of resolver.old.1)
+    ensures granted { (t : Table) (given : Given) (id : ℕ)
+        → AreAnswersTo (asks_below (pass_on t given (answers_of resolver.old.1)) id)
+        (answers_of resolver.old.1)
         → IsGranted (pass_on t given (answers_of resolver.new.1)) (step.sole_feature (kind_of (record_of btf_type.now).info) (record_of btf_type.now)) result }
 {
     match sole_feature(btf_type) {
@@ -66,11 +72,20 @@ impl Made {
         requires readable { IsReadableEnd btf.now.strings readable_end }
         requires callable { F.IsAlwaysCallable resolver.old.0 }
         ensures callable { F.IsAlwaysCallable resolver.new.0 }
-        ensures called { (first : F) → Called F.step first resolver.old.1 resolver.old.0 → Called F.step first resolver.new.1 resolver.new.0 }
+        ensures called { (first : F) → Called F.step first resolver.old.1 resolver.old.0
+            → Called F.step first resolver.new.1 resolver.new.0 }
         ensures further { IsFurther resolver.old.1 resolver.new.1 }
-        ensures asks { (given : Given) (id : ℕ) → given.policy ≡ policy_of policy → given.layout.sections ≡ sizes_of sections.now → IsType btf.now id btf_type.now → IsHere (pass_on btf.now given (answers_of resolver.new.1)) id self.old → AreAnswersTo (asks_below (pass_on btf.now given (answers_of resolver.old.1)) id) (answers_of resolver.old.1)
+        ensures asks { (given : Given) (id : ℕ) → given.policy ≡ policy_of policy
+            → given.layout.sections ≡ sizes_of sections.now → IsType btf.now id btf_type.now
+            → IsHere (pass_on btf.now given (answers_of resolver.new.1)) id self.old
+            → AreAnswersTo (asks_below (pass_on btf.now given (answers_of resolver.old.1)) id)
+            (answers_of resolver.old.1)
             → (left : List Feature) × AsksUpTo (pass_on btf.now given (answers_of resolver.old.1)) id (answers_of resolver.new.1) left }
-        ensures steps { (given : Given) (id : ℕ) → given.policy ≡ policy_of policy → given.layout.sections ≡ sizes_of sections.now → given.layout.symbols ≡ offsets_of symbols.now → IsType btf.now id btf_type.now → AreAnswersTo (asks_below (pass_on btf.now given (answers_of resolver.old.1)) id) (answers_of resolver.old.1)
+        ensures steps { (given : Given) (id : ℕ) → given.policy ≡ policy_of policy
+            → given.layout.sections ≡ sizes_of sections.now
+            → given.layout.symbols ≡ offsets_of symbols.now → IsType btf.now id btf_type.now
+            → AreAnswersTo (asks_below (pass_on btf.now given (answers_of resolver.old.1)) id)
+            (answers_of resolver.old.1)
             → IsHere (pass_on btf.now given (answers_of resolver.new.1)) id self.old
             → Answers (λ new. unwrap_or new btf_type.now) result (Steps (pass_on btf.now given (answers_of resolver.old.1)) id resolver.new.1 btf_type.now self.old self.new) }
     {
@@ -101,8 +116,11 @@ pub fn pass_changes<F: FnMut(BtfFeature) -> bool>(
     requires unasked { resolver.old.1 ≡ [] }
     ensures callable { F.IsAlwaysCallable resolver.new.0 }
     ensures called { Called F.step resolver.old.0 resolver.new.1 resolver.new.0 }
-    ensures asks { BeginsAsked (pass_on btf.now (under policy (layout_of sections.now symbols.now)) (answers_of resolver.new.1)) }
-    ensures passes { Answers (λ c. c) result (Passes (pass_on btf.now (under policy (layout_of sections.now symbols.now)) (answers_of resolver.new.1))) }
+    ensures asks { BeginsAsked (pass_on btf.now (under policy (layout_of sections.now symbols.now))
+        (answers_of resolver.new.1)) }
+    ensures passes { Answers (λ c. c) result
+        (Passes (pass_on btf.now (under policy (layout_of sections.now symbols.now))
+        (answers_of resolver.new.1))) }
 {
     let types = btf.as_slice();
     let mut made = Made::new(btf)?;

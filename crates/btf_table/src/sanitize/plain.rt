@@ -41,7 +41,10 @@ impl Made {
         granted: bool,
     ) -> Result<Option<BtfType>, BtfError>
         requires { HasRoom btf.now self.old.changes }
-        ensures { (given : Given) (answers : List Answer) (id : ℕ) → IsType btf.now id (BtfType.FuncProto proto.now) → IsHere (pass_on btf.now given answers) id self.old → grants answers features.Func ≡ granted
+        ensures { (given : Given) (answers : List Answer) (id : ℕ)
+            → IsType btf.now id (BtfType.FuncProto proto.now)
+            → IsHere (pass_on btf.now given answers) id self.old
+            → grants answers features.Func ≡ granted
             → Answers (λ new. unwrap_or new (BtfType.FuncProto proto.now)) result (Rules (pass_on btf.now given answers) id (BtfType.FuncProto proto.now) self.old self.new) }
     {
         // The contract speaks of the kind in the info word, which a use of it shows.
@@ -60,7 +63,10 @@ impl Made {
     /// `InvalidTypeInfo` where strings or types have no room for the type of its members.
     fn rewrite_enum64(&mut self, btf: &Btf, enum64: &Enum64) -> Result<BtfType, BtfError>
         requires { HasRoom btf.now self.old.changes }
-        ensures { (given : Given) (answers : List Answer) (id : ℕ) → IsType btf.now id (BtfType.Enum64 enum64.now) → IsHere (pass_on btf.now given answers) id self.old → grants answers features.Enum64 ≡ false
+        ensures { (given : Given) (answers : List Answer) (id : ℕ)
+            → IsType btf.now id (BtfType.Enum64 enum64.now)
+            → IsHere (pass_on btf.now given answers) id self.old
+            → grants answers features.Enum64 ≡ false
             → Answers (λ new. new) result (Rules (pass_on btf.now given answers) id (BtfType.Enum64 enum64.now) self.old self.new) }
     {
         // The contract speaks of the kind in the info word, and of the words, which a use of them shows.
@@ -79,7 +85,9 @@ impl Made {
         granted: bool,
     ) -> Result<Option<BtfType>, BtfError>
         requires { HasRoom btf.now self.old.changes }
-        ensures { (given : Given) (answers : List Answer) (id : ℕ) → IsType btf.now id btf_type.now → IsHere (pass_on btf.now given answers) id self.old → asks_one (kind_of (record_of btf_type.now).info) ≡ true
+        ensures { (given : Given) (answers : List Answer) (id : ℕ) → IsType btf.now id btf_type.now
+            → IsHere (pass_on btf.now given answers) id self.old
+            → asks_one (kind_of (record_of btf_type.now).info) ≡ true
             → IsGranted (pass_on btf.now given answers) (step.sole_feature (kind_of (record_of btf_type.now).info) (record_of btf_type.now)) granted
             → Answers (λ new. unwrap_or new btf_type.now) result (Rules (pass_on btf.now given answers) id btf_type.now self.old self.new) }
     {

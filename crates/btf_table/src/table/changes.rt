@@ -58,7 +58,9 @@ impl Changes {
     /// offset where the strings of the table and the new ones would pass their limit.
     pub fn append_text(&mut self, btf: &Btf, text: &str) -> Result<u32, BtfError>
         requires { HasRoom btf.now self.old }
-        ensures answer { Gives (λ offset. offset) result (checked (has_room (strings_end btf.now self.old) text.now) (strings_end btf.now self.old)) }
+        ensures answer { Gives (λ offset. offset) result
+            (checked (has_room (strings_end btf.now self.old) text.now)
+            (strings_end btf.now self.old)) }
         ensures adds { OnOk result (Adds btf.now self.old self.new (text.now ∷ []) []) }
     {
         let offset = btf.string_len() + self.new_strings.len();
@@ -71,7 +73,9 @@ impl Changes {
     pub fn append_type(&mut self, btf: &Btf, btf_type: BtfType) -> Result<u32, BtfError>
         requires room { HasRoom btf.now self.old }
         requires no_fallback { fallback_of btf_type ≡ None }
-        ensures answer { Gives (λ id. id) result (checked (fits self.old.type_len (record_len (record_of btf_type))) (next_id btf.now self.old)) }
+        ensures answer { Gives (λ id. id) result
+            (checked (fits self.old.type_len (record_len (record_of btf_type)))
+            (next_id btf.now self.old)) }
         ensures adds { OnOk result (Adds btf.now self.old self.new [] (record_of btf_type ∷ [])) }
     {
         let id = btf.as_slice().len() + self.new_types.len();
@@ -82,7 +86,8 @@ impl Changes {
 
     /// Appends a text and a zero byte to the strings.
     pub fn add_string(&mut self, text: &str) -> Result<(), AllocError>
-        ensures strings { OnOk result (self.new.new_strings.items ≡ self.old.new_strings.items ++ (text.now ++ 0 ∷ [])) }
+        ensures strings { OnOk result (self.new.new_strings.items ≡ self.old.new_strings.items
+            ++ (text.now ++ 0 ∷ [])) }
         ensures types { self.new.types ≡ self.old.types }
         ensures new_types { self.new.new_types ≡ self.old.new_types }
         ensures type_len { self.new.type_len ≡ self.old.type_len }
@@ -97,8 +102,10 @@ impl Changes {
         requires { self.old.type_len + (12 + 4 * length (record_of btf_type).tail) ≤ section_limit }
         ensures strings { self.new.new_strings ≡ self.old.new_strings }
         ensures types { self.new.types ≡ self.old.types }
-        ensures new_types { OnOk result (self.new.new_types.items ≡ self.old.new_types.items ++ btf_type ∷ []) }
-        ensures type_len { OnOk result (self.new.type_len ≡ self.old.type_len + (12 + 4 * length (record_of btf_type).tail)) }
+        ensures new_types { OnOk result
+            (self.new.new_types.items ≡ self.old.new_types.items ++ btf_type ∷ []) }
+        ensures type_len { OnOk result (self.new.type_len
+            ≡ self.old.type_len + (12 + 4 * length (record_of btf_type).tail)) }
     {
         let len = btf_type.type_info_size();
         self.new_types.push(btf_type)?;

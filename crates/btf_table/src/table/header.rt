@@ -62,7 +62,8 @@ impl Header {
 
     /// Writes the header at the end of bytes.
     pub fn append_to(&self, out: &mut Vec<u8>, endianness: Endianness) -> Result<(), AllocError>
-        ensures { OnOk result (out.new.items ≡ out.old.items ++ header_bytes (order_of endianness) (header self.now)) }
+        ensures { OnOk result (out.new.items ≡ out.old.items
+            ++ header_bytes (order_of endianness) (header self.now)) }
     {
         out.extend_from_slice(&endianness.write_u16(self.magic))?;
         out.extend_from_slice(&[self.version, self.flags])?;

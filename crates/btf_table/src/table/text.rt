@@ -55,7 +55,8 @@ fn bytes_at(strings: &[u8], offset: u32) -> Option<&[u8]>
 pub fn text_at(alloc: Global, strings: &[u8], offset: u32) -> Result<BtfStr<'_>, BtfError>
     ensures text { Gives text_bytes result (model.text_at strings.now offset) }
     // Memory is taken only for bytes that are not UTF-8.
-    ensures no_memory { IfSome (model.bytes_at strings.now offset) IsUtf8 → Tells text_bytes result (λ answer. answer ≡ model.text_at strings.now offset) }
+    ensures no_memory { IfSome (model.bytes_at strings.now offset) IsUtf8
+        → Tells text_bytes result (λ answer. answer ≡ model.text_at strings.now offset) }
 {
     let Some(bytes) = bytes_at(strings, offset) else {
         return Err(BtfError::InvalidStringOffset {
@@ -139,7 +140,8 @@ fn is_named(
     readable_end: Option<usize>,
 ) -> Result<bool, BtfError>
     requires { IfSome readable_end (λ end. IsReadableEnd strings.now end × IsComparable name.now) }
-    ensures { Answers (λ b. b) result (IsNamed strings.now (kinds.kind kind) name.now (record_of btf_type.now)) }
+    ensures { Answers (λ b. b) result
+        (IsNamed strings.now (kinds.kind kind) name.now (record_of btf_type.now)) }
 {
     if !has_kind(btf_type, kind) {
         return Ok(false);
@@ -170,7 +172,8 @@ pub fn find_named(
     kind: BtfKind,
 ) -> Result<u32, BtfError>
     requires { length types.now < 2 ^ 32 }
-    ensures { Answers (λ id. id) result (FindsName strings.now (map record_of types.now) (kinds.kind kind) name.now) }
+    ensures { Answers (λ id. id) result
+        (FindsName strings.now (map record_of types.now) (kinds.kind kind) name.now) }
 {
     let readable_end = comparable_end(strings, name);
     for (id, btf_type) in types.iter().enumerate() {

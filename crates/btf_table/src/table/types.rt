@@ -41,7 +41,8 @@ pub fn append_types(
     types: &[BtfType],
     endianness: Endianness,
 ) -> Result<(), AllocError>
-    ensures written { OnOk result (out.new.items ≡ out.old.items ++ flat_map (spell (order_of endianness)) (map record_of types.now)) }
+    ensures written { OnOk result (out.new.items ≡ out.old.items
+        ++ flat_map (spell (order_of endianness)) (map record_of types.now)) }
     // What is written is read as these records.
     ensures whole { OnOk result (AllByRecursion IsWhole (map record_of types.now)) }
 {
@@ -53,8 +54,10 @@ pub fn append_types(
 
 /// Equal types, in a vector of just their number.
 pub fn clone_types(types: &Vec<BtfType>) -> Result<Vec<BtfType>, BtfError>
-    ensures records { Gives (λ v. map record_of v.items) result (Ok (map record_of types.now.items)) }
-    ensures fallbacks { Gives (λ v. map fallback_of v.items) result (Ok (map fallback_of types.now.items)) }
+    ensures records { Gives (λ v. map record_of v.items) result
+        (Ok (map record_of types.now.items)) }
+    ensures fallbacks { Gives (λ v. map fallback_of v.items) result
+        (Ok (map fallback_of types.now.items)) }
 {
     let mut copies = Vec::with_capacity(*types.allocator(), types.len())?;
     for record in types.as_slice() {

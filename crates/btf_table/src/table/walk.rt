@@ -82,7 +82,8 @@ pub fn size(types: &[BtfType], type_id: u32) -> Result<u32, BtfError>
 
 /// What a type says of its size.
 fn extent_at(btf_type: &BtfType) -> Extent
-    ensures { extent_of result ≡ model.extent (kind_of (record_of btf_type.now).info) (record_of btf_type.now) }
+    ensures { extent_of result ≡ model.extent (kind_of (record_of btf_type.now).info)
+        (record_of btf_type.now) }
 {
     // The contract speaks of the kind in the info word, which a use of it shows.
     let _ = btf_type.info();

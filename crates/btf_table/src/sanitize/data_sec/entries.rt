@@ -28,7 +28,8 @@ use std::collections::HashMap;
 ///
 /// `UnknownBtfType` of an id that has no type; `InvalidTypeInfo` where the offset in bits has more than 32 bits.
 fn member(btf: &Btf, names: &[u32], entry: &DataSecEntry) -> Result<BtfMember, BtfError>
-    ensures { (p : Pass) (lower : List Record) → p.table ≡ btf.now → names.now ≡ map (λ (r : Record). r.name) lower
+    ensures { (p : Pass) (lower : List Record) → p.table ≡ btf.now
+        → names.now ≡ map (λ (r : Record). r.name) lower
         → Gives member_words result (checked (first_fault (member_checks p (entry_of entry.now))) (entry_members p lower (length lower) (entry_of entry.now ∷ []))) }
 {
     let btf_type = btf.type_by_id(entry.btf_type)?;
@@ -51,7 +52,8 @@ fn member(btf: &Btf, names: &[u32], entry: &DataSecEntry) -> Result<BtfMember, B
 ///
 /// `UnknownBtfType` of an entry's id that has no type; `InvalidTypeInfo` where an offset in bits has more than 32 bits.
 pub fn members(btf: &Btf, names: &[u32], data_sec: &DataSec) -> Result<Vec<BtfMember>, BtfError>
-    ensures answer { (p : Pass) (lower : List Record) → p.table ≡ btf.now → names.now ≡ map (λ (r : Record). r.name) lower
+    ensures answer { (p : Pass) (lower : List Record) → p.table ≡ btf.now
+        → names.now ≡ map (λ (r : Record). r.name) lower
         → Gives (λ v. flat_map member_words v.items) result (checked (first_fault (flat_map (member_checks p) (entries data_sec.now.tail))) (entry_members p lower (length lower) (entries data_sec.now.tail))) }
     ensures count { IfOk result (λ v. length v.items ≡ vlen data_sec.now.info) }
 {

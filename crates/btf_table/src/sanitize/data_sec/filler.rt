@@ -27,7 +27,9 @@ pub fn append_filler(btf: &Btf, changes: &mut Changes) -> Result<u32, BtfError>
         (first_fault (has_room (strings_end btf.now changes.old) filler_type_text ∷ fits changes.old.type_len (record_len (byte_int 0))
         ∷ has_room (strings_end btf.now changes.old + length filler_type_text + 1) filler_text ∷ fits (changes.old.type_len + record_len (byte_int 0)) (record_len (static_var 0 0)) ∷ []))
         (next_id btf.now changes.old + 1)) }
-    ensures adds { OnOk result (Adds btf.now changes.old changes.new (filler_type_text ∷ filler_text ∷ []) (filler (strings_end btf.now changes.old) (next_id btf.now changes.old))) }
+    ensures adds { OnOk result (Adds btf.now changes.old changes.new
+        (filler_type_text ∷ filler_text ∷ [])
+        (filler (strings_end btf.now changes.old) (next_id btf.now changes.old))) }
 {
     let type_name = changes.append_text(btf, FILLER_TYPE)?;
     let int = Int::new(type_name, 1, IntEncoding::None, 0);
