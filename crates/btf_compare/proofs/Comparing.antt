@@ -23,7 +23,7 @@ use Rattle.btf_model.proofs.RunLengths.{widest, left_to_do, less_started}
 use Rattle.btf_words.specs.Error.{Answers, Tells, refusal_of}
 use Rattle.btf_words.specs.declared.error.BtfError.{BtfError}
 use Rattle.btf_words.specs.declared.error.BtfError.TheVariants as errors
-use Rattle.btf_compare.specs.declared.step.Frame.{Frame}
+use Rattle.btf_compare.specs.declared.frame.Frame.{Frame}
 use Rattle.btf_compare.specs.Compared.{frame_of, IsStarted, IsRefused, TracesBy}
 use Rattle.btf_compare.specs.Pairs.{pair_of, ids_of}
 use Rattle.btf_words.proofs.Refused.{known_refusal}

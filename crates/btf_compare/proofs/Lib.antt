@@ -2,6 +2,7 @@ pub mod FieldSteps
 pub mod Positions
 pub mod Passed
 pub mod Steps
+pub mod Walking
 pub mod PairMaps
 pub mod Comparing
 pub mod Progresses

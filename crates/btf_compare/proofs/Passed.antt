@@ -1,6 +1,6 @@
 -- Long prototypes all of whose parameters came out true: a walk that meets them again goes past them.
 use Rattle.std.proofs.Common.{◌≡◌, ℕ, ◌<◌, ◌≤◌, List, length, sym, ap, subst, ◌∙◌, inl, inr, Bool, true, false, Ok, arith}
-use Rattle.std.specs.Prelude.{cond, ◌==◌}
+use Rattle.std.specs.Prelude.{cond, ◌⊎◌, ◌==◌}
 use Rattle.std.specs.List.{list_any}
 use Rattle.std.specs.BTreeSet as ordered
 use Rattle.std.specs.BTreeSet.{BTreeSet}
@@ -19,7 +19,7 @@ use Rattle.btf_model.proofs.RunStates.{AllBefore, run_passes}
 use Rattle.btf_compare.specs.PairMap.{ids_cmp}
 use Rattle.btf_compare.specs.Compared.{GoesPast, passed_in}
 use Rattle.btf_compare.specs.Pairs.{ids_of}
-use Rattle.btf_compare.proofs.Comparing.{PairSet, IsIn, Changes, IsRunning, now_in}
+use Rattle.btf_compare.proofs.Comparing.{PairSet, IsIn, Changes, IsRunning}
 
 -- ---- the set
 
@@ -52,9 +52,9 @@ module _ (local target : Table) where
 
   module _ (root : Pair) (opened settled : PairSet) (top g : runs.Frame) (below : List runs.Frame) (many : ℕ) (IsTold : List (ℕ × ℕ) → Type 0) (state : IsRunning local target root opened settled top below many IsTold) (ids : Pair) (past : GoesPast local target top g ids) where
     -- the parameters had their turn, and so the prototypes are passed
-    pub more_passed : (passed more : PairSet) → length past.owed ≤ top.parameter → Changes passed more ids true → ArePassed settled passed → ArePassed settled more
-    more_passed passed more le changes are p is at resolves owed to finds index lt at_index there =
-        elim (now_in passed more ids changes p is) [
+    pub more_passed : (passed more : PairSet) → length past.owed ≤ top.parameter → ((q : Pair) → IsIn more q → IsIn passed q ⊎ (ids ≡ q)) → ArePassed settled passed → ArePassed settled more
+    more_passed passed more le gains are p is at resolves owed to finds index lt at_index there =
+        elim (gains p is) [
           | inl was ↦ are p was at resolves owed to finds index lt at_index there
           | inr same ↦
               let found : Finds local target (top.at) (Owes owed to) = found_alike local target at (top.at) p (Owes owed to) resolves (subst (λ (x : Pair). ResolvesPair local target (top.at) (Ok x)) same past.resolves) finds in

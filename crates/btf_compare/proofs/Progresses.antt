@@ -1,13 +1,18 @@
 -- What a run learns of a pair, as the sets of the open pairs and of the settled ones.
-use Rattle.std.proofs.Common.{◌≡◌, ℕ, refl, sym, ap, ◌∙◌, Bool, true, false, Option, Some, None}
+use Rattle.std.proofs.Common.{◌≡◌, ℕ, refl, sym, ap, ◌∙◌, Bool, true, false, Option, Some, None, Ok, Err}
 use Rattle.std.specs.Prelude.{cond, IsSome}
+use Rattle.std.specs.Result.{result_ok, result_err}
+use Rattle.std.proofs.lemmas.Option.{none-some, same_Some}
 use Rattle.btf_model.specs.Fields.{Pair}
 use Rattle.btf_model.specs.Compat.{pair_eq}
 use Rattle.btf_compare.specs.declared.pair_map.PairMap.{PairMap}
 use Rattle.btf_compare.specs.declared.progress.Progress.{Progress}
+use Rattle.btf_compare.specs.declared.progress.Progress.TheVariants as progresses
+use Rattle.btf_words.specs.declared.error.BtfError.{BtfError}
+use Rattle.btf_words.specs.declared.error.BtfError.TheVariants as errors
 use Rattle.std.proofs.lemmas.Bool.{false≢true}
 use Rattle.btf_compare.specs.PairMap.{known, is_ids, Learns}
-use Rattle.btf_compare.specs.Compared.{tells_open}
+use Rattle.btf_compare.specs.Compared.{tells_open, tells_settled, settled_by}
 use Rattle.btf_compare.specs.Pairs.{pair_of, ids_of}
 use Rattle.btf_compare.proofs.PairMaps.{ids_eq, is_same}
 use Rattle.btf_compare.proofs.Comparing.{Changes}
@@ -39,3 +44,23 @@ module _ (old new : PairMap Progress) (ids : ℕ × ℕ) (v : Progress) (learns 
 pub known_if_open : (o : Option Progress) → tells_open o ≡ true → IsSome o
 known_if_open None is = absurd (false≢true is)
 known_if_open (Some p) is = refl
+
+-- ---- what an answer on a pair says of it
+
+-- it is open
+pub open_if : (id : ℕ) (o : Option Progress) (e : BtfError) → settled_by id o ≡ Err e → (tells_open o ≡ true) × (e ≡ errors.MaximumTypeDepthReached id)
+open_if id None e is = absurd (none-some false (sym (ap result_ok is)))
+open_if id (Some progresses.Open) e is = (refl, sym (same_Some (errors.MaximumTypeDepthReached id) e (ap result_err is)))
+open_if id (Some progresses.Compatible) e is = absurd (none-some true (sym (ap result_ok is)))
+
+-- it came out true
+pub settled_if : (id : ℕ) (o : Option Progress) → settled_by id o ≡ Ok true → tells_settled o ≡ true
+settled_if id None is = absurd (false≢true (same_Some false true (ap result_ok is)))
+settled_if id (Some progresses.Open) is = absurd (none-some true (ap result_ok is))
+settled_if id (Some progresses.Compatible) is = refl
+
+-- nothing is known of it
+pub unknown_if : (id : ℕ) (o : Option Progress) → settled_by id o ≡ Ok false → o ≡ None
+unknown_if id None is = refl
+unknown_if id (Some progresses.Open) is = absurd (none-some false (ap result_ok is))
+unknown_if id (Some progresses.Compatible) is = absurd (false≢true (sym (same_Some true false (ap result_ok is))))

@@ -11,7 +11,7 @@ use Rattle.btf_model.specs.Run as runs
 use Rattle.btf_model.specs.Run.{IsNext}
 use Rattle.btf_words.specs.Error.{Tells, refusal_of}
 use Rattle.btf_words.specs.declared.error.BtfError.{BtfError}
-use Rattle.btf_compare.specs.declared.step.Frame.{Frame}
+use Rattle.btf_compare.specs.declared.frame.Frame.{Frame}
 use Rattle.btf_compare.specs.declared.position.ProtoPair.{ProtoPair}
 use Rattle.btf_compare.specs.Compared.{AreAt, GoesPast, frame_of, owed_by}
 use Rattle.btf_compare.specs.Pairs.{pair_of}
@@ -34,7 +34,7 @@ module _ (local target : Table) (f : Frame) where
   pub on : (g : Frame) (to : ℕ × ℕ) → f.gone < walk_limit → GoesTo g to → Finds local target (pair_of f.at) (On (pair_of to)) → IsNext local target (frame_of f) (runs.GoesOn (frame_of g))
   on g to lt is found = (walk_limit - (f.gone + 1), pair_of to, one_more f.gone lt, ap frame_of is, inl found)
 
-  past : (owed : List Pair) (j : ℕ) → None ≡ slice_get owed j → length owed ≤ j
+  pub past : (owed : List Pair) (j : ℕ) → None ≡ slice_get owed j → length owed ≤ j
   past owed j is =
       elim (cases_lt j (length owed)) [
         | inl lt ↦ absurd (none-some (get_or owed j (pair_of f.at)) (is ∙ slice_get-get_or owed j (pair_of f.at) lt))
@@ -54,12 +54,6 @@ module _ (local target : Table) (f : Frame) where
       was = one_more f.gone here.within;
       is = ap frame_of is;
     }
-
-    pub passes : (g : Frame) → GoesTo g found.returns → None ≡ slice_get (owed_by found) f.parameter → (past : GoesPast local target (frame_of f) (frame_of g) (pair_of found.ids)) × (length past.owed ≤ f.parameter)
-    passes g is none = (goes_past g is, past (owed_by found) f.parameter none)
-
-    pub returned : (g : Frame) → GoesTo g found.returns → None ≡ slice_get (owed_by found) f.parameter → IsNext local target (frame_of f) (runs.GoesOn (frame_of g))
-    returned g is none = (walk_limit - (f.gone + 1), pair_of found.returns, one_more f.gone here.within, ap frame_of is, inr (owed_by found, here.finds, past (owed_by found) f.parameter none))
 
     pub refused : (e : BtfError) (at : Pair) → slice_get (owed_by found) f.parameter ≡ Some at → (h : (refusal : Refusal) × (refusal_of e ≡ Some refusal) × ResolvesPair local target at (Err refusal))
         → (refusal : Refusal) × (refusal_of e ≡ Some refusal) × IsNext local target (frame_of f) (runs.Ends (Err refusal))

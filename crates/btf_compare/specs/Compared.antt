@@ -25,9 +25,9 @@ use Rattle.btf_compare.specs.PairMap.{known, ids_cmp}
 use Rattle.btf_compare.specs.declared.position.Position.{Position}
 use Rattle.btf_compare.specs.declared.position.Position.TheVariants as positions
 use Rattle.btf_compare.specs.declared.position.ProtoPair.{ProtoPair}
-use Rattle.btf_compare.specs.declared.step.Frame.{Frame}
-use Rattle.btf_compare.specs.declared.step.Step.{Step}
-use Rattle.btf_compare.specs.declared.step.Step.TheVariants as steps
+use Rattle.btf_compare.specs.declared.frame.Frame.{Frame}
+use Rattle.btf_compare.specs.declared.frame.Place.{Place}
+use Rattle.btf_compare.specs.declared.frame.Place.TheVariants as places
 use Rattle.btf_compare.specs.Pairs.{pair_of, ids_of}
 
 -- the types of parameters
@@ -73,16 +73,32 @@ pub record AreAt (local target : Table) (f : Frame) (found : ProtoPair) : Type 0
   pub resolves : ResolvesPair local target (pair_of f.at) (Ok (pair_of found.ids))
   pub within : f.gone < walk_limit
 
--- The step is what comes next for the open pair f, where the parameters of the passed prototypes came out true, and
--- makes it g.
-abbrev pub StepIs : Table → Table → (Pair → Bool) → runs.Frame → runs.Frame → Step → Type 0
-StepIs local target passed f g (steps.Ends answer) = Tells (λ b. b) answer (λ a. IsNext local target f (runs.Ends a))
-StepIs local target passed f g steps.GoesOn = IsNext local target f (runs.GoesOn g)
-StepIs local target passed f g (steps.Waits ids) = IsNext local target f (runs.Waits (pair_of ids) g)
-StepIs local target passed f g (steps.Passes ids) =
-    (past : GoesPast local target f g (pair_of ids)) × (length past.owed ≤ f.parameter)
-StepIs local target passed f g steps.Skips =
-    (ids : Pair) × GoesPast local target f g ids × (passed ids ≡ true) × (f.parameter ≡ 0)
+-- Where the walk of an open pair gets to from f without waiting for another pair: it goes on, and past prototypes that
+-- were passed before.
+pub data WalksTo (local target : Table) (passed : Pair → Bool) (f : runs.Frame) : runs.Frame → Type 0 where
+  here : WalksTo local target passed f f
+  on : (g h : runs.Frame) → WalksTo local target passed f g → IsNext local target g (runs.GoesOn h)
+      → WalksTo local target passed f h
+  past : (g h : runs.Frame) (ids : Pair) → WalksTo local target passed f g → GoesPast local target g h ids
+      → passed ids ≡ true → g.parameter ≡ 0 → WalksTo local target passed f h
+
+-- What the walk of the open pair f comes to: two prototypes, or its end with an answer or an error.
+abbrev pub ComesTo : Table → Table → Frame → Result Place BtfError → Type 0
+ComesTo local target f (Ok (places.Owes found)) = AreAt local target f found
+ComesTo local target f (Ok (places.Ends answer)) = IsNext local target (frame_of f) (runs.Ends (Ok answer))
+ComesTo local target f (Err e) = Tells (λ b. b) (Err e) (λ a. IsNext local target (frame_of f) (runs.Ends a))
+
+-- What comes next for the open pair f at these prototypes, and makes it g: a pair that has to be compatible, or none
+-- after their last parameters, or an error.
+abbrev pub PaysNext : Table → Table → Frame → Frame → ProtoPair → Result (Option (ℕ × ℕ)) BtfError → Type 0
+PaysNext local target f g found (Ok (Some ids)) =
+    IsNext local target (frame_of f) (runs.Waits (pair_of ids) (frame_of g))
+PaysNext local target f g found (Ok None) = (length (owed_by found) ≤ f.parameter) × (g ≡ f)
+PaysNext local target f g found (Err e) = Tells (λ b. b) (Err e) (λ a. IsNext local target (frame_of f) (runs.Ends a))
+
+-- the set has gained these ids at most
+abbrev pub GainsOnly : BTreeSet (ℕ × ℕ) → BTreeSet (ℕ × ℕ) → Pair → Type 0
+GainsOnly old new ids = (p : Pair) → passed_in new p ≡ true → (passed_in old p ≡ true) ⊎ (ids ≡ p)
 
 -- whether a run has a pair open, or knows it to be compatible
 abbrev pub tells_open : Option Progress → Bool
@@ -98,6 +114,12 @@ opened_in seen p = tells_open (known seen (ids_of p))
 
 abbrev pub settled_in : PairMap Progress → Pair → Bool
 settled_in seen p = tells_settled (known seen (ids_of p))
+
+-- whether a pair whose local id this is came out true, by what a run knows of it; an open one is refused
+abbrev pub settled_by : ℕ → Option Progress → Result Bool BtfError
+settled_by id (Some progresses.Open) = Err (errors.MaximumTypeDepthReached id)
+settled_by id (Some progresses.Compatible) = Ok true
+settled_by id None = Ok false
 
 -- A pair that is started is known: its walk begins, or the kinds differ.
 abbrev pub IsStarted : Table → Table → Pair → Bool → Type 0

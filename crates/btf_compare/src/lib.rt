@@ -2,12 +2,12 @@
 #![tactic(auto)]
 
 mod fields;
+mod frame;
 mod pair_map;
 mod position;
 mod progress;
 mod resolved;
 mod run;
-mod step;
 mod trace;
 mod types;
 

@@ -28,7 +28,7 @@ pub enum Position<'a> {
 }
 
 /// Two prototypes with as many parameters.
-#[derive(Drop)]
+#[derive(Clone, Copy, Drop)]
 pub struct ProtoPair<'a> {
     /// Their ids, the local one first.
     pub ids: (u32, u32),

@@ -5,17 +5,18 @@ ghost use Rattle.std.specs.BTreeSet.{IsEmpty};
 ghost use Rattle.btf_model.specs.Fields.{Pair};
 ghost use Rattle.btf_model.specs.Refusal.{Refusal};
 ghost use Rattle.btf_model.specs.Compat.{Plain, firsts};
-ghost use Rattle.btf_compare.specs.Compared.{IsStarted, IsRefused, TracesBy};
+ghost use Rattle.btf_compare.specs.Compared.{IsStarted, IsRefused, TracesBy, GainsOnly, settled_by};
 ghost use Rattle.btf_compare.specs.PairMap.{known, count, Learns};
 ghost use Rattle.btf_compare.specs.Pairs.{pair_of};
 
+use crate::frame::{Frame, Place};
 use crate::pair_map::PairMap;
+use crate::position::ProtoPair;
 use crate::progress::Progress;
-use crate::step::{Frame, Step};
 use crate::trace::Starts;
 use btf_plain::BtfError;
 use btf_table::{Btf, allocator_of};
-use std::alloc::Global;
+use std::alloc::{AllocError, Global};
 use std::collections::BTreeSet;
 
 /// What a run remembers.
@@ -73,6 +74,30 @@ impl Run {
         Ok(local_type.is_compatible(target_type))
     }
 
+    /// Whether a pair came out true before. One that is still open is refused.
+    fn is_settled(&self, pair: (u32, u32)) -> Result<bool, BtfError>
+        ensures { result ≡ settled_by pair.0 (known self.now.seen pair) }
+    {
+        match self.seen.get(pair) {
+            Some(Progress::Open) => Err(BtfError::MaximumTypeDepthReached { type_id: pair.0 }),
+            Some(Progress::Compatible) => Ok(true),
+            None => Ok(false),
+        }
+    }
+
+    /// Remembers prototypes whose parameters all came out true, if it is worth it.
+    fn pass(&mut self, found: &ProtoPair<'_>) -> Result<(), AllocError>
+        ensures passed { OnOk result
+            (GainsOnly self.old.passed self.new.passed (pair_of found.now.ids)) }
+        ensures seen { self.new.seen ≡ self.old.seen }
+        ensures below { self.new.below ≡ self.old.below }
+    {
+        if found.are_long() {
+            self.passed.insert(found.ids)?;
+        }
+        Ok(())
+    }
+
     /// Settles an open pair that came out true, and returns the one below it, which goes on.
     fn settle(&mut self, pair: (u32, u32)) -> Option<Frame>
         requires { IsSome (known self.old.seen pair) }
@@ -106,35 +131,41 @@ pub fn compare<S: Starts>(
         return Ok(false);
     }
     let mut top = Frame::new(root);
+    let mut place = top.walk(local, target, &run.passed)?;
     'steps: loop {
-        match top.step(local, target, &run.passed) {
-            Step::GoesOn => {}
-            Step::Skips => {}
-            Step::Passes(ids) => {
-                run.passed.insert(ids)?;
-            }
-            Step::Ends(answer) => {
-                if !answer? {
-                    return Ok(false);
-                }
+        let found = match place {
+            Place::Owes(found) => found,
+            Place::Ends(false) => return Ok(false),
+            Place::Ends(true) => {
                 let Some(next) = run.settle(top.pair) else {
                     return Ok(true);
                 };
                 top = next;
+                place = top.walk(local, target, &run.passed)?;
+                continue;
             }
-            Step::Waits(pair) => match run.seen.get(pair) {
-                Some(Progress::Open) => {
-                    return Err(BtfError::MaximumTypeDepthReached { type_id: pair.0 });
-                }
-                Some(Progress::Compatible) => {}
-                None => {
-                    run.below.push(top)?;
-                    if !run.start(local, target, pair, starts)? {
-                        return Ok(false);
-                    }
-                    top = Frame::new(pair);
-                }
-            },
+        };
+        let Some(pair) = top.pay(local, target, &found)? else {
+            run.pass(&found)?;
+            top.go_on(found.returns);
+            place = top.walk(local, target, &run.passed)?;
+            continue;
+        };
+        if run.is_settled(pair)? {
+            continue;
+        }
+        if !run.start(local, target, pair, starts)? {
+            return Ok(false);
+        }
+        let mut inner = Frame::new(pair);
+        match inner.walk(local, target, &run.passed)? {
+            Place::Ends(false) => return Ok(false),
+            Place::Ends(true) => run.seen.update(pair, Progress::Compatible),
+            Place::Owes(inside) => {
+                run.below.push(top)?;
+                top = inner;
+                place = Place::Owes(inside);
+            }
         }
     }
 }

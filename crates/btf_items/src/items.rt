@@ -1,6 +1,6 @@
 //! The items of the records that have a list.
 
-ghost use Rattle.std.specs.Prelude.{◌≡◌, ◌/◌, ◌%◌, ◌^◌};
+ghost use Rattle.std.specs.Prelude.{◌≡◌, ◌/◌, ◌%◌, ◌^◌, [], ◌∷◌};
 ghost use Rattle.btf_items.specs.Items.{enum_words, enum64_words, member_words, param_words, entry_words};
 
 use crate::list::Item;
@@ -100,12 +100,7 @@ impl Item for BtfEnum {
         push(out, endianness, &[self.name_offset, self.value])
     }
 
-    fn copy(&self) -> Self {
-        Self {
-            name_offset: self.name_offset,
-            value: self.value,
-        }
-    }
+    ghost cloned_words = { λ x y h i. h.0 i ∷ h.1 i ∷ [] };
 }
 
 impl Item for BtfEnum64 {
@@ -135,13 +130,7 @@ impl Item for BtfEnum64 {
         )
     }
 
-    fn copy(&self) -> Self {
-        Self {
-            name_offset: self.name_offset,
-            value_low: self.value_low,
-            value_high: self.value_high,
-        }
-    }
+    ghost cloned_words = { λ x y h i. enum64_words (h i) };
 }
 
 impl Item for BtfMember {
@@ -171,13 +160,7 @@ impl Item for BtfMember {
         )
     }
 
-    fn copy(&self) -> Self {
-        Self {
-            name_offset: self.name_offset,
-            btf_type: self.btf_type,
-            offset: self.offset,
-        }
-    }
+    ghost cloned_words = { λ x y h i. h.0 i ∷ h.1.0 i ∷ h.1.1 i ∷ [] };
 }
 
 impl Item for BtfParam {
@@ -201,12 +184,7 @@ impl Item for BtfParam {
         push(out, endianness, &[self.name_offset, self.btf_type])
     }
 
-    fn copy(&self) -> Self {
-        Self {
-            name_offset: self.name_offset,
-            btf_type: self.btf_type,
-        }
-    }
+    ghost cloned_words = { λ x y h i. h.0 i ∷ h.1 i ∷ [] };
 }
 
 impl Item for DataSecEntry {
@@ -232,11 +210,5 @@ impl Item for DataSecEntry {
         push(out, endianness, &[self.btf_type, self.offset, self.size])
     }
 
-    fn copy(&self) -> Self {
-        Self {
-            btf_type: self.btf_type,
-            offset: self.offset,
-            size: self.size,
-        }
-    }
+    ghost cloned_words = { λ x y h i. h.0 i ∷ h.1.0 i ∷ h.1.1 i ∷ [] };
 }

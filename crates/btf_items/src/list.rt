@@ -12,7 +12,7 @@ use btf_words::{BtfError, Endianness};
 use std::alloc::{AllocError, Global};
 
 /// An item of a list: so many words.
-pub trait Item: Sized + Drop {
+pub trait Item: Sized + Clone + Drop {
     /// How many words an item has.
     ghost width: { ℕ };
 
@@ -31,9 +31,8 @@ pub trait Item: Sized + Drop {
             ++ flat_map (word (order_of endianness)) (item_words self.now)) }
         ensures words_fit { AllByRecursion (λ w. w < 2 ^ 32) (item_words self.now) };
 
-    /// An equal item.
-    fn copy(&self) -> Self
-        ensures { item_words result ≡ item_words self.now };
+    /// A clone has the same words.
+    ghost cloned_words: { (x y : Self) → Self.is_clone x y → item_words y ≡ item_words x };
 }
 
 /// Writes items at the end of bytes.
@@ -58,11 +57,7 @@ pub fn clone_items<T: Item>(items: &Vec<T>) -> Result<Vec<T>, AllocError>
     ensures { IfOk result (λ v. (flat_map T.item_words v.items
         ≡ flat_map T.item_words items.now.items) × (length v.items ≡ length items.now.items)) }
 {
-    let mut copies = Vec::with_capacity(*items.allocator(), items.len())?;
-    for item in items.as_slice() {
-        copies.push(item.copy())?;
-    }
-    Ok(copies)
+    items.clone()
 }
 
 /// So many items from the front of bytes, in a vector of just their number. `InvalidTypeInfo` where the bytes

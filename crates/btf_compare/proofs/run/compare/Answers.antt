@@ -1,23 +1,22 @@
-use Rattle.std.proofs.Common.{◌≡◌, inl, inr, refl, ℕ, ◌+◌, [], ◌∷◌, Some, Bool, true, Result, Ok, ◌∙◌, sym, ap, subst, length}
+use Rattle.std.proofs.Common.{◌≡◌, ◌++◌, ◌∷◌, ◌<◌, ◌≤◌, [], ℕ, Option, Bool, true, false, Result, Ok, Err, ◌∙◌, refl, sym, ap, subst, length, List}
+use Rattle.btf_model.proofs.RunLengths.{less_paid}
 use Rattle.btf_model.proofs.Known.{known_pairs}
-use Rattle.std.specs.BTreeSet.{BTreeSet}
-use Rattle.btf_model.specs.Fields.{Pair}
-use Rattle.btf_model.specs.Run as runs
-use Rattle.btf_model.specs.Run.{IsNext}
-use Rattle.btf_model.proofs.RunLengths.{widest, less_on, less_paid, less_settled}
 use Rattle.btf_words.specs.declared.error.BtfError.{BtfError}
 use Rattle.btf_words.specs.declared.error.BtfError.TheVariants.{OutOfMemory}
-use Rattle.btf_words.specs.Error.{Tells}
-use Rattle.btf_compare.specs.declared.progress.Progress.{Progress}
-use Rattle.btf_compare.specs.declared.progress.Progress.TheVariants.{Open, Compatible}
-use Rattle.btf_compare.specs.PairMap.{known, count}
-use Rattle.btf_compare.specs.Compared.{frame_of, tells_open, tells_settled, opened_in, settled_in, passed_in, IsStarted}
-use Rattle.btf_compare.specs.Pairs.{pair_of, ids_of}
-use Rattle.btf_compare.proofs.Progresses.{learned, learned_nothing, known_if_open}
-use Rattle.btf_compare.proofs.Comparing.{IsRunning, handed, stack_of, stack_push, root_refused, root_differs, root_started, no_memory, ends_refused, ends_false, ends_true, goes_on, pays, is_open, is_refused, differs, starts, settles, told_on, still_in, less_by_start}
-use Rattle.btf_compare.proofs.Passed.{ArePassed, none_passed, nothing_in, still_passed, inserted, more_passed, skips, skips_less}
+use Rattle.btf_compare.specs.declared.frame.Frame.{Frame}
+use Rattle.btf_compare.specs.declared.frame.Place.{Place}
+use Rattle.btf_compare.specs.declared.progress.Progress.TheVariants.{Compatible}
+use Rattle.btf_compare.specs.PairMap.{known, count, Learns}
+use Rattle.btf_compare.specs.Compared.{ComesTo, PaysNext, IsStarted, frame_of, owed_by, tells_open, tells_settled, opened_in, settled_in}
+use Rattle.btf_compare.specs.Pairs.{pair_of}
+use Rattle.btf_compare.proofs.Comparing.{Compares, handed, stack_of, root_refused, root_differs, no_memory, ends_refused, ends_false, ends_true, pays, is_open, is_refused, differs, told_on}
+use Rattle.btf_compare.proofs.Progresses.{open_if, settled_if, unknown_if}
+use Rattle.btf_compare.proofs.Walking.{waits_for, still_owes, Running, PassedIn, left, shorter, lower, begun, begun_passed, walks, walks_less, walk_fails, ends_by, settled_below, settled_less, settled_passed, returned, returned_less, returned_passed, opened_above, opened_less, opened_passed}
 use Rattle.btf_compare.proofs.run.compare.Given.{Over}
 use Rattle.btf_compare.proofs.run.compare.Goals as goal
+use Rattle.btf_compare.proofs.run.compare.Goals.{After-walk, After-walk-in-Ends-true, After-walk-in_default-2, After-walk-in-steps, After-update, After-branch-push}
+
+-- ---- the pair of the call
 
 pub returns-in_err-start : goal.returns-in_err-start
 returns-in_err-start g c =
@@ -29,162 +28,249 @@ returns-then-not-branch g c =
     root_differs c.args.local.now c.args.target.now c.args.root (g.S.Starts.has_added c.args.starts.now c.start.new.starts) (subst (λ (b : Bool). IsStarted c.args.local.now c.args.target.now (pair_of c.args.root) b) c.if-not-branch.true c.in_ok-start.ensures.started)
     (c.in_ok-start.ensures.listed c.args.starts.now [] c.requires)
 
+root_runs : (g : Over) (c : After-walk g) → Running c.args.local.now c.args.target.now (pair_of c.args.root) c.start.new.self.seen c.start.new.self.below.items c.new-top.result (g.S.Starts.has_added c.args.starts.now c.start.new.starts)
+root_runs g c =
+    begun c.args.local.now c.args.target.now c.args.root c.new-run.result.seen c.start.new.self.seen c.new-run.ensures.seen c.in_ok-start.ensures.opened c.new-top.result c.start.new.self.below.items (g.S.Starts.has_added c.args.starts.now c.start.new.starts)
+    (subst (λ (b : Bool). IsStarted c.args.local.now c.args.target.now (pair_of c.args.root) b) c.if-not-branch.false c.in_ok-start.ensures.started) c.new-top.ensures.frame (ap (λ v. v.items) c.start.ensures.below ∙ c.new-run.ensures.below)
+    c.in_ok-start.ensures.counts c.new-run.ensures.counts (c.in_ok-start.ensures.listed c.args.starts.now [] c.requires)
+
+root_passed : (g : Over) (c : After-walk g) → PassedIn c.args.local.now c.args.target.now c.start.new.self.seen c.start.new.self.passed
+root_passed g c =
+    begun_passed c.args.local.now c.args.target.now c.args.root c.new-run.result.seen c.start.new.self.seen c.new-run.ensures.seen c.in_ok-start.ensures.opened c.new-run.result.passed c.start.new.self.passed c.new-run.ensures.passed c.start.ensures.passed
+
+pub returns-in_err-place : goal.returns-in_err-place
+returns-in_err-place g c =
+    walk_fails c.args.local.now c.args.target.now (pair_of c.args.root) c.start.new.self.seen c.start.new.self.passed c.start.new.self.below.items c.new-top.result (g.S.Starts.has_added c.args.starts.now c.start.new.starts) (root_runs g (goal.at.returns-in_err-place g c).After-walk) (root_passed g (goal.at.returns-in_err-place g c).After-walk) c.walk.new.self
+    c.walk.ensures.walks c.in_err-place.field-0.0 c.from_residual-in_err-place.result c.in_err-place.ensures.comes (handed c.from_residual-in_err-place.result c.in_err-place.field-0.0 c.from_residual-in_err-place.ensures.1)
+
 pub steps-init : goal.steps-init
-steps-init g c =
-    let ids = c.args.root in
-    let empty = c.new-run.ensures.seen in
-    let opens = learned c.new-run.result.seen c.start.new.self.seen ids Open c.in_ok-start.ensures.opened tells_open in
-    let settles = learned_nothing c.new-run.result.seen c.start.new.self.seen ids Open c.in_ok-start.ensures.opened tells_settled (ap tells_settled (empty ids)) in (
-      root_started c.args.local.now c.args.target.now c.args.root c.new-top.result (opened_in c.new-run.result.seen) (opened_in c.start.new.self.seen) (settled_in c.start.new.self.seen) c.start.new.self.below.items (count c.start.new.self.seen) (g.S.Starts.has_added c.args.starts.now c.start.new.starts)
-          (subst (λ (b : Bool). IsStarted c.args.local.now c.args.target.now (pair_of c.args.root) b) c.if-not-branch.false c.in_ok-start.ensures.started) c.new-top.ensures.frame
-          (ap (λ v. v.items) c.start.ensures.below ∙ c.new-run.ensures.below) (λ q. ap tells_open (empty (ids_of q))) (λ q. ap (λ (f : Pair → Bool). f q) settles ∙ ap tells_settled (empty (ids_of q))) opens (c.in_ok-start.ensures.counts ∙ ap (λ (n : ℕ). n + 1) c.new-run.ensures.counts)
-          (c.in_ok-start.ensures.listed c.args.starts.now [] c.requires),
-      none_passed c.args.local.now c.args.target.now (settled_in c.start.new.self.seen) (passed_in c.start.new.self.passed) (λ p. ap (λ (set : BTreeSet (ℕ × ℕ)). passed_in set p) c.start.ensures.passed ∙ nothing_in c.new-run.result.passed c.new-run.ensures.passed p),
-    )
-
-pub steps-smaller-in-GoesOn : goal.steps-smaller-in-GoesOn
-steps-smaller-in-GoesOn g c =
-    let local = c.args.local.now in
-    let target = c.args.target.now in
-    less_on local target (length (known_pairs local target)) (count c.steps.run.seen) (widest local.records) (frame_of c.steps.top) (frame_of c.step.new.self) (stack_of c.steps.run.below.items) c.in-GoesOn.ensures.step
-
-pub steps-preserved-in-GoesOn : goal.steps-preserved-in-GoesOn
-steps-preserved-in-GoesOn g c = (
-  goes_on c.args.local.now c.args.target.now (pair_of c.args.root) (opened_in c.steps.run.seen) (settled_in c.steps.run.seen) (frame_of c.steps.top) (stack_of c.steps.run.below.items) (count c.steps.run.seen) (g.S.Starts.has_added c.args.starts.now c.steps.starts) c.steps.invariant.0
-      (frame_of c.step.new.self) c.in-GoesOn.ensures.step,
-  c.steps.invariant.1,
+steps-init g c = (
+  walks c.args.local.now c.args.target.now (pair_of c.args.root) c.start.new.self.seen c.start.new.self.passed c.start.new.self.below.items c.new-top.result (g.S.Starts.has_added c.args.starts.now c.start.new.starts) (root_runs g (goal.at.steps-init g c).After-walk) (root_passed g (goal.at.steps-init g c).After-walk) c.walk.new.self
+      c.walk.ensures.walks,
+  root_passed g (goal.at.steps-init g c).After-walk,
+  c.in_ok-place.ensures.comes,
 )
 
-pub steps-smaller-in-Skips : goal.steps-smaller-in-Skips
-steps-smaller-in-Skips g c =
-    let past = c.in-Skips.ensures.step in
-    skips_less c.args.local.now c.args.target.now (pair_of c.args.root) (opened_in c.steps.run.seen) (settled_in c.steps.run.seen) (frame_of c.steps.top) (frame_of c.step.new.self) (stack_of c.steps.run.below.items) (count c.steps.run.seen) (g.S.Starts.has_added c.args.starts.now c.steps.starts) c.steps.invariant.0
-    past.0 past.1 (length (known_pairs c.args.local.now c.args.target.now)) (widest c.args.local.now.records)
+-- ---- a walk that is at its end
 
-pub steps-preserved-in-Skips : goal.steps-preserved-in-Skips
-steps-preserved-in-Skips g c =
-    let past = c.in-Skips.ensures.step in (
-      skips c.args.local.now c.args.target.now (pair_of c.args.root) (opened_in c.steps.run.seen) (settled_in c.steps.run.seen) (frame_of c.steps.top) (frame_of c.step.new.self) (stack_of c.steps.run.below.items) (count c.steps.run.seen) (g.S.Starts.has_added c.args.starts.now c.steps.starts) c.steps.invariant.0
-          past.0 past.1 (passed_in c.steps.run.passed) past.2 past.3 c.steps.invariant.1,
-      c.steps.invariant.1,
-    )
-
-pub returns-in_err-insert-in-Passes : goal.returns-in_err-insert-in-Passes
-returns-in_err-insert-in-Passes g c =
-    no_memory c.args.local.now c.args.target.now (pair_of c.args.root) (opened_in c.steps.run.seen) (settled_in c.steps.run.seen) (frame_of c.steps.top) (stack_of c.steps.run.below.items) (count c.steps.run.seen) (g.S.Starts.has_added c.args.starts.now c.steps.starts) c.steps.invariant.0
-    c.allocator_of.ensures c.allocator_of-2.ensures c.from_residual-in_err-insert-in-Passes.result (handed c.from_residual-in_err-insert-in-Passes.result OutOfMemory c.from_residual-in_err-insert-in-Passes.ensures.1)
-
-pub steps-preserved-in_ok-insert-in-Passes : goal.steps-preserved-in_ok-insert-in-Passes
-steps-preserved-in_ok-insert-in-Passes g c =
-    let past = c.in-Passes.ensures.step in (
-      goes_on c.args.local.now c.args.target.now (pair_of c.args.root) (opened_in c.steps.run.seen) (settled_in c.steps.run.seen) (frame_of c.steps.top) (stack_of c.steps.run.below.items) (count c.steps.run.seen) (g.S.Starts.has_added c.args.starts.now c.steps.starts) c.steps.invariant.0
-          (frame_of c.step.new.self) (past.0.left, past.0.to, past.0.was, past.0.is, inr (past.0.owed, past.0.finds, past.1)),
-      more_passed c.args.local.now c.args.target.now (pair_of c.args.root) (opened_in c.steps.run.seen) (settled_in c.steps.run.seen) (frame_of c.steps.top) (frame_of c.step.new.self) (stack_of c.steps.run.below.items) (count c.steps.run.seen) (g.S.Starts.has_added c.args.starts.now c.steps.starts) c.steps.invariant.0
-          (pair_of c.in-Passes.ids) past.0 (passed_in c.steps.run.passed) (passed_in c.insert.new.self) past.1
-          (inserted c.steps.run.passed c.insert.new.self (pair_of c.in-Passes.ids) c.in_ok-insert-in-Passes.ensures.updates.0) c.steps.invariant.1,
-    )
-
-pub returns-in_err-answer-in-Ends : goal.returns-in_err-answer-in-Ends
-returns-in_err-answer-in-Ends g c =
-    ends_refused c.args.local.now c.args.target.now (pair_of c.args.root) (opened_in c.steps.run.seen) (settled_in c.steps.run.seen) (frame_of c.steps.top) (stack_of c.steps.run.below.items) (count c.steps.run.seen) (g.S.Starts.has_added c.args.starts.now c.steps.starts) c.steps.invariant.0
-    c.in-Ends.answer c.from_residual-in_err-answer-in-Ends.result c.in_err-answer-in-Ends.field-0.0 c.in_err-answer-in-Ends.was (handed c.from_residual-in_err-answer-in-Ends.result c.in_err-answer-in-Ends.field-0.0 c.from_residual-in_err-answer-in-Ends.ensures.1)
-    c.in-Ends.ensures.step
-
-pub returns-then-not-branch-2 : goal.returns-then-not-branch-2
-returns-then-not-branch-2 g c =
+pub returns-in-Ends-false : goal.returns-in-Ends-false
+returns-in-Ends-false g c =
     ends_false c.args.local.now c.args.target.now (pair_of c.args.root) (opened_in c.steps.run.seen) (settled_in c.steps.run.seen) (frame_of c.steps.top) (stack_of c.steps.run.below.items) (count c.steps.run.seen) (g.S.Starts.has_added c.args.starts.now c.steps.starts) c.steps.invariant.0
-    (subst (λ (r : Result Bool BtfError). Tells (λ b. b) r (λ a. IsNext c.args.local.now c.args.target.now (frame_of c.steps.top) (runs.Ends a))) (c.in_ok-answer-in-Ends.was ∙ ap (λ (b : Bool). Ok b) c.if-not-branch-2.true) c.in-Ends.ensures.step)
+    (ends_by c.args.local.now c.args.target.now c.steps.top c.steps.place c.in-Ends-false.field-0 false c.in-Ends-false.is c.in-Ends-false.field-0-test c.steps.invariant.2)
 
 pub returns-in_default : goal.returns-in_default
 returns-in_default g c =
     ends_true c.args.local.now c.args.target.now (pair_of c.args.root) (opened_in c.steps.run.seen) (settled_in c.steps.run.seen) (frame_of c.steps.top) (stack_of c.steps.run.below.items) (count c.steps.run.seen) (g.S.Starts.has_added c.args.starts.now c.steps.starts) c.steps.invariant.0
-    (subst (λ (r : Result Bool BtfError). Tells (λ b. b) r (λ a. IsNext c.args.local.now c.args.target.now (frame_of c.steps.top) (runs.Ends a))) (c.in_ok-answer-in-Ends.was ∙ ap (λ (b : Bool). Ok b) c.if-not-branch-2.false) c.in-Ends.ensures.step)
-    (ap stack_of (rw c.in_default.is at c.settle.ensures.next))
+    (ends_by c.args.local.now c.args.target.now c.steps.top c.steps.place c.in-Ends-true.field-0 true c.in-Ends-true.is c.in-Ends-true.field-0-test c.steps.invariant.2) (ap stack_of c.in_default.ensures.next)
 
-pub steps-smaller-in-Ends : goal.steps-smaller-in-Ends
-steps-smaller-in-Ends g c =
-    let local = c.args.local.now in
-    let target = c.args.target.now in
-    let stack : stack_of c.steps.run.below.items ≡ frame_of c.in-Some.next ∷ stack_of c.settle.new.self.below.items = stack_push c.settle.new.self.below.items c.steps.run.below.items c.in-Some.next (rw c.in-Some.is at c.settle.ensures.next) in
-    rw (stack, c.settle.ensures.counts) (less_settled local target (length (known_pairs local target)) (count c.steps.run.seen) (widest local.records) (frame_of c.steps.top) (frame_of c.in-Some.next) (stack_of c.settle.new.self.below.items))
+next_runs : (g : Over) (c : After-walk-in-Ends-true g) → Running c.args.local.now c.args.target.now (pair_of c.args.root) c.settle.new.self.seen c.settle.new.self.below.items c.in-Some.next (g.S.Starts.has_added c.args.starts.now c.steps.starts)
+next_runs g c =
+    settled_below c.args.local.now c.args.target.now (pair_of c.args.root) c.steps.run.seen c.steps.run.passed c.steps.run.below.items c.steps.top (g.S.Starts.has_added c.args.starts.now c.steps.starts) c.steps.invariant.0 c.steps.invariant.1 c.settle.new.self.seen
+    c.settle.ensures.settled c.in-Some.next c.settle.new.self.below.items c.in-Some.ensures.next c.settle.ensures.counts
+    (ends_by c.args.local.now c.args.target.now c.steps.top c.steps.place c.in-Ends-true.field-0 true c.in-Ends-true.is c.in-Ends-true.field-0-test c.steps.invariant.2)
 
-pub steps-preserved-in-Ends : goal.steps-preserved-in-Ends
-steps-preserved-in-Ends g c =
-    let stack : stack_of c.steps.run.below.items ≡ frame_of c.in-Some.next ∷ stack_of c.settle.new.self.below.items = stack_push c.settle.new.self.below.items c.steps.run.below.items c.in-Some.next (rw c.in-Some.is at c.settle.ensures.next) in
-    let learns = rw c.step.ensures.pair at c.settle.ensures.settled in
-    let settles_one = learned c.steps.run.seen c.settle.new.self.seen c.steps.top.pair Compatible learns tells_settled in (
-      rw c.settle.ensures.counts (settles c.args.local.now c.args.target.now (pair_of c.args.root) (opened_in c.steps.run.seen) (settled_in c.steps.run.seen) (frame_of c.steps.top) (frame_of c.in-Some.next) (stack_of c.settle.new.self.below.items) (count c.steps.run.seen) (g.S.Starts.has_added c.args.starts.now c.steps.starts)
-          (rw stack at c.steps.invariant.0) (opened_in c.settle.new.self.seen) (settled_in c.settle.new.self.seen)
-          (subst (λ (r : Result Bool BtfError). Tells (λ b. b) r (λ a. IsNext c.args.local.now c.args.target.now (frame_of c.steps.top) (runs.Ends a))) (c.in_ok-answer-in-Ends.was ∙ ap (λ (b : Bool). Ok b) c.if-not-branch-2.false) c.in-Ends.ensures.step)
-          settles_one (learned c.steps.run.seen c.settle.new.self.seen c.steps.top.pair Compatible learns tells_open)),
-      rw c.settle.ensures.passed (still_passed c.args.local.now c.args.target.now (settled_in c.steps.run.seen) (settled_in c.settle.new.self.seen) (passed_in c.steps.run.passed)
-          (still_in (settled_in c.steps.run.seen) (settled_in c.settle.new.self.seen) (pair_of c.steps.top.pair) settles_one) c.steps.invariant.1),
-    )
+next_passed : (g : Over) (c : After-walk-in-Ends-true g) → PassedIn c.args.local.now c.args.target.now c.settle.new.self.seen c.settle.new.self.passed
+next_passed g c =
+    settled_passed c.args.local.now c.args.target.now (pair_of c.args.root) c.steps.run.seen c.steps.run.passed c.steps.run.below.items c.steps.top (g.S.Starts.has_added c.args.starts.now c.steps.starts) c.steps.invariant.0 c.steps.invariant.1 c.settle.new.self.seen
+    c.settle.ensures.settled c.settle.new.self.passed c.settle.ensures.passed
 
-pub returns-in-Some-Open : goal.returns-in-Some-Open
-returns-in-Some-Open g c =
-    is_open c.args.local.now c.args.target.now (pair_of c.args.root) (opened_in c.steps.run.seen) (settled_in c.steps.run.seen) (frame_of c.steps.top) (stack_of c.steps.run.below.items) (count c.steps.run.seen) (g.S.Starts.has_added c.args.starts.now c.steps.starts) c.steps.invariant.0
-    (pair_of c.in-Waits.pair) (frame_of c.step.new.self) c.in-Waits.ensures.step (ap tells_open (sym c.get.ensures ∙ (c.in-Some-Open.is ∙ ap (λ (p : Progress). Some p) c.in-Some-Open.field-0-is)))
+pub returns-in_err-place-in-Ends-true : goal.returns-in_err-place-in-Ends-true
+returns-in_err-place-in-Ends-true g c =
+    walk_fails c.args.local.now c.args.target.now (pair_of c.args.root) c.settle.new.self.seen c.settle.new.self.passed c.settle.new.self.below.items c.in-Some.next (g.S.Starts.has_added c.args.starts.now c.steps.starts) (next_runs g (goal.at.returns-in_err-place-in-Ends-true g c).After-walk-in-Ends-true) (next_passed g (goal.at.returns-in_err-place-in-Ends-true g c).After-walk-in-Ends-true) c.walk-in-Ends-true.new.self
+    c.walk-in-Ends-true.ensures.walks c.in_err-place-in-Ends-true.field-0.0 c.from_residual-in_err-place-in-Ends-true.result c.in_err-place-in-Ends-true.ensures.comes (handed c.from_residual-in_err-place-in-Ends-true.result c.in_err-place-in-Ends-true.field-0.0 c.from_residual-in_err-place-in-Ends-true.ensures.1)
 
-pub steps-smaller-in-Some-Compatible : goal.steps-smaller-in-Some-Compatible
-steps-smaller-in-Some-Compatible g c =
-    let local = c.args.local.now in
-    let target = c.args.target.now in
-    less_paid local target (length (known_pairs local target)) (count c.steps.run.seen) (frame_of c.steps.top) (frame_of c.step.new.self) (pair_of c.in-Waits.pair) (stack_of c.steps.run.below.items) c.in-Waits.ensures.step
+pub steps-smaller-in-Ends-true : goal.steps-smaller-in-Ends-true
+steps-smaller-in-Ends-true g c =
+    shorter _ _ _
+    (walks_less c.args.local.now c.args.target.now (pair_of c.args.root) c.settle.new.self.seen c.settle.new.self.passed c.settle.new.self.below.items c.in-Some.next (g.S.Starts.has_added c.args.starts.now c.steps.starts) (next_runs g (goal.at.steps-smaller-in-Ends-true g c).After-walk-in-Ends-true) (next_passed g (goal.at.steps-smaller-in-Ends-true g c).After-walk-in-Ends-true) c.walk-in-Ends-true.new.self
+    c.walk-in-Ends-true.ensures.walks)
+    (settled_less c.args.local.now c.args.target.now (pair_of c.args.root) c.steps.run.seen c.steps.run.passed c.steps.run.below.items c.steps.top (g.S.Starts.has_added c.args.starts.now c.steps.starts) c.steps.invariant.0 c.steps.invariant.1 c.settle.new.self.seen
+    c.settle.ensures.settled c.in-Some.next c.settle.new.self.below.items c.in-Some.ensures.next c.settle.ensures.counts)
 
-pub steps-preserved-in-Some-Compatible : goal.steps-preserved-in-Some-Compatible
-steps-preserved-in-Some-Compatible g c = (
-  pays c.args.local.now c.args.target.now (pair_of c.args.root) (opened_in c.steps.run.seen) (settled_in c.steps.run.seen) (frame_of c.steps.top) (stack_of c.steps.run.below.items) (count c.steps.run.seen) (g.S.Starts.has_added c.args.starts.now c.steps.starts) c.steps.invariant.0
-      (pair_of c.in-Waits.pair) (frame_of c.step.new.self) c.in-Waits.ensures.step (ap tells_settled (sym c.get.ensures ∙ (c.in-Some-Compatible.is ∙ ap (λ (p : Progress). Some p) c.in-Some-Compatible.field-0-is))),
-  c.steps.invariant.1,
+pub steps-preserved-in-Ends-true : goal.steps-preserved-in-Ends-true
+steps-preserved-in-Ends-true g c = (
+  walks c.args.local.now c.args.target.now (pair_of c.args.root) c.settle.new.self.seen c.settle.new.self.passed c.settle.new.self.below.items c.in-Some.next (g.S.Starts.has_added c.args.starts.now c.steps.starts) (next_runs g (goal.at.steps-preserved-in-Ends-true g c).After-walk-in-Ends-true) (next_passed g (goal.at.steps-preserved-in-Ends-true g c).After-walk-in-Ends-true) c.walk-in-Ends-true.new.self
+      c.walk-in-Ends-true.ensures.walks,
+  next_passed g (goal.at.steps-preserved-in-Ends-true g c).After-walk-in-Ends-true,
+  c.in_ok-place-in-Ends-true.ensures.comes,
 )
 
-pub returns-in_err-push-in-None : goal.returns-in_err-push-in-None
-returns-in_err-push-in-None g c =
+-- ---- parameters
+
+pub returns-in_err-pair : goal.returns-in_err-pair
+returns-in_err-pair g c =
+    ends_refused c.args.local.now c.args.target.now (pair_of c.args.root) (opened_in c.steps.run.seen) (settled_in c.steps.run.seen) (frame_of c.steps.top) (stack_of c.steps.run.below.items) (count c.steps.run.seen) (g.S.Starts.has_added c.args.starts.now c.steps.starts) c.steps.invariant.0
+    (Err c.in_err-pair.field-0.0) c.from_residual-in_err-pair.result c.in_err-pair.field-0.0 refl (handed c.from_residual-in_err-pair.result c.in_err-pair.field-0.0 c.from_residual-in_err-pair.ensures.1) c.in_err-pair.ensures.next
+
+pub returns-in_err-pass : goal.returns-in_err-pass
+returns-in_err-pass g c =
     no_memory c.args.local.now c.args.target.now (pair_of c.args.root) (opened_in c.steps.run.seen) (settled_in c.steps.run.seen) (frame_of c.steps.top) (stack_of c.steps.run.below.items) (count c.steps.run.seen) (g.S.Starts.has_added c.args.starts.now c.steps.starts) c.steps.invariant.0
-    c.allocator_of.ensures c.allocator_of-2.ensures c.from_residual-in_err-push-in-None.result (handed c.from_residual-in_err-push-in-None.result OutOfMemory c.from_residual-in_err-push-in-None.ensures.1)
+    c.allocator_of.ensures c.allocator_of-2.ensures c.from_residual-in_err-pass.result (handed c.from_residual-in_err-pass.result OutOfMemory c.from_residual-in_err-pass.ensures.1)
 
-pub returns-in_err-start-in-None : goal.returns-in_err-start-in-None
-returns-in_err-start-in-None g c =
-    told_on c.args.local.now c.args.target.now (pair_of c.args.root) c.from_residual-in_err-start-in-None.result (g.S.Starts.has_added c.args.starts.now c.steps.starts) (g.S.Starts.has_added c.args.starts.now c.start-in-None.new.starts) (c.in_err-start-in-None.ensures.not_listed c.args.starts.now)
+-- no parameter is left
+none_left : (g : Over) (c : After-walk-in_default-2 g) → (length (owed_by c.in-Owes.found) ≤ c.steps.top.parameter) × (c.pay.new.self ≡ c.steps.top)
+none_left g c = subst (λ (o : Option (ℕ × ℕ)). PaysNext c.args.local.now c.args.target.now c.steps.top c.pay.new.self c.in-Owes.found (Ok o)) c.in_default-2.is c.in_ok-pair.ensures.next
+
+paid_runs : (g : Over) (c : After-walk-in_default-2 g) → Running c.args.local.now c.args.target.now (pair_of c.args.root) c.pass.new.self.seen c.pass.new.self.below.items c.pay.new.self (g.S.Starts.has_added c.args.starts.now c.steps.starts)
+paid_runs g c =
+    let IsTold = g.S.Starts.has_added c.args.starts.now c.steps.starts in
+    rw (c.pass.ensures.seen, c.pass.ensures.below) (subst (λ (f : Frame). Running c.args.local.now c.args.target.now (pair_of c.args.root) c.steps.run.seen c.steps.run.below.items f IsTold) (sym (none_left g c).1) c.steps.invariant.0)
+
+paid_passed : (g : Over) (c : After-walk-in_default-2 g) → PassedIn c.args.local.now c.args.target.now c.pass.new.self.seen c.steps.run.passed
+paid_passed g c = rw c.pass.ensures.seen c.steps.invariant.1
+
+all_paid : (g : Over) (c : After-walk-in_default-2 g) → length (owed_by c.in-Owes.found) ≤ c.pay.new.self.parameter
+all_paid g c = subst (λ (f : Frame). length (owed_by c.in-Owes.found) ≤ f.parameter) (sym (none_left g c).1) (none_left g c).0
+
+on_runs : (g : Over) (c : After-walk-in_default-2 g) → Running c.args.local.now c.args.target.now (pair_of c.args.root) c.pass.new.self.seen c.pass.new.self.below.items c.go_on.new.self (g.S.Starts.has_added c.args.starts.now c.steps.starts)
+on_runs g c =
+    returned c.args.local.now c.args.target.now (pair_of c.args.root) c.pass.new.self.seen c.steps.run.passed c.pass.new.self.below.items c.pay.new.self (g.S.Starts.has_added c.args.starts.now c.steps.starts) (paid_runs g c) (paid_passed g c) c.in-Owes.found c.pay.ensures.here (all_paid g c) c.go_on.new.self
+    c.go_on.ensures
+
+on_passed : (g : Over) (c : After-walk-in_default-2 g) → PassedIn c.args.local.now c.args.target.now c.pass.new.self.seen c.pass.new.self.passed
+on_passed g c =
+    returned_passed c.args.local.now c.args.target.now (pair_of c.args.root) c.pass.new.self.seen c.steps.run.passed c.pass.new.self.below.items c.pay.new.self (g.S.Starts.has_added c.args.starts.now c.steps.starts) (paid_runs g c) (paid_passed g c) c.in-Owes.found c.pay.ensures.here (all_paid g c)
+    c.go_on.new.self c.go_on.ensures c.pass.new.self.passed c.in_ok-pass.ensures.passed
+
+pub returns-in_err-place-2 : goal.returns-in_err-place-2
+returns-in_err-place-2 g c =
+    walk_fails c.args.local.now c.args.target.now (pair_of c.args.root) c.pass.new.self.seen c.pass.new.self.passed c.pass.new.self.below.items c.go_on.new.self (g.S.Starts.has_added c.args.starts.now c.steps.starts) (on_runs g (goal.at.returns-in_err-place-2 g c).After-walk-in_default-2) (on_passed g (goal.at.returns-in_err-place-2 g c).After-walk-in_default-2) c.walk-in_default-2.new.self
+    c.walk-in_default-2.ensures.walks c.in_err-place-2.field-0.0 c.from_residual-in_err-place-2.result c.in_err-place-2.ensures.comes (handed c.from_residual-in_err-place-2.result c.in_err-place-2.field-0.0 c.from_residual-in_err-place-2.ensures.1)
+
+pub steps-smaller-in_default-2 : goal.steps-smaller-in_default-2
+steps-smaller-in_default-2 g c =
+    let back = (none_left g (goal.at.steps-smaller-in_default-2 g c).After-walk-in_default-2).1 in
+    shorter _ _ _
+    (walks_less c.args.local.now c.args.target.now (pair_of c.args.root) c.pass.new.self.seen c.pass.new.self.passed c.pass.new.self.below.items c.go_on.new.self (g.S.Starts.has_added c.args.starts.now c.steps.starts) (on_runs g (goal.at.steps-smaller-in_default-2 g c).After-walk-in_default-2) (on_passed g (goal.at.steps-smaller-in_default-2 g c).After-walk-in_default-2) c.walk-in_default-2.new.self
+    c.walk-in_default-2.ensures.walks)
+    (rw (sym c.pass.ensures.seen, sym c.pass.ensures.below, sym back)
+    (returned_less c.args.local.now c.args.target.now (pair_of c.args.root) c.pass.new.self.seen c.steps.run.passed c.pass.new.self.below.items c.pay.new.self (g.S.Starts.has_added c.args.starts.now c.steps.starts) (paid_runs g (goal.at.steps-smaller-in_default-2 g c).After-walk-in_default-2) (paid_passed g (goal.at.steps-smaller-in_default-2 g c).After-walk-in_default-2) c.in-Owes.found c.pay.ensures.here (all_paid g (goal.at.steps-smaller-in_default-2 g c).After-walk-in_default-2)
+    c.go_on.new.self c.go_on.ensures))
+
+pub steps-preserved-in_default-2 : goal.steps-preserved-in_default-2
+steps-preserved-in_default-2 g c = (
+  walks c.args.local.now c.args.target.now (pair_of c.args.root) c.pass.new.self.seen c.pass.new.self.passed c.pass.new.self.below.items c.go_on.new.self (g.S.Starts.has_added c.args.starts.now c.steps.starts) (on_runs g (goal.at.steps-preserved-in_default-2 g c).After-walk-in_default-2) (on_passed g (goal.at.steps-preserved-in_default-2 g c).After-walk-in_default-2) c.walk-in_default-2.new.self
+      c.walk-in_default-2.ensures.walks,
+  on_passed g (goal.at.steps-preserved-in_default-2 g c).After-walk-in_default-2,
+  c.in_ok-place-2.ensures.comes,
+)
+
+-- ---- a pair that has to be compatible
+
+pub returns-in_err-is_settled : goal.returns-in_err-is_settled
+returns-in_err-is_settled g c =
+    let it = open_if c.in-Some-2.pair.0 (known c.steps.run.seen c.in-Some-2.pair) c.in_err-is_settled.field-0.0 (sym c.in_err-is_settled.ensures) in
+    subst (λ (r : Result Bool BtfError). Compares c.args.local.now c.args.target.now (pair_of c.args.root) r (g.S.Starts.has_added c.args.starts.now c.steps.starts))
+    (sym (handed c.from_residual-in_err-is_settled.result c.in_err-is_settled.field-0.0 c.from_residual-in_err-is_settled.ensures.1 ∙ ap (λ (e : BtfError). Err e) it.1))
+    (is_open c.args.local.now c.args.target.now (pair_of c.args.root) (opened_in c.steps.run.seen) (settled_in c.steps.run.seen) (frame_of c.steps.top) (stack_of c.steps.run.below.items) (count c.steps.run.seen) (g.S.Starts.has_added c.args.starts.now c.steps.starts) c.steps.invariant.0
+    (pair_of c.in-Some-2.pair) (frame_of c.pay.new.self) (waits_for c.args.local.now c.args.target.now c.steps.top c.pay.new.self c.in-Owes.found c.in_ok-pair.field-0 c.in-Some-2.pair c.in-Some-2.is c.in_ok-pair.ensures.next) it.0)
+
+pub steps-smaller-then-branch : goal.steps-smaller-then-branch
+steps-smaller-then-branch g c =
+    let local = c.args.local.now in
+    let target = c.args.target.now in
+    less_paid local target (length (known_pairs local target)) (count c.steps.run.seen) (frame_of c.steps.top) (frame_of c.pay.new.self) (pair_of c.in-Some-2.pair) (stack_of c.steps.run.below.items) (waits_for c.args.local.now c.args.target.now c.steps.top c.pay.new.self c.in-Owes.found c.in_ok-pair.field-0 c.in-Some-2.pair c.in-Some-2.is c.in_ok-pair.ensures.next)
+
+pub steps-preserved-then-branch : goal.steps-preserved-then-branch
+steps-preserved-then-branch g c = (
+  pays c.args.local.now c.args.target.now (pair_of c.args.root) (opened_in c.steps.run.seen) (settled_in c.steps.run.seen) (frame_of c.steps.top) (stack_of c.steps.run.below.items) (count c.steps.run.seen) (g.S.Starts.has_added c.args.starts.now c.steps.starts) c.steps.invariant.0
+      (pair_of c.in-Some-2.pair) (frame_of c.pay.new.self) (waits_for c.args.local.now c.args.target.now c.steps.top c.pay.new.self c.in-Owes.found c.in_ok-pair.field-0 c.in-Some-2.pair c.in-Some-2.is c.in_ok-pair.ensures.next) (settled_if c.in-Some-2.pair.0 (known c.steps.run.seen c.in-Some-2.pair) (sym c.in_ok-is_settled.ensures ∙ ap (λ (b : Bool). Ok b) c.if-branch.true)),
+  c.steps.invariant.1,
+  still_owes c.args.local.now c.args.target.now c.pay.new.self c.steps.place c.in-Owes.found c.in-Owes.is c.pay.ensures.here,
+)
+
+pub returns-in_err-start-2 : goal.returns-in_err-start-2
+returns-in_err-start-2 g c =
+    told_on c.args.local.now c.args.target.now (pair_of c.args.root) c.from_residual-in_err-start-2.result (g.S.Starts.has_added c.args.starts.now c.steps.starts) (g.S.Starts.has_added c.args.starts.now c.start-in-steps.new.starts) (c.in_err-start-2.ensures.not_listed c.args.starts.now)
     (is_refused c.args.local.now c.args.target.now (pair_of c.args.root) (opened_in c.steps.run.seen) (settled_in c.steps.run.seen) (frame_of c.steps.top) (stack_of c.steps.run.below.items) (count c.steps.run.seen) (g.S.Starts.has_added c.args.starts.now c.steps.starts) c.steps.invariant.0
-    (pair_of c.in-Waits.pair) (frame_of c.step.new.self) c.in-Waits.ensures.step (ap tells_open (sym c.get.ensures ∙ c.in-None.is)) (ap tells_settled (sym c.get.ensures ∙ c.in-None.is)) c.allocator_of.ensures c.allocator_of-2.ensures
-    c.in_err-start-in-None.field-0.0 c.from_residual-in_err-start-in-None.result c.in_err-start-in-None.ensures.refused (handed c.from_residual-in_err-start-in-None.result c.in_err-start-in-None.field-0.0 c.from_residual-in_err-start-in-None.ensures.1))
+    (pair_of c.in-Some-2.pair) (frame_of c.pay.new.self) (waits_for c.args.local.now c.args.target.now c.steps.top c.pay.new.self c.in-Owes.found c.in_ok-pair.field-0 c.in-Some-2.pair c.in-Some-2.is c.in_ok-pair.ensures.next) (ap tells_open (unknown_if c.in-Some-2.pair.0 (known c.steps.run.seen c.in-Some-2.pair) (sym c.in_ok-is_settled.ensures ∙ ap (λ (b : Bool). Ok b) c.if-branch.false))) (ap tells_settled (unknown_if c.in-Some-2.pair.0 (known c.steps.run.seen c.in-Some-2.pair) (sym c.in_ok-is_settled.ensures ∙ ap (λ (b : Bool). Ok b) c.if-branch.false))) c.allocator_of.ensures c.allocator_of-2.ensures
+    c.in_err-start-2.field-0.0 c.from_residual-in_err-start-2.result c.in_err-start-2.ensures.refused (handed c.from_residual-in_err-start-2.result c.in_err-start-2.field-0.0 c.from_residual-in_err-start-2.ensures.1))
 
-pub returns-then-not-branch-3 : goal.returns-then-not-branch-3
-returns-then-not-branch-3 g c =
+pub returns-then-not-branch-2 : goal.returns-then-not-branch-2
+returns-then-not-branch-2 g c =
     differs c.args.local.now c.args.target.now (pair_of c.args.root) (opened_in c.steps.run.seen) (settled_in c.steps.run.seen) (frame_of c.steps.top) (stack_of c.steps.run.below.items) (count c.steps.run.seen) (g.S.Starts.has_added c.args.starts.now c.steps.starts) c.steps.invariant.0
-    (pair_of c.in-Waits.pair) (frame_of c.step.new.self) c.in-Waits.ensures.step (ap tells_open (sym c.get.ensures ∙ c.in-None.is)) (ap tells_settled (sym c.get.ensures ∙ c.in-None.is)) (g.S.Starts.has_added c.args.starts.now c.start-in-None.new.starts)
-    (subst (λ (b : Bool). IsStarted c.args.local.now c.args.target.now (pair_of c.in-Waits.pair) b) c.if-not-branch-3.true c.in_ok-start-in-None.ensures.started) (c.in_ok-start-in-None.ensures.listed c.args.starts.now)
+    (pair_of c.in-Some-2.pair) (frame_of c.pay.new.self) (waits_for c.args.local.now c.args.target.now c.steps.top c.pay.new.self c.in-Owes.found c.in_ok-pair.field-0 c.in-Some-2.pair c.in-Some-2.is c.in_ok-pair.ensures.next) (ap tells_open (unknown_if c.in-Some-2.pair.0 (known c.steps.run.seen c.in-Some-2.pair) (sym c.in_ok-is_settled.ensures ∙ ap (λ (b : Bool). Ok b) c.if-branch.false))) (ap tells_settled (unknown_if c.in-Some-2.pair.0 (known c.steps.run.seen c.in-Some-2.pair) (sym c.in_ok-is_settled.ensures ∙ ap (λ (b : Bool). Ok b) c.if-branch.false))) (g.S.Starts.has_added c.args.starts.now c.start-in-steps.new.starts)
+    (subst (λ (b : Bool). IsStarted c.args.local.now c.args.target.now (pair_of c.in-Some-2.pair) b) c.if-not-branch-2.true c.in_ok-start-2.ensures.started) (c.in_ok-start-2.ensures.listed c.args.starts.now)
 
--- the stack after a pair that is started
-new_stack : (g : Over) (c : goal.After-new-top-in-None g) → stack_of c.start-in-None.new.self.below.items ≡ frame_of c.step.new.self ∷ stack_of c.steps.run.below.items
-new_stack g c = stack_push c.steps.run.below.items c.start-in-None.new.self.below.items c.step.new.self (ap (λ v. v.items) c.start-in-None.ensures.below ∙ c.in_ok-push-in-None.ensures.items)
+-- ---- a pair that is started
 
-is_started : (g : Over) (c : goal.After-new-top-in-None g) → IsStarted c.args.local.now c.args.target.now (pair_of c.in-Waits.pair) true
-is_started g c = subst (λ (b : Bool). IsStarted c.args.local.now c.args.target.now (pair_of c.in-Waits.pair) b) c.if-not-branch-3.false c.in_ok-start-in-None.ensures.started
+inner_runs : (g : Over) (c : After-walk-in-steps g) → Running c.args.local.now c.args.target.now (pair_of c.args.root) c.start-in-steps.new.self.seen (c.steps.run.below.items ++ c.pay.new.self ∷ []) c.new-inner.result (g.S.Starts.has_added c.args.starts.now c.start-in-steps.new.starts)
+inner_runs g c =
+    opened_above c.args.local.now c.args.target.now (pair_of c.args.root) c.steps.run.seen c.steps.run.passed c.steps.run.below.items c.steps.top (g.S.Starts.has_added c.args.starts.now c.steps.starts) c.steps.invariant.0 c.steps.invariant.1 c.in-Some-2.pair c.pay.new.self (waits_for c.args.local.now c.args.target.now c.steps.top c.pay.new.self c.in-Owes.found c.in_ok-pair.field-0 c.in-Some-2.pair c.in-Some-2.is c.in_ok-pair.ensures.next)
+    (unknown_if c.in-Some-2.pair.0 (known c.steps.run.seen c.in-Some-2.pair) (sym c.in_ok-is_settled.ensures ∙ ap (λ (b : Bool). Ok b) c.if-branch.false)) c.start-in-steps.new.self.seen c.in_ok-start-2.ensures.opened c.new-inner.result (g.S.Starts.has_added c.args.starts.now c.start-in-steps.new.starts)
+    (subst (λ (b : Bool). IsStarted c.args.local.now c.args.target.now (pair_of c.in-Some-2.pair) b) c.if-not-branch-2.false c.in_ok-start-2.ensures.started) c.new-inner.ensures.frame c.in_ok-start-2.ensures.counts (c.in_ok-start-2.ensures.listed c.args.starts.now) (c.steps.run.below.items ++ c.pay.new.self ∷ []) refl
 
-started : (g : Over) (c : goal.After-new-top-in-None g) → IsRunning c.args.local.now c.args.target.now (pair_of c.args.root) (opened_in c.start-in-None.new.self.seen) (settled_in c.start-in-None.new.self.seen) (frame_of c.new-top-in-None.result) (frame_of c.step.new.self ∷ stack_of c.steps.run.below.items) (count c.start-in-None.new.self.seen) (g.S.Starts.has_added c.args.starts.now c.start-in-None.new.starts)
-started g c =
-    let opens = c.in_ok-start-in-None.ensures.opened in
-    subst (λ (settled : Pair → Bool). IsRunning c.args.local.now c.args.target.now (pair_of c.args.root) (opened_in c.start-in-None.new.self.seen) settled (frame_of c.new-top-in-None.result) (frame_of c.step.new.self ∷ stack_of c.steps.run.below.items) (count c.start-in-None.new.self.seen) (g.S.Starts.has_added c.args.starts.now c.start-in-None.new.starts))
-    (sym (learned_nothing c.steps.run.seen c.start-in-None.new.self.seen c.in-Waits.pair Open opens tells_settled (ap tells_settled (sym c.get.ensures ∙ c.in-None.is))))
-    (starts c.args.local.now c.args.target.now (pair_of c.args.root) (opened_in c.steps.run.seen) (settled_in c.steps.run.seen) (frame_of c.steps.top) (stack_of c.steps.run.below.items) (count c.steps.run.seen) (g.S.Starts.has_added c.args.starts.now c.steps.starts) c.steps.invariant.0
-    (pair_of c.in-Waits.pair) (frame_of c.step.new.self) c.in-Waits.ensures.step (ap tells_open (sym c.get.ensures ∙ c.in-None.is)) (ap tells_settled (sym c.get.ensures ∙ c.in-None.is)) c.new-top-in-None.result (opened_in c.start-in-None.new.self.seen) (count c.start-in-None.new.self.seen) (g.S.Starts.has_added c.args.starts.now c.start-in-None.new.starts)
-    (is_started g c) c.new-top-in-None.ensures.frame (learned c.steps.run.seen c.start-in-None.new.self.seen c.in-Waits.pair Open opens tells_open) c.in_ok-start-in-None.ensures.counts (c.in_ok-start-in-None.ensures.listed c.args.starts.now))
+inner_less : (g : Over) (c : After-walk-in-steps g) → left c.args.local.now c.args.target.now c.start-in-steps.new.self.seen (c.steps.run.below.items ++ c.pay.new.self ∷ []) c.new-inner.result < left c.args.local.now c.args.target.now c.steps.run.seen c.steps.run.below.items c.steps.top
+inner_less g c =
+    opened_less c.args.local.now c.args.target.now (pair_of c.args.root) c.steps.run.seen c.steps.run.passed c.steps.run.below.items c.steps.top (g.S.Starts.has_added c.args.starts.now c.steps.starts) c.steps.invariant.0 c.steps.invariant.1 c.in-Some-2.pair c.pay.new.self (waits_for c.args.local.now c.args.target.now c.steps.top c.pay.new.self c.in-Owes.found c.in_ok-pair.field-0 c.in-Some-2.pair c.in-Some-2.is c.in_ok-pair.ensures.next)
+    (unknown_if c.in-Some-2.pair.0 (known c.steps.run.seen c.in-Some-2.pair) (sym c.in_ok-is_settled.ensures ∙ ap (λ (b : Bool). Ok b) c.if-branch.false)) c.start-in-steps.new.self.seen c.in_ok-start-2.ensures.opened c.new-inner.result (g.S.Starts.has_added c.args.starts.now c.start-in-steps.new.starts)
+    (subst (λ (b : Bool). IsStarted c.args.local.now c.args.target.now (pair_of c.in-Some-2.pair) b) c.if-not-branch-2.false c.in_ok-start-2.ensures.started) c.new-inner.ensures.frame c.in_ok-start-2.ensures.counts (c.in_ok-start-2.ensures.listed c.args.starts.now) (c.steps.run.below.items ++ c.pay.new.self ∷ []) refl
+
+inner_passed : (g : Over) (c : After-walk-in-steps g) → PassedIn c.args.local.now c.args.target.now c.start-in-steps.new.self.seen c.start-in-steps.new.self.passed
+inner_passed g c =
+    opened_passed c.args.local.now c.args.target.now (pair_of c.args.root) c.steps.run.seen c.steps.run.passed c.steps.run.below.items c.steps.top (g.S.Starts.has_added c.args.starts.now c.steps.starts) c.steps.invariant.0 c.steps.invariant.1 c.in-Some-2.pair c.pay.new.self (waits_for c.args.local.now c.args.target.now c.steps.top c.pay.new.self c.in-Owes.found c.in_ok-pair.field-0 c.in-Some-2.pair c.in-Some-2.is c.in_ok-pair.ensures.next)
+    (unknown_if c.in-Some-2.pair.0 (known c.steps.run.seen c.in-Some-2.pair) (sym c.in_ok-is_settled.ensures ∙ ap (λ (b : Bool). Ok b) c.if-branch.false)) c.start-in-steps.new.self.seen c.in_ok-start-2.ensures.opened c.start-in-steps.new.self.passed c.start-in-steps.ensures.passed
+
+-- and after its walk
+inner_walks : (g : Over) (c : After-walk-in-steps g) → Running c.args.local.now c.args.target.now (pair_of c.args.root) c.start-in-steps.new.self.seen (c.steps.run.below.items ++ c.pay.new.self ∷ []) c.walk-in-steps.new.self (g.S.Starts.has_added c.args.starts.now c.start-in-steps.new.starts)
+inner_walks g c =
+    walks c.args.local.now c.args.target.now (pair_of c.args.root) c.start-in-steps.new.self.seen c.start-in-steps.new.self.passed (c.steps.run.below.items ++ c.pay.new.self ∷ []) c.new-inner.result (g.S.Starts.has_added c.args.starts.now c.start-in-steps.new.starts) (inner_runs g c) (inner_passed g c) c.walk-in-steps.new.self
+    c.walk-in-steps.ensures.walks
+
+inner_shorter : (g : Over) (c : After-walk-in-steps g) → left c.args.local.now c.args.target.now c.start-in-steps.new.self.seen (c.steps.run.below.items ++ c.pay.new.self ∷ []) c.walk-in-steps.new.self < left c.args.local.now c.args.target.now c.steps.run.seen c.steps.run.below.items c.steps.top
+inner_shorter g c =
+    shorter _ _ _
+    (walks_less c.args.local.now c.args.target.now (pair_of c.args.root) c.start-in-steps.new.self.seen c.start-in-steps.new.self.passed (c.steps.run.below.items ++ c.pay.new.self ∷ []) c.new-inner.result (g.S.Starts.has_added c.args.starts.now c.start-in-steps.new.starts) (inner_runs g c) (inner_passed g c) c.walk-in-steps.new.self
+    c.walk-in-steps.ensures.walks) (inner_less g c)
+
+pub returns-in_err-walk : goal.returns-in_err-walk
+returns-in_err-walk g c =
+    walk_fails c.args.local.now c.args.target.now (pair_of c.args.root) c.start-in-steps.new.self.seen c.start-in-steps.new.self.passed (c.steps.run.below.items ++ c.pay.new.self ∷ []) c.new-inner.result (g.S.Starts.has_added c.args.starts.now c.start-in-steps.new.starts) (inner_runs g (goal.at.returns-in_err-walk g c).After-walk-in-steps) (inner_passed g (goal.at.returns-in_err-walk g c).After-walk-in-steps) c.walk-in-steps.new.self
+    c.walk-in-steps.ensures.walks c.in_err-walk.field-0.0 c.from_residual-in_err-walk.result c.in_err-walk.ensures.comes (handed c.from_residual-in_err-walk.result c.in_err-walk.field-0.0 c.from_residual-in_err-walk.ensures.1)
+
+pub returns-in-Ends-false-2 : goal.returns-in-Ends-false-2
+returns-in-Ends-false-2 g c =
+    ends_false c.args.local.now c.args.target.now (pair_of c.args.root) (opened_in c.start-in-steps.new.self.seen) (settled_in c.start-in-steps.new.self.seen) (frame_of c.walk-in-steps.new.self) (stack_of (c.steps.run.below.items ++ c.pay.new.self ∷ [])) (count c.start-in-steps.new.self.seen)
+    (g.S.Starts.has_added c.args.starts.now c.start-in-steps.new.starts) (inner_walks g (goal.at.returns-in-Ends-false-2 g c).After-walk-in-steps) (ends_by c.args.local.now c.args.target.now c.walk-in-steps.new.self c.in_ok-walk.field-0 c.in-Ends-false-2.field-0 false c.in-Ends-false-2.is c.in-Ends-false-2.field-0-test c.in_ok-walk.ensures.comes)
+
+-- the pair that is settled is the one that was started
+settles_it : (g : Over) (c : After-update g) → Learns c.start-in-steps.new.self.seen c.update.new.self c.walk-in-steps.new.self.pair Compatible
+settles_it g c = subst (λ (ids : ℕ × ℕ). Learns c.start-in-steps.new.self.seen c.update.new.self ids Compatible) (sym (c.walk-in-steps.ensures.pair ∙ c.new-inner.ensures.pair)) c.update.ensures.learns
+
+pub steps-smaller-in-Ends-true-2 : goal.steps-smaller-in-Ends-true-2
+steps-smaller-in-Ends-true-2 g c =
+    rw (ap (λ v. v.items) c.start-in-steps.ensures.below)
+    (lower _ _ _
+    (settled_less c.args.local.now c.args.target.now (pair_of c.args.root) c.start-in-steps.new.self.seen c.start-in-steps.new.self.passed (c.steps.run.below.items ++ c.pay.new.self ∷ []) c.walk-in-steps.new.self (g.S.Starts.has_added c.args.starts.now c.start-in-steps.new.starts) (inner_walks g (goal.at.steps-smaller-in-Ends-true-2 g c).After-walk-in-steps) (inner_passed g (goal.at.steps-smaller-in-Ends-true-2 g c).After-walk-in-steps) c.update.new.self
+    (settles_it g (goal.at.steps-smaller-in-Ends-true-2 g c).After-update) c.pay.new.self c.steps.run.below.items refl c.update.ensures.counts) (inner_shorter g (goal.at.steps-smaller-in-Ends-true-2 g c).After-walk-in-steps))
+
+pub steps-preserved-in-Ends-true-2 : goal.steps-preserved-in-Ends-true-2
+steps-preserved-in-Ends-true-2 g c = (
+  rw (ap (λ v. v.items) c.start-in-steps.ensures.below)
+      (settled_below c.args.local.now c.args.target.now (pair_of c.args.root) c.start-in-steps.new.self.seen c.start-in-steps.new.self.passed (c.steps.run.below.items ++ c.pay.new.self ∷ []) c.walk-in-steps.new.self (g.S.Starts.has_added c.args.starts.now c.start-in-steps.new.starts) (inner_walks g (goal.at.steps-preserved-in-Ends-true-2 g c).After-walk-in-steps) (inner_passed g (goal.at.steps-preserved-in-Ends-true-2 g c).After-walk-in-steps) c.update.new.self
+      (settles_it g (goal.at.steps-preserved-in-Ends-true-2 g c).After-update) c.pay.new.self c.steps.run.below.items refl c.update.ensures.counts
+      (ends_by c.args.local.now c.args.target.now c.walk-in-steps.new.self c.in_ok-walk.field-0 c.in-Ends-true-2.field-0 true c.in-Ends-true-2.is c.in-Ends-true-2.field-0-test c.in_ok-walk.ensures.comes)),
+  settled_passed c.args.local.now c.args.target.now (pair_of c.args.root) c.start-in-steps.new.self.seen c.start-in-steps.new.self.passed (c.steps.run.below.items ++ c.pay.new.self ∷ []) c.walk-in-steps.new.self (g.S.Starts.has_added c.args.starts.now c.start-in-steps.new.starts) (inner_walks g (goal.at.steps-preserved-in-Ends-true-2 g c).After-walk-in-steps) (inner_passed g (goal.at.steps-preserved-in-Ends-true-2 g c).After-walk-in-steps) c.update.new.self
+      (settles_it g (goal.at.steps-preserved-in-Ends-true-2 g c).After-update) c.start-in-steps.new.self.passed refl,
+  still_owes c.args.local.now c.args.target.now c.pay.new.self c.steps.place c.in-Owes.found c.in-Owes.is c.pay.ensures.here,
+)
+
+pub returns-in_err-push-in-Owes-2 : goal.returns-in_err-push-in-Owes-2
+returns-in_err-push-in-Owes-2 g c =
+    no_memory c.args.local.now c.args.target.now (pair_of c.args.root) (opened_in c.start-in-steps.new.self.seen) (settled_in c.start-in-steps.new.self.seen) (frame_of c.walk-in-steps.new.self) (stack_of (c.steps.run.below.items ++ c.pay.new.self ∷ [])) (count c.start-in-steps.new.self.seen)
+    (g.S.Starts.has_added c.args.starts.now c.start-in-steps.new.starts) (inner_walks g (goal.at.returns-in_err-push-in-Owes-2 g c).After-walk-in-steps) c.allocator_of.ensures c.allocator_of-2.ensures c.from_residual-in_err-push-in-Owes-2.result
+    (handed c.from_residual-in_err-push-in-Owes-2.result OutOfMemory c.from_residual-in_err-push-in-Owes-2.ensures.1)
+
+-- the stack with the open pair that waits
+pushed : (g : Over) (c : After-branch-push g) → (x : c.push.new.self.items ≡ c.start-in-steps.new.self.below.items ++ c.pay.new.self ∷ []) → c.push.new.self.items ≡ c.steps.run.below.items ++ c.pay.new.self ∷ []
+pushed g c x = x ∙ ap (λ (v : List Frame). v ++ c.pay.new.self ∷ []) (ap (λ v. v.items) c.start-in-steps.ensures.below)
 
 pub steps-smaller : goal.steps-smaller
-steps-smaller g c =
-    rw (new_stack g c)
-    (less_by_start c.args.local.now c.args.target.now (pair_of c.args.root) (opened_in c.start-in-None.new.self.seen) (settled_in c.start-in-None.new.self.seen) (frame_of c.new-top-in-None.result) (frame_of c.steps.top) (frame_of c.step.new.self) (pair_of c.in-Waits.pair)
-    (stack_of c.steps.run.below.items) (count c.steps.run.seen) (count c.start-in-None.new.self.seen) (g.S.Starts.has_added c.args.starts.now c.start-in-None.new.starts) c.in-Waits.ensures.step c.new-top-in-None.ensures.frame c.in_ok-start-in-None.ensures.counts (started g c))
+steps-smaller g c = rw (pushed g (goal.at.steps-smaller g c).After-branch-push c.in_ok-push-in-Owes-2.ensures.items) (inner_shorter g (goal.at.steps-smaller g c).After-walk-in-steps)
 
 pub steps-preserved : goal.steps-preserved
-steps-preserved g c =
-    let nothing = learned_nothing c.steps.run.seen c.start-in-None.new.self.seen c.in-Waits.pair Open c.in_ok-start-in-None.ensures.opened tells_settled (ap tells_settled (sym c.get.ensures ∙ c.in-None.is)) in (
-      rw (new_stack g c) (started g c),
-      rw c.start-in-None.ensures.passed (subst (λ (settled : Pair → Bool). ArePassed c.args.local.now c.args.target.now settled (passed_in c.steps.run.passed)) (sym nothing) c.steps.invariant.1),
-    )
-
-pub settle-requires : goal.settle-requires
-settle-requires g c = rw c.step.ensures.pair (known_if_open (known c.steps.run.seen c.steps.top.pair) (c.steps.invariant.0.has_all (pair_of c.steps.top.pair) (inl refl)))
+steps-preserved g c = (
+  rw (pushed g (goal.at.steps-preserved g c).After-branch-push c.in_ok-push-in-Owes-2.ensures.items) (inner_walks g (goal.at.steps-preserved g c).After-walk-in-steps),
+  inner_passed g (goal.at.steps-preserved g c).After-walk-in-steps,
+  subst (λ (p : Place). ComesTo c.args.local.now c.args.target.now c.walk-in-steps.new.self (Ok p)) c.in-Owes-2.is c.in_ok-walk.ensures.comes,
+)

@@ -1,6 +1,6 @@
 use Rattle.std.proofs.Common.{inr}
 use Rattle.std.proofs.lemmas.Result.{err_from_is_err_and}
-use Rattle.btf_compare.proofs.step.resolved_ids.Goals as goal
+use Rattle.btf_compare.proofs.frame.resolved_ids.Goals as goal
 
 pub returns-in_err-target_id : goal.returns-in_err-target_id
 returns-in_err-target_id c =

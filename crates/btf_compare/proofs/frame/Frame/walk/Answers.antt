@@ -1,0 +1,45 @@
+use Rattle.std.proofs.Common.{refl, sym, ◌∙◌, ap, subst, arith, Bool, Result}
+use Rattle.std.proofs.lemmas.Result.{err_from_is_err_and}
+use Rattle.btf_model.specs.Run as runs
+use Rattle.btf_model.specs.Run.{IsNext}
+use Rattle.btf_words.specs.Error.{Tells}
+use Rattle.btf_words.specs.declared.error.BtfError.{BtfError}
+use Rattle.btf_compare.specs.declared.frame.Frame.{Frame}
+use Rattle.btf_compare.specs.Compared.{AreAt, WalksTo, frame_of}
+use Rattle.btf_compare.specs.Pairs.{pair_of}
+use Rattle.btf_compare.proofs.Steps.{too_deep, told, on, goes_past}
+use Rattle.btf_compare.proofs.frame.Frame.walk.Goals as goal
+
+pub positions-init : goal.positions-init
+positions-init c = record { walks = WalksTo.here; pair = refl }
+
+pub returns-in_err-answer-in-Told-clause-comes : goal.returns-in_err-answer-in-Told-clause-comes
+returns-in_err-answer-in-Told-clause-comes c =
+    let given = err_from_is_err_and c.from_residual.result c.from_residual.ensures.1 in
+    rw (given.1, given.2) (subst (λ (r : Result Bool BtfError). Tells (λ b. b) r (λ a. IsNext c.args.local.now c.args.target.now (frame_of c.positions.self) (runs.Ends a))) c.in_err-answer-in-Told.was
+    (told c.args.local.now c.args.target.now c.positions.self c.in-Told.answer c.positions-test.true c.in-Told.ensures.position))
+
+pub returns-in-Told-clause-comes : goal.returns-in-Told-clause-comes
+returns-in-Told-clause-comes c =
+    subst (λ (r : Result Bool BtfError). Tells (λ b. b) r (λ a. IsNext c.args.local.now c.args.target.now (frame_of c.positions.self) (runs.Ends a))) c.in_ok-answer-in-Told.was
+    (told c.args.local.now c.args.target.now c.positions.self c.in-Told.answer c.positions-test.true c.in-Told.ensures.position)
+
+pub positions-preserved-in-On : goal.positions-preserved-in-On
+positions-preserved-in-On c = record {
+  walks = WalksTo.on (frame_of c.positions.self) (frame_of c.go_on.new.self) c.positions.invariant.walks
+      (on c.args.local.now c.args.target.now c.positions.self c.go_on.new.self c.in-On.next c.positions-test.true c.go_on.ensures c.in-On.ensures.position);
+  pair = ap (λ (f : Frame). f.pair) c.go_on.ensures ∙ c.positions.invariant.pair;
+}
+
+pub positions-preserved : goal.positions-preserved
+positions-preserved c =
+    let found = c.in-Owes.found in
+    let here : AreAt c.args.local.now c.args.target.now c.positions.self found = record { finds = c.in-Owes.ensures.position; resolves = c.in-Owes.ensures.ids; within = c.positions-test.true } in
+    record {
+      walks = WalksTo.past (frame_of c.positions.self) (frame_of c.go_on-in-Owes.new.self) (pair_of found.ids) c.positions.invariant.walks
+          (goes_past c.args.local.now c.args.target.now c.positions.self found here c.go_on-in-Owes.new.self c.go_on-in-Owes.ensures) (sym c.contains.ensures ∙ c.if-not-contains.false) (omega (arith, c.if-self-gt0.false));
+      pair = ap (λ (f : Frame). f.pair) c.go_on-in-Owes.ensures ∙ c.positions.invariant.pair;
+    }
+
+pub returns-clause-comes : goal.returns-clause-comes
+returns-clause-comes c = (_, refl, too_deep c.args.local.now c.args.target.now c.positions.self c.positions-test.false)
