@@ -110,9 +110,6 @@ fn kinds_agree(local: &Btf, target: &Btf, pair: (u32, u32)) -> Result<bool, BtfE
 {
     let local_type = local.type_by_id(pair.0)?;
     let target_type = target.type_by_id(pair.1)?;
-    // The contract speaks of the kinds in the info words, which a use of them shows.
-    let _ = local_type.info();
-    let _ = target_type.info();
     Ok(local_type.is_compatible(target_type))
 }
 
@@ -232,8 +229,6 @@ fn resolved(table: &Btf, type_id: u32) -> Result<(u32, &BtfType), BtfError>
 {
     let id = table.resolve_type(type_id)?;
     let btf_type = table.type_by_id(id)?;
-    // The contract speaks of the kind in the info word, which a use of it shows.
-    let _ = btf_type.info();
     Ok((id, btf_type))
 }
 

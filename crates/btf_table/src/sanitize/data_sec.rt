@@ -65,7 +65,7 @@ fn as_struct(
 /// Of each entry in turn: `UnknownBtfType` of an id that has no type, and `InvalidDatasec` where it is no VAR;
 /// `InvalidStringOffset` where its name can't be read; `SymbolOffsetNotFound` where no symbol has that name, or its
 /// offset has more than 32 bits.
-fn laid_out(
+fn with_symbol_offsets(
     btf: &Btf,
     symbols: &HashMap<String, u64>,
     data_sec: &DataSec,
@@ -85,7 +85,7 @@ fn laid_out(
 ///
 /// Of one of size 0: `InvalidStringOffset` where the name can't be read; `UnknownSectionSize` of the name where the
 /// size isn't known or has more than 32 bits.
-fn known_size(
+fn final_size(
     btf: &Btf,
     sections: &HashMap<String, (SectionIndex, u64)>,
     data_sec: &DataSec,
@@ -212,13 +212,13 @@ impl Made {
         if !granted {
             return as_struct(btf, &self.names, data_sec, name_offset);
         }
-        let size = known_size(btf, sections, data_sec)?;
+        let size = final_size(btf, sections, data_sec)?;
         if wants_filler(data_sec, size, policy, resolver) {
             return self.filled(btf, name_offset, size);
         }
         if data_sec.size() != 0 {
             return renamed(data_sec, name_offset);
         }
-        laid_out(btf, symbols, data_sec, name_offset, size)
+        with_symbol_offsets(btf, symbols, data_sec, name_offset, size)
     }
 }

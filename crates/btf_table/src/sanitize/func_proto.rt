@@ -43,7 +43,7 @@ pub fn has_unnamed(proto: &FuncProto) -> bool
 
 /// The string offset of the name that the parameter at a place gets: that of a new text, where it has a type and no
 /// name. `InvalidStringOffset` where such a text has no room.
-fn param_name(
+fn param_name_offset(
     btf: &Btf,
     changes: &mut Changes,
     index: usize,
@@ -86,7 +86,7 @@ pub fn with_param_names(
 {
     let mut with_names = proto.try_clone()?;
     for (index, param) in proto.params().iter().enumerate() {
-        let name_offset = param_name(btf, changes, index, param)?;
+        let name_offset = param_name_offset(btf, changes, index, param)?;
         with_names.set_param_name(index, name_offset);
     }
     Ok(with_names)

@@ -112,8 +112,6 @@ fn find_target(btf: &Btf, placeholder_id: Option<u32>) -> Result<Target, BtfErro
         return find_int(btf);
     };
     let btf_type = btf.type_by_id(id)?;
-    // The contract speaks of the kind in the info word, which a use of it shows.
-    let _ = btf_type.info();
     let BtfType::Var(var) = btf_type else {
         return Err(BtfError::InvalidDatasec);
     };
@@ -134,8 +132,6 @@ fn named_data_sec(btf: &Btf, id: u32, readable_end: usize) -> Result<&DataSec, B
         (checked (first_fault (data_sec_checks btf.now id)) (record_at btf.now id)) }
 {
     let btf_type = btf.type_by_id(id)?;
-    // The contract speaks of the kind in the info word, which a use of it shows.
-    let _ = btf_type.info();
     let BtfType::DataSec(data_sec) = btf_type else {
         return Err(BtfError::InvalidDatasec);
     };
@@ -156,8 +152,6 @@ fn symbol_prototype(
         (prototype_of btf.now id)) }
 {
     let symbol = btf.type_by_id(id)?;
-    // The contract speaks of the kind in the info word, which a use of it shows.
-    let _ = symbol.info();
     match symbol {
         BtfType::Func(func) => {
             btf.check_name(func.name_offset(), readable_end)?;
@@ -211,8 +205,6 @@ impl Target {
         let Ok(btf_type) = btf.type_by_id(type_id) else {
             return type_id;
         };
-        // The contract speaks of the kind in the info word, which a use of it shows.
-        let _ = btf_type.info();
         match btf_type {
             BtfType::Func(_) => placeholder.id,
             _ => type_id,

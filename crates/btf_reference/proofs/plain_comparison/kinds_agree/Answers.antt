@@ -24,5 +24,5 @@ returns-in_err-target_type c =
 pub returns : goal.returns
 returns c =
     kinds_told c.args.local.now c.args.target.now (pair_of c.args.pair) (type_kind c.in_ok-local_type.local_type.now) (type_kind c.in_ok-target_type.target_type.now) (record_of c.in_ok-local_type.local_type.now)
-    (record_of c.in_ok-target_type.target_type.now) c.is_compatible.result (c.in_ok-local_type.ensures.0, ap kind_of (sym c.info.ensures.value) ∙ c.info.ensures.kind)
-    (c.in_ok-target_type.ensures.0, ap kind_of (sym c.info-2.ensures.value) ∙ c.info-2.ensures.kind) c.is_compatible.ensures
+    (record_of c.in_ok-target_type.target_type.now) c.is_compatible.result (c.in_ok-local_type.ensures.0, c.in_ok-local_type.ensures.2)
+    (c.in_ok-target_type.ensures.0, c.in_ok-target_type.ensures.2) c.is_compatible.ensures

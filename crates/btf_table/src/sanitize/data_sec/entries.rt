@@ -77,8 +77,6 @@ fn placed_entry(
         → Gives entry_of result (checked (first_fault (entry_checks p (entry_of entry.now))) (placed p (entry_of entry.now))) }
 {
     let btf_type = btf.type_by_id(entry.btf_type)?;
-    // The contract speaks of the kind in the info word, which a use of it shows.
-    let _ = btf_type.info();
     let BtfType::Var(var) = btf_type else {
         return Err(BtfError::InvalidDatasec);
     };

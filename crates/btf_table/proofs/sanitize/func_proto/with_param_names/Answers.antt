@@ -44,8 +44,8 @@ loop-index-preserved c =
     let is : new ≡ (if wants_name (at ps i).name_offset (at ps i).btf_type then offset + texts_len (texts_to i ps) else (at ps i).name_offset) =
     one.1 ∙ ap (λ (n : ℕ). if wants_name (at ps i).name_offset (at ps i).btf_type then n else (at ps i).name_offset) end in (
       room_next offset ps i c.loop-index-test.true c.loop-index.invariant.0 passed,
-      subst (λ (ts : List (List ℕ)). Adds c.args.btf.now c.args.changes.now c.param_name.new.changes ts []) (sym (texts_next ps i c.loop-index-test.true))
-          (adds_then c.args.btf.now c.args.changes.now c.loop-index.changes c.param_name.new.changes (texts_to i ps) (param_texts i (param_words (at ps i))) [] [] c.loop-index.invariant.1 c.in_ok-name_offset.ensures.adds),
+      subst (λ (ts : List (List ℕ)). Adds c.args.btf.now c.args.changes.now c.param_name_offset.new.changes ts []) (sym (texts_next ps i c.loop-index-test.true))
+          (adds_then c.args.btf.now c.args.changes.now c.loop-index.changes c.param_name_offset.new.changes (texts_to i ps) (param_texts i (param_words (at ps i))) [] [] c.loop-index.invariant.1 c.in_ok-name_offset.ensures.adds),
       c.set_param_name.ensures ∙ ap (λ (r : Record). record r { tail = take (2 * i) r.tail ++ new ∷ drop (2 * i + 1) r.tail }) c.loop-index.invariant.2
           ∙ ap (λ (tail : List ℕ). record c.args.proto.now { tail = tail }) (named_next offset ps i new c.loop-index-test.true is),
     )

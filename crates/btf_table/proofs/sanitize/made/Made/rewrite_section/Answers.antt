@@ -82,7 +82,7 @@ returns-then-size-ne0-clause-asks g c = λ given id policy sections there here b
     is_named q id r there kind before now name (entry_tail r c.entries.result.now c.entries.ensures.words c.entries.ensures.count) here (c.in_ok-name_offset.ensures.answer q refl has_it) (c.in_ok-name_offset.ensures.adds q refl has_it) refl refl refl in
     let yes : has q features.DataSec ≡ true = has_it ∙ c.if-not-granted.false in
     let known : final_size q id r ≡ Some size =
-    size_is q id r there kind size n.passed (λ is. same_ok {E = BtfError} size r.third (sym c.in_ok-size.was ∙ c.known_size.ensures.own is)) (λ is. c.in_ok-size.ensures.section is q refl sections) in
+    size_is q id r there kind size n.passed (λ is. same_ok {E = BtfError} size r.third (sym c.in_ok-size.was ∙ c.final_size.ensures.own is)) (λ is. c.in_ok-size.ensures.section is q refl sections) in
     let asks_are : AsksUpTo p id two [] = asks_two p id r there kind below one granted next size two c.wants_filler.result quiet zero (asks_by_size q id r there kind size n.passed yes known) in
     ([], asks_are)
 
@@ -124,7 +124,7 @@ returns-then-wants_filler-clause-asks g c = λ given id policy sections there he
     is_named q id r there kind before now name (entry_tail r c.entries.result.now c.entries.ensures.words c.entries.ensures.count) here (c.in_ok-name_offset.ensures.answer q refl has_it) (c.in_ok-name_offset.ensures.adds q refl has_it) refl refl refl in
     let yes : has q features.DataSec ≡ true = has_it ∙ c.if-not-granted.false in
     let known : final_size q id r ≡ Some size =
-    size_is q id r there kind size n.passed (λ is. same_ok {E = BtfError} size r.third (sym c.in_ok-size.was ∙ c.known_size.ensures.own is)) (λ is. c.in_ok-size.ensures.section is q refl sections) in
+    size_is q id r there kind size n.passed (λ is. same_ok {E = BtfError} size r.third (sym c.in_ok-size.was ∙ c.final_size.ensures.own is)) (λ is. c.in_ok-size.ensures.section is q refl sections) in
     let asks_are : AsksUpTo p id two [] = asks_two p id r there kind below one granted next size two c.wants_filler.result quiet zero (asks_by_size q id r there kind size n.passed yes known) in
     ([], asks_are)
 
@@ -156,7 +156,7 @@ returns-clause-asks g c = λ given id policy sections there here below.
     is_named q id r there kind before now name (entry_tail r c.entries.result.now c.entries.ensures.words c.entries.ensures.count) here (c.in_ok-name_offset.ensures.answer q refl has_it) (c.in_ok-name_offset.ensures.adds q refl has_it) refl refl refl in
     let yes : has q features.DataSec ≡ true = has_it ∙ c.if-not-granted.false in
     let known : final_size q id r ≡ Some size =
-    size_is q id r there kind size n.passed (λ is. same_ok {E = BtfError} size r.third (sym c.in_ok-size.was ∙ c.known_size.ensures.own is)) (λ is. c.in_ok-size.ensures.section is q refl sections) in
+    size_is q id r there kind size n.passed (λ is. same_ok {E = BtfError} size r.third (sym c.in_ok-size.was ∙ c.final_size.ensures.own is)) (λ is. c.in_ok-size.ensures.section is q refl sections) in
     let asks_are : AsksUpTo p id two [] = asks_two p id r there kind below one granted next size two c.wants_filler.result quiet zero (asks_by_size q id r there kind size n.passed yes known) in
     ([], asks_are)
 
@@ -220,7 +220,7 @@ returns-then-size-ne0-clause-steps g c = λ given id policy sections symbols the
     is_named q id r there kind before now name (entry_tail r c.entries.result.now c.entries.ensures.words c.entries.ensures.count) here (c.in_ok-name_offset.ensures.answer q refl has_it) (c.in_ok-name_offset.ensures.adds q refl has_it) refl refl refl in
     let yes : has q features.DataSec ≡ true = has_it ∙ c.if-not-granted.false in
     let known : final_size q id r ≡ Some size =
-    size_is q id r there kind size n.passed (λ is. same_ok {E = BtfError} size r.third (sym c.in_ok-size.was ∙ c.known_size.ensures.own is)) (λ is. c.in_ok-size.ensures.section is q refl sections) in
+    size_is q id r there kind size n.passed (λ is. same_ok {E = BtfError} size r.third (sym c.in_ok-size.was ∙ c.final_size.ensures.own is)) (λ is. c.in_ok-size.ensures.section is q refl sections) in
     let asks_are : AsksUpTo p id two [] = asks_two p id r there kind below one granted next size two c.wants_filler.result quiet zero (asks_by_size q id r there kind size n.passed yes known) in
     let fills : gets_filler q id ≡ c.wants_filler.result = fills_two p id r there kind below one granted next size two c.wants_filler.result quiet zero (fills_by q id r there kind size yes known) in
     let sized : (r.third == 0) ≡ false = ne_eqb r.third 0 (λ is. c.if-size-ne0.true (c.size.ensures ∙ is)) in
@@ -243,7 +243,7 @@ returns-in_err-size-clause-steps g c = λ given id policy sections symbols there
     let n : HasNewName q id r name before now =
     is_named q id r there kind before now name (entry_tail r c.entries.result.now c.entries.ensures.words c.entries.ensures.count) here (c.in_ok-name_offset.ensures.answer q refl has_it) (c.in_ok-name_offset.ensures.adds q refl has_it) refl refl refl in
     let yes : has q features.DataSec ≡ true = has_it ∙ c.if-not-granted.false in
-    let unsized : (r.third == 0) ≡ true = is_not_false (r.third == 0) (λ is. ok_no_err (sym (c.known_size.ensures.own is) ∙ c.in_err-size.was)) in
+    let unsized : (r.third == 0) ≡ true = is_not_false (r.third == 0) (λ is. ok_no_err (sym (c.final_size.ensures.own is) ∙ c.in_err-size.was)) in
     handed_on (λ new. unwrap_or new (DataSec r)) c.in_err-size.field-0.0 c.from_residual-in_err-size.result (Steps p id c.is_supported-granted.new.self.1 (DataSec r) before now) c.from_residual-in_err-size.ensures.1
     (IfSome_then _ (c.in_err-size.ensures.section unsized q refl sections) (λ refusal is.
     let no = size_refused q id r there kind refusal n.passed yes unsized (checked_err _ _ refusal is) in
@@ -273,7 +273,7 @@ returns-then-wants_filler-clause-steps g c = λ given id policy sections symbols
     is_named q id r there kind before now name (entry_tail r c.entries.result.now c.entries.ensures.words c.entries.ensures.count) here (c.in_ok-name_offset.ensures.answer q refl has_it) (c.in_ok-name_offset.ensures.adds q refl has_it) refl refl refl in
     let yes : has q features.DataSec ≡ true = has_it ∙ c.if-not-granted.false in
     let known : final_size q id r ≡ Some size =
-    size_is q id r there kind size n.passed (λ is. same_ok {E = BtfError} size r.third (sym c.in_ok-size.was ∙ c.known_size.ensures.own is)) (λ is. c.in_ok-size.ensures.section is q refl sections) in
+    size_is q id r there kind size n.passed (λ is. same_ok {E = BtfError} size r.third (sym c.in_ok-size.was ∙ c.final_size.ensures.own is)) (λ is. c.in_ok-size.ensures.section is q refl sections) in
     let asks_are : AsksUpTo p id two [] = asks_two p id r there kind below one granted next size two c.wants_filler.result quiet zero (asks_by_size q id r there kind size n.passed yes known) in
     let fills : gets_filler q id ≡ c.wants_filler.result = fills_two p id r there kind below one granted next size two c.wants_filler.result quiet zero (fills_by q id r there kind size yes known) in
     with_fact (λ new. unwrap_or new (DataSec r)) c.filled.result (AsksUpTo p id (answers_of c.wants_filler.new.resolver.1) []) (Rules q id (DataSec r) before c.filled.new.self) asks_are (c.filled.ensures given two id r before n (fills ∙ c.if-wants_filler.true) known)
@@ -301,12 +301,12 @@ returns-clause-steps g c = λ given id policy sections symbols there below here.
     is_named q id r there kind before now name (entry_tail r c.entries.result.now c.entries.ensures.words c.entries.ensures.count) here (c.in_ok-name_offset.ensures.answer q refl has_it) (c.in_ok-name_offset.ensures.adds q refl has_it) refl refl refl in
     let yes : has q features.DataSec ≡ true = has_it ∙ c.if-not-granted.false in
     let known : final_size q id r ≡ Some size =
-    size_is q id r there kind size n.passed (λ is. same_ok {E = BtfError} size r.third (sym c.in_ok-size.was ∙ c.known_size.ensures.own is)) (λ is. c.in_ok-size.ensures.section is q refl sections) in
+    size_is q id r there kind size n.passed (λ is. same_ok {E = BtfError} size r.third (sym c.in_ok-size.was ∙ c.final_size.ensures.own is)) (λ is. c.in_ok-size.ensures.section is q refl sections) in
     let unsized : (r.third == 0) ≡ true = eq-eqb r.third 0 (sym c.size.ensures ∙ c.if-size-ne0.false) in
     let asks_are : AsksUpTo p id two [] = asks_two p id r there kind below one granted next size two c.wants_filler.result quiet zero (asks_by_size q id r there kind size n.passed yes known) in
     let fills : gets_filler q id ≡ c.wants_filler.result = fills_two p id r there kind below one granted next size two c.wants_filler.result quiet zero (fills_by q id r there kind size yes known) in
-    with_fact (λ new. unwrap_or new (DataSec r)) c.laid_out.result (AsksUpTo p id (answers_of c.wants_filler.new.resolver.1) []) (Rules q id (DataSec r) before now) asks_are
-    (laid_answer q id r name before now n size c.laid_out.result yes unsized (fills ∙ c.if-wants_filler.false) (ap (λ (z : Bool). if z then section_size q id else Some r.third) (sym unsized) ∙ known) (c.laid_out.ensures.answer q refl symbols) c.laid_out.ensures.fallback)
+    with_fact (λ new. unwrap_or new (DataSec r)) c.with_symbol_offsets.result (AsksUpTo p id (answers_of c.wants_filler.new.resolver.1) []) (Rules q id (DataSec r) before now) asks_are
+    (laid_answer q id r name before now n size c.with_symbol_offsets.result yes unsized (fills ∙ c.if-wants_filler.false) (ap (λ (z : Bool). if z then section_size q id else Some r.third) (sym unsized) ∙ known) (c.with_symbol_offsets.ensures.answer q refl symbols) c.with_symbol_offsets.ensures.fallback)
 
 pub filled-requires : goal.filled-requires
 filled-requires g c =

@@ -15,7 +15,7 @@ use Rattle.btf_rules.specs.Checked.{checked}
 use Rattle.btf_table.specs.KsymsStep.{entry}
 use Rattle.btf_rules.proofs.Checks.{checked_ok}
 use Rattle.btf_table.proofs.SectionRules.{told_on}
-use Rattle.btf_table.proofs.sanitize.data_sec.laid_out.Goals as goal
+use Rattle.btf_table.proofs.sanitize.data_sec.with_symbol_offsets.Goals as goal
 
 pub returns-in_err-entries-clause-answer : goal.returns-in_err-entries-clause-answer
 returns-in_err-entries-clause-answer c = λ p same symbols.
