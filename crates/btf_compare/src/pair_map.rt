@@ -11,7 +11,7 @@ use std::collections::BTreeMap;
 /// take no memory of their own; the others lie in an ordered map, whose look-ups stay short whatever ids a table names.
 #[derive(Drop)]
 pub struct PairMap<V> {
-    first: ArrayVec<((u32, u32), V), 16>,
+    first: ArrayVec<((u32, u32), V), 8>,
     further: BTreeMap<(u32, u32), V>,
 }
 
@@ -52,6 +52,7 @@ impl<V: Copy + Default + Drop> PairMap<V> {
     }
 
     /// Gives a pair that has a value another, which takes no memory.
+    #[inline(always)]
     pub fn update(&mut self, pair: (u32, u32), value: V)
         requires { IsSome (known self.old pair) }
         ensures learns { Learns self.old self.new pair value }

@@ -9,6 +9,7 @@ use btf_records::BtfType;
 use btf_table::Btf;
 
 /// The id and the type that an id resolves to.
+#[inline(always)]
 pub fn resolved(table: &Btf, type_id: u32) -> Result<(u32, &BtfType), BtfError>
     ensures { Tells (λ found. (found.0, type_kind found.1.now, record_of found.1.now)) result
         (IsResolved table.now type_id) }

@@ -47,6 +47,7 @@ impl Run {
 
     /// Starts a pair that this run has not listed: looks up both ids, opens the pair and lists it. Whether its walk
     /// begins, which it does where the two types are of compatible kinds. An error leaves the list as it was.
+    #[inline(always)]
     fn start<S: Starts>(
         &mut self,
         local: &Btf,

@@ -269,6 +269,7 @@ impl Btf {
     ///
     /// `UnknownBtfType` of the id that has no type, and `MaximumTypeDepthReached` of `type_id` where the first 32
     /// types are modifiers. No memory is taken.
+    #[inline(always)]
     pub fn resolve_type(&self, type_id: u32) -> Result<u32, BtfError>
         ensures { Tells (λ id. id) result (Resolves self.now.records type_id) }
     {
