@@ -11,7 +11,7 @@ ghost use Rattle.btf_records.specs.BtfType.{record_of, fallback_of};
 ghost use Rattle.btf_records.specs.Head.{IsHead, ReadsTail};
 
 use crate::btf_type::BtfType;
-use crate::records::{DataSec, Enum, Enum64, FuncProto, Struct, Union};
+use crate::records::{WithList, append_with_list};
 use btf_items::{push, read_items, split_word};
 use btf_plain::{
     Array, BtfError, BtfKind, Const, DeclTag, Endianness, Float, Func, FuncLinkage, Fwd, Int,
@@ -95,92 +95,19 @@ fn read_array(head: Head, rest: &[u8], endianness: Endianness) -> Result<Array, 
     Ok(Array::new(head.name, element_type, index_type, len).with_info(head.info))
 }
 
-/// A STRUCT of this head, with as many items as vlen says.
-fn read_struct(
+/// A record with a list of this head, with as many items as vlen says.
+fn read_with_list<R: WithList>(
     alloc: Global,
     head: Head,
     rest: &[u8],
     endianness: Endianness,
-) -> Result<Struct, BtfError>
-    requires { kind_of head.info ≡ Some model.Struct }
-    ensures { Answers (λ r. r) result (ReadsTail (order_of endianness) head model.Struct rest.now) }
+) -> Result<R, BtfError>
+    requires { kind_of head.info ≡ Some R.kind }
+    ensures front { Answers R.words result (ReadsTail (order_of endianness) head R.kind rest.now) }
+    ensures alone { IfOk result R.words_alone }
 {
     let items = read_items(alloc, rest, endianness, head.vlen())?;
-    Ok(Struct::from_parts(head.name, head.info, head.third, items))
-}
-
-/// A UNION of this head, with as many items as vlen says.
-fn read_union(
-    alloc: Global,
-    head: Head,
-    rest: &[u8],
-    endianness: Endianness,
-) -> Result<Union, BtfError>
-    requires { kind_of head.info ≡ Some model.Union }
-    ensures front { Answers (λ r. r.words) result
-        (ReadsTail (order_of endianness) head model.Union rest.now) }
-    ensures no_fallback { IfOk result (λ u. u.fallback ≡ None) }
-{
-    let items = read_items(alloc, rest, endianness, head.vlen())?;
-    Ok(Union::from_parts(head.name, head.info, head.third, items))
-}
-
-/// An ENUM of this head, with as many items as vlen says.
-fn read_enum(
-    alloc: Global,
-    head: Head,
-    rest: &[u8],
-    endianness: Endianness,
-) -> Result<Enum, BtfError>
-    requires { kind_of head.info ≡ Some model.Enum }
-    ensures { Answers (λ r. r) result (ReadsTail (order_of endianness) head model.Enum rest.now) }
-{
-    let items = read_items(alloc, rest, endianness, head.vlen())?;
-    Ok(Enum::from_parts(head.name, head.info, head.third, items))
-}
-
-/// A FUNC_PROTO of this head, with as many items as vlen says.
-fn read_func_proto(
-    alloc: Global,
-    head: Head,
-    rest: &[u8],
-    endianness: Endianness,
-) -> Result<FuncProto, BtfError>
-    requires { kind_of head.info ≡ Some model.FuncProto }
-    ensures { Answers (λ r. r) result
-        (ReadsTail (order_of endianness) head model.FuncProto rest.now) }
-{
-    let items = read_items(alloc, rest, endianness, head.vlen())?;
-    Ok(FuncProto::from_parts(head.name, head.info, head.third, items))
-}
-
-/// A DATASEC of this head, with as many items as vlen says.
-fn read_data_sec(
-    alloc: Global,
-    head: Head,
-    rest: &[u8],
-    endianness: Endianness,
-) -> Result<DataSec, BtfError>
-    requires { kind_of head.info ≡ Some model.DataSec }
-    ensures { Answers (λ r. r) result
-        (ReadsTail (order_of endianness) head model.DataSec rest.now) }
-{
-    let items = read_items(alloc, rest, endianness, head.vlen())?;
-    Ok(DataSec::from_parts(head.name, head.info, head.third, items))
-}
-
-/// An ENUM64 of this head, with as many items as vlen says.
-fn read_enum64(
-    alloc: Global,
-    head: Head,
-    rest: &[u8],
-    endianness: Endianness,
-) -> Result<Enum64, BtfError>
-    requires { kind_of head.info ≡ Some model.Enum64 }
-    ensures { Answers (λ r. r) result (ReadsTail (order_of endianness) head model.Enum64 rest.now) }
-{
-    let items = read_items(alloc, rest, endianness, head.vlen())?;
-    Ok(Enum64::from_parts(head.name, head.info, head.third, items))
+    Ok(R::from_parts(head.name, head.info, head.third, items))
 }
 
 impl BtfType {
@@ -200,9 +127,9 @@ impl BtfType {
             BtfKind::Int => Ok(BtfType::Int(read_int(head, rest, endianness)?)),
             BtfKind::Ptr => Ok(BtfType::Ptr(Ptr::new(name, third).with_info(info))),
             BtfKind::Array => Ok(BtfType::Array(read_array(head, rest, endianness)?)),
-            BtfKind::Struct => Ok(BtfType::Struct(read_struct(alloc, head, rest, endianness)?)),
-            BtfKind::Union => Ok(BtfType::Union(read_union(alloc, head, rest, endianness)?)),
-            BtfKind::Enum => Ok(BtfType::Enum(read_enum(alloc, head, rest, endianness)?)),
+            BtfKind::Struct => Ok(BtfType::Struct(read_with_list(alloc, head, rest, endianness)?)),
+            BtfKind::Union => Ok(BtfType::Union(read_with_list(alloc, head, rest, endianness)?)),
+            BtfKind::Enum => Ok(BtfType::Enum(read_with_list(alloc, head, rest, endianness)?)),
             BtfKind::Fwd => Ok(BtfType::Fwd(Fwd::new(name, false).with_info(info))),
             BtfKind::Typedef => Ok(BtfType::Typedef(Typedef::new(name, third).with_info(info))),
             BtfKind::Volatile => {
@@ -221,14 +148,16 @@ impl BtfType {
                 info,
             ))),
             BtfKind::FuncProto => {
-                Ok(BtfType::FuncProto(read_func_proto(alloc, head, rest, endianness)?))
+                Ok(BtfType::FuncProto(read_with_list(alloc, head, rest, endianness)?))
             }
             BtfKind::Var => Ok(BtfType::Var(read_var(head, rest, endianness)?)),
-            BtfKind::DataSec => Ok(BtfType::DataSec(read_data_sec(alloc, head, rest, endianness)?)),
+            BtfKind::DataSec => Ok(BtfType::DataSec(read_with_list(
+                alloc, head, rest, endianness,
+            )?)),
             BtfKind::Float => Ok(BtfType::Float(Float::new(name, third).with_info(info))),
             BtfKind::DeclTag => Ok(BtfType::DeclTag(read_decl_tag(head, rest, endianness)?)),
             BtfKind::TypeTag => Ok(BtfType::TypeTag(TypeTag::new(name, third).with_info(info))),
-            BtfKind::Enum64 => Ok(BtfType::Enum64(read_enum64(alloc, head, rest, endianness)?)),
+            BtfKind::Enum64 => Ok(BtfType::Enum64(read_with_list(alloc, head, rest, endianness)?)),
         }
     }
 
@@ -271,12 +200,12 @@ impl BtfType {
                 )
             }
             BtfType::Array(t) => append_array(t, out, order),
-            BtfType::Struct(t) => t.append_to(out, order),
-            BtfType::Union(t) => t.append_to(out, order),
-            BtfType::Enum(t) => t.append_to(out, order),
-            BtfType::FuncProto(t) => t.append_to(out, order),
-            BtfType::DataSec(t) => t.append_to(out, order),
-            BtfType::Enum64(t) => t.append_to(out, order),
+            BtfType::Struct(t) => append_with_list(t, out, order),
+            BtfType::Union(t) => append_with_list(t, out, order),
+            BtfType::Enum(t) => append_with_list(t, out, order),
+            BtfType::FuncProto(t) => append_with_list(t, out, order),
+            BtfType::DataSec(t) => append_with_list(t, out, order),
+            BtfType::Enum64(t) => append_with_list(t, out, order),
         }
     }
 

@@ -7,6 +7,7 @@ mod flag;
 mod func_proto;
 mod structure;
 mod union;
+mod with_list;
 
 pub use data_sec::DataSec;
 pub use enumeration::Enum;
@@ -14,3 +15,4 @@ pub use enumeration64::Enum64;
 pub use func_proto::FuncProto;
 pub use structure::Struct;
 pub use union::Union;
+pub use with_list::{WithList, append_with_list};

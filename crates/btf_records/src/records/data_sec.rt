@@ -10,9 +10,9 @@ ghost use Rattle.btf_words.specs.Endianness.{order_of};
 ghost use Rattle.btf_words.specs.Error.{Gives};
 ghost use Rattle.btf_items.specs.Items.{entry_words};
 
-use btf_items::{DataSecEntry, clone_items, push, push_items};
-use btf_plain::{BtfError, BtfKind, Endianness, MAX_VLEN};
-use std::alloc::AllocError;
+use crate::records::with_list::{WithList, clone_with_list};
+use btf_items::DataSecEntry;
+use btf_plain::{BtfError, BtfKind, MAX_VLEN};
 use std::marker::Model;
 
 /// A data section, the variables of which are its entries (the kernel's documentation, "BTF_KIND_DATASEC"). Contracts
@@ -58,31 +58,6 @@ impl DataSec {
         }
     }
 
-    /// The record of these words, for what is read.
-    pub(crate) fn from_parts(
-        name_offset: u32,
-        info: u32,
-        size: u32,
-        entries: Vec<DataSecEntry>,
-    ) -> Self
-        requires kind { kind_of info ≡ Some model.DataSec }
-        requires count { vlen info ≡ vec_len entries }
-        ensures { result ≡ record {
-          name = name_offset;
-          info = info;
-          third = size;
-          tail = flat_map
-              entry_words entries.items;
-        } }
-    {
-        Self {
-            name_offset,
-            info,
-            size,
-            entries,
-        }
-    }
-
     /// The kind of the record.
     pub fn kind(&self) -> BtfKind
         ensures { result ≡ BtfKind.DataSec }
@@ -117,7 +92,7 @@ impl DataSec {
         ensures words { self.now.tail ≡ flat_map entry_words result.now }
         ensures count { vlen self.now.info ≡ length result.now }
     {
-        &self.entries
+        self.items()
     }
 
     /// Sets the string offset of the name, and leaves all else as it is.
@@ -155,26 +130,54 @@ impl DataSec {
     pub fn try_clone(&self) -> Result<Self, BtfError>
         ensures { Gives (λ r. r) result (Ok self.now) }
     {
-        Ok(Self {
-            name_offset: self.name_offset,
-            info: self.info,
-            size: self.size,
-            entries: clone_items(&self.entries)?,
-        })
+        clone_with_list(self)
+    }
+}
+
+impl WithList for DataSec {
+    ghost use Rattle.std.specs.Prelude.{◌≡◌, Some, vec_len, ⊤, refl};
+    ghost use Rattle.std.specs.List.{flat_map};
+    ghost use Rattle.btf_model.specs.Record.{kind_of, vlen, DataSec as DataSecKind};
+    ghost use Rattle.btf_items.specs.Items.{entry_words};
+
+    type Element = DataSecEntry;
+
+    ghost kind = { DataSecKind };
+
+    ghost words = { λ r. r };
+
+    ghost words_alone = { λ r. ⊤ };
+
+    fn from_parts(name_offset: u32, info: u32, size: u32, entries: Vec<DataSecEntry>) -> Self
+        requires kind { kind_of info ≡ Some DataSecKind }
+        requires count { vlen info ≡ vec_len entries }
+        ensures words { result ≡ record {
+          name = name_offset;
+          info = info;
+          third = size;
+          tail = flat_map entry_words entries.items;
+        } }
+        ensures alone { ⊤ }
+    {
+        Self {
+            name_offset,
+            info,
+            size,
+            entries,
+        }
     }
 
-    /// Writes the record at the end of bytes, in this order.
-    pub(crate) fn append_to(
-        &self,
-        out: &mut Vec<u8>,
-        endianness: Endianness,
-    ) -> Result<(), AllocError>
-        ensures written { OnOk result (out.new.items ≡ out.old.items
-            ++ spell (order_of endianness) self.now) }
-        ensures whole { OnOk result (IsWhole self.now) }
-    {
-        let words = [self.name_offset, self.info, self.size];
-        push(out, endianness, &words)?;
-        push_items(out, endianness, &self.entries)
+    fn front(&self) -> [u32; 3] {
+        [self.name_offset, self.info, self.size]
     }
+
+    fn items(&self) -> &Vec<DataSecEntry> {
+        &self.entries
+    }
+
+    ghost item_width = { λ x. refl };
+
+    ghost tail_width = { λ n. refl };
+
+    ghost is_kept = { λ r. refl };
 }

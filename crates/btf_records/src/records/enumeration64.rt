@@ -12,9 +12,9 @@ ghost use Rattle.btf_model.specs.Info.{flag_bit, with_flag};
 ghost use Rattle.btf_items.specs.Items.{enum64_words};
 
 use crate::records::flag::sign_bit;
-use btf_items::{BtfEnum64, clone_items, push, push_items};
-use btf_plain::{BtfError, BtfKind, Endianness, MAX_VLEN};
-use std::alloc::AllocError;
+use crate::records::with_list::{WithList, clone_with_list};
+use btf_items::BtfEnum64;
+use btf_plain::{BtfError, BtfKind, MAX_VLEN};
 use std::marker::Model;
 
 /// An enumeration of 64-bit values (the kernel's documentation, "BTF_KIND_ENUM64"). Contracts see it as the record of
@@ -60,31 +60,6 @@ impl Enum64 {
         }
     }
 
-    /// The record of these words, for what is read.
-    pub(crate) fn from_parts(
-        name_offset: u32,
-        info: u32,
-        size: u32,
-        variants: Vec<BtfEnum64>,
-    ) -> Self
-        requires kind { kind_of info ≡ Some model.Enum64 }
-        requires count { vlen info ≡ vec_len variants }
-        ensures { result ≡ record {
-          name = name_offset;
-          info = info;
-          third = size;
-          tail = flat_map
-              enum64_words variants.items;
-        } }
-    {
-        Self {
-            name_offset,
-            info,
-            size,
-            variants,
-        }
-    }
-
     /// The kind of the record.
     pub fn kind(&self) -> BtfKind
         ensures { result ≡ BtfKind.Enum64 }
@@ -119,7 +94,7 @@ impl Enum64 {
         ensures words { self.now.tail ≡ flat_map enum64_words result.now }
         ensures count { vlen self.now.info ≡ length result.now }
     {
-        &self.variants
+        self.items()
     }
 
     /// Whether the values have a sign: the kind flag of info.
@@ -140,26 +115,54 @@ impl Enum64 {
     pub fn try_clone(&self) -> Result<Self, BtfError>
         ensures { Gives (λ r. r) result (Ok self.now) }
     {
-        Ok(Self {
-            name_offset: self.name_offset,
-            info: self.info,
-            size: self.size,
-            variants: clone_items(&self.variants)?,
-        })
+        clone_with_list(self)
+    }
+}
+
+impl WithList for Enum64 {
+    ghost use Rattle.std.specs.Prelude.{◌≡◌, Some, vec_len, ⊤, refl};
+    ghost use Rattle.std.specs.List.{flat_map};
+    ghost use Rattle.btf_model.specs.Record.{kind_of, vlen, Enum64 as Enum64Kind};
+    ghost use Rattle.btf_items.specs.Items.{enum64_words};
+
+    type Element = BtfEnum64;
+
+    ghost kind = { Enum64Kind };
+
+    ghost words = { λ r. r };
+
+    ghost words_alone = { λ r. ⊤ };
+
+    fn from_parts(name_offset: u32, info: u32, size: u32, variants: Vec<BtfEnum64>) -> Self
+        requires kind { kind_of info ≡ Some Enum64Kind }
+        requires count { vlen info ≡ vec_len variants }
+        ensures words { result ≡ record {
+          name = name_offset;
+          info = info;
+          third = size;
+          tail = flat_map enum64_words variants.items;
+        } }
+        ensures alone { ⊤ }
+    {
+        Self {
+            name_offset,
+            info,
+            size,
+            variants,
+        }
     }
 
-    /// Writes the record at the end of bytes, in this order.
-    pub(crate) fn append_to(
-        &self,
-        out: &mut Vec<u8>,
-        endianness: Endianness,
-    ) -> Result<(), AllocError>
-        ensures written { OnOk result (out.new.items ≡ out.old.items
-            ++ spell (order_of endianness) self.now) }
-        ensures whole { OnOk result (IsWhole self.now) }
-    {
-        let words = [self.name_offset, self.info, self.size];
-        push(out, endianness, &words)?;
-        push_items(out, endianness, &self.variants)
+    fn front(&self) -> [u32; 3] {
+        [self.name_offset, self.info, self.size]
     }
+
+    fn items(&self) -> &Vec<BtfEnum64> {
+        &self.variants
+    }
+
+    ghost item_width = { λ x. refl };
+
+    ghost tail_width = { λ n. refl };
+
+    ghost is_kept = { λ r. refl };
 }

@@ -10,9 +10,9 @@ ghost use Rattle.btf_words.specs.Endianness.{order_of};
 ghost use Rattle.btf_words.specs.Error.{Gives};
 ghost use Rattle.btf_items.specs.Items.{param_words};
 
-use btf_items::{BtfParam, clone_items, push, push_items};
-use btf_plain::{BtfError, BtfKind, Endianness, MAX_VLEN};
-use std::alloc::AllocError;
+use crate::records::with_list::{WithList, clone_with_list};
+use btf_items::BtfParam;
+use btf_plain::{BtfError, BtfKind, MAX_VLEN};
 use std::marker::Model;
 
 /// A function prototype (the kernel's documentation, "BTF_KIND_FUNC_PROTO"). Contracts see it as the record of its
@@ -58,31 +58,6 @@ impl FuncProto {
         }
     }
 
-    /// The record of these words, for what is read.
-    pub(crate) fn from_parts(
-        name_offset: u32,
-        info: u32,
-        return_type: u32,
-        params: Vec<BtfParam>,
-    ) -> Self
-        requires kind { kind_of info ≡ Some model.FuncProto }
-        requires count { vlen info ≡ vec_len params }
-        ensures { result ≡ record {
-          name = name_offset;
-          info = info;
-          third = return_type;
-          tail =
-              flat_map param_words params.items;
-        } }
-    {
-        Self {
-            name_offset,
-            info,
-            return_type,
-            params,
-        }
-    }
-
     /// The kind of the record.
     pub fn kind(&self) -> BtfKind
         ensures { result ≡ BtfKind.FuncProto }
@@ -117,7 +92,7 @@ impl FuncProto {
         ensures words { self.now.tail ≡ flat_map param_words result.now }
         ensures count { vlen self.now.info ≡ length result.now }
     {
-        &self.params
+        self.items()
     }
 
     /// Sets the string offset of a parameter's name, and leaves all else as it is.
@@ -141,26 +116,54 @@ impl FuncProto {
     pub fn try_clone(&self) -> Result<Self, BtfError>
         ensures { Gives (λ r. r) result (Ok self.now) }
     {
-        Ok(Self {
-            name_offset: self.name_offset,
-            info: self.info,
-            return_type: self.return_type,
-            params: clone_items(&self.params)?,
-        })
+        clone_with_list(self)
+    }
+}
+
+impl WithList for FuncProto {
+    ghost use Rattle.std.specs.Prelude.{◌≡◌, Some, vec_len, ⊤, refl};
+    ghost use Rattle.std.specs.List.{flat_map};
+    ghost use Rattle.btf_model.specs.Record.{kind_of, vlen, FuncProto as FuncProtoKind};
+    ghost use Rattle.btf_items.specs.Items.{param_words};
+
+    type Element = BtfParam;
+
+    ghost kind = { FuncProtoKind };
+
+    ghost words = { λ r. r };
+
+    ghost words_alone = { λ r. ⊤ };
+
+    fn from_parts(name_offset: u32, info: u32, return_type: u32, params: Vec<BtfParam>) -> Self
+        requires kind { kind_of info ≡ Some FuncProtoKind }
+        requires count { vlen info ≡ vec_len params }
+        ensures words { result ≡ record {
+          name = name_offset;
+          info = info;
+          third = return_type;
+          tail = flat_map param_words params.items;
+        } }
+        ensures alone { ⊤ }
+    {
+        Self {
+            name_offset,
+            info,
+            return_type,
+            params,
+        }
     }
 
-    /// Writes the record at the end of bytes, in this order.
-    pub(crate) fn append_to(
-        &self,
-        out: &mut Vec<u8>,
-        endianness: Endianness,
-    ) -> Result<(), AllocError>
-        ensures written { OnOk result (out.new.items ≡ out.old.items
-            ++ spell (order_of endianness) self.now) }
-        ensures whole { OnOk result (IsWhole self.now) }
-    {
-        let words = [self.name_offset, self.info, self.return_type];
-        push(out, endianness, &words)?;
-        push_items(out, endianness, &self.params)
+    fn front(&self) -> [u32; 3] {
+        [self.name_offset, self.info, self.return_type]
     }
+
+    fn items(&self) -> &Vec<BtfParam> {
+        &self.params
+    }
+
+    ghost item_width = { λ x. refl };
+
+    ghost tail_width = { λ n. refl };
+
+    ghost is_kept = { λ r. refl };
 }

@@ -10,9 +10,9 @@ ghost use Rattle.btf_words.specs.Endianness.{order_of};
 ghost use Rattle.btf_words.specs.Error.{Gives};
 ghost use Rattle.btf_items.specs.Items.{member_words};
 
-use btf_items::{BtfMember, clone_items, push, push_items};
-use btf_plain::{BtfError, BtfKind, Endianness, MAX_VLEN};
-use std::alloc::AllocError;
+use crate::records::with_list::{WithList, clone_with_list};
+use btf_items::BtfMember;
+use btf_plain::{BtfError, BtfKind, MAX_VLEN};
 use std::marker::Model;
 
 /// A structure (the kernel's documentation, "BTF_KIND_STRUCT"). Contracts see it as the record of its words.
@@ -57,31 +57,6 @@ impl Struct {
         }
     }
 
-    /// The record of these words, for what is read.
-    pub(crate) fn from_parts(
-        name_offset: u32,
-        info: u32,
-        size: u32,
-        members: Vec<BtfMember>,
-    ) -> Self
-        requires kind { kind_of info ≡ Some model.Struct }
-        requires count { vlen info ≡ vec_len members }
-        ensures { result ≡ record {
-          name = name_offset;
-          info = info;
-          third = size;
-          tail = flat_map
-              member_words members.items;
-        } }
-    {
-        Self {
-            name_offset,
-            info,
-            size,
-            members,
-        }
-    }
-
     /// The kind of the record.
     pub fn kind(&self) -> BtfKind
         ensures { result ≡ BtfKind.Struct }
@@ -116,7 +91,7 @@ impl Struct {
         ensures words { self.now.tail ≡ flat_map member_words result.now }
         ensures count { vlen self.now.info ≡ length result.now }
     {
-        &self.members
+        self.items()
     }
 
     /// The bit at which a member of this record begins.
@@ -152,26 +127,54 @@ impl Struct {
     pub fn try_clone(&self) -> Result<Self, BtfError>
         ensures { Gives (λ r. r) result (Ok self.now) }
     {
-        Ok(Self {
-            name_offset: self.name_offset,
-            info: self.info,
-            size: self.size,
-            members: clone_items(&self.members)?,
-        })
+        clone_with_list(self)
+    }
+}
+
+impl WithList for Struct {
+    ghost use Rattle.std.specs.Prelude.{◌≡◌, Some, vec_len, ⊤, refl};
+    ghost use Rattle.std.specs.List.{flat_map};
+    ghost use Rattle.btf_model.specs.Record.{kind_of, vlen, Struct as StructKind};
+    ghost use Rattle.btf_items.specs.Items.{member_words};
+
+    type Element = BtfMember;
+
+    ghost kind = { StructKind };
+
+    ghost words = { λ r. r };
+
+    ghost words_alone = { λ r. ⊤ };
+
+    fn from_parts(name_offset: u32, info: u32, size: u32, members: Vec<BtfMember>) -> Self
+        requires kind { kind_of info ≡ Some StructKind }
+        requires count { vlen info ≡ vec_len members }
+        ensures words { result ≡ record {
+          name = name_offset;
+          info = info;
+          third = size;
+          tail = flat_map member_words members.items;
+        } }
+        ensures alone { ⊤ }
+    {
+        Self {
+            name_offset,
+            info,
+            size,
+            members,
+        }
     }
 
-    /// Writes the record at the end of bytes, in this order.
-    pub(crate) fn append_to(
-        &self,
-        out: &mut Vec<u8>,
-        endianness: Endianness,
-    ) -> Result<(), AllocError>
-        ensures written { OnOk result (out.new.items ≡ out.old.items
-            ++ spell (order_of endianness) self.now) }
-        ensures whole { OnOk result (IsWhole self.now) }
-    {
-        let words = [self.name_offset, self.info, self.size];
-        push(out, endianness, &words)?;
-        push_items(out, endianness, &self.members)
+    fn front(&self) -> [u32; 3] {
+        [self.name_offset, self.info, self.size]
     }
+
+    fn items(&self) -> &Vec<BtfMember> {
+        &self.members
+    }
+
+    ghost item_width = { λ x. refl };
+
+    ghost tail_width = { λ n. refl };
+
+    ghost is_kept = { λ r. refl };
 }

@@ -12,9 +12,9 @@ ghost use Rattle.btf_words.specs.Error.{Gives};
 ghost use Rattle.btf_items.specs.Fallback.{fallback_of_option};
 ghost use Rattle.btf_items.specs.Items.{member_words};
 
-use btf_items::{BtfMember, Enum64Fallback, clone_fallback, clone_items, push, push_items};
-use btf_plain::{BtfError, BtfKind, Endianness, MAX_VLEN};
-use std::alloc::AllocError;
+use crate::records::with_list::WithList;
+use btf_items::{BtfMember, Enum64Fallback, clone_fallback, clone_items};
+use btf_plain::{BtfError, BtfKind, MAX_VLEN};
 use std::marker::Model;
 
 /// A union (the kernel's documentation, "BTF_KIND_UNION"). Contracts see it as the record of its words, and its
@@ -71,36 +71,6 @@ impl Union {
         }
     }
 
-    /// The record of these words, for what is read.
-    pub(crate) fn from_parts(
-        name_offset: u32,
-        info: u32,
-        size: u32,
-        members: Vec<BtfMember>,
-    ) -> Self
-        requires kind { kind_of info ≡ Some model.Union }
-        requires count { vlen info ≡ vec_len members }
-        ensures { result ≡ record {
-          words =
-              record {
-                name = name_offset;
-                info = info;
-                third = size;
-                tail = flat_map member_words
-                    members.items;
-              };
-          fallback = None;
-        } }
-    {
-        Self {
-            name_offset,
-            info,
-            size,
-            members,
-            fallback: None,
-        }
-    }
-
     /// The kind of the record.
     pub fn kind(&self) -> BtfKind
         ensures { result ≡ BtfKind.Union }
@@ -135,7 +105,7 @@ impl Union {
         ensures words { self.now.words.tail ≡ flat_map member_words result.now }
         ensures count { vlen self.now.words.info ≡ length result.now }
     {
-        &self.members
+        self.items()
     }
 
     /// The bit at which a member of this record begins.
@@ -186,19 +156,53 @@ impl Union {
             fallback: clone_fallback(&self.fallback)?,
         })
     }
+}
 
-    /// Writes the record at the end of bytes, in this order.
-    pub(crate) fn append_to(
-        &self,
-        out: &mut Vec<u8>,
-        endianness: Endianness,
-    ) -> Result<(), AllocError>
-        ensures written { OnOk result (out.new.items ≡ out.old.items
-            ++ spell (order_of endianness) self.now.words) }
-        ensures whole { OnOk result (IsWhole self.now.words) }
+impl WithList for Union {
+    ghost use Rattle.std.specs.Prelude.{◌≡◌, Some, None, vec_len, refl};
+    ghost use Rattle.std.specs.List.{flat_map};
+    ghost use Rattle.btf_model.specs.Record.{kind_of, vlen, Union as UnionKind};
+    ghost use Rattle.btf_items.specs.Items.{member_words};
+
+    type Element = BtfMember;
+
+    ghost kind = { UnionKind };
+
+    ghost words = { λ u. u.words };
+
+    ghost words_alone = { λ u. u.fallback ≡ None };
+
+    fn from_parts(name_offset: u32, info: u32, size: u32, members: Vec<BtfMember>) -> Self
+        requires kind { kind_of info ≡ Some UnionKind }
+        requires count { vlen info ≡ vec_len members }
+        ensures words { result.words ≡ record {
+          name = name_offset;
+          info = info;
+          third = size;
+          tail = flat_map member_words members.items;
+        } }
+        ensures alone { result.fallback ≡ None }
     {
-        let words = [self.name_offset, self.info, self.size];
-        push(out, endianness, &words)?;
-        push_items(out, endianness, &self.members)
+        Self {
+            name_offset,
+            info,
+            size,
+            members,
+            fallback: None,
+        }
     }
+
+    fn front(&self) -> [u32; 3] {
+        [self.name_offset, self.info, self.size]
+    }
+
+    fn items(&self) -> &Vec<BtfMember> {
+        &self.members
+    }
+
+    ghost item_width = { λ x. refl };
+
+    ghost tail_width = { λ n. refl };
+
+    ghost is_kept = { λ r. refl };
 }

@@ -26,37 +26,37 @@ pub returns-in_ok-read_array-in-Array-clause-front : goal.returns-in_ok-read_arr
 returns-in_ok-read_array-in-Array-clause-front c =
     tail_read (order_of c.args.endianness) c.args.data.now c.in_ok-head.head c.in_ok-head.rest.now model.Array c.in_ok-read_array-in-Array.field-0 (λ i. omega (arith, c.type_inv.data i)) c.in_ok-head.ensures (kind_at c.in_ok-head.head.info c.kind.result c.in_ok-try_from.field-0 kinds.Array c.in_ok-try_from.ensures c.in-Array.is c.kind.ensures) c.in_ok-read_array-in-Array.ensures
 
-pub returns-in_err-read_struct-in-Struct-clause-front : goal.returns-in_err-read_struct-in-Struct-clause-front
-returns-in_err-read_struct-in-Struct-clause-front c =
-    tail_refused (order_of c.args.endianness) c.args.data.now c.in_ok-head.head c.in_ok-head.rest.now model.Struct c.from_residual-in_err-read_struct-in-Struct.result c.in_err-read_struct-in-Struct.field-0.0 c.from_residual-in_err-read_struct-in-Struct.ensures.1 c.in_err-read_struct-in-Struct.ensures c.in_ok-head.ensures (kind_at c.in_ok-head.head.info c.kind.result c.in_ok-try_from.field-0 kinds.Struct c.in_ok-try_from.ensures c.in-Struct.is c.kind.ensures)
+pub returns-in_err-read_with_list-in-Struct-clause-front : goal.returns-in_err-read_with_list-in-Struct-clause-front
+returns-in_err-read_with_list-in-Struct-clause-front c =
+    tail_refused (order_of c.args.endianness) c.args.data.now c.in_ok-head.head c.in_ok-head.rest.now model.Struct c.from_residual-in_err-read_with_list-in-Struct.result c.in_err-read_with_list-in-Struct.field-0.0 c.from_residual-in_err-read_with_list-in-Struct.ensures.1 c.in_err-read_with_list-in-Struct.ensures.front c.in_ok-head.ensures (kind_at c.in_ok-head.head.info c.kind.result c.in_ok-try_from.field-0 kinds.Struct c.in_ok-try_from.ensures c.in-Struct.is c.kind.ensures)
 
-pub returns-in_ok-read_struct-in-Struct-clause-front : goal.returns-in_ok-read_struct-in-Struct-clause-front
-returns-in_ok-read_struct-in-Struct-clause-front c =
-    tail_read (order_of c.args.endianness) c.args.data.now c.in_ok-head.head c.in_ok-head.rest.now model.Struct c.in_ok-read_struct-in-Struct.field-0 (λ i. omega (arith, c.type_inv.data i)) c.in_ok-head.ensures (kind_at c.in_ok-head.head.info c.kind.result c.in_ok-try_from.field-0 kinds.Struct c.in_ok-try_from.ensures c.in-Struct.is c.kind.ensures) c.in_ok-read_struct-in-Struct.ensures
+pub returns-in_ok-read_with_list-in-Struct-clause-front : goal.returns-in_ok-read_with_list-in-Struct-clause-front
+returns-in_ok-read_with_list-in-Struct-clause-front c =
+    tail_read (order_of c.args.endianness) c.args.data.now c.in_ok-head.head c.in_ok-head.rest.now model.Struct c.in_ok-read_with_list-in-Struct.field-0 (λ i. omega (arith, c.type_inv.data i)) c.in_ok-head.ensures (kind_at c.in_ok-head.head.info c.kind.result c.in_ok-try_from.field-0 kinds.Struct c.in_ok-try_from.ensures c.in-Struct.is c.kind.ensures) c.in_ok-read_with_list-in-Struct.ensures.front
 
-pub returns-in_err-read_union-in-Union-clause-front : goal.returns-in_err-read_union-in-Union-clause-front
-returns-in_err-read_union-in-Union-clause-front c =
-    tail_refused (order_of c.args.endianness) c.args.data.now c.in_ok-head.head c.in_ok-head.rest.now model.Union c.from_residual-in_err-read_union-in-Union.result c.in_err-read_union-in-Union.field-0.0 c.from_residual-in_err-read_union-in-Union.ensures.1 c.in_err-read_union-in-Union.ensures.front c.in_ok-head.ensures (kind_at c.in_ok-head.head.info c.kind.result c.in_ok-try_from.field-0 kinds.Union c.in_ok-try_from.ensures c.in-Union.is c.kind.ensures)
+pub returns-in_err-read_with_list-in-Union-clause-front : goal.returns-in_err-read_with_list-in-Union-clause-front
+returns-in_err-read_with_list-in-Union-clause-front c =
+    tail_refused (order_of c.args.endianness) c.args.data.now c.in_ok-head.head c.in_ok-head.rest.now model.Union c.from_residual-in_err-read_with_list-in-Union.result c.in_err-read_with_list-in-Union.field-0.0 c.from_residual-in_err-read_with_list-in-Union.ensures.1 c.in_err-read_with_list-in-Union.ensures.front c.in_ok-head.ensures (kind_at c.in_ok-head.head.info c.kind.result c.in_ok-try_from.field-0 kinds.Union c.in_ok-try_from.ensures c.in-Union.is c.kind.ensures)
 
-pub returns-in_ok-read_union-in-Union-clause-front : goal.returns-in_ok-read_union-in-Union-clause-front
-returns-in_ok-read_union-in-Union-clause-front c =
-    tail_read (order_of c.args.endianness) c.args.data.now c.in_ok-head.head c.in_ok-head.rest.now model.Union c.in_ok-read_union-in-Union.field-0.words (λ i. omega (arith, c.type_inv.data i)) c.in_ok-head.ensures (kind_at c.in_ok-head.head.info c.kind.result c.in_ok-try_from.field-0 kinds.Union c.in_ok-try_from.ensures c.in-Union.is c.kind.ensures) c.in_ok-read_union-in-Union.ensures.front
+pub returns-in_ok-read_with_list-in-Union-clause-front : goal.returns-in_ok-read_with_list-in-Union-clause-front
+returns-in_ok-read_with_list-in-Union-clause-front c =
+    tail_read (order_of c.args.endianness) c.args.data.now c.in_ok-head.head c.in_ok-head.rest.now model.Union c.in_ok-read_with_list-in-Union.field-0.words (λ i. omega (arith, c.type_inv.data i)) c.in_ok-head.ensures (kind_at c.in_ok-head.head.info c.kind.result c.in_ok-try_from.field-0 kinds.Union c.in_ok-try_from.ensures c.in-Union.is c.kind.ensures) c.in_ok-read_with_list-in-Union.ensures.front
 
-pub returns-in_err-read_enum-in-Enum-clause-front : goal.returns-in_err-read_enum-in-Enum-clause-front
-returns-in_err-read_enum-in-Enum-clause-front c =
-    tail_refused (order_of c.args.endianness) c.args.data.now c.in_ok-head.head c.in_ok-head.rest.now model.Enum c.from_residual-in_err-read_enum-in-Enum.result c.in_err-read_enum-in-Enum.field-0.0 c.from_residual-in_err-read_enum-in-Enum.ensures.1 c.in_err-read_enum-in-Enum.ensures c.in_ok-head.ensures (kind_at c.in_ok-head.head.info c.kind.result c.in_ok-try_from.field-0 kinds.Enum c.in_ok-try_from.ensures c.in-Enum.is c.kind.ensures)
+pub returns-in_err-read_with_list-in-Enum-clause-front : goal.returns-in_err-read_with_list-in-Enum-clause-front
+returns-in_err-read_with_list-in-Enum-clause-front c =
+    tail_refused (order_of c.args.endianness) c.args.data.now c.in_ok-head.head c.in_ok-head.rest.now model.Enum c.from_residual-in_err-read_with_list-in-Enum.result c.in_err-read_with_list-in-Enum.field-0.0 c.from_residual-in_err-read_with_list-in-Enum.ensures.1 c.in_err-read_with_list-in-Enum.ensures.front c.in_ok-head.ensures (kind_at c.in_ok-head.head.info c.kind.result c.in_ok-try_from.field-0 kinds.Enum c.in_ok-try_from.ensures c.in-Enum.is c.kind.ensures)
 
-pub returns-in_ok-read_enum-in-Enum-clause-front : goal.returns-in_ok-read_enum-in-Enum-clause-front
-returns-in_ok-read_enum-in-Enum-clause-front c =
-    tail_read (order_of c.args.endianness) c.args.data.now c.in_ok-head.head c.in_ok-head.rest.now model.Enum c.in_ok-read_enum-in-Enum.field-0 (λ i. omega (arith, c.type_inv.data i)) c.in_ok-head.ensures (kind_at c.in_ok-head.head.info c.kind.result c.in_ok-try_from.field-0 kinds.Enum c.in_ok-try_from.ensures c.in-Enum.is c.kind.ensures) c.in_ok-read_enum-in-Enum.ensures
+pub returns-in_ok-read_with_list-in-Enum-clause-front : goal.returns-in_ok-read_with_list-in-Enum-clause-front
+returns-in_ok-read_with_list-in-Enum-clause-front c =
+    tail_read (order_of c.args.endianness) c.args.data.now c.in_ok-head.head c.in_ok-head.rest.now model.Enum c.in_ok-read_with_list-in-Enum.field-0 (λ i. omega (arith, c.type_inv.data i)) c.in_ok-head.ensures (kind_at c.in_ok-head.head.info c.kind.result c.in_ok-try_from.field-0 kinds.Enum c.in_ok-try_from.ensures c.in-Enum.is c.kind.ensures) c.in_ok-read_with_list-in-Enum.ensures.front
 
-pub returns-in_err-read_func_proto-in-FuncProto-clause-front : goal.returns-in_err-read_func_proto-in-FuncProto-clause-front
-returns-in_err-read_func_proto-in-FuncProto-clause-front c =
-    tail_refused (order_of c.args.endianness) c.args.data.now c.in_ok-head.head c.in_ok-head.rest.now model.FuncProto c.from_residual-in_err-read_func_proto-in-FuncProto.result c.in_err-read_func_proto-in-FuncProto.field-0.0 c.from_residual-in_err-read_func_proto-in-FuncProto.ensures.1 c.in_err-read_func_proto-in-FuncProto.ensures c.in_ok-head.ensures (kind_at c.in_ok-head.head.info c.kind.result c.in_ok-try_from.field-0 kinds.FuncProto c.in_ok-try_from.ensures c.in-FuncProto.is c.kind.ensures)
+pub returns-in_err-read_with_list-in-FuncProto-clause-front : goal.returns-in_err-read_with_list-in-FuncProto-clause-front
+returns-in_err-read_with_list-in-FuncProto-clause-front c =
+    tail_refused (order_of c.args.endianness) c.args.data.now c.in_ok-head.head c.in_ok-head.rest.now model.FuncProto c.from_residual-in_err-read_with_list-in-FuncProto.result c.in_err-read_with_list-in-FuncProto.field-0.0 c.from_residual-in_err-read_with_list-in-FuncProto.ensures.1 c.in_err-read_with_list-in-FuncProto.ensures.front c.in_ok-head.ensures (kind_at c.in_ok-head.head.info c.kind.result c.in_ok-try_from.field-0 kinds.FuncProto c.in_ok-try_from.ensures c.in-FuncProto.is c.kind.ensures)
 
-pub returns-in_ok-read_func_proto-in-FuncProto-clause-front : goal.returns-in_ok-read_func_proto-in-FuncProto-clause-front
-returns-in_ok-read_func_proto-in-FuncProto-clause-front c =
-    tail_read (order_of c.args.endianness) c.args.data.now c.in_ok-head.head c.in_ok-head.rest.now model.FuncProto c.in_ok-read_func_proto-in-FuncProto.field-0 (λ i. omega (arith, c.type_inv.data i)) c.in_ok-head.ensures (kind_at c.in_ok-head.head.info c.kind.result c.in_ok-try_from.field-0 kinds.FuncProto c.in_ok-try_from.ensures c.in-FuncProto.is c.kind.ensures) c.in_ok-read_func_proto-in-FuncProto.ensures
+pub returns-in_ok-read_with_list-in-FuncProto-clause-front : goal.returns-in_ok-read_with_list-in-FuncProto-clause-front
+returns-in_ok-read_with_list-in-FuncProto-clause-front c =
+    tail_read (order_of c.args.endianness) c.args.data.now c.in_ok-head.head c.in_ok-head.rest.now model.FuncProto c.in_ok-read_with_list-in-FuncProto.field-0 (λ i. omega (arith, c.type_inv.data i)) c.in_ok-head.ensures (kind_at c.in_ok-head.head.info c.kind.result c.in_ok-try_from.field-0 kinds.FuncProto c.in_ok-try_from.ensures c.in-FuncProto.is c.kind.ensures) c.in_ok-read_with_list-in-FuncProto.ensures.front
 
 pub returns-in_err-read_var-in-Var-clause-front : goal.returns-in_err-read_var-in-Var-clause-front
 returns-in_err-read_var-in-Var-clause-front c =
@@ -66,13 +66,13 @@ pub returns-in_ok-read_var-in-Var-clause-front : goal.returns-in_ok-read_var-in-
 returns-in_ok-read_var-in-Var-clause-front c =
     tail_read (order_of c.args.endianness) c.args.data.now c.in_ok-head.head c.in_ok-head.rest.now model.Var c.in_ok-read_var-in-Var.field-0 (λ i. omega (arith, c.type_inv.data i)) c.in_ok-head.ensures (kind_at c.in_ok-head.head.info c.kind.result c.in_ok-try_from.field-0 kinds.Var c.in_ok-try_from.ensures c.in-Var.is c.kind.ensures) c.in_ok-read_var-in-Var.ensures
 
-pub returns-in_err-read_data_sec-in-DataSec-clause-front : goal.returns-in_err-read_data_sec-in-DataSec-clause-front
-returns-in_err-read_data_sec-in-DataSec-clause-front c =
-    tail_refused (order_of c.args.endianness) c.args.data.now c.in_ok-head.head c.in_ok-head.rest.now model.DataSec c.from_residual-in_err-read_data_sec-in-DataSec.result c.in_err-read_data_sec-in-DataSec.field-0.0 c.from_residual-in_err-read_data_sec-in-DataSec.ensures.1 c.in_err-read_data_sec-in-DataSec.ensures c.in_ok-head.ensures (kind_at c.in_ok-head.head.info c.kind.result c.in_ok-try_from.field-0 kinds.DataSec c.in_ok-try_from.ensures c.in-DataSec.is c.kind.ensures)
+pub returns-in_err-read_with_list-in-DataSec-clause-front : goal.returns-in_err-read_with_list-in-DataSec-clause-front
+returns-in_err-read_with_list-in-DataSec-clause-front c =
+    tail_refused (order_of c.args.endianness) c.args.data.now c.in_ok-head.head c.in_ok-head.rest.now model.DataSec c.from_residual-in_err-read_with_list-in-DataSec.result c.in_err-read_with_list-in-DataSec.field-0.0 c.from_residual-in_err-read_with_list-in-DataSec.ensures.1 c.in_err-read_with_list-in-DataSec.ensures.front c.in_ok-head.ensures (kind_at c.in_ok-head.head.info c.kind.result c.in_ok-try_from.field-0 kinds.DataSec c.in_ok-try_from.ensures c.in-DataSec.is c.kind.ensures)
 
-pub returns-in_ok-read_data_sec-in-DataSec-clause-front : goal.returns-in_ok-read_data_sec-in-DataSec-clause-front
-returns-in_ok-read_data_sec-in-DataSec-clause-front c =
-    tail_read (order_of c.args.endianness) c.args.data.now c.in_ok-head.head c.in_ok-head.rest.now model.DataSec c.in_ok-read_data_sec-in-DataSec.field-0 (λ i. omega (arith, c.type_inv.data i)) c.in_ok-head.ensures (kind_at c.in_ok-head.head.info c.kind.result c.in_ok-try_from.field-0 kinds.DataSec c.in_ok-try_from.ensures c.in-DataSec.is c.kind.ensures) c.in_ok-read_data_sec-in-DataSec.ensures
+pub returns-in_ok-read_with_list-in-DataSec-clause-front : goal.returns-in_ok-read_with_list-in-DataSec-clause-front
+returns-in_ok-read_with_list-in-DataSec-clause-front c =
+    tail_read (order_of c.args.endianness) c.args.data.now c.in_ok-head.head c.in_ok-head.rest.now model.DataSec c.in_ok-read_with_list-in-DataSec.field-0 (λ i. omega (arith, c.type_inv.data i)) c.in_ok-head.ensures (kind_at c.in_ok-head.head.info c.kind.result c.in_ok-try_from.field-0 kinds.DataSec c.in_ok-try_from.ensures c.in-DataSec.is c.kind.ensures) c.in_ok-read_with_list-in-DataSec.ensures.front
 
 pub returns-in_err-read_decl_tag-in-DeclTag-clause-front : goal.returns-in_err-read_decl_tag-in-DeclTag-clause-front
 returns-in_err-read_decl_tag-in-DeclTag-clause-front c =
@@ -82,13 +82,13 @@ pub returns-in_ok-read_decl_tag-in-DeclTag-clause-front : goal.returns-in_ok-rea
 returns-in_ok-read_decl_tag-in-DeclTag-clause-front c =
     tail_read (order_of c.args.endianness) c.args.data.now c.in_ok-head.head c.in_ok-head.rest.now model.DeclTag c.in_ok-read_decl_tag-in-DeclTag.field-0 (λ i. omega (arith, c.type_inv.data i)) c.in_ok-head.ensures (kind_at c.in_ok-head.head.info c.kind.result c.in_ok-try_from.field-0 kinds.DeclTag c.in_ok-try_from.ensures c.in-DeclTag.is c.kind.ensures) c.in_ok-read_decl_tag-in-DeclTag.ensures
 
-pub returns-in_err-read_enum64-in-Enum64-clause-front : goal.returns-in_err-read_enum64-in-Enum64-clause-front
-returns-in_err-read_enum64-in-Enum64-clause-front c =
-    tail_refused (order_of c.args.endianness) c.args.data.now c.in_ok-head.head c.in_ok-head.rest.now model.Enum64 c.from_residual-in_err-read_enum64-in-Enum64.result c.in_err-read_enum64-in-Enum64.field-0.0 c.from_residual-in_err-read_enum64-in-Enum64.ensures.1 c.in_err-read_enum64-in-Enum64.ensures c.in_ok-head.ensures (kind_at c.in_ok-head.head.info c.kind.result c.in_ok-try_from.field-0 kinds.Enum64 c.in_ok-try_from.ensures c.in-Enum64.is c.kind.ensures)
+pub returns-in_err-read_with_list-in-Enum64-clause-front : goal.returns-in_err-read_with_list-in-Enum64-clause-front
+returns-in_err-read_with_list-in-Enum64-clause-front c =
+    tail_refused (order_of c.args.endianness) c.args.data.now c.in_ok-head.head c.in_ok-head.rest.now model.Enum64 c.from_residual-in_err-read_with_list-in-Enum64.result c.in_err-read_with_list-in-Enum64.field-0.0 c.from_residual-in_err-read_with_list-in-Enum64.ensures.1 c.in_err-read_with_list-in-Enum64.ensures.front c.in_ok-head.ensures (kind_at c.in_ok-head.head.info c.kind.result c.in_ok-try_from.field-0 kinds.Enum64 c.in_ok-try_from.ensures c.in-Enum64.is c.kind.ensures)
 
-pub returns-in_ok-read_enum64-in-Enum64-clause-front : goal.returns-in_ok-read_enum64-in-Enum64-clause-front
-returns-in_ok-read_enum64-in-Enum64-clause-front c =
-    tail_read (order_of c.args.endianness) c.args.data.now c.in_ok-head.head c.in_ok-head.rest.now model.Enum64 c.in_ok-read_enum64-in-Enum64.field-0 (λ i. omega (arith, c.type_inv.data i)) c.in_ok-head.ensures (kind_at c.in_ok-head.head.info c.kind.result c.in_ok-try_from.field-0 kinds.Enum64 c.in_ok-try_from.ensures c.in-Enum64.is c.kind.ensures) c.in_ok-read_enum64-in-Enum64.ensures
+pub returns-in_ok-read_with_list-in-Enum64-clause-front : goal.returns-in_ok-read_with_list-in-Enum64-clause-front
+returns-in_ok-read_with_list-in-Enum64-clause-front c =
+    tail_read (order_of c.args.endianness) c.args.data.now c.in_ok-head.head c.in_ok-head.rest.now model.Enum64 c.in_ok-read_with_list-in-Enum64.field-0 (λ i. omega (arith, c.type_inv.data i)) c.in_ok-head.ensures (kind_at c.in_ok-head.head.info c.kind.result c.in_ok-try_from.field-0 kinds.Enum64 c.in_ok-try_from.ensures c.in-Enum64.is c.kind.ensures) c.in_ok-read_with_list-in-Enum64.ensures.front
 
 pub returns-in-Unknown-clause-front : goal.returns-in-Unknown-clause-front
 returns-in-Unknown-clause-front c = tail_read (order_of c.args.endianness) c.args.data.now c.in_ok-head.head c.in_ok-head.rest.now model.Unknown model.unknown (λ i. omega (arith, c.type_inv.data i)) c.in_ok-head.ensures (kind_at c.in_ok-head.head.info c.kind.result c.in_ok-try_from.field-0 kinds.Unknown c.in_ok-try_from.ensures c.in-Unknown.is c.kind.ensures) (omega arith, refl)
