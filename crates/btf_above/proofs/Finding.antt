@@ -18,7 +18,7 @@ use Rattle.btf_model.specs.Text.{bytes_at, text_at}
 use Rattle.btf_model.specs.Words.{RelocationSection, HaveNames, is_name, words_named, Words}
 use Rattle.btf_model.specs.Value.{HaveOtherNames, IsAfterOthers, FindsVariant}
 use Rattle.btf_model.proofs.Values.{one_words}
-use Rattle.btf_words.specs.Error.{Answers, Gives, Tells, refusal_of}
+use Rattle.btf_words.specs.Error.{MeetsOrNoMemory, IsOrNoMemory, Meets, refusal_of}
 use Rattle.btf_words.specs.declared.error.BtfError.{BtfError}
 use Rattle.btf_above.specs.Named.{IsNamed}
 use Rattle.btf_above.specs.Variants.{HaveUtf8Names}
@@ -85,18 +85,18 @@ refused_here strings name vs i offset v refusal at others offset_is is =
 
 -- the same of the error that a call returns, where the name's call returned it
 pub error_here : (strings name : List ℕ) (vs : List Variant) (i offset : ℕ) (v : Variant) (e : BtfError) (r : Result (Option ℕ) BtfError) → r ≡ Err e → slice_get vs i ≡ Some v → HaveOtherNames strings name (take i vs) → offset ≡ v.name
-    → IfSome (refusal_of e) (λ refusal. text_at strings offset ≡ Err refusal) → Answers (λ a. a) r (FindsVariant strings name vs)
+    → IfSome (refusal_of e) (λ refusal. text_at strings offset ≡ Err refusal) → MeetsOrNoMemory (λ a. a) r (FindsVariant strings name vs)
 error_here strings name vs i offset v e r returned at others offset_is is =
-    subst (λ (x : Result (Option ℕ) BtfError). Answers (λ a. a) x (FindsVariant strings name vs)) (sym returned)
+    subst (λ (x : Result (Option ℕ) BtfError). MeetsOrNoMemory (λ a. a) x (FindsVariant strings name vs)) (sym returned)
     (IfSome_then (refusal_of e) is (λ refusal unread. refused_here strings name vs i offset v refusal at others offset_is unread))
 
 -- where the name is UTF-8, if it can be read, it was not for lack of memory
 pub told_here : (strings name : List ℕ) (vs : List Variant) (i offset : ℕ) (v : Variant) (e : BtfError) (r : Result (Option ℕ) BtfError) → r ≡ Err e → slice_get vs i ≡ Some v → HaveOtherNames strings name (take i vs) → offset ≡ v.name
-    → (IfSome (bytes_at strings offset) IsUtf8 → (refusal : Refusal) × (refusal_of e ≡ Some refusal) × (text_at strings offset ≡ Err refusal)) → HaveUtf8Names strings vs → Tells (λ a. a) r (FindsVariant strings name vs)
+    → (IfSome (bytes_at strings offset) IsUtf8 → (refusal : Refusal) × (refusal_of e ≡ Some refusal) × (text_at strings offset ≡ Err refusal)) → HaveUtf8Names strings vs → Meets (λ a. a) r (FindsVariant strings name vs)
 told_here strings name vs i offset v e r returned at others offset_is told utf8 =
     let here : IfSome (bytes_at strings offset) IsUtf8 = subst (λ (o : ℕ). IfSome (bytes_at strings o) IsUtf8) (sym offset_is) (all_at (λ (w : Variant). IfSome (bytes_at strings w.name) IsUtf8) vs i v at utf8) in
     let refused = told here in
-    subst (λ (x : Result (Option ℕ) BtfError). Tells (λ a. a) x (FindsVariant strings name vs)) (sym returned)
+    subst (λ (x : Result (Option ℕ) BtfError). Meets (λ a. a) x (FindsVariant strings name vs)) (sym returned)
     (refused.0, refused.1, refused_here strings name vs i offset v refused.0 at others offset_is refused.2)
 
 -- ---- sections
@@ -107,9 +107,9 @@ unread_here strings name ss i s refusal at names is = (take i ss, drop (suc i) s
 
 -- the same of the error that a call returns
 pub section_error : {X : Type 0} (view : X → List (List ℕ)) (strings name : List ℕ) (ss : List RelocationSection) (i : ℕ) (s : RelocationSection) (e : BtfError) (r : Result X BtfError) → r ≡ Err e → slice_get ss i ≡ Some s → HaveNames strings (take i ss)
-    → IfSome (refusal_of e) (λ refusal. text_at strings s.0 ≡ Err refusal) → Answers view r (Words strings ss name)
+    → IfSome (refusal_of e) (λ refusal. text_at strings s.0 ≡ Err refusal) → MeetsOrNoMemory view r (Words strings ss name)
 section_error {X} view strings name ss i s e r returned at names is =
-    subst (λ (x : Result X BtfError). Answers view x (Words strings ss name)) (sym returned) (IfSome_then (refusal_of e) is (λ refusal unread. unread_here strings name ss i s refusal at names unread))
+    subst (λ (x : Result X BtfError). MeetsOrNoMemory view x (Words strings ss name)) (sym returned) (IfSome_then (refusal_of e) is (λ refusal unread. unread_here strings name ss i s refusal at names unread))
 
 -- the text of a name that was read
 text_read : (strings : List ℕ) (offset : ℕ) (name : List ℕ) (same : Bool) → IsNamed strings offset name (Ok same) → (text : List ℕ) × (text_at strings offset ≡ Ok text)
@@ -159,7 +159,7 @@ words_passed strings name ss i s same at is other =
     sym (words_more strings name ss i s same at is ∙ ap (λ (b : Bool). words_named strings name (take i ss) ++ words_or b s.1) other ∙ append-nil (words_named strings name (take i ss)))
 
 -- there is one answer
-pub only_words : {X : Type 0} (view : X → List (List ℕ)) (strings name : List ℕ) (ss : List RelocationSection) (r : Result X BtfError) → Answers view r (Words strings ss name) → (answer : Result (List (List ℕ)) Refusal) → Words strings ss name answer → Gives view r answer
+pub only_words : {X : Type 0} (view : X → List (List ℕ)) (strings name : List ℕ) (ss : List RelocationSection) (r : Result X BtfError) → MeetsOrNoMemory view r (Words strings ss name) → (answer : Result (List (List ℕ)) Refusal) → Words strings ss name answer → IsOrNoMemory view r answer
 only_words view strings name ss (Ok found) words answer is = one_words strings ss name (Ok (view found)) answer words is
 only_words view strings name ss (Err e) words answer is = IfSome_then (refusal_of e) words (λ refusal refused. one_words strings ss name (Err refusal) answer refused is)
 

@@ -12,7 +12,7 @@ use Rattle.btf_model.specs.Ext.{Then}
 use Rattle.btf_model.specs.Value.{enum_variants, enum64_variants, variants_by, HasVariants, FindsVariant, Value}
 use Rattle.btf_model.proofs.Values.{one_value}
 use Rattle.btf_model.proofs.Walks.{resolved_is_known}
-use Rattle.btf_words.specs.Error.{Answers, Gives, Tells, refusal_of}
+use Rattle.btf_words.specs.Error.{MeetsOrNoMemory, IsOrNoMemory, Meets, refusal_of}
 use Rattle.btf_words.specs.declared.error.BtfError.{BtfError}
 use Rattle.btf_records.specs.BtfType.{record_of, fallback_of, type_kind}
 use Rattle.btf_items.specs.Items.{enum_words, enum64_words}
@@ -69,16 +69,16 @@ other_has t id b at no_enum no_enum64 no_union = by_type t id b (Err (Unexpected
 
 -- ---- what the search among them returns
 
-pub found_among : (t : Table) (id : ℕ) (name : List ℕ) (vs : List Variant) (r : Result (Option ℕ) BtfError) → HasVariants t id (Ok vs) → Answers (λ v. v) r (FindsVariant t.strings name vs) → Answers (λ v. v) r (Then (HasVariants t id) (FindsVariant t.strings name))
+pub found_among : (t : Table) (id : ℕ) (name : List ℕ) (vs : List Variant) (r : Result (Option ℕ) BtfError) → HasVariants t id (Ok vs) → MeetsOrNoMemory (λ v. v) r (FindsVariant t.strings name vs) → MeetsOrNoMemory (λ v. v) r (Then (HasVariants t id) (FindsVariant t.strings name))
 found_among t id name vs (Ok found) has finds = (vs, has, finds)
 found_among t id name vs (Err e) has finds = IfSome_then (refusal_of e) finds (λ refusal unread. inr (vs, has, unread))
 
-told_among : (t : Table) (id : ℕ) (name : List ℕ) (vs : List Variant) (r : Result (Option ℕ) BtfError) → HasVariants t id (Ok vs) → Tells (λ v. v) r (FindsVariant t.strings name vs) → Tells (λ v. v) r (Then (HasVariants t id) (FindsVariant t.strings name))
+told_among : (t : Table) (id : ℕ) (name : List ℕ) (vs : List Variant) (r : Result (Option ℕ) BtfError) → HasVariants t id (Ok vs) → Meets (λ v. v) r (FindsVariant t.strings name vs) → Meets (λ v. v) r (Then (HasVariants t id) (FindsVariant t.strings name))
 told_among t id name vs (Ok found) has finds = (vs, has, finds)
 told_among t id name vs (Err e) has finds = (finds.0, finds.1, inr (vs, has, finds.2))
 
-pub told_of : (t : Table) (id : ℕ) (name : List ℕ) (vs : List Variant) (r : Result (Option ℕ) BtfError) → HasVariants t id (Ok vs) → (HaveUtf8Names t.strings vs → Tells (λ v. v) r (FindsVariant t.strings name vs))
-    → TypeHasUtf8Names t id → Tells (λ v. v) r (Then (HasVariants t id) (FindsVariant t.strings name))
+pub told_of : (t : Table) (id : ℕ) (name : List ℕ) (vs : List Variant) (r : Result (Option ℕ) BtfError) → HasVariants t id (Ok vs) → (HaveUtf8Names t.strings vs → Meets (λ v. v) r (FindsVariant t.strings name vs))
+    → TypeHasUtf8Names t id → Meets (λ v. v) r (Then (HasVariants t id) (FindsVariant t.strings name))
 told_of t id name vs r has finds utf8 = told_among t id name vs r has (finds (utf8 vs has))
 
 -- ---- the type that an id resolves to
@@ -86,28 +86,28 @@ told_of t id name vs r has finds utf8 = told_among t id name vs r has (finds (ut
 pub known : (t : Table) (id end : ℕ) → Resolves t.records id (Ok end) → end < length t.records
 known t id end resolves = let there = resolved_is_known t.records id end resolves in slice_get_within t.records end there.0 there.1
 
-pub value_after : (t : Table) (id end : ℕ) (name : List ℕ) (r : Result (Option ℕ) BtfError) → Resolves t.records id (Ok end) → Answers (λ v. v) r (Then (HasVariants t end) (FindsVariant t.strings name)) → Answers (λ v. v) r (Value t id name)
+pub value_after : (t : Table) (id end : ℕ) (name : List ℕ) (r : Result (Option ℕ) BtfError) → Resolves t.records id (Ok end) → MeetsOrNoMemory (λ v. v) r (Then (HasVariants t end) (FindsVariant t.strings name)) → MeetsOrNoMemory (λ v. v) r (Value t id name)
 value_after t id end name (Ok found) resolves finds = (end, resolves, finds)
 value_after t id end name (Err e) resolves finds = IfSome_then (refusal_of e) finds (λ refusal refused. inr (end, resolves, refused))
 
-told_after : (t : Table) (id end : ℕ) (name : List ℕ) (r : Result (Option ℕ) BtfError) → Resolves t.records id (Ok end) → Tells (λ v. v) r (Then (HasVariants t end) (FindsVariant t.strings name)) → Tells (λ v. v) r (Value t id name)
+told_after : (t : Table) (id end : ℕ) (name : List ℕ) (r : Result (Option ℕ) BtfError) → Resolves t.records id (Ok end) → Meets (λ v. v) r (Then (HasVariants t end) (FindsVariant t.strings name)) → Meets (λ v. v) r (Value t id name)
 told_after t id end name (Ok found) resolves finds = (end, resolves, finds)
 told_after t id end name (Err e) resolves finds = (finds.0, finds.1, inr (end, resolves, finds.2))
 
-pub value_told : (t : Table) (id end : ℕ) (name : List ℕ) (r : Result (Option ℕ) BtfError) → Resolves t.records id (Ok end) → (TypeHasUtf8Names t end → Tells (λ v. v) r (Then (HasVariants t end) (FindsVariant t.strings name))) → NamesAreUtf8 t id
-    → Tells (λ v. v) r (Value t id name)
+pub value_told : (t : Table) (id end : ℕ) (name : List ℕ) (r : Result (Option ℕ) BtfError) → Resolves t.records id (Ok end) → (TypeHasUtf8Names t end → Meets (λ v. v) r (Then (HasVariants t end) (FindsVariant t.strings name))) → NamesAreUtf8 t id
+    → Meets (λ v. v) r (Value t id name)
 value_told t id end name r resolves finds utf8 = told_after t id end name r resolves (finds (utf8 end resolves))
 
 -- a refusal of resolving
-pub unresolved : (t : Table) (id : ℕ) (name : List ℕ) (e : BtfError) (r : Result (Option ℕ) BtfError) → r ≡ Err e → (refusal : Refusal) × (refusal_of e ≡ Some refusal) × Resolves t.records id (Err refusal) → Tells (λ v. v) r (Value t id name)
-unresolved t id name e r returned refused = subst (λ (x : Result (Option ℕ) BtfError). Tells (λ v. v) x (Value t id name)) (sym returned) (refused.0, refused.1, inl refused.2)
+pub unresolved : (t : Table) (id : ℕ) (name : List ℕ) (e : BtfError) (r : Result (Option ℕ) BtfError) → r ≡ Err e → (refusal : Refusal) × (refusal_of e ≡ Some refusal) × Resolves t.records id (Err refusal) → Meets (λ v. v) r (Value t id name)
+unresolved t id name e r returned refused = subst (λ (x : Result (Option ℕ) BtfError). Meets (λ v. v) x (Value t id name)) (sym returned) (refused.0, refused.1, inl refused.2)
 
--- `Tells` says all that `Answers` says
-pub told_answers : {X Y : Type 0} (view : X → Y) (r : Result X BtfError) (P : Result Y Refusal → Type 0) → Tells view r P → Answers view r P
+-- `Meets` says all that `MeetsOrNoMemory` says
+pub told_answers : {X Y : Type 0} (view : X → Y) (r : Result X BtfError) (P : Result Y Refusal → Type 0) → Meets view r P → MeetsOrNoMemory view r P
 told_answers view (Ok x) P told = told
 told_answers view (Err e) P told = subst (λ (o : Option Refusal). IfSome o (λ refusal. P (Err refusal))) (sym told.1) told.2
 
 -- there is one answer
-pub only_one : (t : Table) (id : ℕ) (name : List ℕ) (r : Result (Option ℕ) BtfError) → Answers (λ v. v) r (Value t id name) → (answer : Result (Option ℕ) Refusal) → Value t id name answer → Gives (λ v. v) r answer
+pub only_one : (t : Table) (id : ℕ) (name : List ℕ) (r : Result (Option ℕ) BtfError) → MeetsOrNoMemory (λ v. v) r (Value t id name) → (answer : Result (Option ℕ) Refusal) → Value t id name answer → IsOrNoMemory (λ v. v) r answer
 only_one t id name (Ok found) value answer is = one_value t id name (Ok found) answer value is
 only_one t id name (Err e) value answer is = IfSome_then (refusal_of e) value (λ refusal refused. one_value t id name (Err refusal) answer refused is)

@@ -20,7 +20,7 @@ use Rattle.btf_model.proofs.RunStates as states
 use Rattle.btf_model.specs.Run.{Begins}
 use Rattle.btf_model.proofs.RunStates.{open_pairs, Outcome, BeginsWith, run_begun, run_on, run_paid, run_starts, run_fails, run_refused, run_differs, run_ends, run_begins, run_settles}
 use Rattle.btf_model.proofs.RunLengths.{widest, left_to_do, less_started}
-use Rattle.btf_words.specs.Error.{Answers, Tells, refusal_of}
+use Rattle.btf_words.specs.Error.{MeetsOrNoMemory, Meets, refusal_of}
 use Rattle.btf_words.specs.declared.error.BtfError.{BtfError}
 use Rattle.btf_words.specs.declared.error.BtfError.TheVariants as errors
 use Rattle.btf_compare.specs.declared.frame.Frame.{Frame}
@@ -38,7 +38,7 @@ Compares local target root result IsTold = (answer : Result Bool Refusal) × (li
 abbrev pub TellsOneMore : (List (ℕ × ℕ) → Type 0) → (List (ℕ × ℕ) → Type 0) → ℕ × ℕ → Type 0
 TellsOneMore IsTold IsToldNow ids = (before : List (ℕ × ℕ)) → IsTold before → IsToldNow (before ++ ids ∷ [])
 
-answered : (local target : Table) (Settled : Pair → Type 0) (root : Pair) (answer : Result Bool Refusal) (listed : List Pair) (result : Result Bool BtfError) (IsTold : List (ℕ × ℕ) → Type 0) → Outcome local target Settled root answer listed → Tells (λ b. b) result (λ a. a ≡ answer) → IsTold (map ids_of listed)
+answered : (local target : Table) (Settled : Pair → Type 0) (root : Pair) (answer : Result Bool Refusal) (listed : List Pair) (result : Result Bool BtfError) (IsTold : List (ℕ × ℕ) → Type 0) → Outcome local target Settled root answer listed → Meets (λ b. b) result (λ a. a ≡ answer) → IsTold (map ids_of listed)
     → Compares local target root result IsTold
 answered local target Settled root answer listed result IsTold outcome tells added = (answer, outcome.0, outcome.1, inl (tells, subst (λ (x : List Pair). IsTold (map ids_of x)) (sym outcome.2) added))
 
@@ -50,8 +50,8 @@ pub told_on : (local target : Table) (root : Pair) (result : Result Bool BtfErro
 told_on local target root result IsTold IsToldNow more h = (h.0, h.1, h.2, elim h.3 [ inl t ↦ inl (t.0, more (map ids_of (firsts h.1)) t.1) | inr t ↦ inr (t.0, t.1, t.2, t.3, more (map ids_of t.1) t.4) ])
 
 -- an error tells its refusal
-tells_refusal : (result : Result Bool BtfError) (e : BtfError) (refusal : Refusal) → result ≡ Err e → refusal_of e ≡ Some refusal → Tells (λ b. b) result (λ a. a ≡ Err refusal)
-tells_refusal result e refusal is known = subst (λ (r : Result Bool BtfError). Tells (λ b. b) r (λ a. a ≡ Err refusal)) (sym is) (refusal, known, refl)
+tells_refusal : (result : Result Bool BtfError) (e : BtfError) (refusal : Refusal) → result ≡ Err e → refusal_of e ≡ Some refusal → Meets (λ b. b) result (λ a. a ≡ Err refusal)
+tells_refusal result e refusal is known = subst (λ (r : Result Bool BtfError). Meets (λ b. b) r (λ a. a ≡ Err refusal)) (sym is) (refusal, known, refl)
 
 not_true : (refusal : Refusal) → ◌≡◌ {A = Result Bool Refusal} (Err refusal) (Ok true) → ⊥
 not_true refusal is = none-some true (ap result_ok is)
@@ -155,16 +155,16 @@ module _ (local target : Table) (root : ℕ × ℕ) where
 -- ---- in the loop
 
 -- what an error says, an equal one says
-told_again : (answer result : Result Bool BtfError) (e : BtfError) (P : Result Bool Refusal → Type 0) → answer ≡ Err e → result ≡ Err e → Tells (λ b. b) answer P → (refusal : Refusal) × P (Err refusal) × Tells (λ b. b) result (λ a. a ≡ Err refusal)
+told_again : (answer result : Result Bool BtfError) (e : BtfError) (P : Result Bool Refusal → Type 0) → answer ≡ Err e → result ≡ Err e → Meets (λ b. b) answer P → (refusal : Refusal) × P (Err refusal) × Meets (λ b. b) result (λ a. a ≡ Err refusal)
 told_again answer result e P is same h =
-    let given = subst (λ (r : Result Bool BtfError). Tells (λ b. b) r P) is h in
+    let given = subst (λ (r : Result Bool BtfError). Meets (λ b. b) r P) is h in
     (given.0, given.2, tells_refusal result e given.0 same given.1)
 
 module _ (local target : Table) (root : Pair) (opened settled : PairSet) (top : runs.Frame) (below : List runs.Frame) (many : ℕ) (IsTold : List (ℕ × ℕ) → Type 0) (state : IsRunning local target root opened settled top below many IsTold) where
   pub no_memory : HaveKinds local → HaveKinds target → (result : Result Bool BtfError) → result ≡ Err errors.OutOfMemory → Compares local target root result IsTold
   no_memory ls ts result is = cut_short local target (IsIn settled) root state.listed result IsTold (run_begins local target (IsIn settled) ls ts root top below state.listed state.run) is state.added
 
-  pub ends_refused : (answer result : Result Bool BtfError) (e : BtfError) → answer ≡ Err e → result ≡ Err e → Tells (λ b. b) answer (λ a. IsNext local target top (runs.Ends a)) → Compares local target root result IsTold
+  pub ends_refused : (answer result : Result Bool BtfError) (e : BtfError) → answer ≡ Err e → result ≡ Err e → Meets (λ b. b) answer (λ a. IsNext local target top (runs.Ends a)) → Compares local target root result IsTold
   ends_refused answer result e is same h =
       let told = told_again answer result e (λ a. IsNext local target top (runs.Ends a)) is same h in
       answered local target (IsIn settled) root (Err told.0) state.listed result IsTold (run_fails local target (IsIn settled) root top below state.listed state.run (Err told.0) told.1 (not_true told.0)) told.2 state.added
@@ -293,14 +293,14 @@ module _ (local target : Table) (root : Pair) where
 
 -- ---- the answer alone
 
-tells_answer : (result : Result Bool BtfError) (answer : Result Bool Refusal) (P : Result Bool Refusal → Type 0) → Tells (λ b. b) result (λ a. a ≡ answer) → P answer → Answers (λ b. b) result P
+tells_answer : (result : Result Bool BtfError) (answer : Result Bool Refusal) (P : Result Bool Refusal → Type 0) → Meets (λ b. b) result (λ a. a ≡ answer) → P answer → MeetsOrNoMemory (λ b. b) result P
 tells_answer (Ok b) answer P is h = subst P (sym is) h
 tells_answer (Err e) answer P is h = known_refusal e is.0 (λ f. P (Err f)) is.1 (subst P (sym is.2) h)
 
-no_answer : (result : Result Bool BtfError) (P : Result Bool Refusal → Type 0) → result ≡ Err errors.OutOfMemory → Answers (λ b. b) result P
-no_answer result P is = subst (λ (r : Result Bool BtfError). Answers (λ b. b) r P) (sym is) tt
+no_answer : (result : Result Bool BtfError) (P : Result Bool Refusal → Type 0) → result ≡ Err errors.OutOfMemory → MeetsOrNoMemory (λ b. b) result P
+no_answer result P is = subst (λ (r : Result Bool BtfError). MeetsOrNoMemory (λ b. b) r P) (sym is) tt
 
-pub answers : (local target : Table) (root : Pair) (result : Result Bool BtfError) (IsTold : List (ℕ × ℕ) → Type 0) → Compares local target root result IsTold → Answers (λ b. b) result (λ answer. (listed : List Pair) × Plain local target [] root answer listed)
+pub answers : (local target : Table) (root : Pair) (result : Result Bool BtfError) (IsTold : List (ℕ × ℕ) → Type 0) → Compares local target root result IsTold → MeetsOrNoMemory (λ b. b) result (λ answer. (listed : List Pair) × Plain local target [] root answer listed)
 answers local target root result IsTold h =
     elim h.3 [
       | inl told ↦ tells_answer result h.0 (λ answer. (listed : List Pair) × Plain local target [] root answer listed) told.0 (h.1, h.2)

@@ -6,7 +6,7 @@ use Rattle.btf_model.specs.Refusal.{Refusal}
 use Rattle.btf_model.specs.Table.{Table}
 use Rattle.btf_model.specs.Walk.{Finding, Ends, Resolves}
 use Rattle.btf_model.specs.Fields.{Pair, IsAt, FieldsFound, FieldsFind}
-use Rattle.btf_words.specs.Error.{Answers, refusal_of}
+use Rattle.btf_words.specs.Error.{MeetsOrNoMemory, refusal_of}
 use Rattle.btf_words.specs.declared.error.BtfError.{BtfError}
 use Rattle.btf_compare.specs.declared.fields.FieldStep.{FieldStep}
 use Rattle.btf_compare.specs.declared.fields.FieldStep.TheVariants as steps
@@ -17,7 +17,7 @@ refused_weaker : (o : Option Refusal) (P Q : Refusal → Type 0) → ((f : Refus
 refused_weaker (Some f) P Q more h = more f h
 refused_weaker None P Q more h = h
 
-answers_weaker : (r : Result Bool BtfError) (P Q : Result Bool Refusal → Type 0) → ((a : Result Bool Refusal) → P a → Q a) → Answers (λ b. b) r P → Answers (λ b. b) r Q
+answers_weaker : (r : Result Bool BtfError) (P Q : Result Bool Refusal → Type 0) → ((a : Result Bool Refusal) → P a → Q a) → MeetsOrNoMemory (λ b. b) r P → MeetsOrNoMemory (λ b. b) r Q
 answers_weaker (Ok b) P Q more h = more (Ok b) h
 answers_weaker (Err e) P Q more h = refused_weaker (refusal_of e) (λ f. P (Err f)) (λ f. Q (Err f)) (λ f p. more (Err f) p) h
 

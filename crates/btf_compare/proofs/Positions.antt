@@ -12,7 +12,7 @@ use Rattle.btf_model.specs.Fields.{Pair}
 use Rattle.btf_model.specs.Compat as model
 use Rattle.btf_model.specs.Compat.{Told, On, Owes, Finds, PositionFound, parameter_types, pairs, prototypes, ResolvesPair}
 use Rattle.btf_model.proofs.Comparisons.{same_pair}
-use Rattle.btf_words.specs.Error.{Tells}
+use Rattle.btf_words.specs.Error.{Meets}
 use Rattle.btf_words.specs.declared.error.BtfError.{BtfError}
 use Rattle.btf_items.specs.Items.{param_words}
 use Rattle.btf_items.specs.declared.items.BtfParam.{BtfParam}
@@ -50,7 +50,7 @@ no_local_type local target at refusal h = inl (refusal, inl h, refl)
 pub no_target_type : (local target : Table) (at : Pair) (found : ℕ × Kind × Record) (refusal : Refusal) → IsResolved local at.local (Ok found) → IsResolved target at.target (Err refusal) → Finds local target at (Told (Err refusal))
 no_target_type local target at found refusal h g = inl (refusal, inr (found.0, h.0, g), refl)
 
-told_more : (answer : Result Bool BtfError) (P Q : model.Position → Type 0) → ((x : model.Position) → P x → Q x) → Tells (λ b. b) answer (λ a. P (Told a)) → Tells (λ b. b) answer (λ a. Q (Told a))
+told_more : (answer : Result Bool BtfError) (P Q : model.Position → Type 0) → ((x : model.Position) → P x → Q x) → Meets (λ b. b) answer (λ a. P (Told a)) → Meets (λ b. b) answer (λ a. Q (Told a))
 told_more (Ok b) P Q more h = more (Told (Ok b)) h
 told_more (Err e) P Q more h = (h.0, h.1, more (Told (Err h.0)) h.2)
 

@@ -9,7 +9,7 @@ use Rattle.btf_model.specs.Fields.{Pair}
 use Rattle.btf_model.specs.Compat.{Told, On, Finds, ResolvesPair}
 use Rattle.btf_model.specs.Run as runs
 use Rattle.btf_model.specs.Run.{IsNext}
-use Rattle.btf_words.specs.Error.{Tells, refusal_of}
+use Rattle.btf_words.specs.Error.{Meets, refusal_of}
 use Rattle.btf_words.specs.declared.error.BtfError.{BtfError}
 use Rattle.btf_compare.specs.declared.frame.Frame.{Frame}
 use Rattle.btf_compare.specs.declared.position.ProtoPair.{ProtoPair}
@@ -23,7 +23,7 @@ module _ (local target : Table) (f : Frame) where
   pub too_deep : walk_limit ≤ f.gone → IsNext local target (frame_of f) (runs.Ends (Err (MaximumTypeDepthReached f.at.0)))
   too_deep le = inl (omega (arith, le), refl)
 
-  pub told : (answer : Result Bool BtfError) → f.gone < walk_limit → Tells (λ b. b) answer (λ a. Finds local target (pair_of f.at) (Told a)) → Tells (λ b. b) answer (λ a. IsNext local target (frame_of f) (runs.Ends a))
+  pub told : (answer : Result Bool BtfError) → f.gone < walk_limit → Meets (λ b. b) answer (λ a. Finds local target (pair_of f.at) (Told a)) → Meets (λ b. b) answer (λ a. IsNext local target (frame_of f) (runs.Ends a))
   told (Ok b) lt h = inr (walk_limit - (f.gone + 1), one_more f.gone lt, inl h)
   told (Err e) lt h = (h.0, h.1, inr (walk_limit - (f.gone + 1), one_more f.gone lt, inl h.2))
 

@@ -14,7 +14,7 @@ use Rattle.btf_model.specs.Laws.{AreIds}
 use Rattle.btf_model.specs.Run as runs
 use Rattle.btf_model.specs.Run.{new_frame, IsNext}
 use Rattle.btf_model.specs.Run.{Begins}
-use Rattle.btf_words.specs.Error.{Tells}
+use Rattle.btf_words.specs.Error.{Meets}
 use Rattle.btf_words.specs.declared.error.BtfError.{BtfError}
 use Rattle.btf_words.specs.declared.error.BtfError.TheVariants as errors
 use Rattle.btf_items.specs.declared.items.BtfParam.{BtfParam}
@@ -40,7 +40,7 @@ owed_by found = pairs (types_of found.params.now) (types_of found.others.now)
 
 -- the position is one of which P holds
 abbrev pub PositionIs : Position → (model.Position → Type 0) → Type 0
-PositionIs (positions.Told answer) P = Tells (λ b. b) answer (λ a. P (Told a))
+PositionIs (positions.Told answer) P = Meets (λ b. b) answer (λ a. P (Told a))
 PositionIs (positions.On next) P = P (On (pair_of next))
 PositionIs (positions.Owes found) P = P (Owes (owed_by found) (pair_of found.returns))
 
@@ -86,7 +86,7 @@ pub data WalksTo (local target : Table) (passed : Pair → Bool) (f : runs.Frame
 abbrev pub ComesTo : Table → Table → Frame → Result Place BtfError → Type 0
 ComesTo local target f (Ok (places.Owes found)) = AreAt local target f found
 ComesTo local target f (Ok (places.Ends answer)) = IsNext local target (frame_of f) (runs.Ends (Ok answer))
-ComesTo local target f (Err e) = Tells (λ b. b) (Err e) (λ a. IsNext local target (frame_of f) (runs.Ends a))
+ComesTo local target f (Err e) = Meets (λ b. b) (Err e) (λ a. IsNext local target (frame_of f) (runs.Ends a))
 
 -- What comes next for the open pair f at these prototypes, and makes it g: a pair that has to be compatible, or none
 -- after their last parameters, or an error.
@@ -94,7 +94,7 @@ abbrev pub PaysNext : Table → Table → Frame → Frame → ProtoPair → Resu
 PaysNext local target f g found (Ok (Some ids)) =
     IsNext local target (frame_of f) (runs.Waits (pair_of ids) (frame_of g))
 PaysNext local target f g found (Ok None) = (length (owed_by found) ≤ f.parameter) × (g ≡ f)
-PaysNext local target f g found (Err e) = Tells (λ b. b) (Err e) (λ a. IsNext local target (frame_of f) (runs.Ends a))
+PaysNext local target f g found (Err e) = Meets (λ b. b) (Err e) (λ a. IsNext local target (frame_of f) (runs.Ends a))
 
 -- the set has gained these ids at most
 abbrev pub GainsOnly : BTreeSet (ℕ × ℕ) → BTreeSet (ℕ × ℕ) → Pair → Type 0
@@ -137,14 +137,14 @@ IsRefused local target p e =
 -- The call returns this, and these pairs were reported, by IsTold; or memory is refused after a beginning of them.
 abbrev pub TracesBy : (List (ℕ × ℕ) → Type 0) → Result Bool BtfError → Result Bool Refusal → List Pair → Type 0
 TracesBy IsTold result answer listed =
-    (Tells (λ b. b) result (λ a. a ≡ answer) × IsTold (map ids_of listed))
+    (Meets (λ b. b) result (λ a. a ≡ answer) × IsTold (map ids_of listed))
     ⊎ ((result ≡ Err errors.OutOfMemory) × (front rest : List Pair) × (listed ≡ front ++ rest)
     × IsTold (map ids_of front))
 
 -- The call returns this, and adds these pairs to the list, at its end; or memory is refused after a beginning of them.
 abbrev pub Traces : Result Bool BtfError → Result Bool Refusal → List (ℕ × ℕ) → List (ℕ × ℕ) → List Pair → Type 0
 Traces result answer old new listed =
-    (Tells (λ b. b) result (λ a. a ≡ answer) × (new ≡ old ++ map ids_of listed))
+    (Meets (λ b. b) result (λ a. a ≡ answer) × (new ≡ old ++ map ids_of listed))
     ⊎ ((result ≡ Err errors.OutOfMemory) × (front rest : List Pair) × (listed ≡ front ++ rest)
     × (new ≡ old ++ map ids_of front))
 

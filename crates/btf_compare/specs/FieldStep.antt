@@ -2,12 +2,12 @@
 use Rattle.std.specs.Prelude.{Bool}
 use Rattle.btf_model.specs.Walk.{Finding, Ends, GoesOn}
 use Rattle.btf_model.specs.Fields.{Pair}
-use Rattle.btf_words.specs.Error.{Answers}
+use Rattle.btf_words.specs.Error.{MeetsOrNoMemory}
 use Rattle.btf_compare.specs.declared.fields.FieldStep.{FieldStep}
 use Rattle.btf_compare.specs.declared.fields.FieldStep.TheVariants as steps
 use Rattle.btf_compare.specs.Pairs.{pair}
 
 -- the step is a finding of which P holds, or memory was refused
 abbrev pub StepIs : FieldStep → (Finding Pair Bool → Type 0) → Type 0
-StepIs (steps.Ends answer) P = Answers (λ b. b) answer (λ a. P (Ends a))
+StepIs (steps.Ends answer) P = MeetsOrNoMemory (λ b. b) answer (λ a. P (Ends a))
 StepIs (steps.GoesOn local target) P = P (GoesOn (pair local target))

@@ -3,7 +3,7 @@
 ghost use Rattle.std.specs.Prelude.{◌≡◌};
 ghost use Rattle.btf_model.specs.Fields.{Fields, FieldsFind, FieldsFound, field_by, before_flavor, same_names};
 ghost use Rattle.btf_model.specs.Text.{text_at};
-ghost use Rattle.btf_words.specs.Error.{Answers};
+ghost use Rattle.btf_words.specs.Error.{MeetsOrNoMemory};
 ghost use Rattle.btf_records.specs.BtfType.{record_of, type_kind};
 ghost use Rattle.btf_compare.specs.FieldStep.{StepIs};
 ghost use Rattle.btf_compare.specs.Pairs.{pair};
@@ -39,7 +39,7 @@ pub fn fields_are_compatible(
     target: &Btf,
     target_id: u32,
 ) -> Result<bool, BtfError>
-    ensures { Answers (λ b. b) result (Fields local.now local_id target.now target_id) }
+    ensures { MeetsOrNoMemory (λ b. b) result (Fields local.now local_id target.now target_id) }
 {
     let mut local_id = local_id;
     let mut target_id = target_id;
@@ -123,7 +123,7 @@ fn named_alike(
     target: &Btf,
     target_type: &BtfType,
 ) -> Result<bool, BtfError>
-    ensures { Answers (λ b. b) result
+    ensures { MeetsOrNoMemory (λ b. b) result
         (λ answer. answer ≡ same_names (text_at local.now.strings (record_of local_type.now).name)
         (text_at target.now.strings (record_of target_type.now).name)) }
 {

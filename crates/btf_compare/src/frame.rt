@@ -3,7 +3,7 @@
 ghost use Rattle.std.specs.Prelude.{◌≡◌, ◌+◌, ◌<◌};
 ghost use Rattle.btf_model.specs.Compat.{ResolvesPair};
 ghost use Rattle.btf_model.specs.Run.{new_frame};
-ghost use Rattle.btf_words.specs.Error.{Tells};
+ghost use Rattle.btf_words.specs.Error.{Meets};
 ghost use Rattle.btf_compare.specs.Compared.{AreAt, WalksTo, ComesTo, PaysNext, frame_of, passed_in};
 ghost use Rattle.btf_compare.specs.Pairs.{pair_of};
 
@@ -106,7 +106,7 @@ impl Frame {
 
 /// The ids that two ids resolve to, the local one first.
 fn resolved_ids(local: &Btf, target: &Btf, at: (u32, u32)) -> Result<(u32, u32), BtfError>
-    ensures { Tells pair_of result (ResolvesPair local.now target.now (pair_of at)) }
+    ensures { Meets pair_of result (ResolvesPair local.now target.now (pair_of at)) }
 {
     let local_id = local.resolve_type(at.0)?;
     let target_id = target.resolve_type(at.1)?;

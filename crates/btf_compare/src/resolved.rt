@@ -1,6 +1,6 @@
 //! Types that the comparisons look at, after modifiers.
 
-ghost use Rattle.btf_words.specs.Error.{Tells};
+ghost use Rattle.btf_words.specs.Error.{Meets};
 ghost use Rattle.btf_records.specs.BtfType.{record_of, type_kind};
 ghost use Rattle.btf_compare.specs.Pairs.{IsResolved};
 
@@ -11,7 +11,7 @@ use btf_table::Btf;
 /// The id and the type that an id resolves to.
 #[inline(always)]
 pub fn resolved(table: &Btf, type_id: u32) -> Result<(u32, &BtfType), BtfError>
-    ensures { Tells (λ found. (found.0, type_kind found.1.now, record_of found.1.now)) result
+    ensures { Meets (λ found. (found.0, type_kind found.1.now, record_of found.1.now)) result
         (IsResolved table.now type_id) }
 {
     let id = table.resolve_type(type_id)?;

@@ -4,7 +4,7 @@ ghost use Rattle.std.specs.Prelude.{[], List, Bool, Result};
 ghost use Rattle.btf_model.specs.Fields.{Pair};
 ghost use Rattle.btf_model.specs.Refusal.{Refusal};
 ghost use Rattle.btf_model.specs.Compat.{Plain, firsts};
-ghost use Rattle.btf_words.specs.Error.{Answers};
+ghost use Rattle.btf_words.specs.Error.{MeetsOrNoMemory};
 ghost use Rattle.btf_compare.specs.Compared.{Traces, GainsStarts};
 ghost use Rattle.btf_compare.specs.Pairs.{pair};
 
@@ -36,7 +36,7 @@ pub fn types_are_compatible(
     target: &Btf,
     target_id: u32,
 ) -> Result<bool, BtfError>
-    ensures { Answers (λ b. b) result
+    ensures { MeetsOrNoMemory (λ b. b) result
         (λ answer. (listed : List Pair)
         × Plain local.now target.now [] (pair local_id target_id) answer listed) }
 {

@@ -6,7 +6,7 @@ mod sections;
 
 ghost use Rattle.std.specs.Prelude.{◌≡◌, map, Ok};
 ghost use Rattle.btf_model.specs.Ext.{IsExt};
-ghost use Rattle.btf_words.specs.Error.{Answers, Gives};
+ghost use Rattle.btf_words.specs.Error.{MeetsOrNoMemory, IsOrNoMemory};
 ghost use Rattle.btf_words.specs.Endianness.{order_of};
 ghost use Rattle.btf_ext.specs.Info.{funcs_by_name, lines_by_name};
 ghost use Rattle.btf_ext.specs.Relocation.{relocation};
@@ -42,7 +42,8 @@ impl BtfExt {
     /// `SecInfoIter` reports it, and for functions and lines `InvalidStringOffset` of a name that can't be read.
     /// Magic, version and flags are not looked at.
     pub fn parse(data: &[u8], endianness: Endianness, btf: &Btf) -> Result<BtfExt, BtfError>
-        ensures { Answers ext result (IsExt (order_of endianness) «data».now btf.now.strings) }
+        ensures { MeetsOrNoMemory ext result
+            (IsExt (order_of endianness) «data».now btf.now.strings) }
     {
         let alloc = allocator_of(btf);
         let header = Header::read(data, endianness)?;
@@ -99,7 +100,7 @@ impl BtfExt {
 
     /// An equal value. `OutOfMemory` is the only error.
     pub fn try_clone(&self) -> Result<Self, BtfError>
-        ensures { Gives ext result (Ok (ext self.now)) }
+        ensures { IsOrNoMemory ext result (Ok (ext self.now)) }
     {
         Ok(Self {
             func_info_rec_size: self.func_info_rec_size,

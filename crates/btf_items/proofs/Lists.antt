@@ -11,7 +11,7 @@ use Rattle.btf_model.specs.Record.{Kind, Record, kind_of, vlen, tail_words}
 use Rattle.btf_model.specs.Spelling.{kept, IsWhole}
 use Rattle.btf_words.specs.declared.error.BtfError.{BtfError}
 use Rattle.btf_words.specs.declared.error.BtfError.TheVariants.{InvalidTypeInfo}
-use Rattle.btf_words.specs.Error.{Answers}
+use Rattle.btf_words.specs.Error.{MeetsOrNoMemory}
 use Rattle.btf_items.specs.ReadItems.{ReadsItems}
 
 -- words, and then more words
@@ -54,12 +54,12 @@ more_items width item_words order bytes n items more rest next x h le words next
     }
 
 -- an item that is cut
-pub items_cut : {X : Type 0} (width : ℕ) (item_words : X → List ℕ) (order : Order) (bytes : List ℕ) (n count : ℕ) (items : List X) (rest : List ℕ) (e : BtfError) (r : Result (Vec X Global) BtfError) → ItemsSoFar width item_words order bytes n items rest → n < count → length rest < 4 * width → e ≡ InvalidTypeInfo → IsErrAnd r (λ y. y ≡ e) → Answers (λ v. v.items) r (ReadsItems width item_words order bytes count)
+pub items_cut : {X : Type 0} (width : ℕ) (item_words : X → List ℕ) (order : Order) (bytes : List ℕ) (n count : ℕ) (items : List X) (rest : List ℕ) (e : BtfError) (r : Result (Vec X Global) BtfError) → ItemsSoFar width item_words order bytes n items rest → n < count → length rest < 4 * width → e ≡ InvalidTypeInfo → IsErrAnd r (λ y. y ≡ e) → MeetsOrNoMemory (λ v. v.items) r (ReadsItems width item_words order bytes count)
 items_cut {X} width item_words order bytes n count items rest e r h lt short is err =
     let p = err_from_is_err_and r err in
     let le : width * (n + 1) ≤ width * count = mul-le-mul_left width (omega arith) in
     let cut : length bytes < 4 * (width * count) = omega (arith, h.within, short, le, ap length h.behind, length-drop (4 * (width * n)) bytes) in
-    subst (λ (x : Result (Vec X Global) BtfError). Answers (λ v. v.items) x (ReadsItems width item_words order bytes count)) (sym (p.1 ∙ ap (λ (x : BtfError). Err x) (p.2 ∙ is))) (cut, refl)
+    subst (λ (x : Result (Vec X Global) BtfError). MeetsOrNoMemory (λ v. v.items) x (ReadsItems width item_words order bytes count)) (sym (p.1 ∙ ap (λ (x : BtfError). Err x) (p.2 ∙ is))) (cut, refl)
 
 -- ---- lists as the tail of a record
 

@@ -1,7 +1,7 @@
 //! What an ENUM64 was before a UNION took its place.
 
 ghost use Rattle.std.specs.Prelude.{◌≡◌, Ok};
-ghost use Rattle.btf_words.specs.Error.{Gives};
+ghost use Rattle.btf_words.specs.Error.{IsOrNoMemory};
 ghost use Rattle.btf_items.specs.Fallback.{fallback_value, fallback_of_option};
 
 use btf_words::BtfError;
@@ -27,7 +27,7 @@ pub struct Enum64Fallback {
 impl Enum64Fallback {
     /// An equal fallback. `OutOfMemory` is the only error.
     pub fn try_clone(&self) -> Result<Self, BtfError>
-        ensures { Gives fallback_value result (Ok (fallback_value self.now)) }
+        ensures { IsOrNoMemory fallback_value result (Ok (fallback_value self.now)) }
     {
         let mut variants = Vec::with_capacity(*self.variants.allocator(), self.variants.len())?;
         for variant in &self.variants {
@@ -45,7 +45,7 @@ impl Enum64Fallback {
 
 /// An equal fallback, if there is one. `OutOfMemory` is the only error.
 pub fn clone_fallback(fallback: &Option<Enum64Fallback>) -> Result<Option<Enum64Fallback>, BtfError>
-    ensures { Gives fallback_of_option result (Ok (fallback_of_option fallback.now)) }
+    ensures { IsOrNoMemory fallback_of_option result (Ok (fallback_of_option fallback.now)) }
 {
     match fallback {
         Some(fallback) => Ok(Some(fallback.try_clone()?)),

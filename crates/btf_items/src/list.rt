@@ -3,7 +3,7 @@
 ghost use Rattle.std.specs.Prelude.{◌≡◌, ℕ, ◌*◌, ◌<◌, ◌≤◌, ◌^◌, ◌++◌, List, length, drop, vec_len, Ok, IfOk, OnOk, MatchResult};
 ghost use Rattle.std.specs.List.{flat_map, AllByRecursion};
 ghost use Rattle.btf_model.specs.Word.{word, words_at};
-ghost use Rattle.btf_words.specs.Error.{Answers};
+ghost use Rattle.btf_words.specs.Error.{MeetsOrNoMemory};
 ghost use Rattle.btf_words.specs.Endianness.{order_of};
 ghost use Rattle.btf_items.specs.ReadItems.{ReadsItems};
 
@@ -22,7 +22,9 @@ pub trait Item: Sized + Clone + Drop {
     /// The item at the front of bytes, and what follows it.
     fn read(bytes: &[u8], endianness: Endianness) -> Result<(Self, &[u8]), BtfError>
         ensures { MatchResult result
-            (λ x. (4 * width ≤ length bytes.now) × (item_words x.0 ≡ words_at (order_of endianness) width bytes.now) × (x.1.now ≡ drop (4 * width) bytes.now))
+            (λ x. (4 * width ≤ length bytes.now)
+            × (item_words x.0 ≡ words_at (order_of endianness) width bytes.now)
+            × (x.1.now ≡ drop (4 * width) bytes.now))
             (λ e. (length bytes.now < 4 * width) × (e ≡ BtfError.InvalidTypeInfo)) };
 
     /// Writes the item at the end of bytes.
@@ -68,7 +70,7 @@ pub fn read_items<T: Item>(
     endianness: Endianness,
     count: usize,
 ) -> Result<Vec<T>, BtfError>
-    ensures { Answers (λ v. v.items) result
+    ensures { MeetsOrNoMemory (λ v. v.items) result
         (ReadsItems T.width T.item_words (order_of endianness) bytes.now count) }
 {
     let mut items = Vec::with_capacity(alloc, count)?;

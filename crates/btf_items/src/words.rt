@@ -11,7 +11,8 @@ use std::alloc::AllocError;
 /// The first word of bytes, and what follows it.
 pub fn split_word(bytes: &[u8], endianness: Endianness) -> Result<(u32, &[u8]), BtfError>
     ensures { MatchResult result
-        (λ x. (4 ≤ length bytes.now) × (x.0 ≡ word_of (order_of endianness) (take 4 bytes.now)) × (x.1.now ≡ drop 4 bytes.now))
+        (λ x. (4 ≤ length bytes.now) × (x.0 ≡ word_of (order_of endianness) (take 4 bytes.now))
+        × (x.1.now ≡ drop 4 bytes.now))
         (λ e. (length bytes.now < 4) × (e ≡ BtfError.InvalidTypeInfo)) }
 {
     let Some((word, rest)) = bytes.split_first_chunk::<4>() else {

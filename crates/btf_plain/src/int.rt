@@ -24,7 +24,12 @@ impl Model for Int {
 
     ghost Value = { Record };
 
-    ghost view = { λ a. record { name = a.name_offset; info = a.info; third = a.size; tail = a.word ∷ [] } };
+    ghost view = { λ a. record {
+      name = a.name_offset;
+      info = a.info;
+      third = a.size;
+      tail = a.word ∷ [] };
+    };
 
     ghost invariant = { λ a. kind_of a.info ≡ Some IntKind };
 }

@@ -19,7 +19,7 @@ use Rattle.btf_words.specs.Kind.{kind}
 use Rattle.btf_plain.specs.declared.linkage.VarLinkage.{VarLinkage}
 use Rattle.btf_plain.specs.declared.linkage.VarLinkage.TheVariants as linkages
 use Rattle.btf_plain.specs.Linkage.{var_linkage_number}
-use Rattle.btf_words.specs.Error.{Answers, refusal_of}
+use Rattle.btf_words.specs.Error.{MeetsOrNoMemory, refusal_of}
 use Rattle.btf_records.specs.declared.btf_type.BtfType.{BtfType}
 use Rattle.btf_records.specs.BtfType.{record_of}
 use Rattle.btf_records.specs.declared.codec.Head.{Head}
@@ -40,23 +40,23 @@ tail_read order bytes head rest k r fits h kind tail =
     subst (λ (q : Record). ReadsFront order bytes (Ok q)) (ap (kept k) (behind_is order bytes head rest n h) ∙ sym tail.1) found
 
 -- a tail that is cut
-pub tail_refused : (order : Order) (bytes : List ℕ) (head : Head) (rest : List ℕ) (k : Kind) (r : Result BtfType BtfError) (e : BtfError) → IsErrAnd r (λ y. y ≡ e) → IfSome (refusal_of e) (λ f. ReadsTail order head k rest (Err f)) → IsHead order bytes head rest → kind_of head.info ≡ Some k → Answers record_of r (ReadsFront order bytes)
+pub tail_refused : (order : Order) (bytes : List ℕ) (head : Head) (rest : List ℕ) (k : Kind) (r : Result BtfType BtfError) (e : BtfError) → IsErrAnd r (λ y. y ≡ e) → IfSome (refusal_of e) (λ f. ReadsTail order head k rest (Err f)) → IsHead order bytes head rest → kind_of head.info ≡ Some k → MeetsOrNoMemory record_of r (ReadsFront order bytes)
 tail_refused order bytes head rest k r e err given h kind =
     let p = err_from_is_err_and r err in
     let cut : IfSome (refusal_of e) (λ f. ReadsFront order bytes (Err f)) = IfSome_then (refusal_of e) given (λ f q.
     subst (λ (x : refusals.Refusal). ReadsFront order bytes (Err x)) (sym q.1)
     (reads_cut order bytes k h.long (ap kind_of (sym h.info) ∙ kind) (omega (arith, q.0, length-behind order bytes head rest h, ap (λ (i : ℕ). tail_words k (vlen i)) h.info)))) in
-    subst (λ (x : Result BtfType BtfError). Answers record_of x (ReadsFront order bytes)) (sym (p.1 ∙ ap (λ (x : BtfError). Err x) p.2)) cut
+    subst (λ (x : Result BtfType BtfError). MeetsOrNoMemory record_of x (ReadsFront order bytes)) (sym (p.1 ∙ ap (λ (x : BtfError). Err x) p.2)) cut
 
 -- a kind that does not exist
-pub kind_refused : (order : Order) (bytes : List ℕ) (head : Head) (rest : List ℕ) (number : ℕ) (r : Result BtfType BtfError) (e : BtfError) → IsErrAnd r (λ y. y ≡ e) → slice_get kinds number ≡ None → e ≡ InvalidTypeKind number → number ≡ kind_number head.info → IsHead order bytes head rest → Answers record_of r (ReadsFront order bytes)
+pub kind_refused : (order : Order) (bytes : List ℕ) (head : Head) (rest : List ℕ) (number : ℕ) (r : Result BtfType BtfError) (e : BtfError) → IsErrAnd r (λ y. y ≡ e) → slice_get kinds number ≡ None → e ≡ InvalidTypeKind number → number ≡ kind_number head.info → IsHead order bytes head rest → MeetsOrNoMemory record_of r (ReadsFront order bytes)
 kind_refused order bytes head rest number r e err none is number-is h =
     let p = err_from_is_err_and r err in
     let no_kind : kind_of head.info ≡ None = ap (slice_get kinds) (sym number-is) ∙ none in
     let found = reads_other_kind order bytes h.long (ap kind_of (sym h.info) ∙ no_kind) in
     let same : InvalidTypeKind (kind_number head.info) ≡ e = ap (λ (n : ℕ). InvalidTypeKind n) (sym number-is) ∙ sym is in
     let told : ReadsFront order bytes (Err (refusals.InvalidTypeKind (kind_number head.info))) = subst (λ (i : ℕ). ReadsFront order bytes (Err (refusals.InvalidTypeKind (kind_number i)))) (sym h.info) found in
-    subst (λ (x : Result BtfType BtfError). Answers record_of x (ReadsFront order bytes)) (sym (p.1 ∙ ap (λ (x : BtfError). Err x) (p.2 ∙ sym same))) told
+    subst (λ (x : Result BtfType BtfError). MeetsOrNoMemory record_of x (ReadsFront order bytes)) (sym (p.1 ∙ ap (λ (x : BtfError). Err x) (p.2 ∙ sym same))) told
 
 -- ---- what is written
 

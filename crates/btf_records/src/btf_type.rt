@@ -67,7 +67,7 @@ impl BtfType {
     ghost use Rattle.btf_items.specs.Items.{member_words};
     ghost use Rattle.btf_model.specs.Record.{kind_of, compared_kind, record_size, record_target, member_bit_offset, member_bit_field_size};
     ghost use Rattle.btf_model.specs.Record as model;
-    ghost use Rattle.btf_words.specs.Error.{Gives};
+    ghost use Rattle.btf_words.specs.Error.{IsOrNoMemory};
     ghost use Rattle.btf_words.specs.Kind as kinds;
     ghost use Rattle.btf_records.specs.BtfType.{record_of, fallback_of, type_kind};
 
@@ -232,7 +232,7 @@ impl BtfType {
         ensures { IsTrue result ↔ (compared_kind (type_kind self.now) ≡ compared_kind
             (type_kind other.now)) }
     {
-        compared(self.kind()) == compared(other.kind())
+        kind_to_compare(self.kind()) == kind_to_compare(other.kind())
     }
 
     /// The members of a STRUCT or a UNION, in order; None for the other kinds.
@@ -275,8 +275,8 @@ impl BtfType {
 
     /// An equal record, its fallback included. `OutOfMemory` is the only error.
     pub fn try_clone(&self) -> Result<Self, BtfError>
-        ensures record { Gives record_of result (Ok (record_of self.now)) }
-        ensures fallback { Gives fallback_of result (Ok (fallback_of self.now)) }
+        ensures record { IsOrNoMemory record_of result (Ok (record_of self.now)) }
+        ensures fallback { IsOrNoMemory fallback_of result (Ok (fallback_of self.now)) }
     {
         match self {
             BtfType::Unknown => Ok(BtfType::Unknown),
@@ -304,7 +304,7 @@ impl BtfType {
 }
 
 /// ENUM for ENUM64, and each other kind itself.
-fn compared(kind: BtfKind) -> BtfKind
+fn kind_to_compare(kind: BtfKind) -> BtfKind
     ensures { kinds.kind result ≡ compared_kind (kinds.kind kind) }
 {
     match kind {

@@ -5,7 +5,7 @@ ghost use Rattle.btf_model.specs.Record as model;
 ghost use Rattle.btf_model.specs.Record.{kind_number, kind_of};
 ghost use Rattle.btf_model.specs.Spelling.{spell, IsRecord, IsWhole};
 ghost use Rattle.btf_model.specs.Blob.{ReadsFront};
-ghost use Rattle.btf_words.specs.Error.{Answers, Gives};
+ghost use Rattle.btf_words.specs.Error.{MeetsOrNoMemory, IsOrNoMemory};
 ghost use Rattle.btf_words.specs.Endianness.{order_of};
 ghost use Rattle.btf_records.specs.BtfType.{record_of, fallback_of};
 ghost use Rattle.btf_records.specs.Head.{IsHead, ReadsTail};
@@ -58,7 +58,8 @@ impl Head {
 /// An INT of this head.
 fn read_int(head: Head, rest: &[u8], endianness: Endianness) -> Result<Int, BtfError>
     requires { kind_of head.info ≡ Some model.Int }
-    ensures { Answers (λ r. r) result (ReadsTail (order_of endianness) head model.Int rest.now) }
+    ensures { MeetsOrNoMemory (λ r. r) result
+        (ReadsTail (order_of endianness) head model.Int rest.now) }
 {
     let (word, _) = split_word(rest, endianness)?;
     let int = Int::new(head.name, head.third, IntEncoding::None, 0);
@@ -68,7 +69,8 @@ fn read_int(head: Head, rest: &[u8], endianness: Endianness) -> Result<Int, BtfE
 /// A VAR of this head. A linkage that has no name is read as Unknown.
 fn read_var(head: Head, rest: &[u8], endianness: Endianness) -> Result<Var, BtfError>
     requires { kind_of head.info ≡ Some model.Var }
-    ensures { Answers (λ r. r) result (ReadsTail (order_of endianness) head model.Var rest.now) }
+    ensures { MeetsOrNoMemory (λ r. r) result
+        (ReadsTail (order_of endianness) head model.Var rest.now) }
 {
     let (linkage, _) = split_word(rest, endianness)?;
     Ok(Var::new(head.name, head.third, VarLinkage::from(linkage)).with_info(head.info))
@@ -77,7 +79,7 @@ fn read_var(head: Head, rest: &[u8], endianness: Endianness) -> Result<Var, BtfE
 /// A DECL_TAG of this head.
 fn read_decl_tag(head: Head, rest: &[u8], endianness: Endianness) -> Result<DeclTag, BtfError>
     requires { kind_of head.info ≡ Some model.DeclTag }
-    ensures { Answers (λ r. r) result
+    ensures { MeetsOrNoMemory (λ r. r) result
         (ReadsTail (order_of endianness) head model.DeclTag rest.now) }
 {
     let (index, _) = split_word(rest, endianness)?;
@@ -87,7 +89,8 @@ fn read_decl_tag(head: Head, rest: &[u8], endianness: Endianness) -> Result<Decl
 /// An ARRAY of this head, whose third word is dropped.
 fn read_array(head: Head, rest: &[u8], endianness: Endianness) -> Result<Array, BtfError>
     requires { kind_of head.info ≡ Some model.Array }
-    ensures { Answers (λ r. r) result (ReadsTail (order_of endianness) head model.Array rest.now) }
+    ensures { MeetsOrNoMemory (λ r. r) result
+        (ReadsTail (order_of endianness) head model.Array rest.now) }
 {
     let (element_type, rest) = split_word(rest, endianness)?;
     let (index_type, rest) = split_word(rest, endianness)?;
@@ -103,7 +106,8 @@ fn read_with_list<R: WithList>(
     endianness: Endianness,
 ) -> Result<R, BtfError>
     requires { kind_of head.info ≡ Some R.kind }
-    ensures front { Answers R.words result (ReadsTail (order_of endianness) head R.kind rest.now) }
+    ensures front { MeetsOrNoMemory R.words result
+        (ReadsTail (order_of endianness) head R.kind rest.now) }
     ensures alone { IfOk result R.words_alone }
 {
     let items = read_items(alloc, rest, endianness, head.vlen())?;
@@ -117,7 +121,8 @@ impl BtfType {
     /// and `InvalidTypeKind` where there is no such kind. The third word of FWD and ARRAY is dropped, a linkage of VAR
     /// above 2 is read as Unknown, and a record of kind 0 is Unknown whatever its other words are.
     pub fn read(alloc: Global, data: &[u8], endianness: Endianness) -> Result<BtfType, BtfError>
-        ensures front { Answers record_of result (ReadsFront (order_of endianness) «data».now) }
+        ensures front { MeetsOrNoMemory record_of result
+            (ReadsFront (order_of endianness) «data».now) }
         ensures no_fallback { IfOk result (λ t. fallback_of t ≡ None) }
     {
         let (head, rest) = Head::read(data, endianness)?;
@@ -211,7 +216,7 @@ impl BtfType {
 
     /// The bytes of the record, in this order. `OutOfMemory` is the only error.
     pub fn to_bytes(&self, alloc: Global, endianness: Endianness) -> Result<Vec<u8>, BtfError>
-        ensures written { Gives (λ v. v.items) result
+        ensures written { IsOrNoMemory (λ v. v.items) result
             (Ok (spell (order_of endianness) (record_of self.now))) }
         // What is written is read as the record.
         ensures read_again { IfOk result

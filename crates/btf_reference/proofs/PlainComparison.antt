@@ -14,7 +14,7 @@ use Rattle.btf_model.specs.Compat as model
 use Rattle.btf_model.specs.Compat.{Told, On, Owes, Finds, PositionFound, parameter_types, pairs, prototypes, ResolvesPair, Plain, Walked, Paid, AreKnown, pair_eq}
 use Rattle.btf_model.proofs.Known.{Among, among_from_contains, contains_from_among}
 use Rattle.btf_model.proofs.Firsts.{eq_itself, eq_same}
-use Rattle.btf_words.specs.Error.{Tells, refusal_of}
+use Rattle.btf_words.specs.Error.{Meets, refusal_of}
 use Rattle.btf_words.specs.declared.error.BtfError.{BtfError}
 use Rattle.btf_words.specs.declared.error.BtfError.TheVariants as errors
 use Rattle.btf_items.specs.declared.items.BtfParam.{BtfParam}
@@ -26,7 +26,7 @@ use Rattle.btf_reference.specs.PlainComparison.{PositionIs, AreStarted, Lists}
 
 -- ---- what is found after modifiers
 
-told_more : (answer : Result Bool BtfError) (P Q : model.Position → Type 0) → ((x : model.Position) → P x → Q x) → Tells (λ b. b) answer (λ a. P (Told a)) → Tells (λ b. b) answer (λ a. Q (Told a))
+told_more : (answer : Result Bool BtfError) (P Q : model.Position → Type 0) → ((x : model.Position) → P x → Q x) → Meets (λ b. b) answer (λ a. P (Told a)) → Meets (λ b. b) answer (λ a. Q (Told a))
 told_more (Ok b) P Q more h = more (Told (Ok b)) h
 told_more (Err e) P Q more h = (h.0, h.1, more (Told (Err h.0)) h.2)
 
@@ -42,7 +42,7 @@ found_behind local target at found other x h g is =
 
 -- ---- errors that are handed on
 
-pub told_err : {X Y : Type 0} (view : X → Y) (P : Result Y Refusal → Type 0) (r : Result X BtfError) (e : BtfError) (f : Refusal) → IsErrAnd r (λ y. y ≡ e) → refusal_of e ≡ Some f → P (Err f) → Tells view r P
+pub told_err : {X Y : Type 0} (view : X → Y) (P : Result Y Refusal → Type 0) (r : Result X BtfError) (e : BtfError) (f : Refusal) → IsErrAnd r (λ y. y ≡ e) → refusal_of e ≡ Some f → P (Err f) → Meets view r P
 told_err view P (Ok x) e f is told h = absurd is
 told_err view P (Err y) e f is told h = (f, ap refusal_of is ∙ told, h)
 
@@ -89,7 +89,7 @@ lists_other P Q (Ok true) old new never more h = absurd (never refl)
 lists_other P Q (Ok false) old new never more h = (h.0, more (Ok false) h.0 h.1 (λ e. cc), h.2)
 lists_other P Q (Err e) old new never more h = (h.0, h.1, (h.2.0, more (Err h.0) h.2.0 h.2.1 (λ e. cc), h.2.2))
 
-lists_none : (P : Result Bool Refusal → List Pair → Type 0) (r : Result Bool BtfError) (old : List (ℕ × ℕ)) → Tells (λ b. b) r (λ a. P a []) → Lists P r old old
+lists_none : (P : Result Bool Refusal → List Pair → Type 0) (r : Result Bool BtfError) (old : List (ℕ × ℕ)) → Meets (λ b. b) r (λ a. P a []) → Lists P r old old
 lists_none P (Ok b) old h = ([], h, sym (append-nil old))
 lists_none P (Err e) old h = (h.0, h.1, ([], h.2, sym (append-nil old)))
 
@@ -103,7 +103,7 @@ module _ (local target : Table) where
   not_started above p f new (inl h) = subst (λ (g : Refusal). Plain local target above p (Err g) []) (sym h.1) (Plain.no_local above p new h.0)
   not_started above p f new (inr h) = subst (λ (g : Refusal). Plain local target above p (Err g) []) (sym h.3) (Plain.no_target above p h.0 new h.1 h.2)
 
-  pub unknown_lists : (above : List Pair) (ids : ℕ × ℕ) (e : BtfError) (old : List (ℕ × ℕ)) → ¬ (Contains above (pair_of ids)) → Tells {X = Bool} (λ b. b) (Err e) (AreStarted local target (pair_of ids)) → Lists (Plain local target above (pair_of ids)) (Err e) old old
+  pub unknown_lists : (above : List Pair) (ids : ℕ × ℕ) (e : BtfError) (old : List (ℕ × ℕ)) → ¬ (Contains above (pair_of ids)) → Meets {X = Bool} (λ b. b) (Err e) (AreStarted local target (pair_of ids)) → Lists (Plain local target above (pair_of ids)) (Err e) old old
   unknown_lists above ids e old new h = lists_none (Plain local target above (pair_of ids)) (Err e) old (h.0, h.1, not_started above (pair_of ids) h.0 new h.2)
 
   pub differing_lists : (above : List Pair) (ids : ℕ × ℕ) (old new : List (ℕ × ℕ)) → ¬ (Contains above (pair_of ids)) → AreStarted local target (pair_of ids) (Ok false) → new ≡ old ++ ids ∷ [] → Lists (Plain local target above (pair_of ids)) (Ok false) old new
@@ -124,11 +124,11 @@ module _ (local target : Table) where
       lists_none (Walked local target above n (pair_of ids)) (Err (errors.MaximumTypeDepthReached ids.0)) old
       (MaximumTypeDepthReached ids.0, refl, subst (λ (m : ℕ). Walked local target above m (pair_of ids) (Err (MaximumTypeDepthReached ids.0)) []) (sym is) (Walked.too_deep above (pair_of ids)))
 
-  told_walk : (above : List Pair) (n m : ℕ) (at : Pair) (r : Result Bool BtfError) → m ≡ suc n → Tells (λ b. b) r (λ a. Finds local target at (Told a)) → Tells (λ b. b) r (λ a. Walked local target above m at a [])
+  told_walk : (above : List Pair) (n m : ℕ) (at : Pair) (r : Result Bool BtfError) → m ≡ suc n → Meets (λ b. b) r (λ a. Finds local target at (Told a)) → Meets (λ b. b) r (λ a. Walked local target above m at a [])
   told_walk above n m at (Ok b) is h = subst (λ (k : ℕ). Walked local target above k at (Ok b) []) (sym is) (Walked.told above n at (Ok b) h)
   told_walk above n m at (Err e) is h = (h.0, h.1, subst (λ (k : ℕ). Walked local target above k at (Err h.0) []) (sym is) (Walked.told above n at (Err h.0) h.2))
 
-  pub told_lists : (above : List Pair) (n m : ℕ) (at : Pair) (r : Result Bool BtfError) (old : List (ℕ × ℕ)) → m ≡ suc n → Tells (λ b. b) r (λ a. Finds local target at (Told a)) → Lists (Walked local target above m at) r old old
+  pub told_lists : (above : List Pair) (n m : ℕ) (at : Pair) (r : Result Bool BtfError) (old : List (ℕ × ℕ)) → m ≡ suc n → Meets (λ b. b) r (λ a. Finds local target at (Told a)) → Lists (Walked local target above m at) r old old
   told_lists above n m at r old is h = lists_none (Walked local target above m at) r old (told_walk above n m at r is h)
 
   pub on_lists : (above : List Pair) (n m : ℕ) (at next : Pair) (r : Result Bool BtfError) (old new : List (ℕ × ℕ)) → m ≡ suc n → Finds local target at (On next) → Lists (Walked local target above n next) r old new → Lists (Walked local target above m at) r old new
@@ -154,7 +154,7 @@ module _ (local target : Table) where
   pub all_paid_lists : (above owed : List Pair) (old : List (ℕ × ℕ)) → owed ≡ [] → Lists (Paid local target above owed) (Ok true) old old
   all_paid_lists above owed old is = lists_none (Paid local target above owed) (Ok true) old (subst (λ (o : List Pair). Paid local target above o (Ok true) []) (sym is) (Paid.all above))
 
-  pub unresolved_lists : (above owed rest : List Pair) (at : Pair) (e : BtfError) (old : List (ℕ × ℕ)) → owed ≡ at ∷ rest → Tells pair_of (Err e) (ResolvesPair local target at) → Lists (Paid local target above owed) (Err e) old old
+  pub unresolved_lists : (above owed rest : List Pair) (at : Pair) (e : BtfError) (old : List (ℕ × ℕ)) → owed ≡ at ∷ rest → Meets pair_of (Err e) (ResolvesPair local target at) → Lists (Paid local target above owed) (Err e) old old
   unresolved_lists above owed rest at e old is h =
       lists_none (Paid local target above owed) (Err e) old (h.0, h.1, subst (λ (o : List Pair). Paid local target above o (Err h.0) []) (sym is) (Paid.unresolved above at rest h.0 h.2))
 

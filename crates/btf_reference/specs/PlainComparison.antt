@@ -6,7 +6,7 @@ use Rattle.btf_model.specs.Table.{Table}
 use Rattle.btf_model.specs.Fields.{Pair}
 use Rattle.btf_model.specs.Compat.{Told, On, Owes, pairs, AreKnown}
 use Rattle.btf_model.specs.Compat as model
-use Rattle.btf_words.specs.Error.{Tells}
+use Rattle.btf_words.specs.Error.{Meets}
 use Rattle.btf_words.specs.declared.error.BtfError.{BtfError}
 use Rattle.btf_types.specs.Pairs.{pair_of, ids_of}
 use Rattle.btf_types.specs.Compared.{types_of}
@@ -15,7 +15,7 @@ use Rattle.btf_reference.specs.declared.plain_comparison.Position.TheVariants as
 
 -- the position is one of which P holds
 abbrev pub PositionIs : Position → (model.Position → Type 0) → Type 0
-PositionIs (positions.Told answer) P = Tells (λ b. b) answer (λ a. P (Told a))
+PositionIs (positions.Told answer) P = Meets (λ b. b) answer (λ a. P (Told a))
 PositionIs (positions.On next) P = P (On (pair_of next))
 PositionIs (positions.Owes params others next) P =
     P (Owes (pairs (types_of params.now) (types_of others.now)) (pair_of next))
@@ -33,4 +33,4 @@ AreStarted local target p (Err refusal) =
 abbrev pub Lists : (Result Bool Refusal → List Pair → Type 0) → Result Bool BtfError → List (ℕ × ℕ) → List (ℕ × ℕ)
     → Type 0
 Lists P result old new =
-    Tells (λ b. b) result (λ answer. (listed : List Pair) × P answer listed × (new ≡ old ++ map ids_of listed))
+    Meets (λ b. b) result (λ answer. (listed : List Pair) × P answer listed × (new ≡ old ++ map ids_of listed))

@@ -5,7 +5,7 @@ ghost use Rattle.std.specs.Prelude.{◌≡◌, ◌∷◌, ◌≤◌, ◌↔◌, 
 ghost use Rattle.btf_model.specs.Record as model;
 ghost use Rattle.btf_model.specs.Walk.{walk_limit};
 ghost use Rattle.btf_model.specs.Compat.{Finds, Plain, Walked, Paid, PositionFound, ResolvesPair, pairs, position_by};
-ghost use Rattle.btf_words.specs.Error.{Tells};
+ghost use Rattle.btf_words.specs.Error.{Meets};
 ghost use Rattle.btf_records.specs.BtfType.{record_of, type_kind};
 ghost use Rattle.btf_types.specs.Compared.{types_of};
 ghost use Rattle.btf_types.specs.Pairs.{IsResolved, pair_of};
@@ -106,7 +106,7 @@ fn is_open(above: &[(u32, u32)], pair: (u32, u32)) -> bool
 
 /// Whether the kinds of a pair's types are compatible, or which id is unknown.
 fn kinds_agree(local: &Btf, target: &Btf, pair: (u32, u32)) -> Result<bool, BtfError>
-    ensures { Tells (λ agree. agree) result (AreStarted local.now target.now (pair_of pair)) }
+    ensures { Meets (λ agree. agree) result (AreStarted local.now target.now (pair_of pair)) }
 {
     let local_type = local.type_by_id(pair.0)?;
     let target_type = target.type_by_id(pair.1)?;
@@ -201,7 +201,7 @@ fn is_true(answer: &Result<bool, BtfError>) -> bool
 
 /// What a pair resolves to, the local id first.
 fn resolved_pair(local: &Btf, target: &Btf, at: (u32, u32)) -> Result<(u32, u32), BtfError>
-    ensures { Tells pair_of result (ResolvesPair local.now target.now (pair_of at)) }
+    ensures { Meets pair_of result (ResolvesPair local.now target.now (pair_of at)) }
 {
     let local_id = local.resolve_type(at.0)?;
     let target_id = target.resolve_type(at.1)?;
@@ -224,7 +224,7 @@ fn found_at<'a>(local: &'a Btf, target: &'a Btf, at: (u32, u32)) -> Position<'a>
 
 /// The id and the type that an id resolves to.
 fn resolved(table: &Btf, type_id: u32) -> Result<(u32, &BtfType), BtfError>
-    ensures { Tells (λ found. (found.0, type_kind found.1.now, record_of found.1.now)) result
+    ensures { Meets (λ found. (found.0, type_kind found.1.now, record_of found.1.now)) result
         (IsResolved table.now type_id) }
 {
     let id = table.resolve_type(type_id)?;

@@ -21,7 +21,12 @@ impl Model for Typedef {
 
     ghost Value = { Record };
 
-    ghost view = { λ a. record { name = a.name_offset; info = a.info; third = a.btf_type; tail = [] } };
+    ghost view = { λ a. record {
+      name = a.name_offset;
+      info = a.info;
+      third = a.btf_type;
+      tail = [] };
+    };
 
     ghost invariant = { λ a. kind_of a.info ≡ Some TypedefKind };
 }

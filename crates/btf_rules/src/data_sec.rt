@@ -5,7 +5,7 @@ ghost use Rattle.std.specs.Option.{unwrap_or};
 ghost use Rattle.btf_rewrite_model.specs.Checks.{in_a_word};
 ghost use Rattle.btf_rewrite_model.specs.Fault.{is_sized};
 ghost use Rattle.btf_rewrite_model.specs.Pass.{replaced, slash, dot, underscore};
-ghost use Rattle.btf_words.specs.Error.{Gives};
+ghost use Rattle.btf_words.specs.Error.{IsOrNoMemory};
 ghost use Rattle.btf_records.specs.BtfType.{record_of, fallback_of};
 ghost use Rattle.btf_rules.specs.Checked.{checked};
 ghost use Rattle.btf_rules.specs.Layout.{sizes_of, offsets_of};
@@ -30,7 +30,8 @@ pub fn section_name(alloc: Global, name: &str, granted: bool) -> Result<String, 
 
 /// The DATASEC with this name; None where it has it.
 pub fn renamed(data_sec: &DataSec, name_offset: u32) -> Result<Option<BtfType>, BtfError>
-    ensures answer { Gives (λ new. record_of (unwrap_or new (BtfType.DataSec data_sec.now))) result
+    ensures answer { IsOrNoMemory
+        (λ new. record_of (unwrap_or new (BtfType.DataSec data_sec.now))) result
         (Ok (record data_sec.now { name = name_offset })) }
     ensures fallback { IfOk result (λ new. fallback_of
         (unwrap_or new (BtfType.DataSec data_sec.now)) ≡ None) }
@@ -65,7 +66,7 @@ pub fn section_size(
     sections: &HashMap<String, (SectionIndex, u64)>,
     name: &str,
 ) -> Result<u32, BtfError>
-    ensures { Gives (λ n. n) result
+    ensures { IsOrNoMemory (λ n. n) result
         (checked (is_sized (in_a_word (sizes_of sections.now name.now)) (Ok name.now))
         (unwrap_or (in_a_word (sizes_of sections.now name.now)) 0)) }
 {

@@ -6,7 +6,7 @@ ghost use Rattle.btf_model.specs.Record.{vlen};
 ghost use Rattle.btf_rewrite_model.specs.Made.{union, fallback_of};
 ghost use Rattle.btf_rewrite_model.specs.Made as model;
 ghost use Rattle.btf_rewrite_model.specs.Rule.{variant_members};
-ghost use Rattle.btf_words.specs.Error.{Gives};
+ghost use Rattle.btf_words.specs.Error.{IsOrNoMemory};
 ghost use Rattle.btf_items.specs.Fallback.{variant_of};
 ghost use Rattle.btf_items.specs.Items.{enum64_words, member_words};
 
@@ -62,7 +62,7 @@ fn kept_variants(
 
 /// The ENUM64 as a UNION with a member for each variant, all of one type, and the variants' values kept beside it.
 pub fn as_union(alloc: Global, enum64: &Enum64, member_type: u32) -> Result<Union, BtfError>
-    ensures { Gives (λ u. u) result
+    ensures { IsOrNoMemory (λ u. u) result
         (Ok (record {
           words = union enum64.now.name enum64.now.third (vlen enum64.now.info)
               (variant_members member_type (model.variants enum64.now.tail));

@@ -6,7 +6,7 @@ ghost use Rattle.btf_model.specs.Record.{vlen};
 ghost use Rattle.btf_rewrite_model.specs.Ksyms.{named};
 ghost use Rattle.btf_rewrite_model.specs.Made.{enum, wants_name};
 ghost use Rattle.btf_rewrite_model.specs.Pass as model;
-ghost use Rattle.btf_words.specs.Error.{Gives};
+ghost use Rattle.btf_words.specs.Error.{IsOrNoMemory};
 ghost use Rattle.btf_items.specs.Items.{enum_words, param_words};
 
 use btf_plain::BtfError;
@@ -35,7 +35,7 @@ fn param_variants(alloc: Global, params: &[BtfParam]) -> Result<Vec<BtfEnum>, Al
 
 /// The prototype as an ENUM without sign: each parameter a variant, of its name, whose value is its type.
 pub fn as_enum(alloc: Global, proto: &FuncProto) -> Result<Enum, BtfError>
-    ensures { Gives (λ r. r) result
+    ensures { IsOrNoMemory (λ r. r) result
         (Ok (enum proto.now.name (vlen proto.now.info) proto.now.tail)) }
 {
     let variants = param_variants(alloc, proto.params())?;
@@ -56,7 +56,7 @@ fn param_name(param: &BtfParam, name_offset: u32) -> u32
 
 /// The prototype, with a name for each parameter that has a type and no name.
 pub fn with_names(proto: &FuncProto, name_offset: u32) -> Result<FuncProto, BtfError>
-    ensures { Gives (λ r. r) result
+    ensures { IsOrNoMemory (λ r. r) result
         (Ok (record proto.now { tail = named name_offset proto.now.tail })) }
 {
     let mut with_names = proto.try_clone()?;

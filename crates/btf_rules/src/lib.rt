@@ -8,7 +8,7 @@ mod features;
 mod func;
 mod func_proto;
 mod int;
-mod plain;
+mod single;
 mod var;
 
 pub use data_sec::{known_offset, renamed, section_name, section_size};
@@ -17,5 +17,5 @@ pub use features::{BtfFeature, BtfFeatureResolver, FeatureAnswer, FillPolicy, co
 pub use func::{global, is_builtin, made_static};
 pub use func_proto::{as_enum, param_text, with_names};
 pub use int::int_of_4;
-pub use plain::{replaced, sole_feature};
+pub use single::{replaced, sole_feature};
 pub use var::global_of;

@@ -25,7 +25,7 @@ use Rattle.std.specs.Prelude.{IfOk, IfSome}
 use Rattle.std.specs.Result.{result_ok}
 use Rattle.std.proofs.lemmas.Option.{none-some}
 use Rattle.btf_model.proofs.Comparisons.{same_ok}
-use Rattle.btf_words.specs.Error.{Answers, Gives, refusal_of}
+use Rattle.btf_words.specs.Error.{MeetsOrNoMemory, IsOrNoMemory, refusal_of}
 use Rattle.btf_words.specs.declared.error.BtfError.{BtfError}
 use Rattle.btf_records.specs.BtfType.{record_of, fallback_of, type_kind}
 use Rattle.btf_records.specs.declared.btf_type.BtfType.TheVariants as types
@@ -328,9 +328,9 @@ refused_never None x Q is = tt
 refused_never (Some f) x Q is = absurd (none-some x (ap (result_ok {T = Record} {E = Refusal}) is))
 
 -- what a rule that appends nothing returns
-pub quiet_answer : (p : Pass) (id : ℕ) (b : BtfType) (before : Made) (x : Record) (r : Result (Option BtfType) BtfError) → Gives (λ new. record_of (unwrap_or new b)) r (Ok x)
+pub quiet_answer : (p : Pass) (id : ℕ) (b : BtfType) (before : Made) (x : Record) (r : Result (Option BtfType) BtfError) → IsOrNoMemory (λ new. record_of (unwrap_or new b)) r (Ok x)
     → IfOk r (λ new. length (record_of (unwrap_or new b)).tail ≡ length (record_of b).tail) → IfOk r (λ new. fallback_of (unwrap_or new b) ≡ fallback_of b)
-    → ((new : BtfType) → record_of new ≡ x → length (record_of new).tail ≡ length (record_of b).tail → fallback_of new ≡ fallback_of b → IsRuled p id b before before new) → Answers (λ new. unwrap_or new b) r (Rules p id b before before)
+    → ((new : BtfType) → record_of new ≡ x → length (record_of new).tail ≡ length (record_of b).tail → fallback_of new ≡ fallback_of b → IsRuled p id b before before new) → MeetsOrNoMemory (λ new. unwrap_or new b) r (Rules p id b before before)
 quiet_answer p id b before x (Ok new) words len fallback rule = rule (unwrap_or new b) (same_ok {E = Refusal} (record_of (unwrap_or new b)) x words) len fallback
 quiet_answer p id b before x (Err e) words len fallback rule =
     refused_never (refusal_of e) x (λ (f : Refusal). Rules p id b before before (Err f)) words

@@ -15,7 +15,7 @@ use Rattle.btf_rewrite_model.proofs.Kept as kept
 use Rattle.btf_rewrite_model.proofs.Values.{value_stays}
 use Rattle.btf_model.proofs.Blobs.{same_table}
 use Rattle.btf_words.specs.declared.error.BtfError.{BtfError}
-use Rattle.btf_words.specs.Error.{Answers, refusal_of}
+use Rattle.btf_words.specs.Error.{MeetsOrNoMemory, refusal_of}
 use Rattle.btf_table.specs.PassStep.{Given, pass_on}
 use Rattle.btf_table.specs.Rewrites.{RewritesWith, Sanitizes, NeedsAreGrantedWith, KeepsSizes, KeepsResolutions, KeepsValues, AppendsAtMost, OfTables}
 
@@ -29,7 +29,7 @@ stepped_by old t new k given answers r step is s = sanitized old new k given ans
 
 -- the same of what a call returns
 pub rewrites_by : {X Y : Type 0} (view : X → Y) (r : Result X BtfError) (old t new : Table) (k : Option KsymsIds) (given : Given) (answers : List Answer) → step_fault old k ≡ None → t ≡ begun old k
-    → Answers view r (Sanitizes (pass_on t given answers) new) → Answers view r (RewritesWith given.policy old k given.layout answers new)
+    → MeetsOrNoMemory view r (Sanitizes (pass_on t given answers) new) → MeetsOrNoMemory view r (RewritesWith given.policy old k given.layout answers new)
 rewrites_by view (Ok x) old t new k given answers step is told = stepped_by old t new k given answers (Ok (view x)) step is told
 rewrites_by {X} {Y} view (Err e) old t new k given answers step is told = refused (refusal_of e) told
   where
@@ -59,7 +59,7 @@ pub of_tables : (order : Order) (bytes written : List ℕ) (old new : Table) (P 
 of_tables order bytes written old new P parsed again holds = λ t u is_t is_u.
     subst (P t) (same_table order written (strip new) u again is_u) (subst (λ (x : Table). P x (strip new)) (same_table order bytes old t parsed is_t) holds)
 
-pub on_ok : {X Y : Type 0} (view : X → Y) (r : Result X BtfError) (P : Result Y Refusal → Type 0) (Q : Type 0) → Answers view r P → ((y : Y) → P (Ok y) → Q) → OnOk r Q
+pub on_ok : {X Y : Type 0} (view : X → Y) (r : Result X BtfError) (P : Result Y Refusal → Type 0) (Q : Type 0) → MeetsOrNoMemory view r P → ((y : Y) → P (Ok y) → Q) → OnOk r Q
 on_ok view (Ok x) P Q given then_q = then_q (view x) given
 on_ok view (Err e) P Q given then_q = tt
 

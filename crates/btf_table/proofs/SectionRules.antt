@@ -27,7 +27,7 @@ use Rattle.btf_rewrite_model.specs.Passing.{MadeBelow}
 use Rattle.btf_rewrite_model.proofs.FirstMade.{makes_first, made_first, makes_no_second, made_next, made_is}
 use Rattle.btf_rewrite_model.specs.Passing.{AreAnswersTo}
 use Rattle.btf_rewrite_model.proofs.Passing.{NextAnswers}
-use Rattle.btf_words.specs.Error.{Answers, Gives, refusal_of}
+use Rattle.btf_words.specs.Error.{MeetsOrNoMemory, IsOrNoMemory, refusal_of}
 use Rattle.btf_words.specs.declared.error.BtfError.{BtfError}
 use Rattle.btf_records.specs.BtfType.{record_of, fallback_of}
 use Rattle.btf_records.specs.declared.btf_type.BtfType.{BtfType}
@@ -54,13 +54,13 @@ use Rattle.btf_table.proofs.PassRules.{record_there, kind_there, becomes_there, 
 -- ---- results
 
 -- an error is passed on, and reported for the same tests
-pub told_on : {X Y U : Type 0} (view : X → Y) (e : BtfError) (r : Result X BtfError) (f : Option Refusal) (u : U) (y : Y) → IsErrAnd r (λ x. x ≡ e) → IfSome (refusal_of e) (λ refusal. ◌≡◌ {A = Result U Refusal} (Err refusal) (checked f u)) → Gives view r (checked f y)
+pub told_on : {X Y U : Type 0} (view : X → Y) (e : BtfError) (r : Result X BtfError) (f : Option Refusal) (u : U) (y : Y) → IsErrAnd r (λ x. x ≡ e) → IfSome (refusal_of e) (λ refusal. ◌≡◌ {A = Result U Refusal} (Err refusal) (checked f u)) → IsOrNoMemory view r (checked f y)
 told_on view e r f u y err is =
     handed_on view e r (λ a. a ≡ checked f y) err (IfSome_then _ is (λ refusal same. sym (ap (λ (o : Option Refusal). checked o y) (checked_err f u refusal same))))
 
 -- a type that is made, or refused by these tests
-pub ruled_answer : (p : Pass) (id : ℕ) (b : BtfType) (before after : Made) (f : Option Refusal) (x : Record) (r : Result (Option BtfType) BtfError) → Gives (λ new. record_of (unwrap_or new b)) r (checked f x) → IfOk r (λ new. fallback_of (unwrap_or new b) ≡ None)
-    → ((refusal : Refusal) → f ≡ Some refusal → fault p id ≡ Some refusal) → ((new : BtfType) → f ≡ None → record_of new ≡ x → fallback_of new ≡ None → IsRuled p id b before after new) → Answers (λ new. unwrap_or new b) r (Rules p id b before after)
+pub ruled_answer : (p : Pass) (id : ℕ) (b : BtfType) (before after : Made) (f : Option Refusal) (x : Record) (r : Result (Option BtfType) BtfError) → IsOrNoMemory (λ new. record_of (unwrap_or new b)) r (checked f x) → IfOk r (λ new. fallback_of (unwrap_or new b) ≡ None)
+    → ((refusal : Refusal) → f ≡ Some refusal → fault p id ≡ Some refusal) → ((new : BtfType) → f ≡ None → record_of new ≡ x → fallback_of new ≡ None → IsRuled p id b before after new) → MeetsOrNoMemory (λ new. unwrap_or new b) r (Rules p id b before after)
 ruled_answer p id b before after f x (Ok new) words fallback refused rule =
     let ok = checked_ok f x (record_of (unwrap_or new b)) words in
     rule (unwrap_or new b) ok.0 ok.1 fallback
@@ -224,8 +224,8 @@ module _ (p : Pass) (id : ℕ) (r : Record) (name : ℕ) (before now : Made) (n 
       ap (λ (b : Bool). if b then (if r.third == 0 then completed_is else rule.sized p id r) else as_struct_is) has_it ∙ ap (λ (b : Bool). if granted then (if b then completed_is else rule.sized p id r) else as_struct_is) is
 
   pub struct_answer : (result : Result (Option BtfType) BtfError) → has p features.DataSec ≡ false
-      → Gives (λ new. record_of (unwrap_or new (DataSec r))) result (checked (first_fault (flat_map (member_checks p) (entries r.tail))) (model.struct name (vlen r.info) (vlen r.info) (entry_members p (ruled_below p id) (length (ruled_below p id)) (entries r.tail))))
-      → IfOk result (λ new. fallback_of (unwrap_or new (DataSec r)) ≡ None) → Answers (λ new. unwrap_or new (DataSec r)) result (Rules p id (DataSec r) before now)
+      → IsOrNoMemory (λ new. record_of (unwrap_or new (DataSec r))) result (checked (first_fault (flat_map (member_checks p) (entries r.tail))) (model.struct name (vlen r.info) (vlen r.info) (entry_members p (ruled_below p id) (length (ruled_below p id)) (entries r.tail))))
+      → IfOk result (λ new. fallback_of (unwrap_or new (DataSec r)) ≡ None) → MeetsOrNoMemory (λ new. unwrap_or new (DataSec r)) result (Rules p id (DataSec r) before now)
   struct_answer result denied words fallback =
       let faults = fault_by p id r n.there n.kind false (r.third == 0) n.passed denied refl in
       ruled_answer p id (DataSec r) before now _ _ result words fallback (λ refusal is. faults ∙ is)
@@ -235,8 +235,8 @@ module _ (p : Pass) (id : ℕ) (r : Record) (name : ℕ) (before now : Made) (n 
       ∙ sym (becomes_if false (r.third == 0) denied refl))
       (ap (λ (x : Record). length x.tail) is ∙ entries_len (λ e. member_name p (ruled_below p id) (length (ruled_below p id)) e.type ∷ e.type ∷ e.offset * 8 ∷ []) (λ e. refl) (vlen r.info) r.tail n.tail) none)
 
-  pub renamed_answer : (result : Result (Option BtfType) BtfError) → has p features.DataSec ≡ true → (r.third == 0) ≡ false → gets_filler p id ≡ false → Gives (λ new. record_of (unwrap_or new (DataSec r))) result (Ok (record r { name = name })) → IfOk result (λ new. fallback_of (unwrap_or new (DataSec r)) ≡ None)
-      → Answers (λ new. unwrap_or new (DataSec r)) result (Rules p id (DataSec r) before now)
+  pub renamed_answer : (result : Result (Option BtfType) BtfError) → has p features.DataSec ≡ true → (r.third == 0) ≡ false → gets_filler p id ≡ false → IsOrNoMemory (λ new. record_of (unwrap_or new (DataSec r))) result (Ok (record r { name = name })) → IfOk result (λ new. fallback_of (unwrap_or new (DataSec r)) ≡ None)
+      → MeetsOrNoMemory (λ new. unwrap_or new (DataSec r)) result (Rules p id (DataSec r) before now)
   renamed_answer result granted sized unfilled words fallback =
       let makes : makes_filler p id ≡ false = ap (λ (b : Bool). b && (least (gets_filler p) id == id)) unfilled in
       let faults : fault p id ≡ None =
@@ -262,8 +262,8 @@ module _ (p : Pass) (id : ℕ) (r : Record) (name : ℕ) (before now : Made) (n 
       ∙ ap (λ (c : Bool). first_fault ((if makes_filler p id then filler_checks p id else []) ++ flat_map (entry_checks p) (entries r.tail) ++ (if c then fits (type_len_at p id + sum_by record_len (added p id)) 12 ∷ [] else []))) fills
 
   pub laid_answer : (size : ℕ) (result : Result (Option BtfType) BtfError) → has p features.DataSec ≡ true → (r.third == 0) ≡ true → gets_filler p id ≡ false → section_size p id ≡ Some size
-      → Gives (λ new. record_of (unwrap_or new (DataSec r))) result (checked (first_fault (flat_map (entry_checks p) (entries r.tail))) (model.data_sec name size (vlen r.info) (map (placed p) (entries r.tail))))
-      → IfOk result (λ new. fallback_of (unwrap_or new (DataSec r)) ≡ None) → Answers (λ new. unwrap_or new (DataSec r)) result (Rules p id (DataSec r) before now)
+      → IsOrNoMemory (λ new. record_of (unwrap_or new (DataSec r))) result (checked (first_fault (flat_map (entry_checks p) (entries r.tail))) (model.data_sec name size (vlen r.info) (map (placed p) (entries r.tail))))
+      → IfOk result (λ new. fallback_of (unwrap_or new (DataSec r)) ≡ None) → MeetsOrNoMemory (λ new. unwrap_or new (DataSec r)) result (Rules p id (DataSec r) before now)
   laid_answer size result granted unsized unfilled known words fallback =
       let makes : makes_filler p id ≡ false = ap (λ (b : Bool). b && (least (gets_filler p) id == id)) unfilled in
       let faults : fault p id ≡ first_fault (flat_map (entry_checks p) (entries r.tail)) =

@@ -11,7 +11,7 @@ use Rattle.btf_model.specs.Blob.{AreRecords, ReadsFront}
 use Rattle.btf_model.proofs.Records.{AreRecords-push, length-spelling}
 use Rattle.btf_model.proofs.Blobs.{rest_from_none}
 use Rattle.btf_words.specs.declared.error.BtfError.{BtfError}
-use Rattle.btf_words.specs.Error.{Answers, refusal_of}
+use Rattle.btf_words.specs.Error.{MeetsOrNoMemory, refusal_of}
 use Rattle.btf_records.specs.BtfType.{record_of, fallback_of}
 use Rattle.btf_records.specs.declared.btf_type.BtfType.{BtfType}
 use Rattle.btf_table.specs.Records.{ReadsTypes}
@@ -61,12 +61,12 @@ cut_goes_on order bytes types more_types rest next t size h p f size-is next-is 
     }
 
 -- no record begins the rest
-pub cut_ends : (order : Order) (bytes : List ℕ) (types : List BtfType) (rest : List ℕ) (e : BtfError) (r : Result (Vec BtfType Global) BtfError) → CutInto order bytes types rest → Answers record_of (Err e) (ReadsFront order rest) → rest ≢ [] → IsErrAnd r (λ y. y ≡ e) → Answers (λ v. v.items) r (ReadsTypes order bytes)
+pub cut_ends : (order : Order) (bytes : List ℕ) (types : List BtfType) (rest : List ℕ) (e : BtfError) (r : Result (Vec BtfType Global) BtfError) → CutInto order bytes types rest → MeetsOrNoMemory record_of (Err e) (ReadsFront order rest) → rest ≢ [] → IsErrAnd r (λ y. y ≡ e) → MeetsOrNoMemory (λ v. v.items) r (ReadsTypes order bytes)
 cut_ends order bytes types rest e r h given not_done err =
     let p = err_from_is_err_and r err in
     let none : IfSome (refusal_of e) (λ f. ReadsTypes order bytes (Err f)) =
     IfSome_then (refusal_of e) given (λ f q. (rest, rest_from_none order bytes h.front rest h.records h.whole h.cut q.0, not_done, q.1)) in
-    subst (λ (x : Result (Vec BtfType Global) BtfError). Answers (λ v. v.items) x (ReadsTypes order bytes)) (sym (p.1 ∙ ap (λ (x : BtfError). Err x) p.2)) none
+    subst (λ (x : Result (Vec BtfType Global) BtfError). MeetsOrNoMemory (λ v. v.items) x (ReadsTypes order bytes)) (sym (p.1 ∙ ap (λ (x : BtfError). Err x) p.2)) none
 
 -- all is read
 pub cut_whole : (order : Order) (bytes : List ℕ) (types : List BtfType) (rest : List ℕ) → CutInto order bytes types rest → rest ≡ [] → ReadsTypes order bytes (Ok types)

@@ -18,7 +18,7 @@ use Rattle.btf_model.proofs.Records.{length-spell, length-records, records_are_l
 use Rattle.btf_model.proofs.Blobs.{same_table, same_refusal, table_not_refused}
 use Rattle.btf_words.specs.declared.error.BtfError.{BtfError}
 use Rattle.btf_words.specs.Endianness.{order_of}
-use Rattle.btf_words.specs.Error.{Answers, Gives, refusal_of}
+use Rattle.btf_words.specs.Error.{MeetsOrNoMemory, IsOrNoMemory, refusal_of}
 use Rattle.btf_records.specs.BtfType.{record_of, fallback_of}
 use Rattle.btf_records.specs.declared.btf_type.BtfType.{BtfType}
 use Rattle.btf_table.specs.declared.table.Btf.{Btf}
@@ -83,12 +83,12 @@ kept_is_valid b h whole =
     }
 
 -- bytes that stand for a table give it
-pub gives_table : (order : Order) (bytes : List ℕ) (r : Result Btf BtfError) → Answers (λ b. b) r (Parses order bytes) → (t : Table) → IsTable order bytes t → Gives (λ b. b) r (Ok t)
+pub gives_table : (order : Order) (bytes : List ℕ) (r : Result Btf BtfError) → MeetsOrNoMemory (λ b. b) r (Parses order bytes) → (t : Table) → IsTable order bytes t → IsOrNoMemory (λ b. b) r (Ok t)
 gives_table order bytes (Ok b) h t p = ap (λ (x : Table). Ok x) (same_table order bytes b t h p)
 gives_table order bytes (Err e) h t p = IfSome_then (refusal_of e) h (λ f q. absurd (table_not_refused order bytes t f p q))
 
 -- bytes that are refused give their one refusal
-pub gives_refusal : (order : Order) (bytes : List ℕ) (r : Result Btf BtfError) → Answers (λ b. b) r (Parses order bytes) → (f : Refusal) → IsRefusal order bytes f → Gives (λ b. b) r (Err f)
+pub gives_refusal : (order : Order) (bytes : List ℕ) (r : Result Btf BtfError) → MeetsOrNoMemory (λ b. b) r (Parses order bytes) → (f : Refusal) → IsRefusal order bytes f → IsOrNoMemory (λ b. b) r (Err f)
 gives_refusal order bytes (Ok b) h f p = absurd (table_not_refused order bytes b f h p)
 gives_refusal order bytes (Err e) h f p = IfSome_then (refusal_of e) h (λ g q. ap (λ (x : Refusal). Err x) (same_refusal order bytes g f q p))
 

@@ -9,7 +9,7 @@ use Rattle.std.proofs.lemmas.Result.{err_from_is_err_and}
 use Rattle.btf_model.specs.Record.{kind_of}
 use Rattle.btf_model.specs.Refusal.{InvalidTypeInfo}
 use Rattle.btf_model.specs.Walk.{Finding, Ends, GoesOn, Leads, By, walk_limit, Extent, Bytes, Times, extent, Elements, size_by, size_in, HasSize}
-use Rattle.btf_words.specs.Error.{Tells, refusal_of}
+use Rattle.btf_words.specs.Error.{Meets, refusal_of}
 use Rattle.btf_words.specs.declared.error.BtfError.{BtfError}
 use Rattle.btf_words.specs.declared.error.BtfError.TheVariants as errors
 use Rattle.btf_records.specs.BtfType.{record_of}
@@ -52,13 +52,13 @@ times_too_many : (at : Elements) (times next : ℕ) → 2 ^ 32 ≤ at.count * ti
 times_too_many at times next le = rw (le-ltb (at.count * times) (2 ^ 32) le) refl
 
 -- the walk ends with bytes
-pub ends_with_bytes : (types : List BtfType) (n id bytes : ℕ) (at : Elements) (r : Result ℕ BtfError) → n < walk_limit → Leads (By (find_size types)) n (one id) at → find_size types at ≡ size_by at (Bytes bytes) → MatchResult r (λ x. (x ≡ bytes * at.count) × (bytes * at.count < 2 ^ 32)) (λ e. (2 ^ 32 ≤ bytes * at.count) × (e ≡ errors.InvalidTypeInfo)) → Tells (λ x. x) r (HasSize (map record_of types) id)
+pub ends_with_bytes : (types : List BtfType) (n id bytes : ℕ) (at : Elements) (r : Result ℕ BtfError) → n < walk_limit → Leads (By (find_size types)) n (one id) at → find_size types at ≡ size_by at (Bytes bytes) → MatchResult r (λ x. (x ≡ bytes * at.count) × (bytes * at.count < 2 ^ 32)) (λ e. (2 ^ 32 ≤ bytes * at.count) × (e ≡ errors.InvalidTypeInfo)) → Meets (λ x. x) r (HasSize (map record_of types) id)
 ends_with_bytes types n id bytes at (Ok x) lt p is m = inl (n, at, lt, p, is ∙ bytes_fit at bytes m.1 ∙ ap (λ (v : ℕ). Ends (Ok v)) (sym m.0))
 ends_with_bytes types n id bytes at (Err e) lt p is m = (InvalidTypeInfo, ap refusal_of m.1, inl (n, at, lt, p, is ∙ bytes_too_many at bytes m.0))
 
 -- the walk ends with a product that is too large
-pub ends_at_product : (types : List BtfType) (n id times next : ℕ) (at : Elements) (e : BtfError) (r : Result ℕ BtfError) → n < walk_limit → Leads (By (find_size types)) n (one id) at → find_size types at ≡ size_by at (Times times next) → 2 ^ 32 ≤ at.count * times → e ≡ errors.InvalidTypeInfo → IsErrAnd r (λ y. y ≡ e) → Tells (λ x. x) r (HasSize (map record_of types) id)
+pub ends_at_product : (types : List BtfType) (n id times next : ℕ) (at : Elements) (e : BtfError) (r : Result ℕ BtfError) → n < walk_limit → Leads (By (find_size types)) n (one id) at → find_size types at ≡ size_by at (Times times next) → 2 ^ 32 ≤ at.count * times → e ≡ errors.InvalidTypeInfo → IsErrAnd r (λ y. y ≡ e) → Meets (λ x. x) r (HasSize (map record_of types) id)
 ends_at_product types n id times next at e r lt p is le e-is err =
     let q = err_from_is_err_and r err in
-    let refused : Tells {X = ℕ} (λ x. x) (Err e) (HasSize (map record_of types) id) = (InvalidTypeInfo, ap refusal_of e-is, inl (n, at, lt, p, is ∙ times_too_many at times next le)) in
-    subst (λ (x : Result ℕ BtfError). Tells (λ y. y) x (HasSize (map record_of types) id)) (sym (q.1 ∙ ap (λ (x : BtfError). Err x) q.2)) refused
+    let refused : Meets {X = ℕ} (λ x. x) (Err e) (HasSize (map record_of types) id) = (InvalidTypeInfo, ap refusal_of e-is, inl (n, at, lt, p, is ∙ times_too_many at times next le)) in
+    subst (λ (x : Result ℕ BtfError). Meets (λ y. y) x (HasSize (map record_of types) id)) (sym (q.1 ∙ ap (λ (x : BtfError). Err x) q.2)) refused

@@ -7,7 +7,7 @@ mod func_proto;
 mod ksyms;
 mod made;
 mod pass;
-mod plain;
+mod single;
 
 ghost use Rattle.std.specs.Prelude.{◌≡◌, ℕ, List, [], Option, Some, OnOk, OnErr, IfOk, slice_get};
 ghost use Rattle.btf_rewrite_model.specs.Feature.{Feature, needs};
@@ -17,7 +17,7 @@ ghost use Rattle.btf_model.specs.Record.{Record};
 ghost use Rattle.btf_rewrite_model.specs.Rewritten.{begun, pass_of, pass_with};
 ghost use Rattle.btf_rewrite_model.specs.RewriteLaws.{IsAmong, IsGrantedOnce};
 ghost use Rattle.btf_words.specs.Endianness.{order_of};
-ghost use Rattle.btf_words.specs.Error.{Answers, Gives};
+ghost use Rattle.btf_words.specs.Error.{MeetsOrNoMemory, IsOrNoMemory};
 ghost use Rattle.btf_rules.specs.Checked.{checked};
 ghost use Rattle.btf_rules.specs.Features.{Called, answers_of, policy_of};
 ghost use Rattle.btf_table.specs.KsymsStep.{ksyms_ids};
@@ -62,7 +62,7 @@ impl Btf {
         datasec_id: u32,
         placeholder_id: Option<u32>,
     ) -> Result<(), BtfError>
-        ensures answer { Gives (λ u. u) result
+        ensures answer { IsOrNoMemory (λ u. u) result
             (checked (ksyms_fault self.old (ksyms_ids datasec_id placeholder_id)) tt) }
         ensures ok { OnOk result (self.new ≡ ksyms_table self.old
             (ksyms_ids datasec_id placeholder_id)) }
@@ -89,7 +89,7 @@ impl Btf {
         ensures called { Called F.step resolver.old.0 resolver.new.1 resolver.new.0 }
         ensures asked { BeginsAsked (pass_on self.old
             (under policy (layout_of sections.now symbols.now)) (answers_of resolver.new.1)) }
-        ensures sanitizes { Answers (λ a. a.items) result
+        ensures sanitizes { MeetsOrNoMemory (λ a. a.items) result
             (Sanitizes (pass_on self.old (under policy (layout_of sections.now symbols.now))
             (answers_of resolver.new.1)) self.new) }
         ensures answers { IfOk result (λ a. a.items ≡ resolver.new.1) }
@@ -130,7 +130,7 @@ impl Btf {
         ensures asked { BeginsAsked (pass_of self.old (ids_of ksyms)
             (layout_of sections.now symbols.now) (answers_of resolver.new.1)) }
         // The table is the rewritten one, and all is asked for; or the first cause of refusal.
-        ensures rewrites { Answers (λ a. a.items) result
+        ensures rewrites { MeetsOrNoMemory (λ a. a.items) result
             (Rewrites self.old (ids_of ksyms) (layout_of sections.now symbols.now)
             (answers_of resolver.new.1) self.new) }
         ensures answers { IfOk result (λ a. a.items ≡ resolver.new.1) }
@@ -175,7 +175,7 @@ impl Btf {
         ensures asked { BeginsAsked (pass_with (policy_of policy) self.old (ids_of ksyms)
             (layout_of sections.now symbols.now) (answers_of resolver.new.1)) }
         // The table is the rewritten one, and all is asked for; or the first cause of refusal.
-        ensures rewrites { Answers (λ a. a.items) result
+        ensures rewrites { MeetsOrNoMemory (λ a. a.items) result
             (RewritesWith (policy_of policy) self.old (ids_of ksyms)
             (layout_of sections.now symbols.now) (answers_of resolver.new.1) self.new) }
         ensures answers { IfOk result (λ a. a.items ≡ resolver.new.1) }
@@ -223,7 +223,7 @@ pub fn rewrite_bytes<F: FnMut(BtfFeature) -> bool>(
     requires unasked { resolver.old.1 ≡ [] }
     ensures callable { F.IsAlwaysCallable resolver.new.0 }
     ensures called { Called F.step resolver.old.0 resolver.new.1 resolver.new.0 }
-    ensures rewrites { Answers (λ r. (r.0.items, r.1.items)) result
+    ensures rewrites { MeetsOrNoMemory (λ r. (r.0.items, r.1.items)) result
         (RewritesBytes (order_of endianness) «data».now (ids_of ksyms)
         (layout_of sections.now symbols.now) (answers_of resolver.new.1)) }
     ensures answers { IfOk result (λ r. r.1.items ≡ resolver.new.1) }
@@ -267,7 +267,7 @@ pub fn rewrite_bytes_with<F: FnMut(BtfFeature) -> bool>(
     requires unasked { resolver.old.1 ≡ [] }
     ensures callable { F.IsAlwaysCallable resolver.new.0 }
     ensures called { Called F.step resolver.old.0 resolver.new.1 resolver.new.0 }
-    ensures rewrites { Answers (λ r. (r.0.items, r.1.items)) result
+    ensures rewrites { MeetsOrNoMemory (λ r. (r.0.items, r.1.items)) result
         (RewritesBytesWith (policy_of policy) (order_of endianness) «data».now (ids_of ksyms)
         (layout_of sections.now symbols.now) (answers_of resolver.new.1)) }
     ensures answers { IfOk result (λ r. r.1.items ≡ resolver.new.1) }
@@ -279,7 +279,8 @@ pub fn rewrite_bytes_with<F: FnMut(BtfFeature) -> bool>(
     // Of the table that the bytes stand for, and the one that the written bytes stand for: what the kernel needs for
     // the new one was asked for once, and granted;
     ensures granted { IfOk result (λ r. OfTables (order_of endianness) «data».now r.0.items
-        (λ old new. NeedsAreGrantedWith (policy_of policy) old (ids_of ksyms) (answers_of resolver.new.1) new)) }
+        (λ old new. NeedsAreGrantedWith (policy_of policy) old (ids_of ksyms)
+        (answers_of resolver.new.1) new)) }
     // sizes that are found without VAR, FUNC, FUNC_PROTO, DATASEC or DECL_TAG stay;
     ensures sizes { IfOk result (λ r. OfTables
         (order_of endianness) «data».now r.0.items KeepsSizes) }

@@ -17,7 +17,7 @@ ghost use Rattle.btf_model.specs.Blob.{IsTable, IsRefusal, Parses, canon};
 ghost use Rattle.btf_model.specs.Text as model;
 ghost use Rattle.btf_model.specs.Text.{FindsName};
 ghost use Rattle.btf_model.specs.Walk.{Resolves, HasSize};
-ghost use Rattle.btf_words.specs.Error.{Answers, Gives, Tells};
+ghost use Rattle.btf_words.specs.Error.{MeetsOrNoMemory, IsOrNoMemory, Meets};
 ghost use Rattle.btf_words.specs.Endianness.{order_of};
 ghost use Rattle.btf_words.specs.Kind as kinds;
 ghost use Rattle.btf_records.specs.BtfType.{record_of, fallback_of, type_kind};
@@ -78,7 +78,7 @@ impl Model for Btf {
 impl Btf {
     /// An empty table in little-endian order: one string byte, which is zero, and the type of id 0.
     pub fn new(alloc: Global) -> Result<Btf, BtfError>
-        ensures { Gives (λ b. b) result (Ok empty_table) }
+        ensures { IsOrNoMemory (λ b. b) result (Ok empty_table) }
     {
         let mut strings = Vec::with_capacity(alloc, 1)?;
         strings.push(0)?;
@@ -101,7 +101,7 @@ impl Btf {
     /// `InvalidStringOffset` with the length of the strings where they would pass 4,294,967,295 bytes. An error
     /// leaves the table as it was.
     pub fn add_string(&mut self, text: &str) -> Result<u32, BtfError>
-        ensures answer { Gives (λ offset. offset) result (string_place text.now self.old) }
+        ensures answer { IsOrNoMemory (λ offset. offset) result (string_place text.now self.old) }
         ensures ok { OnOk result (self.new ≡ with_string text.now self.old) }
         ensures err { OnErr result (self.new ≡ self.old) }
     {
@@ -119,7 +119,7 @@ impl Btf {
     ///
     /// `InvalidTypeInfo` where the records would pass 4,294,967,295 bytes. An error leaves the table as it was.
     pub fn add_type(&mut self, btf_type: BtfType) -> Result<u32, BtfError>
-        ensures answer { Gives (λ id. id) result (type_place (record_of btf_type) self.old) }
+        ensures answer { IsOrNoMemory (λ id. id) result (type_place (record_of btf_type) self.old) }
         ensures ok { OnOk result (self.new ≡ with_type (record_of btf_type)
             (fallback_of btf_type) self.old) }
         ensures err { OnErr result (self.new ≡ self.old) }
@@ -145,19 +145,19 @@ impl Btf {
     /// as they are, and not looked at.
     pub fn parse(alloc: Global, data: &[u8], endianness: Endianness) -> Result<Btf, BtfError>
         // What the bytes stand for, or the first cause of refusal.
-        ensures parsed { Answers (λ b. b) result (Parses (order_of endianness) «data».now) }
+        ensures parsed { MeetsOrNoMemory (λ b. b) result (Parses (order_of endianness) «data».now) }
         // Bytes that stand for a table are not refused, and no others stand for one.
         ensures only_table { (t : Table) → IsTable (order_of endianness) «data».now t
-            → Gives (λ b. b) result (Ok t) }
+            → IsOrNoMemory (λ b. b) result (Ok t) }
         ensures only_refusal { (f : Refusal) → IsRefusal (order_of endianness) «data».now f
-            → Gives (λ b. b) result (Err f) }
+            → IsOrNoMemory (λ b. b) result (Err f) }
     {
         read_table(alloc, data, endianness)
     }
 
     /// The blob of the table, in the table's own order: the header, the records from id 1 on, the strings.
     pub fn to_bytes(&self) -> Result<Vec<u8>, BtfError>
-        ensures written { Gives (λ v. v.items) result (Ok (canon self.now)) }
+        ensures written { IsOrNoMemory (λ v. v.items) result (Ok (canon self.now)) }
         // Parsed in the table's order, the bytes give the table again, kept 64-bit enum values aside.
         ensures parses_back { IfOk result (λ v. IsTable self.now.order v.items (strip self.now)) }
     {
@@ -185,27 +185,28 @@ impl Btf {
     /// `InvalidStringOffset` of the offset where no zero byte stands at it or after it. Memory is taken only where
     /// the bytes are not UTF-8.
     pub fn string_at(&self, offset: u32) -> Result<BtfStr<'_>, BtfError>
-        ensures text { Gives text_bytes result (model.text_at self.now.strings offset) }
+        ensures text { IsOrNoMemory text_bytes result (model.text_at self.now.strings offset) }
         ensures no_memory { IfSome (model.bytes_at self.now.strings offset) IsUtf8
-            → Tells text_bytes result (λ answer. answer ≡ model.text_at self.now.strings offset) }
+            → Meets text_bytes result (λ answer. answer ≡ model.text_at self.now.strings offset) }
     {
         text_at(*self.strings.allocator(), &self.strings, offset)
     }
 
     /// The name of a type, as `string_at` reads it; the name of an `Unknown` is at offset 0.
     pub fn type_name(&self, btf_type: &BtfType) -> Result<BtfStr<'_>, BtfError>
-        ensures text { Gives text_bytes result
+        ensures text { IsOrNoMemory text_bytes result
             (model.text_at self.now.strings (record_of btf_type.now).name) }
         ensures no_memory { IfSome (model.bytes_at self.now.strings
             (record_of btf_type.now).name) IsUtf8
-            → Tells text_bytes result (λ answer. answer ≡ model.text_at self.now.strings (record_of btf_type.now).name) }
+            → Meets text_bytes result
+            (λ answer. answer ≡ model.text_at self.now.strings (record_of btf_type.now).name) }
     {
         self.string_at(btf_type.name_offset())
     }
 
     /// The name of a type for a message; None where it can't be read. `OutOfMemory` is the only error.
     pub fn err_type_name(&self, btf_type: &BtfType) -> Result<Option<String>, BtfError>
-        ensures { Gives (option_map string_bytes) result
+        ensures { IsOrNoMemory (option_map string_bytes) result
             (Ok (result_ok (model.text_at self.now.strings (record_of btf_type.now).name))) }
     {
         match self.type_name(btf_type) {
@@ -221,7 +222,7 @@ impl Btf {
     /// `InvalidStringOffset` where a type of this kind with a lower id has a name that can't be read, and
     /// `UnknownBtfTypeName` where no type has the kind and the name.
     pub fn id_by_type_name_kind(&self, name: &str, kind: BtfKind) -> Result<u32, BtfError>
-        ensures { Answers (λ id. id) result
+        ensures { MeetsOrNoMemory (λ id. id) result
             (FindsName self.now.strings self.now.records (kinds.kind kind) name.now) }
     {
         find_named(
@@ -271,7 +272,7 @@ impl Btf {
     /// types are modifiers. No memory is taken.
     #[inline(always)]
     pub fn resolve_type(&self, type_id: u32) -> Result<u32, BtfError>
-        ensures { Tells (λ id. id) result (Resolves self.now.records type_id) }
+        ensures { Meets (λ id. id) result (Resolves self.now.records type_id) }
     {
         resolve(&self.types, type_id)
     }
@@ -284,14 +285,14 @@ impl Btf {
     /// size that passes 32 bits, and `MaximumTypeDepthReached` of `type_id` where the first 32 types lead on. No
     /// memory is taken.
     pub fn type_size(&self, type_id: u32) -> Result<usize, BtfError>
-        ensures { Tells (λ n. n) result (HasSize self.now.records type_id) }
+        ensures { Meets (λ n. n) result (HasSize self.now.records type_id) }
     {
         Ok(size(&self.types, type_id)? as usize)
     }
 
     /// An equal table, fallbacks included. `OutOfMemory` is the only error.
     pub fn try_clone(&self) -> Result<Self, BtfError>
-        ensures { Gives (λ b. b) result (Ok self.now) }
+        ensures { IsOrNoMemory (λ b. b) result (Ok self.now) }
     {
         Ok(Btf {
             endianness: self.endianness,
@@ -335,7 +336,8 @@ impl Btf {
     /// `InvalidStringOffset` of it. The text is not read, however long it is.
     pub(crate) fn check_name(&self, offset: u32, readable_end: usize) -> Result<(), BtfError>
         requires { IsReadableEnd self.now.strings readable_end }
-        ensures { Gives (λ u. u) result (checked (is_read (text_at self.now.strings offset)) tt) }
+        ensures { IsOrNoMemory (λ u. u) result
+            (checked (is_read (text_at self.now.strings offset)) tt) }
     {
         let offset = offset as usize;
         if offset < readable_end {
@@ -386,7 +388,7 @@ pub fn allocator_of(table: &Btf) -> Global
 
 /// The table that a blob stands for, or the first cause of refusal.
 fn read_table(alloc: Global, data: &[u8], endianness: Endianness) -> Result<Btf, BtfError>
-    ensures { Answers (λ b. b) result (Parses (order_of endianness) «data».now) }
+    ensures { MeetsOrNoMemory (λ b. b) result (Parses (order_of endianness) «data».now) }
 {
     let header = Header::read(data, endianness)?;
     let Some(strings) = section(data, header.hdr_len, header.str_off, header.str_len) else {

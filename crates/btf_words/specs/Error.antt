@@ -1,4 +1,4 @@
--- How the results of the crates are related to what the definitions answer.
+-- How the results of the crates are related to what the definitions say.
 use Rattle.std.specs.Prelude.{◌≡◌, Result, Ok, Err, Option, Some, None, IfSome, string_bytes}
 use Rattle.btf_model.specs.Refusal as refusals
 use Rattle.btf_model.specs.Refusal.{Refusal}
@@ -29,16 +29,16 @@ refusal_of (errors.MultiLevelMapInMapNotSupported name) =
 refusal_of (errors.InvalidValuesSpec name) = Some (refusals.InvalidValuesSpec (string_bytes name))
 refusal_of errors.OutOfMemory = None
 
--- The result, its value seen by view, is an answer of which P holds, or memory was refused.
-abbrev pub Answers : {X Y : Type 0} → (X → Y) → Result X BtfError → (Result Y Refusal → Type 0) → Type 0
-Answers view (Ok x) P = P (Ok (view x))
-Answers view (Err e) P = IfSome (refusal_of e) (λ refusal. P (Err refusal))
+-- The result, its value seen by view, meets P, or memory was refused.
+abbrev pub MeetsOrNoMemory : {X Y : Type 0} → (X → Y) → Result X BtfError → (Result Y Refusal → Type 0) → Type 0
+MeetsOrNoMemory view (Ok x) P = P (Ok (view x))
+MeetsOrNoMemory view (Err e) P = IfSome (refusal_of e) (λ refusal. P (Err refusal))
 
--- The result is this answer, or memory was refused.
-abbrev pub Gives : {X Y : Type 0} → (X → Y) → Result X BtfError → Result Y Refusal → Type 0
-Gives view result answer = Answers view result (λ a. a ≡ answer)
+-- The result is this one, or memory was refused.
+abbrev pub IsOrNoMemory : {X Y : Type 0} → (X → Y) → Result X BtfError → Result Y Refusal → Type 0
+IsOrNoMemory view result answer = MeetsOrNoMemory view result (λ a. a ≡ answer)
 
--- The same of a call that takes no memory: the result is an answer of which P holds.
-abbrev pub Tells : {X Y : Type 0} → (X → Y) → Result X BtfError → (Result Y Refusal → Type 0) → Type 0
-Tells view (Ok x) P = P (Ok (view x))
-Tells view (Err e) P = (refusal : Refusal) × (refusal_of e ≡ Some refusal) × P (Err refusal)
+-- The same of a call that takes no memory: the result meets P.
+abbrev pub Meets : {X Y : Type 0} → (X → Y) → Result X BtfError → (Result Y Refusal → Type 0) → Type 0
+Meets view (Ok x) P = P (Ok (view x))
+Meets view (Err e) P = (refusal : Refusal) × (refusal_of e ≡ Some refusal) × P (Err refusal)

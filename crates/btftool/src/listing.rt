@@ -2,7 +2,7 @@
 
 ghost use Rattle.std.specs.Prelude.{◌≡◌, ◌++◌, map, Ok, OnOk, string_bytes};
 ghost use Rattle.btf_model.specs.Text.{text_at};
-ghost use Rattle.btf_words.specs.Error.{Gives};
+ghost use Rattle.btf_words.specs.Error.{IsOrNoMemory};
 ghost use Rattle.btf_records.specs.BtfType.{record_of};
 ghost use Rattle.btftool.specs.Listing.{name_part, type_line, lines_from};
 ghost use Rattle.btftool.specs.Listing as spec;
@@ -28,7 +28,7 @@ fn push_text(out: &mut String, name: &str) -> Result<(), AllocError>
 fn push_name(out: &mut String, table: &Btf, btf_type: &BtfType) -> Result<(), BtfError>
     ensures text { OnOk result (string_bytes out.new ≡ string_bytes out.old
         ++ name_part (text_at table.now.strings (record_of btf_type.now).name)) }
-    ensures only_memory { Gives (λ done. done) result (Ok tt) }
+    ensures only_memory { IsOrNoMemory (λ done. done) result (Ok tt) }
 {
     let name = match table.type_name(btf_type) {
         Ok(name) => name,
@@ -43,7 +43,7 @@ fn push_name(out: &mut String, table: &Btf, btf_type: &BtfType) -> Result<(), Bt
 fn push_line(out: &mut String, table: &Btf, id: usize, btf_type: &BtfType) -> Result<(), BtfError>
     ensures text { OnOk result (string_bytes out.new ≡ string_bytes out.old
         ++ type_line table.now.strings id (record_of btf_type.now)) }
-    ensures only_memory { Gives (λ done. done) result (Ok tt) }
+    ensures only_memory { IsOrNoMemory (λ done. done) result (Ok tt) }
 {
     // The contract speaks of the kind in the info word, which a use of it shows.
     let _ = btf_type.info();
@@ -58,7 +58,7 @@ fn push_line(out: &mut String, table: &Btf, id: usize, btf_type: &BtfType) -> Re
 fn push_lines(out: &mut String, table: &Btf, types: &[BtfType]) -> Result<(), BtfError>
     ensures text { OnOk result (string_bytes out.new ≡ string_bytes out.old
         ++ lines_from table.now.strings 1 (map record_of types.now)) }
-    ensures only_memory { Gives (λ done. done) result (Ok tt) }
+    ensures only_memory { IsOrNoMemory (λ done. done) result (Ok tt) }
 {
     for (place, btf_type) in types.iter().enumerate() {
         push_line(out, table, place + 1, btf_type)?;
@@ -68,7 +68,7 @@ fn push_lines(out: &mut String, table: &Btf, types: &[BtfType]) -> Result<(), Bt
 
 /// A line for each type from id 1 on.
 pub fn listing(alloc: Global, table: &Btf) -> Result<Vec<u8>, BtfError>
-    ensures { Gives (λ v. v.items) result (Ok (spec.listing table.now)) }
+    ensures { IsOrNoMemory (λ v. v.items) result (Ok (spec.listing table.now)) }
 {
     let mut out = String::new(alloc);
     if let Some((_, types)) = table.types().as_slice().split_first() {
@@ -79,7 +79,7 @@ pub fn listing(alloc: Global, table: &Btf) -> Result<Vec<u8>, BtfError>
 
 /// The line that says a size.
 pub fn size_line(alloc: Global, size: usize) -> Result<Vec<u8>, BtfError>
-    ensures { Gives (λ v. v.items) result (Ok (spec.size_line size)) }
+    ensures { IsOrNoMemory (λ v. v.items) result (Ok (spec.size_line size)) }
 {
     let text = format!(in alloc; "{size}\n")?;
     Ok(text.into_bytes())
@@ -87,7 +87,7 @@ pub fn size_line(alloc: Global, size: usize) -> Result<Vec<u8>, BtfError>
 
 /// The lines that say the answer of a comparison, and how many pairs it started.
 pub fn comparison_lines(alloc: Global, answer: bool, starts: usize) -> Result<Vec<u8>, BtfError>
-    ensures { Gives (λ v. v.items) result (Ok (spec.comparison_lines answer starts)) }
+    ensures { IsOrNoMemory (λ v. v.items) result (Ok (spec.comparison_lines answer starts)) }
 {
     let answer = if answer { "true" } else { "false" };
     let text = format!(in alloc; "{answer}\nstarts {starts}\n")?;

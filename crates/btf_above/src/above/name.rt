@@ -3,7 +3,7 @@
 ghost use Rattle.std.specs.Prelude.{IfSome};
 ghost use Rattle.std.specs.Str.{IsUtf8};
 ghost use Rattle.btf_model.specs.Text.{bytes_at};
-ghost use Rattle.btf_words.specs.Error.{Answers, Tells};
+ghost use Rattle.btf_words.specs.Error.{MeetsOrNoMemory, Meets};
 ghost use Rattle.btf_above.specs.Named.{IsNamed};
 
 use btf_plain::BtfError;
@@ -11,10 +11,10 @@ use btf_table::Btf;
 
 /// Whether the text at a string offset is this name, or `InvalidStringOffset` of the offset where there is no text.
 pub fn is_named(btf: &Btf, offset: u32, name: &str) -> Result<bool, BtfError>
-    ensures named { Answers (λ b. b) result (IsNamed btf.now.strings offset name.now) }
+    ensures named { MeetsOrNoMemory (λ b. b) result (IsNamed btf.now.strings offset name.now) }
     // Memory is taken only for bytes that are not UTF-8.
     ensures no_memory { IfSome (bytes_at btf.now.strings offset) IsUtf8
-        → Tells (λ b. b) result (IsNamed btf.now.strings offset name.now) }
+        → Meets (λ b. b) result (IsNamed btf.now.strings offset name.now) }
 {
     let text = btf.string_at(offset)?;
     Ok(text.as_str() == name)

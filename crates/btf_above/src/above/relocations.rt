@@ -3,7 +3,7 @@
 ghost use Rattle.std.specs.Prelude.{ℕ, List, Result};
 ghost use Rattle.btf_model.specs.Refusal.{Refusal};
 ghost use Rattle.btf_model.specs.Words.{Words};
-ghost use Rattle.btf_words.specs.Error.{Answers, Gives};
+ghost use Rattle.btf_words.specs.Error.{MeetsOrNoMemory, IsOrNoMemory};
 ghost use Rattle.btf_ext.specs.BtfExt.{ext as said};
 
 use crate::above::name::is_named;
@@ -33,12 +33,12 @@ pub fn relocations_of(
     name: &str,
 ) -> Result<Vec<[u32; 4]>, BtfError>
     // The records of the sections of this name, or the first name that cannot be read.
-    ensures words { Answers (λ v. v.items) result
+    ensures words { MeetsOrNoMemory (λ v. v.items) result
         (Words btf.now.strings (said ext.now).relocations name.now) }
     // No other records, and no other cause.
     ensures only { (answer : Result (List (List ℕ)) Refusal)
         → Words btf.now.strings (said ext.now).relocations name.now answer
-        → Gives (λ v. v.items) result answer }
+        → IsOrNoMemory (λ v. v.items) result answer }
 {
     let mut found = Vec::new(alloc);
     for (offset, records) in ext.relocations() {

@@ -4,7 +4,7 @@ ghost use Rattle.std.specs.Prelude.{◌<◌, ℕ, length, Option, Result};
 ghost use Rattle.btf_model.specs.Refusal.{Refusal};
 ghost use Rattle.btf_model.specs.Ext.{Then};
 ghost use Rattle.btf_model.specs.Value.{HasVariants, FindsVariant, Value};
-ghost use Rattle.btf_words.specs.Error.{Answers, Gives, Tells};
+ghost use Rattle.btf_words.specs.Error.{MeetsOrNoMemory, IsOrNoMemory, Meets};
 ghost use Rattle.btf_above.specs.Variants.{HaveUtf8Names, TypeHasUtf8Names, NamesAreUtf8};
 
 use crate::above::variant::find_value;
@@ -36,13 +36,13 @@ use btf_table::Btf;
 /// - `OutOfMemory` where the name of a variant is not UTF-8, and there is no memory for its text.
 pub fn variant_value(btf: &Btf, type_id: u32, name: &str) -> Result<Option<u64>, BtfError>
     // The value, that there is none, or the first cause of refusal.
-    ensures value { Answers (λ v. v) result (Value btf.now type_id name.now) }
+    ensures value { MeetsOrNoMemory (λ v. v) result (Value btf.now type_id name.now) }
     // No other value, and no other cause.
     ensures only { (answer : Result (Option ℕ) Refusal) → Value btf.now type_id name.now answer
-        → Gives (λ v. v) result answer }
+        → IsOrNoMemory (λ v. v) result answer }
     // Where the names of the type's variants are UTF-8, no memory is taken.
     ensures no_memory { NamesAreUtf8 btf.now type_id
-        → Tells (λ v. v) result (Value btf.now type_id name.now) }
+        → Meets (λ v. v) result (Value btf.now type_id name.now) }
 {
     let id = btf.resolve_type(type_id)?;
     value_at(btf, id, name)
@@ -52,10 +52,10 @@ pub fn variant_value(btf: &Btf, type_id: u32, name: &str) -> Result<Option<u64>,
 /// its type is none.
 fn value_at(btf: &Btf, type_id: u32, name: &str) -> Result<Option<u64>, BtfError>
     requires { type_id < length btf.now.records }
-    ensures value { Answers (λ v. v) result
+    ensures value { MeetsOrNoMemory (λ v. v) result
         (Then (HasVariants btf.now type_id) (FindsVariant btf.now.strings name.now)) }
     ensures no_memory { TypeHasUtf8Names btf.now type_id
-        → Tells (λ v. v) result
+        → Meets (λ v. v) result
         (Then (HasVariants btf.now type_id) (FindsVariant btf.now.strings name.now)) }
 {
     match btf.type_by_id(type_id)? {

@@ -6,7 +6,7 @@ ghost use Rattle.std.specs.Str.{IsUtf8};
 ghost use Rattle.btf_model.specs.Table as model;
 ghost use Rattle.btf_model.specs.Text.{bytes_at};
 ghost use Rattle.btf_model.specs.Value.{FindsVariant};
-ghost use Rattle.btf_words.specs.Error.{Answers, Tells};
+ghost use Rattle.btf_words.specs.Error.{MeetsOrNoMemory, Meets};
 ghost use Rattle.btf_items.specs.Fallback.{variant_of};
 ghost use Rattle.btf_above.specs.Variants.{enum_variant, enum64_variant, HaveUtf8Names};
 
@@ -71,11 +71,12 @@ pub fn find_value<V: Variant>(
     variants: &[V],
     name: &str,
 ) -> Result<Option<u64>, BtfError>
-    ensures found { Answers (λ v. v) result
+    ensures found { MeetsOrNoMemory (λ v. v) result
         (FindsVariant btf.now.strings name.now (map V.variant variants.now)) }
     // Memory is taken only for names that are not UTF-8.
     ensures no_memory { HaveUtf8Names btf.now.strings (map V.variant variants.now)
-        → Tells (λ v. v) result (FindsVariant btf.now.strings name.now (map V.variant variants.now)) }
+        → Meets (λ v. v) result
+        (FindsVariant btf.now.strings name.now (map V.variant variants.now)) }
 {
     for variant in variants {
         if is_named(btf, variant.name_offset(), name)? {

@@ -2,7 +2,7 @@
 
 ghost use Rattle.std.specs.Prelude.{◌≡◌, ◌++◌, ◌-◌, ◌≤◌, length, replicate, MatchOption};
 ghost use Rattle.btf_model.specs.Ext.{HasHeader, HasPart, IsRange, part_of, header_words};
-ghost use Rattle.btf_words.specs.Error.{Tells};
+ghost use Rattle.btf_words.specs.Error.{Meets};
 ghost use Rattle.btf_words.specs.Endianness.{order_of};
 ghost use Rattle.btf_ext.specs.ExtHeader.{header, range, part};
 
@@ -46,7 +46,7 @@ impl Header {
     /// The header of data, or `InvalidHeader` where fewer than 8 bytes stand there, or fewer than its length says.
     /// What a header that is shorter than 32 bytes leaves out is 0.
     pub fn read(data: &[u8], endianness: Endianness) -> Result<Header, BtfError>
-        ensures { Tells header result (HasHeader (order_of endianness) «data».now) }
+        ensures { Meets header result (HasHeader (order_of endianness) «data».now) }
     {
         if data.len() < MINIMAL_LEN {
             return Err(BtfError::InvalidHeader);
@@ -102,7 +102,7 @@ impl Range {
     /// What the range says, or `InvalidInfo` where it does not lie in the data, or is not empty and begins with no
     /// word, or with one below the least size.
     pub fn read<'a>(&self, data: &'a [u8], endianness: Endianness) -> Result<Part<'a>, BtfError>
-        ensures { Tells part result (HasPart (order_of endianness) «data».now (range self.now)) }
+        ensures { Meets part result (HasPart (order_of endianness) «data».now (range self.now)) }
     {
         match self.find(data, endianness) {
             Some(part) => Ok(part),
@@ -125,7 +125,8 @@ impl Range {
     fn find<'a>(&self, data: &'a [u8], endianness: Endianness) -> Option<Part<'a>>
         ensures { MatchOption result
             (¬ (IsRange (order_of endianness) «data».now (range self.now)))
-            (λ p. IsRange (order_of endianness) «data».now (range self.now) × (part p ≡ part_of (order_of endianness) «data».now (range self.now))) }
+            (λ p. IsRange (order_of endianness) «data».now (range self.now)
+            × (part p ≡ part_of (order_of endianness) «data».now (range self.now))) }
     {
         let start = self.start();
         let bytes = data.get(start..start + self.len as usize)?;

@@ -4,7 +4,7 @@ ghost use Rattle.std.specs.Prelude.{◌≡◌, ◌<◌, ◌≤◌, length, map, 
 ghost use Rattle.std.specs.List.{AllByRecursion};
 ghost use Rattle.btf_model.specs.Ext.{AreSections, IsSection, relocation_section};
 ghost use Rattle.btf_model.specs.Text.{text_at};
-ghost use Rattle.btf_words.specs.Error.{Answers, Gives};
+ghost use Rattle.btf_words.specs.Error.{MeetsOrNoMemory, IsOrNoMemory};
 ghost use Rattle.btf_words.specs.Endianness.{order_of};
 ghost use Rattle.btf_ext.specs.SecInfo.{section_of};
 ghost use Rattle.btf_ext.specs.Relocation.{relocation};
@@ -18,7 +18,7 @@ use std::alloc::{AllocError, Global};
 
 /// The text at a string offset, in memory of its own. `InvalidStringOffset` where it can't be read.
 pub fn name_at(alloc: Global, btf: &Btf, offset: u32) -> Result<String, BtfError>
-    ensures { Gives string_bytes result (text_at btf.now.strings offset) }
+    ensures { IsOrNoMemory string_bytes result (text_at btf.now.strings offset) }
 {
     match btf.string_at(offset)? {
         BtfStr::Borrowed(text) => Ok(text.to_string(alloc)?),
@@ -32,7 +32,7 @@ pub fn read_sections<'a>(
     part: &Part<'a>,
     endianness: Endianness,
 ) -> Result<Vec<SecInfo<'a>>, BtfError>
-    ensures { Answers (λ v. map section_of v.items) result
+    ensures { MeetsOrNoMemory (λ v. map section_of v.items) result
         (AreSections (order_of endianness) part.now.rec_size part.now.sections.now) }
 {
     let mut sections = Vec::new(alloc);

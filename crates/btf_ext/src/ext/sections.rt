@@ -42,7 +42,12 @@ impl<'a> Model for SecInfoIter<'a> {
 
     ghost use Rattle.btf_words.specs.Endianness.{order_of};
 
-    ghost view = { λ i. record { order = order_of i.endianness; size = i.rec_size; bytes = i.bytes.now } };
+    ghost view = { λ i. record {
+      order = order_of i.endianness;
+      size = i.rec_size;
+      bytes =
+          i.bytes.now;
+    } };
 }
 
 impl<'a> SecInfoIter<'a> {
@@ -95,7 +100,9 @@ impl<'a> Iterator for SecInfoIter<'a> {
 fn split_head(bytes: &[u8], endianness: Endianness) -> Option<(u32, u32, &[u8])>
     ensures { MatchOption result
         (length bytes.now < 8)
-        (λ x. (8 ≤ length bytes.now) × (x.0 ≡ word_at (order_of endianness) 0 bytes.now) × (x.1 ≡ word_at (order_of endianness) 4 bytes.now) × (x.2.now ≡ drop 4 (drop 4 bytes.now))) }
+        (λ x. (8 ≤ length bytes.now) × (x.0 ≡ word_at (order_of endianness) 0 bytes.now)
+        × (x.1 ≡ word_at (order_of endianness) 4 bytes.now)
+        × (x.2.now ≡ drop 4 (drop 4 bytes.now))) }
 {
     let (name_offset, rest) = bytes.split_first_chunk::<4>()?;
     let (num_info, rest) = rest.split_first_chunk::<4>()?;
@@ -113,8 +120,10 @@ fn split_section(
     endianness: Endianness,
 ) -> Result<(SecInfo<'_>, &[u8]), BtfError>
     ensures { MatchResult result
-        (λ x. IsSection rec_size (section_of x.0) × (bytes.now ≡ section_bytes (order_of endianness) (section_of x.0) ++ x.1.now))
-        (λ e. BeginsNoSection (order_of endianness) rec_size bytes.now × (refusal_of e ≡ Some (cut_refusal (order_of endianness) rec_size bytes.now))) }
+        (λ x. IsSection rec_size (section_of x.0)
+        × (bytes.now ≡ section_bytes (order_of endianness) (section_of x.0) ++ x.1.now))
+        (λ e. BeginsNoSection (order_of endianness) rec_size bytes.now
+        × (refusal_of e ≡ Some (cut_refusal (order_of endianness) rec_size bytes.now))) }
 {
     let section_len = bytes.len();
     let Some((name_offset, num_info, rest)) = split_head(bytes, endianness) else {

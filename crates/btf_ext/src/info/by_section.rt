@@ -2,7 +2,7 @@
 
 ghost use Rattle.std.specs.Prelude.{◌≡◌, ℕ, ◌*◌, ◌<◌, ◌≤◌, List, None, Ok, IfOk, unwrap_or};
 ghost use Rattle.btf_model.specs.Ext.{Records, IsSection, instruction_records, no_records};
-ghost use Rattle.btf_words.specs.Error.{Answers, Gives};
+ghost use Rattle.btf_words.specs.Error.{MeetsOrNoMemory, IsOrNoMemory};
 ghost use Rattle.btf_words.specs.Endianness.{order_of};
 ghost use Rattle.btf_ext.specs.SecInfo.{section_of};
 ghost use Rattle.btf_ext.specs.ExtHeader.{part as part_of};
@@ -42,7 +42,7 @@ pub trait SectionRecords: Sized + Drop {
 
     /// Equal records. `OutOfMemory` is the only error.
     fn copied(&self) -> Result<Self, BtfError>
-        ensures { Gives records result (Ok (records self.now)) };
+        ensures { IsOrNoMemory records result (Ok (records self.now)) };
 }
 
 /// The records of a program, by the names of its sections.
@@ -77,7 +77,7 @@ impl<S: SectionRecords> BySection<S> {
         btf: &Btf,
     ) -> Result<Self, BtfError>
         requires { 0 < part.now.rec_size → 4 * S.width ≤ part.now.rec_size }
-        ensures { Answers (by_name S.records) result
+        ensures { MeetsOrNoMemory (by_name S.records) result
             (AreByName (order_of endianness) S.width btf.now.strings (part_of part.now)) }
     {
         let mut info = Self::new(alloc);
@@ -92,7 +92,7 @@ impl<S: SectionRecords> BySection<S> {
 
     /// A copy of the records under a name, or of none. `OutOfMemory` is the only error.
     pub fn get(&self, name: &str) -> Result<S, BtfError>
-        ensures { Gives S.records result
+        ensures { IsOrNoMemory S.records result
             (Ok (unwrap_or (by_name S.records self.now name.now) no_records)) }
     {
         match self.sections.get(name) {
@@ -103,7 +103,7 @@ impl<S: SectionRecords> BySection<S> {
 
     /// Equal records under equal names. `OutOfMemory` is the only error.
     pub fn try_clone(&self) -> Result<Self, BtfError>
-        ensures { Gives (by_name S.records) result (Ok (by_name S.records self.now)) }
+        ensures { IsOrNoMemory (by_name S.records) result (Ok (by_name S.records self.now)) }
     {
         let mut copy = Self::new(self.alloc);
         for (name, section) in &self.sections {

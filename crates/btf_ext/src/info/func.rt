@@ -2,7 +2,7 @@
 
 ghost use Rattle.std.specs.Prelude.{◌≡◌, length, map, Ok};
 ghost use Rattle.btf_model.specs.Ext.{little_bytes, no_records};
-ghost use Rattle.btf_words.specs.Error.{Gives};
+ghost use Rattle.btf_words.specs.Error.{IsOrNoMemory};
 ghost use Rattle.btf_ext.specs.Info.{func_words, func_records};
 
 use crate::ext::SecInfo;
@@ -71,7 +71,7 @@ impl FuncSecInfo {
 
     /// The words of the records in little-endian order. `OutOfMemory` is the only error.
     pub fn func_info_bytes(&self) -> Result<Vec<u8>, BtfError>
-        ensures { Gives (λ v. v.items) result
+        ensures { IsOrNoMemory (λ v. v.items) result
             (Ok (little_bytes (map func_words self.now.func_info.items))) }
     {
         let mut out = Vec::new(*self.func_info.allocator());
@@ -83,7 +83,7 @@ impl FuncSecInfo {
 
     /// Equal records. `OutOfMemory` is the only error.
     pub fn try_clone(&self) -> Result<Self, BtfError>
-        ensures { Gives func_records result (Ok (func_records self.now)) }
+        ensures { IsOrNoMemory func_records result (Ok (func_records self.now)) }
     {
         Ok(Self {
             num_info: self.num_info,

@@ -2,7 +2,7 @@
 
 ghost use Rattle.std.specs.Prelude.{◌≡◌, length, map, Ok};
 ghost use Rattle.btf_model.specs.Ext.{little_bytes, no_records};
-ghost use Rattle.btf_words.specs.Error.{Gives};
+ghost use Rattle.btf_words.specs.Error.{IsOrNoMemory};
 ghost use Rattle.btf_ext.specs.Info.{line_words, line_records};
 
 use crate::ext::SecInfo;
@@ -77,7 +77,7 @@ impl LineSecInfo {
 
     /// The words of the records in little-endian order. `OutOfMemory` is the only error.
     pub fn line_info_bytes(&self) -> Result<Vec<u8>, BtfError>
-        ensures { Gives (λ v. v.items) result
+        ensures { IsOrNoMemory (λ v. v.items) result
             (Ok (little_bytes (map line_words self.now.line_info.items))) }
     {
         let mut out = Vec::new(*self.line_info.allocator());
@@ -95,7 +95,7 @@ impl LineSecInfo {
 
     /// Equal records. `OutOfMemory` is the only error.
     pub fn try_clone(&self) -> Result<Self, BtfError>
-        ensures { Gives line_records result (Ok (line_records self.now)) }
+        ensures { IsOrNoMemory line_records result (Ok (line_records self.now)) }
     {
         Ok(Self {
             num_info: self.num_info,

@@ -7,7 +7,7 @@ ghost use Rattle.btf_model.specs.Record as model;
 ghost use Rattle.btf_model.specs.Record.{kind_of, vlen};
 ghost use Rattle.btf_model.specs.Spelling.{spell, IsWhole};
 ghost use Rattle.btf_words.specs.Endianness.{order_of};
-ghost use Rattle.btf_words.specs.Error.{Gives};
+ghost use Rattle.btf_words.specs.Error.{IsOrNoMemory};
 ghost use Rattle.btf_items.specs.Items.{entry_words};
 
 use crate::records::with_list::{WithList, clone_with_list};
@@ -33,9 +33,15 @@ impl Model for DataSec {
 
     ghost Value = { Record };
 
-    ghost view = { λ a. record { name = a.name_offset; info = a.info; third = a.size; tail = flat_map entry_words a.entries.items } };
+    ghost view = { λ a. record {
+      name = a.name_offset;
+      info = a.info;
+      third = a.size;
+      tail = flat_map entry_words a.entries.items };
+    };
 
-    ghost invariant = { λ a. (kind_of a.info ≡ Some DataSecKind) × (vlen a.info ≡ length a.entries.items) };
+    ghost invariant = { λ a. (kind_of a.info ≡ Some DataSecKind)
+    × (vlen a.info ≡ length a.entries.items) };
 }
 
 impl DataSec {
@@ -113,7 +119,8 @@ impl DataSec {
     pub fn set_entry(&mut self, index: usize, entry: DataSecEntry)
         requires { index < vlen self.old.info }
         ensures { self.new ≡ record self.old {
-          tail = take (3 * index) self.old.tail ++ entry_words entry ++ drop (3 * index + 3) self.old.tail;
+          tail = take (3 * index) self.old.tail ++ entry_words entry
+          ++ drop (3 * index + 3) self.old.tail;
         } }
     {
         self.entries[index] = entry;
@@ -128,7 +135,7 @@ impl DataSec {
 
     /// An equal record. `OutOfMemory` is the only error.
     pub fn try_clone(&self) -> Result<Self, BtfError>
-        ensures { Gives (λ r. r) result (Ok self.now) }
+        ensures { IsOrNoMemory (λ r. r) result (Ok self.now) }
     {
         clone_with_list(self)
     }

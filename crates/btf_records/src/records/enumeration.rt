@@ -7,7 +7,7 @@ ghost use Rattle.btf_model.specs.Record as model;
 ghost use Rattle.btf_model.specs.Record.{kind_of, vlen, kind_flag};
 ghost use Rattle.btf_model.specs.Spelling.{spell, IsWhole};
 ghost use Rattle.btf_words.specs.Endianness.{order_of};
-ghost use Rattle.btf_words.specs.Error.{Gives};
+ghost use Rattle.btf_words.specs.Error.{IsOrNoMemory};
 ghost use Rattle.btf_model.specs.Info.{flag_bit, with_flag};
 ghost use Rattle.btf_items.specs.Items.{enum_words};
 
@@ -35,9 +35,15 @@ impl Model for Enum {
 
     ghost Value = { Record };
 
-    ghost view = { λ a. record { name = a.name_offset; info = a.info; third = a.size; tail = flat_map enum_words a.variants.items } };
+    ghost view = { λ a. record {
+      name = a.name_offset;
+      info = a.info;
+      third = a.size;
+      tail = flat_map enum_words a.variants.items };
+    };
 
-    ghost invariant = { λ a. (kind_of a.info ≡ Some EnumKind) × (vlen a.info ≡ length a.variants.items) };
+    ghost invariant = { λ a. (kind_of a.info ≡ Some EnumKind)
+    × (vlen a.info ≡ length a.variants.items) };
 }
 
 impl Enum {
@@ -120,7 +126,7 @@ impl Enum {
 
     /// An equal record. `OutOfMemory` is the only error.
     pub fn try_clone(&self) -> Result<Self, BtfError>
-        ensures { Gives (λ r. r) result (Ok self.now) }
+        ensures { IsOrNoMemory (λ r. r) result (Ok self.now) }
     {
         clone_with_list(self)
     }

@@ -7,7 +7,7 @@ ghost use Rattle.btf_model.specs.Record as model;
 ghost use Rattle.btf_model.specs.Record.{kind_of, vlen};
 ghost use Rattle.btf_model.specs.Spelling.{spell, IsWhole};
 ghost use Rattle.btf_words.specs.Endianness.{order_of};
-ghost use Rattle.btf_words.specs.Error.{Gives};
+ghost use Rattle.btf_words.specs.Error.{IsOrNoMemory};
 ghost use Rattle.btf_items.specs.Items.{param_words};
 
 use crate::records::with_list::{WithList, clone_with_list};
@@ -33,9 +33,15 @@ impl Model for FuncProto {
 
     ghost Value = { Record };
 
-    ghost view = { λ a. record { name = a.name_offset; info = a.info; third = a.return_type; tail = flat_map param_words a.params.items } };
+    ghost view = { λ a. record {
+      name = a.name_offset;
+      info = a.info;
+      third = a.return_type;
+      tail = flat_map param_words a.params.items };
+    };
 
-    ghost invariant = { λ a. (kind_of a.info ≡ Some FuncProtoKind) × (vlen a.info ≡ length a.params.items) };
+    ghost invariant = { λ a. (kind_of a.info ≡ Some FuncProtoKind)
+    × (vlen a.info ≡ length a.params.items) };
 }
 
 impl FuncProto {
@@ -114,7 +120,7 @@ impl FuncProto {
 
     /// An equal record. `OutOfMemory` is the only error.
     pub fn try_clone(&self) -> Result<Self, BtfError>
-        ensures { Gives (λ r. r) result (Ok self.now) }
+        ensures { IsOrNoMemory (λ r. r) result (Ok self.now) }
     {
         clone_with_list(self)
     }

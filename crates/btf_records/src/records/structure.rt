@@ -7,7 +7,7 @@ ghost use Rattle.btf_model.specs.Record as model;
 ghost use Rattle.btf_model.specs.Record.{kind_of, vlen, member_bit_offset, member_bit_field_size};
 ghost use Rattle.btf_model.specs.Spelling.{spell, IsWhole};
 ghost use Rattle.btf_words.specs.Endianness.{order_of};
-ghost use Rattle.btf_words.specs.Error.{Gives};
+ghost use Rattle.btf_words.specs.Error.{IsOrNoMemory};
 ghost use Rattle.btf_items.specs.Items.{member_words};
 
 use crate::records::with_list::{WithList, clone_with_list};
@@ -32,9 +32,15 @@ impl Model for Struct {
 
     ghost Value = { Record };
 
-    ghost view = { λ a. record { name = a.name_offset; info = a.info; third = a.size; tail = flat_map member_words a.members.items } };
+    ghost view = { λ a. record {
+      name = a.name_offset;
+      info = a.info;
+      third = a.size;
+      tail = flat_map member_words a.members.items };
+    };
 
-    ghost invariant = { λ a. (kind_of a.info ≡ Some StructKind) × (vlen a.info ≡ length a.members.items) };
+    ghost invariant = { λ a. (kind_of a.info ≡ Some StructKind)
+    × (vlen a.info ≡ length a.members.items) };
 }
 
 impl Struct {
@@ -125,7 +131,7 @@ impl Struct {
 
     /// An equal record. `OutOfMemory` is the only error.
     pub fn try_clone(&self) -> Result<Self, BtfError>
-        ensures { Gives (λ r. r) result (Ok self.now) }
+        ensures { IsOrNoMemory (λ r. r) result (Ok self.now) }
     {
         clone_with_list(self)
     }

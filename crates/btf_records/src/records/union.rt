@@ -8,7 +8,7 @@ ghost use Rattle.btf_model.specs.Record as model;
 ghost use Rattle.btf_model.specs.Record.{kind_of, vlen, member_bit_offset, member_bit_field_size};
 ghost use Rattle.btf_model.specs.Spelling.{spell, IsWhole};
 ghost use Rattle.btf_words.specs.Endianness.{order_of};
-ghost use Rattle.btf_words.specs.Error.{Gives};
+ghost use Rattle.btf_words.specs.Error.{IsOrNoMemory};
 ghost use Rattle.btf_items.specs.Fallback.{fallback_of_option};
 ghost use Rattle.btf_items.specs.Items.{member_words};
 
@@ -39,11 +39,17 @@ impl Model for Union {
     ghost Value = { UnionRecord };
 
     ghost view = { λ a. record {
-      words = record { name = a.name_offset; info = a.info; third = a.size; tail = flat_map member_words a.members.items };
+      words = record {
+        name = a.name_offset;
+        info = a.info;
+        third = a.size;
+        tail = flat_map member_words a.members.items;
+      };
       fallback = fallback_of_option a.fallback;
     } };
 
-    ghost invariant = { λ a. (kind_of a.info ≡ Some UnionKind) × (vlen a.info ≡ length a.members.items) };
+    ghost invariant = { λ a. (kind_of a.info ≡ Some UnionKind)
+        × (vlen a.info ≡ length a.members.items) };
 }
 
 impl Union {
@@ -57,7 +63,12 @@ impl Union {
     ) -> Self
         requires { vec_len members ≤ MAX_VLEN }
         ensures { result ≡ record {
-          words = record { name = name_offset; info = 5 * 2 ^ 24 + vec_len members; third = size; tail = flat_map member_words members.items };
+          words = record {
+            name = name_offset;
+            info = 5 * 2 ^ 24 + vec_len members;
+            third = size;
+            tail = flat_map member_words members.items;
+          };
           fallback = fallback_of_option fallback;
         } }
     {
@@ -146,7 +157,7 @@ impl Union {
 
     /// An equal record. `OutOfMemory` is the only error.
     pub fn try_clone(&self) -> Result<Self, BtfError>
-        ensures { Gives (λ r. r) result (Ok self.now) }
+        ensures { IsOrNoMemory (λ r. r) result (Ok self.now) }
     {
         Ok(Self {
             name_offset: self.name_offset,

@@ -5,7 +5,7 @@ ghost use Rattle.std.specs.List.{flat_map};
 ghost use Rattle.btf_model.specs.Record.{Kind, Record, kind_of, vlen, tail_words};
 ghost use Rattle.btf_model.specs.Spelling.{spell, kept, IsWhole};
 ghost use Rattle.btf_words.specs.Endianness.{order_of};
-ghost use Rattle.btf_words.specs.Error.{Gives};
+ghost use Rattle.btf_words.specs.Error.{IsOrNoMemory};
 
 use btf_items::{Item, clone_items, push, push_items};
 use btf_plain::{BtfError, Endianness};
@@ -76,7 +76,7 @@ pub fn append_with_list<R: WithList>(
 
 /// An equal record, as far as its words go. `OutOfMemory` is the only error.
 pub fn clone_with_list<R: WithList>(list: &R) -> Result<R, BtfError>
-    ensures { Gives R.words result (Ok (R.words list.now)) }
+    ensures { IsOrNoMemory R.words result (Ok (R.words list.now)) }
 {
     let [name_offset, info, third] = list.front();
     let items = clone_items(list.items())?;

@@ -18,7 +18,7 @@ ghost use Rattle.btf_rewrite_model.specs.Rule.{entry_members, placed};
 ghost use Rattle.btf_rewrite_model.specs.Fault.{member_checks, entry_checks, is_sized};
 ghost use Rattle.btf_model.specs.Text.{text_at};
 ghost use Rattle.btf_rewrite_model.specs.Passing.{AreAnswersTo};
-ghost use Rattle.btf_words.specs.Error.{Answers, Gives};
+ghost use Rattle.btf_words.specs.Error.{MeetsOrNoMemory, IsOrNoMemory};
 ghost use Rattle.btf_records.specs.BtfType.{record_of, fallback_of};
 ghost use Rattle.btf_table.specs.Adding.{HasRoom};
 ghost use Rattle.btf_rules.specs.Checked.{checked};
@@ -51,7 +51,10 @@ fn as_struct(
 ) -> Result<Option<BtfType>, BtfError>
     ensures answer { (p : Pass) (lower : List Record) → p.table ≡ btf.now
         → names.now ≡ map (λ (r : Record). r.name) lower
-        → Gives (λ new. record_of (unwrap_or new (BtfType.DataSec data_sec.now))) result (checked (first_fault (flat_map (member_checks p) (entries data_sec.now.tail))) (model.struct name_offset (vlen data_sec.now.info) (vlen data_sec.now.info) (entry_members p lower (length lower) (entries data_sec.now.tail)))) }
+        → IsOrNoMemory (λ new. record_of (unwrap_or new (BtfType.DataSec data_sec.now))) result
+        (checked (first_fault (flat_map (member_checks p) (entries data_sec.now.tail)))
+        (model.struct name_offset (vlen data_sec.now.info) (vlen data_sec.now.info)
+        (entry_members p lower (length lower) (entries data_sec.now.tail)))) }
     ensures fallback { IfOk result (λ new. fallback_of
         (unwrap_or new (BtfType.DataSec data_sec.now)) ≡ None) }
 {
@@ -73,7 +76,10 @@ fn with_symbol_offsets(
     size: u32,
 ) -> Result<Option<BtfType>, BtfError>
     ensures answer { (p : Pass) → p.table ≡ btf.now → p.layout.symbols ≡ offsets_of symbols.now
-        → Gives (λ new. record_of (unwrap_or new (BtfType.DataSec data_sec.now))) result (checked (first_fault (flat_map (entry_checks p) (entries data_sec.now.tail))) (model.data_sec name_offset size (vlen data_sec.now.info) (map (placed p) (entries data_sec.now.tail)))) }
+        → IsOrNoMemory (λ new. record_of (unwrap_or new (BtfType.DataSec data_sec.now))) result
+        (checked (first_fault (flat_map (entry_checks p) (entries data_sec.now.tail)))
+        (model.data_sec name_offset size (vlen data_sec.now.info)
+        (map (placed p) (entries data_sec.now.tail)))) }
     ensures fallback { IfOk result (λ new. fallback_of
         (unwrap_or new (BtfType.DataSec data_sec.now)) ≡ None) }
 {
@@ -93,7 +99,11 @@ fn final_size(
     ensures own { (data_sec.now.third == 0) ≡ false → result ≡ Ok data_sec.now.third }
     ensures section { (data_sec.now.third == 0) ≡ true → (p : Pass) → p.table ≡ btf.now
         → p.layout.sections ≡ sizes_of sections.now
-        → Gives (λ n. n) result (checked (first_fault (is_read (text_at btf.now.strings data_sec.now.name) ∷ is_sized (size_by_name p (text_at btf.now.strings data_sec.now.name)) (text_at btf.now.strings data_sec.now.name) ∷ []))
+        → IsOrNoMemory (λ n. n) result
+        (checked (first_fault
+        (is_read (text_at btf.now.strings data_sec.now.name)
+        ∷ is_sized (size_by_name p (text_at btf.now.strings data_sec.now.name))
+        (text_at btf.now.strings data_sec.now.name) ∷ []))
         (unwrap_or (size_by_name p (text_at btf.now.strings data_sec.now.name)) 0)) }
 {
     if data_sec.size() != 0 {
@@ -144,8 +154,10 @@ impl Made {
         requires { HasRoom btf.now self.old.changes }
         ensures { (given : Given) (answers : List Answer) (id : ℕ) (r : Record) (before : Made)
             → HasNewName (pass_on btf.now given answers) id r name_offset before self.old
-            → gets_filler (pass_on btf.now given answers) id ≡ true → final_size (pass_on btf.now given answers) id r ≡ Some size
-            → Answers (λ new. unwrap_or new (BtfType.DataSec r)) result (Rules (pass_on btf.now given answers) id (BtfType.DataSec r) before self.new) }
+            → gets_filler (pass_on btf.now given answers) id ≡ true
+            → final_size (pass_on btf.now given answers) id r ≡ Some size
+            → MeetsOrNoMemory (λ new. unwrap_or new (BtfType.DataSec r)) result
+            (Rules (pass_on btf.now given answers) id (BtfType.DataSec r) before self.new) }
     {
         let filler = self.filler(btf)?;
         record_fits(self.changes.type_len, ENTRY_LEN)?;
@@ -194,7 +206,9 @@ impl Made {
             → IsHere (pass_on btf.now given (answers_of resolver.new.1)) id self.old
             → AreAnswersTo (asks_below (pass_on btf.now given (answers_of resolver.old.1)) id)
             (answers_of resolver.old.1)
-            → (left : List Feature) × AsksUpTo (pass_on btf.now given (answers_of resolver.old.1)) id (answers_of resolver.new.1) left }
+            → (left : List Feature)
+            × AsksUpTo (pass_on btf.now given (answers_of resolver.old.1)) id
+            (answers_of resolver.new.1) left }
         ensures steps { (given : Given) (id : ℕ) → given.policy ≡ policy_of policy
             → given.layout.sections ≡ sizes_of sections.now
             → given.layout.symbols ≡ offsets_of symbols.now
@@ -202,7 +216,9 @@ impl Made {
             → AreAnswersTo (asks_below (pass_on btf.now given (answers_of resolver.old.1)) id)
             (answers_of resolver.old.1)
             → IsHere (pass_on btf.now given (answers_of resolver.new.1)) id self.old
-            → Answers (λ new. unwrap_or new (BtfType.DataSec data_sec.now)) result (Steps (pass_on btf.now given (answers_of resolver.old.1)) id resolver.new.1 (BtfType.DataSec data_sec.now) self.old self.new) }
+            → MeetsOrNoMemory (λ new. unwrap_or new (BtfType.DataSec data_sec.now)) result
+            (Steps (pass_on btf.now given (answers_of resolver.old.1)) id resolver.new.1
+            (BtfType.DataSec data_sec.now) self.old self.new) }
     {
         // The contract speaks of the kind in the info word, and of the words, which a use of them shows.
         let _ = data_sec.info();

@@ -9,7 +9,7 @@ ghost use Rattle.btf_rewrite_model.specs.Checks.{first_fault, have_room};
 ghost use Rattle.btf_rewrite_model.specs.Fault.{all_fit};
 ghost use Rattle.btf_rewrite_model.specs.Pass.{placeholder_text};
 ghost use Rattle.btf_rewrite_model.specs.Rule.{variant_members};
-ghost use Rattle.btf_words.specs.Error.{Gives};
+ghost use Rattle.btf_words.specs.Error.{IsOrNoMemory};
 ghost use Rattle.btf_items.specs.Fallback.{variant_of, fallback_value};
 ghost use Rattle.btf_items.specs.Items.{enum64_words, member_words};
 ghost use Rattle.btf_table.specs.Adding.{strings_end, next_id, HasRoom, Adds};
@@ -29,7 +29,7 @@ const PLACEHOLDER: &str = "enum64_placeholder";
 /// Returns its id. `InvalidStringOffset` and `InvalidTypeInfo` where strings or types have no room for it.
 pub fn append_placeholder(btf: &Btf, changes: &mut Changes) -> Result<u32, BtfError>
     requires { HasRoom btf.now changes.old }
-    ensures answer { Gives (λ id. id) result
+    ensures answer { IsOrNoMemory (λ id. id) result
         (checked (first_fault (have_room (strings_end btf.now changes.old) (placeholder_text ∷ [])
         ++ all_fit changes.old.type_len (byte_int (strings_end btf.now changes.old) ∷ [])))
         (next_id btf.now changes.old)) }

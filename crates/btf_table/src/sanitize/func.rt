@@ -7,7 +7,7 @@ ghost use Rattle.btf_rewrite_model.specs.Made.{with_linkage};
 ghost use Rattle.btf_rewrite_model.specs.Pass as model;
 ghost use Rattle.btf_rewrite_model.specs.Pass.{asks_below};
 ghost use Rattle.btf_rewrite_model.specs.Passing.{AreAnswersTo};
-ghost use Rattle.btf_words.specs.Error.{Answers};
+ghost use Rattle.btf_words.specs.Error.{MeetsOrNoMemory};
 ghost use Rattle.btf_rules.specs.Features.{Called, IsFurther, answers_of};
 ghost use Rattle.btf_table.specs.PassStep.{Given, pass_on, IsType, IsHere, AsksUpTo, Steps};
 ghost use Rattle.btf_table.specs.Readable.{IsReadableEnd};
@@ -39,13 +39,17 @@ pub fn rewrite_func<F: FnMut(BtfFeature) -> bool>(
     ensures asks { (given : Given) (id : ℕ) → IsType btf.now id (BtfType.Func func.now)
         → AreAnswersTo (asks_below (pass_on btf.now given (answers_of resolver.old.1)) id)
         (answers_of resolver.old.1)
-        → (left : List Feature) × AsksUpTo (pass_on btf.now given (answers_of resolver.old.1)) id (answers_of resolver.new.1) left }
+        → (left : List Feature)
+        × AsksUpTo (pass_on btf.now given (answers_of resolver.old.1)) id
+        (answers_of resolver.new.1) left }
     ensures steps { (given : Given) (id : ℕ) (made : made.Made)
         → IsType btf.now id (BtfType.Func func.now)
         → AreAnswersTo (asks_below (pass_on btf.now given (answers_of resolver.old.1)) id)
         (answers_of resolver.old.1)
         → IsHere (pass_on btf.now given (answers_of resolver.new.1)) id made
-        → Answers (λ new. unwrap_or new (BtfType.Func func.now)) result (Steps (pass_on btf.now given (answers_of resolver.old.1)) id resolver.new.1 (BtfType.Func func.now) made made) }
+        → MeetsOrNoMemory (λ new. unwrap_or new (BtfType.Func func.now)) result
+        (Steps (pass_on btf.now given (answers_of resolver.old.1)) id resolver.new.1
+        (BtfType.Func func.now) made made) }
 {
     // The contract speaks of the kind in the info word, which a use of it shows.
     let _ = func.info();

@@ -8,7 +8,7 @@ ghost use Rattle.btf_rewrite_model.specs.Checks.{first_fault, have_room};
 ghost use Rattle.btf_rewrite_model.specs.Pass as model;
 ghost use Rattle.btf_rewrite_model.specs.Pass.{param_texts};
 ghost use Rattle.btf_rewrite_model.specs.Rule.{named_params};
-ghost use Rattle.btf_words.specs.Error.{Gives};
+ghost use Rattle.btf_words.specs.Error.{IsOrNoMemory};
 ghost use Rattle.btf_items.specs.Items.{enum_words, param_words};
 ghost use Rattle.btf_table.specs.Adding.{strings_end, HasRoom, Adds};
 ghost use Rattle.btf_table.specs.Params.{lack_a_name};
@@ -50,7 +50,7 @@ fn param_name_offset(
     param: &BtfParam,
 ) -> Result<u32, BtfError>
     requires { HasRoom btf.now changes.old }
-    ensures answer { Gives (λ offset. offset) result
+    ensures answer { IsOrNoMemory (λ offset. offset) result
         (checked (first_fault (have_room (strings_end btf.now changes.old)
         (param_texts index (param_words param.now))))
         (if wants_name param.now.name_offset param.now.btf_type then strings_end btf.now changes.old
@@ -74,7 +74,7 @@ pub fn with_param_names(
     proto: &FuncProto,
 ) -> Result<FuncProto, BtfError>
     requires { HasRoom btf.now changes.old }
-    ensures answer { Gives (λ r. r) result
+    ensures answer { IsOrNoMemory (λ r. r) result
         (checked (first_fault (have_room (strings_end btf.now changes.old)
         (param_texts 0 proto.now.tail)))
         (record proto.now {

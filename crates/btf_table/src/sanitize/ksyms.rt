@@ -7,7 +7,7 @@ ghost use Rattle.btf_rewrite_model.specs.Made.{Entry, entries, record_at, wants_
 ghost use Rattle.btf_rewrite_model.specs.Checks.{first_fault};
 ghost use Rattle.btf_rewrite_model.specs.Ksyms as model;
 ghost use Rattle.btf_rewrite_model.specs.Ksyms.{placeholder_checks, data_sec_checks, entry_checks, named};
-ghost use Rattle.btf_words.specs.Error.{Gives, Answers};
+ghost use Rattle.btf_words.specs.Error.{IsOrNoMemory, MeetsOrNoMemory};
 ghost use Rattle.btf_records.specs.BtfType.{record_of};
 ghost use Rattle.btf_rules.specs.Checked.{checked};
 ghost use Rattle.btf_table.specs.KsymsStep.{target_of, prototype_of, laid_out_anew, FindsSymbols, StepsWith, ksyms_ids, MakesKsyms};
@@ -85,7 +85,7 @@ impl Symbols {
 
 /// What symbols become without a placeholder.
 fn find_int(btf: &Btf) -> Result<Target, BtfError>
-    ensures { Gives (λ t. t) result
+    ensures { IsOrNoMemory (λ t. t) result
         (checked (first_fault (placeholder_checks btf.now None)) (target_of btf.now None)) }
 {
     let types = btf.as_slice();
@@ -104,7 +104,7 @@ fn find_int(btf: &Btf) -> Result<Target, BtfError>
 
 /// What symbols become.
 fn find_target(btf: &Btf, placeholder_id: Option<u32>) -> Result<Target, BtfError>
-    ensures { Gives (λ t. t) result
+    ensures { IsOrNoMemory (λ t. t) result
         (checked (first_fault (placeholder_checks btf.now placeholder_id))
         (target_of btf.now placeholder_id)) }
 {
@@ -128,7 +128,7 @@ fn find_target(btf: &Btf, placeholder_id: Option<u32>) -> Result<Target, BtfErro
 /// The DATASEC of an id, whose name can be read. Names can be read at the offsets below `readable_end`.
 fn named_data_sec(btf: &Btf, id: u32, readable_end: usize) -> Result<&DataSec, BtfError>
     requires { IsReadableEnd btf.now.strings readable_end }
-    ensures { Gives (λ s. s.now) result
+    ensures { IsOrNoMemory (λ s. s.now) result
         (checked (first_fault (data_sec_checks btf.now id)) (record_at btf.now id)) }
 {
     let btf_type = btf.type_by_id(id)?;
@@ -148,7 +148,8 @@ fn symbol_prototype(
 ) -> Result<Option<u32>, BtfError>
     requires { IsReadableEnd btf.now.strings readable_end }
     ensures { (e : Entry) → e.type ≡ id
-        → Gives (λ p. p) result (checked (first_fault (entry_checks btf.now placeholder_id e))
+        → IsOrNoMemory (λ p. p) result
+        (checked (first_fault (entry_checks btf.now placeholder_id e))
         (prototype_of btf.now id)) }
 {
     let symbol = btf.type_by_id(id)?;
@@ -176,7 +177,7 @@ fn find_symbols(
     readable_end: usize,
 ) -> Result<Symbols, BtfError>
     requires { IsReadableEnd btf.now.strings readable_end }
-    ensures { Answers (λ s. s) result
+    ensures { MeetsOrNoMemory (λ s. s) result
         (FindsSymbols btf.now placeholder_id (entries data_sec.now.tail)) }
 {
     let mut symbols = Symbols::new(btf.allocator());
@@ -214,7 +215,8 @@ impl Target {
     /// What the prototype of a function among the symbols becomes; None where it stays.
     fn new_proto(&self, proto: &FuncProto) -> Result<Option<BtfType>, BtfError>
         ensures words { (t : Table) (placeholder : Option ℕ) → self.now ≡ target_of t placeholder
-            → Gives (λ new. record_of (unwrap_or new (BtfType.FuncProto proto.now))) result (Ok (record proto.now { tail = model.with_names t placeholder proto.now.tail })) }
+            → IsOrNoMemory (λ new. record_of (unwrap_or new (BtfType.FuncProto proto.now))) result
+            (Ok (record proto.now { tail = model.with_names t placeholder proto.now.tail })) }
         ensures like { IfOk result (λ new. IfSome new (IsLike (BtfType.FuncProto proto.now))) }
     {
         let Some(placeholder) = self.placeholder else {
@@ -229,7 +231,7 @@ impl Target {
         ensures like { (placeholder : Option ℕ) → self.now ≡ target_of btf.now placeholder
             → IfOk result (λ s. IsLike (BtfType.DataSec data_sec.now) (BtfType.DataSec s)) }
         ensures words { (placeholder : Option ℕ) → self.now ≡ target_of btf.now placeholder
-            → Gives (λ s. s) result (Ok (laid_out_anew btf.now placeholder data_sec.now)) }
+            → IsOrNoMemory (λ s. s) result (Ok (laid_out_anew btf.now placeholder data_sec.now)) }
     {
         let mut laid_out = data_sec.try_clone()?;
         for (index, entry) in data_sec.entries().iter().enumerate() {
@@ -261,7 +263,7 @@ impl Step {
 
     /// The step over a table, or why it is refused.
     fn new(btf: &Btf, datasec_id: u32, placeholder_id: Option<u32>) -> Result<Step, BtfError>
-        ensures { Answers (λ s. s) result
+        ensures { MeetsOrNoMemory (λ s. s) result
             (StepsWith btf.now (ksyms_ids datasec_id placeholder_id)) }
     {
         let target = find_target(btf, placeholder_id)?;
@@ -279,7 +281,7 @@ impl Step {
     fn new_type(&self, btf: &Btf, id: u32, btf_type: &BtfType) -> Result<Option<BtfType>, BtfError>
         requires { slice_get btf.now.records id ≡ Some (record_of btf_type.now) }
         ensures words { (ids : KsymsIds) → IsStep btf.now ids self.now
-            → Gives (λ new. record_of (unwrap_or new btf_type.now)) result
+            → IsOrNoMemory (λ new. record_of (unwrap_or new btf_type.now)) result
             (Ok (becomes btf.now ids id (record_of btf_type.now))) }
         ensures like { (ids : KsymsIds) → IsStep btf.now ids self.now
             → IfOk result (λ new. IfSome new (IsLike btf_type.now)) }
@@ -306,7 +308,7 @@ impl Step {
     /// The types that change, by their ids.
     fn new_types(&self, btf: &Btf) -> Result<Vec<(u32, BtfType)>, BtfError>
         ensures { (ids : KsymsIds) → IsStep btf.now ids self.now
-            → Answers (λ v. v.items) result (StepsAll btf.now ids) }
+            → MeetsOrNoMemory (λ v. v.items) result (StepsAll btf.now ids) }
     {
         let types = btf.as_slice();
         let mut new_types = Vec::new(btf.allocator());
@@ -325,7 +327,8 @@ pub fn ksyms_changes(
     datasec_id: u32,
     placeholder_id: Option<u32>,
 ) -> Result<Changes, BtfError>
-    ensures { Answers (λ c. c) result (MakesKsyms btf.now (ksyms_ids datasec_id placeholder_id)) }
+    ensures { MeetsOrNoMemory (λ c. c) result
+        (MakesKsyms btf.now (ksyms_ids datasec_id placeholder_id)) }
 {
     let step = Step::new(btf, datasec_id, placeholder_id)?;
     let alloc = btf.allocator();
@@ -339,9 +342,9 @@ pub fn ksyms_changes(
         type_len: btf.type_len(),
     };
     if step.target.appends_int {
-        changes.add_string(INT)?;
+        changes.push_text(INT)?;
         let int = Int::new(name_offset as u32, 4, IntEncoding::Signed, 0);
-        changes.add_type(BtfType::Int(int))?;
+        changes.push_type(BtfType::Int(int))?;
     }
     Ok(changes)
 }

@@ -7,7 +7,7 @@ ghost use Rattle.btf_rewrite_model.specs.Checks.{first_fault, have_room, has_roo
 ghost use Rattle.btf_rewrite_model.specs.Fault.{all_fit};
 ghost use Rattle.btf_rewrite_model.specs.Pass.{placeholder_text, filler_type_text, filler_text, filler};
 ghost use Rattle.btf_model.specs.Table.{type_bytes};
-ghost use Rattle.btf_words.specs.Error.{Gives};
+ghost use Rattle.btf_words.specs.Error.{IsOrNoMemory};
 ghost use Rattle.btf_records.specs.BtfType.{record_of};
 ghost use Rattle.btf_table.specs.Adding.{strings_end, next_id, HasRoom, Adds};
 ghost use Rattle.btf_rules.specs.Checked.{checked};
@@ -64,7 +64,7 @@ impl Made {
         ensures there { (id : _) → self.old.placeholder ≡ Some id → (result ≡ Ok id)
             × (self.new ≡ self.old) }
         ensures answer { self.old.placeholder ≡ None
-            → Gives (λ id. id) result (checked
+            → IsOrNoMemory (λ id. id) result (checked
             (first_fault (have_room (strings_end btf.now self.old.changes) (placeholder_text ∷ [])
             ++ all_fit self.old.changes.type_len
             (byte_int (strings_end btf.now self.old.changes) ∷ [])))
@@ -92,7 +92,7 @@ impl Made {
         ensures there { (id : _) → self.old.filler ≡ Some id → (result ≡ Ok id)
             × (self.new ≡ self.old) }
         ensures answer { self.old.filler ≡ None
-            → Gives (λ id. id) result (checked
+            → IsOrNoMemory (λ id. id) result (checked
             (first_fault (has_room (strings_end btf.now self.old.changes) filler_type_text
             ∷ fits self.old.changes.type_len (record_len (byte_int 0))
             ∷ has_room (strings_end btf.now self.old.changes + length filler_type_text + 1)

@@ -7,7 +7,7 @@ ghost use Rattle.btf_rewrite_model.specs.Feature.{Feature};
 ghost use Rattle.btf_rewrite_model.specs.Pass.{asks_below};
 ghost use Rattle.btf_model.specs.Table.{Table};
 ghost use Rattle.btf_rewrite_model.specs.Passing.{AreAnswersTo};
-ghost use Rattle.btf_words.specs.Error.{Answers};
+ghost use Rattle.btf_words.specs.Error.{MeetsOrNoMemory};
 ghost use Rattle.btf_records.specs.BtfType.{record_of};
 ghost use Rattle.btf_table.specs.Adding.{HasRoom};
 ghost use Rattle.btf_rules.specs.Features.{Called, IsFurther, answers_of, policy_of};
@@ -44,7 +44,9 @@ fn has_sole_feature<F: FnMut(BtfFeature) -> bool>(
     ensures granted { (t : Table) (given : Given) (id : ℕ)
         → AreAnswersTo (asks_below (pass_on t given (answers_of resolver.old.1)) id)
         (answers_of resolver.old.1)
-        → IsGranted (pass_on t given (answers_of resolver.new.1)) (step.sole_feature (kind_of (record_of btf_type.now).info) (record_of btf_type.now)) result }
+        → IsGranted (pass_on t given (answers_of resolver.new.1))
+        (step.sole_feature (kind_of (record_of btf_type.now).info) (record_of btf_type.now))
+        result }
 {
     match sole_feature(btf_type) {
         Some(feature) => resolver.is_supported(feature),
@@ -80,14 +82,18 @@ impl Made {
             → IsHere (pass_on btf.now given (answers_of resolver.new.1)) id self.old
             → AreAnswersTo (asks_below (pass_on btf.now given (answers_of resolver.old.1)) id)
             (answers_of resolver.old.1)
-            → (left : List Feature) × AsksUpTo (pass_on btf.now given (answers_of resolver.old.1)) id (answers_of resolver.new.1) left }
+            → (left : List Feature)
+            × AsksUpTo (pass_on btf.now given (answers_of resolver.old.1)) id
+            (answers_of resolver.new.1) left }
         ensures steps { (given : Given) (id : ℕ) → given.policy ≡ policy_of policy
             → given.layout.sections ≡ sizes_of sections.now
             → given.layout.symbols ≡ offsets_of symbols.now → IsType btf.now id btf_type.now
             → AreAnswersTo (asks_below (pass_on btf.now given (answers_of resolver.old.1)) id)
             (answers_of resolver.old.1)
             → IsHere (pass_on btf.now given (answers_of resolver.new.1)) id self.old
-            → Answers (λ new. unwrap_or new btf_type.now) result (Steps (pass_on btf.now given (answers_of resolver.old.1)) id resolver.new.1 btf_type.now self.old self.new) }
+            → MeetsOrNoMemory (λ new. unwrap_or new btf_type.now) result
+            (Steps (pass_on btf.now given (answers_of resolver.old.1)) id resolver.new.1
+            btf_type.now self.old self.new) }
     {
         // The contract speaks of the kind in the info word, which a use of it shows.
         let _ = btf_type.info();
@@ -118,7 +124,7 @@ pub fn pass_changes<F: FnMut(BtfFeature) -> bool>(
     ensures called { Called F.step resolver.old.0 resolver.new.1 resolver.new.0 }
     ensures asks { BeginsAsked (pass_on btf.now (under policy (layout_of sections.now symbols.now))
         (answers_of resolver.new.1)) }
-    ensures passes { Answers (λ c. c) result
+    ensures passes { MeetsOrNoMemory (λ c. c) result
         (Passes (pass_on btf.now (under policy (layout_of sections.now symbols.now))
         (answers_of resolver.new.1))) }
 {

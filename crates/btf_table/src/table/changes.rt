@@ -30,7 +30,7 @@ impl Changes {
     ghost use Rattle.btf_records.specs.BtfType.{record_of, fallback_of};
     ghost use Rattle.std.specs.Prelude.{None};
     ghost use Rattle.btf_rewrite_model.specs.Checks.{has_room, fits, record_len};
-    ghost use Rattle.btf_words.specs.Error.{Gives};
+    ghost use Rattle.btf_words.specs.Error.{IsOrNoMemory};
     ghost use Rattle.btf_table.specs.Adding.{strings_end, next_id, HasRoom, Adds};
     ghost use Rattle.btf_rules.specs.Checked.{checked};
 
@@ -58,14 +58,14 @@ impl Changes {
     /// offset where the strings of the table and the new ones would pass their limit.
     pub fn append_text(&mut self, btf: &Btf, text: &str) -> Result<u32, BtfError>
         requires { HasRoom btf.now self.old }
-        ensures answer { Gives (λ offset. offset) result
+        ensures answer { IsOrNoMemory (λ offset. offset) result
             (checked (has_room (strings_end btf.now self.old) text.now)
             (strings_end btf.now self.old)) }
         ensures adds { OnOk result (Adds btf.now self.old self.new (text.now ∷ []) []) }
     {
         let offset = btf.string_len() + self.new_strings.len();
         text_fits(offset, text)?;
-        self.add_string(text)?;
+        self.push_text(text)?;
         Ok(offset as u32)
     }
 
@@ -73,19 +73,19 @@ impl Changes {
     pub fn append_type(&mut self, btf: &Btf, btf_type: BtfType) -> Result<u32, BtfError>
         requires room { HasRoom btf.now self.old }
         requires no_fallback { fallback_of btf_type ≡ None }
-        ensures answer { Gives (λ id. id) result
+        ensures answer { IsOrNoMemory (λ id. id) result
             (checked (fits self.old.type_len (record_len (record_of btf_type)))
             (next_id btf.now self.old)) }
         ensures adds { OnOk result (Adds btf.now self.old self.new [] (record_of btf_type ∷ [])) }
     {
         let id = btf.as_slice().len() + self.new_types.len();
         record_fits(self.type_len, btf_type.type_info_size())?;
-        self.add_type(btf_type)?;
+        self.push_type(btf_type)?;
         Ok(id as u32)
     }
 
-    /// Appends a text and a zero byte to the strings.
-    pub fn add_string(&mut self, text: &str) -> Result<(), AllocError>
+    /// Appends a text and a zero byte to the strings, whatever their length.
+    pub fn push_text(&mut self, text: &str) -> Result<(), AllocError>
         ensures strings { OnOk result (self.new.new_strings.items ≡ self.old.new_strings.items
             ++ (text.now ++ 0 ∷ [])) }
         ensures types { self.new.types ≡ self.old.types }
@@ -97,8 +97,8 @@ impl Changes {
         Ok(())
     }
 
-    /// Appends a type.
-    pub fn add_type(&mut self, btf_type: BtfType) -> Result<(), AllocError>
+    /// Appends a type, for whose record there is room.
+    pub fn push_type(&mut self, btf_type: BtfType) -> Result<(), AllocError>
         requires { self.old.type_len + (12 + 4 * length (record_of btf_type).tail) ≤ section_limit }
         ensures strings { self.new.new_strings ≡ self.old.new_strings }
         ensures types { self.new.types ≡ self.old.types }

@@ -29,7 +29,8 @@ pub struct Header {
 pub fn section(data: &[u8], hdr_len: u32, offset: u32, len: u32) -> Option<&[u8]>
     ensures { MatchOption result
         (length «data».now < hdr_len + offset + len)
-        (λ s. (hdr_len + offset + len ≤ length «data».now) × (s.now ≡ slice (hdr_len + offset) len «data».now)) }
+        (λ s. (hdr_len + offset + len ≤ length «data».now)
+        × (s.now ≡ slice (hdr_len + offset) len «data».now)) }
 {
     let start = hdr_len as usize + offset as usize;
     data.get(start..start + len as usize)
@@ -39,7 +40,8 @@ impl Header {
     /// The header at the front of the data, or `InvalidHeader` where fewer than 24 bytes stand there.
     pub fn read(data: &[u8], endianness: Endianness) -> Result<Header, BtfError>
         ensures { MatchResult result
-            (λ h. (header_len ≤ length «data».now) × (header h ≡ header_of (order_of endianness) «data».now))
+            (λ h. (header_len ≤ length «data».now)
+            × (header h ≡ header_of (order_of endianness) «data».now))
             (λ e. (length «data».now < header_len) × (e ≡ BtfError.InvalidHeader)) }
     {
         let Some(bytes) = data.first_chunk::<24>() else {

@@ -2,7 +2,7 @@
 
 ghost use Rattle.std.specs.Prelude.{◌≡◌, ◌≤◌};
 ghost use Rattle.btf_rewrite_model.specs.Checks.{has_room, fits};
-ghost use Rattle.btf_words.specs.Error.{Tells};
+ghost use Rattle.btf_words.specs.Error.{Meets};
 ghost use Rattle.btf_rules.specs.Checked.{checked};
 
 use crate::table::SECTION_LIMIT;
@@ -11,7 +11,7 @@ use btf_plain::BtfError;
 /// Whether a text has room with its zero byte after so many bytes of strings; `InvalidStringOffset` of them if not.
 pub fn text_fits(offset: usize, text: &str) -> Result<(), BtfError>
     requires { offset ≤ SECTION_LIMIT }
-    ensures { Tells (λ u. u) result (λ answer. answer ≡ checked (has_room offset text.now) tt) }
+    ensures { Meets (λ u. u) result (λ answer. answer ≡ checked (has_room offset text.now) tt) }
 {
     if text.len() >= SECTION_LIMIT - offset {
         return Err(BtfError::InvalidStringOffset { offset });
@@ -22,7 +22,7 @@ pub fn text_fits(offset: usize, text: &str) -> Result<(), BtfError>
 /// Whether a record of so many bytes has room after so many bytes of records; `InvalidTypeInfo` if not.
 pub fn record_fits(used: usize, bytes: usize) -> Result<(), BtfError>
     requires { used ≤ SECTION_LIMIT }
-    ensures { Tells (λ u. u) result (λ answer. answer ≡ checked (fits used bytes) tt) }
+    ensures { Meets (λ u. u) result (λ answer. answer ≡ checked (fits used bytes) tt) }
 {
     if bytes > SECTION_LIMIT - used {
         return Err(BtfError::InvalidTypeInfo);

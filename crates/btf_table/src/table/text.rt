@@ -6,7 +6,7 @@ ghost use Rattle.std.specs.Str.{IsUtf8};
 ghost use Rattle.btf_model.specs.Record.{kind_of};
 ghost use Rattle.btf_model.specs.Text as model;
 ghost use Rattle.btf_model.specs.Text.{FindsName};
-ghost use Rattle.btf_words.specs.Error.{Answers, Gives, Tells};
+ghost use Rattle.btf_words.specs.Error.{MeetsOrNoMemory, IsOrNoMemory, Meets};
 ghost use Rattle.btf_words.specs.Kind as kinds;
 ghost use Rattle.btf_records.specs.BtfType.{record_of};
 ghost use Rattle.btf_table.specs.BtfStr.{text_bytes, IsNamed};
@@ -53,10 +53,10 @@ fn bytes_at(strings: &[u8], offset: u32) -> Option<&[u8]>
 
 /// The text at an offset, or `InvalidStringOffset` of it where no zero byte stands at it or after it.
 pub fn text_at(alloc: Global, strings: &[u8], offset: u32) -> Result<BtfStr<'_>, BtfError>
-    ensures text { Gives text_bytes result (model.text_at strings.now offset) }
+    ensures text { IsOrNoMemory text_bytes result (model.text_at strings.now offset) }
     // Memory is taken only for bytes that are not UTF-8.
     ensures no_memory { IfSome (model.bytes_at strings.now offset) IsUtf8
-        → Tells text_bytes result (λ answer. answer ≡ model.text_at strings.now offset) }
+        → Meets text_bytes result (λ answer. answer ≡ model.text_at strings.now offset) }
 {
     let Some(bytes) = bytes_at(strings, offset) else {
         return Err(BtfError::InvalidStringOffset {
@@ -140,7 +140,7 @@ fn is_named(
     readable_end: Option<usize>,
 ) -> Result<bool, BtfError>
     requires { IfSome readable_end (λ end. IsReadableEnd strings.now end × IsComparable name.now) }
-    ensures { Answers (λ b. b) result
+    ensures { MeetsOrNoMemory (λ b. b) result
         (IsNamed strings.now (kinds.kind kind) name.now (record_of btf_type.now)) }
 {
     if !has_kind(btf_type, kind) {
@@ -172,7 +172,7 @@ pub fn find_named(
     kind: BtfKind,
 ) -> Result<u32, BtfError>
     requires { length types.now < 2 ^ 32 }
-    ensures { Answers (λ id. id) result
+    ensures { MeetsOrNoMemory (λ id. id) result
         (FindsName strings.now (map record_of types.now) (kinds.kind kind) name.now) }
 {
     let readable_end = comparable_end(strings, name);

@@ -3,7 +3,7 @@
 ghost use Rattle.std.specs.Prelude.{◌≡◌, ◌++◌, map, Ok, OnOk};
 ghost use Rattle.std.specs.List.{flat_map, AllByRecursion};
 ghost use Rattle.btf_model.specs.Spelling.{spell, IsWhole};
-ghost use Rattle.btf_words.specs.Error.{Answers, Gives};
+ghost use Rattle.btf_words.specs.Error.{MeetsOrNoMemory, IsOrNoMemory};
 ghost use Rattle.btf_words.specs.Endianness.{order_of};
 ghost use Rattle.btf_records.specs.BtfType.{record_of, fallback_of};
 ghost use Rattle.btf_table.specs.Records.{ReadsTypes};
@@ -21,7 +21,7 @@ pub fn read_types(
     data: &[u8],
     endianness: Endianness,
 ) -> Result<Vec<BtfType>, BtfError>
-    ensures { Answers (λ v. v.items) result (ReadsTypes (order_of endianness) «data».now) }
+    ensures { MeetsOrNoMemory (λ v. v.items) result (ReadsTypes (order_of endianness) «data».now) }
 {
     let mut types = Vec::new(alloc);
     types.push(BtfType::Unknown)?;
@@ -54,9 +54,9 @@ pub fn append_types(
 
 /// Equal types, in a vector of just their number.
 pub fn clone_types(types: &Vec<BtfType>) -> Result<Vec<BtfType>, BtfError>
-    ensures records { Gives (λ v. map record_of v.items) result
+    ensures records { IsOrNoMemory (λ v. map record_of v.items) result
         (Ok (map record_of types.now.items)) }
-    ensures fallbacks { Gives (λ v. map fallback_of v.items) result
+    ensures fallbacks { IsOrNoMemory (λ v. map fallback_of v.items) result
         (Ok (map fallback_of types.now.items)) }
 {
     let mut copies = Vec::with_capacity(*types.allocator(), types.len())?;

@@ -4,7 +4,7 @@ ghost use Rattle.std.specs.Prelude.{◌≡◌, ◌*◌, ◌<◌, ◌≤◌, ◌^
 ghost use Rattle.btf_model.specs.Record.{kind_of};
 ghost use Rattle.btf_model.specs.Walk as model;
 ghost use Rattle.btf_model.specs.Walk.{modified_type, Resolves, HasSize};
-ghost use Rattle.btf_words.specs.Error.{Tells};
+ghost use Rattle.btf_words.specs.Error.{Meets};
 ghost use Rattle.btf_records.specs.BtfType.{record_of};
 ghost use Rattle.btf_table.specs.Extent.{extent_of};
 
@@ -16,7 +16,7 @@ pub const WALK_LIMIT: usize = 32;
 
 /// The id of the first type that is no modifier, on the walk over modifiers from an id on.
 pub fn resolve(types: &[BtfType], type_id: u32) -> Result<u32, BtfError>
-    ensures { Tells (λ id. id) result (Resolves (map record_of types.now) type_id) }
+    ensures { Meets (λ id. id) result (Resolves (map record_of types.now) type_id) }
 {
     let mut id = type_id;
     for _ in 0..WALK_LIMIT {
@@ -60,7 +60,7 @@ enum Extent {
 
 /// The size in bytes of one of a type, on the walk over arrays and types that lead to one other.
 pub fn size(types: &[BtfType], type_id: u32) -> Result<u32, BtfError>
-    ensures { Tells (λ n. n) result (HasSize (map record_of types.now) type_id) }
+    ensures { Meets (λ n. n) result (HasSize (map record_of types.now) type_id) }
 {
     let mut id = type_id;
     let mut count = 1;

@@ -9,7 +9,7 @@ ghost use Rattle.btf_rewrite_model.specs.Checks.{first_fault, has_room, fits, re
 ghost use Rattle.btf_rewrite_model.specs.Pass.{Pass, filler_type_text, filler_text, filler};
 ghost use Rattle.btf_rewrite_model.specs.Rule.{entry_members, placed};
 ghost use Rattle.btf_rewrite_model.specs.Fault.{member_checks, entry_checks, is_sized};
-ghost use Rattle.btf_words.specs.Error.{Gives};
+ghost use Rattle.btf_words.specs.Error.{IsOrNoMemory};
 ghost use Rattle.btf_items.specs.Items.{member_words};
 ghost use Rattle.btf_table.specs.Adding.{strings_end, next_id, HasRoom, Adds};
 ghost use Rattle.btf_rules.specs.Checked.{checked};
@@ -30,7 +30,9 @@ use std::collections::HashMap;
 fn member(btf: &Btf, names: &[u32], entry: &DataSecEntry) -> Result<BtfMember, BtfError>
     ensures { (p : Pass) (lower : List Record) → p.table ≡ btf.now
         → names.now ≡ map (λ (r : Record). r.name) lower
-        → Gives member_words result (checked (first_fault (member_checks p (entry_of entry.now))) (entry_members p lower (length lower) (entry_of entry.now ∷ []))) }
+        → IsOrNoMemory member_words result
+        (checked (first_fault (member_checks p (entry_of entry.now)))
+        (entry_members p lower (length lower) (entry_of entry.now ∷ []))) }
 {
     let btf_type = btf.type_by_id(entry.btf_type)?;
     let Some(offset) = entry.offset.checked_mul(8) else {
@@ -54,7 +56,9 @@ fn member(btf: &Btf, names: &[u32], entry: &DataSecEntry) -> Result<BtfMember, B
 pub fn members(btf: &Btf, names: &[u32], data_sec: &DataSec) -> Result<Vec<BtfMember>, BtfError>
     ensures answer { (p : Pass) (lower : List Record) → p.table ≡ btf.now
         → names.now ≡ map (λ (r : Record). r.name) lower
-        → Gives (λ v. flat_map member_words v.items) result (checked (first_fault (flat_map (member_checks p) (entries data_sec.now.tail))) (entry_members p lower (length lower) (entries data_sec.now.tail))) }
+        → IsOrNoMemory (λ v. flat_map member_words v.items) result
+        (checked (first_fault (flat_map (member_checks p) (entries data_sec.now.tail)))
+        (entry_members p lower (length lower) (entries data_sec.now.tail))) }
     ensures count { IfOk result (λ v. length v.items ≡ vlen data_sec.now.info) }
 {
     let mut members = Vec::new(btf.allocator());
@@ -74,7 +78,9 @@ fn placed_entry(
     entry: &DataSecEntry,
 ) -> Result<DataSecEntry, BtfError>
     ensures { (p : Pass) → p.table ≡ btf.now → p.layout.symbols ≡ offsets_of symbols.now
-        → Gives entry_of result (checked (first_fault (entry_checks p (entry_of entry.now))) (placed p (entry_of entry.now))) }
+        → IsOrNoMemory entry_of result
+        (checked (first_fault (entry_checks p (entry_of entry.now)))
+        (placed p (entry_of entry.now))) }
 {
     let btf_type = btf.type_by_id(entry.btf_type)?;
     let BtfType::Var(var) = btf_type else {
@@ -107,7 +113,9 @@ pub fn placed_entries(
     data_sec: &DataSec,
 ) -> Result<Vec<DataSecEntry>, BtfError>
     ensures answer { (p : Pass) → p.table ≡ btf.now → p.layout.symbols ≡ offsets_of symbols.now
-        → Gives (λ v. map entry_of v.items) result (checked (first_fault (flat_map (entry_checks p) (entries data_sec.now.tail))) (map (placed p) (entries data_sec.now.tail))) }
+        → IsOrNoMemory (λ v. map entry_of v.items) result
+        (checked (first_fault (flat_map (entry_checks p) (entries data_sec.now.tail)))
+        (map (placed p) (entries data_sec.now.tail))) }
     ensures count { IfOk result (λ v. length v.items ≡ vlen data_sec.now.info) }
 {
     let mut placed_entries = Vec::new(btf.allocator());

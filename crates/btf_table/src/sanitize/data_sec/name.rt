@@ -6,7 +6,7 @@ ghost use Rattle.btf_model.specs.Text.{text_at};
 ghost use Rattle.btf_rewrite_model.specs.Checks.{first_fault, is_read, have_room};
 ghost use Rattle.btf_rewrite_model.specs.Pass.{Pass, has, renaming, replaced, slash, dot, underscore};
 ghost use Rattle.btf_rewrite_model.specs.Rule.{name_or};
-ghost use Rattle.btf_words.specs.Error.{Gives};
+ghost use Rattle.btf_words.specs.Error.{IsOrNoMemory};
 ghost use Rattle.btf_table.specs.Adding.{strings_end, HasRoom, Adds};
 ghost use Rattle.btf_rules.specs.Checked.{checked};
 
@@ -28,11 +28,15 @@ pub fn new_name(
 ) -> Result<u32, BtfError>
     requires { HasRoom btf.now changes.old }
     ensures answer { (p : Pass) → p.table ≡ btf.now → has p features.DataSec ≡ granted
-        → Gives (λ o. o) result (checked
-        (first_fault (is_read (text_at btf.now.strings data_sec.now.name) ∷ have_room (strings_end btf.now changes.old) (renaming p (text_at btf.now.strings data_sec.now.name))))
-        (name_or data_sec.now.name (strings_end btf.now changes.old) (renaming p (text_at btf.now.strings data_sec.now.name)))) }
+        → IsOrNoMemory (λ o. o) result (checked
+        (first_fault (is_read (text_at btf.now.strings data_sec.now.name)
+        ∷ have_room (strings_end btf.now changes.old)
+        (renaming p (text_at btf.now.strings data_sec.now.name))))
+        (name_or data_sec.now.name (strings_end btf.now changes.old)
+        (renaming p (text_at btf.now.strings data_sec.now.name)))) }
     ensures adds { (p : Pass) → p.table ≡ btf.now → has p features.DataSec ≡ granted
-        → OnOk result (Adds btf.now changes.old changes.new (renaming p (text_at btf.now.strings data_sec.now.name)) []) }
+        → OnOk result (Adds btf.now changes.old changes.new
+        (renaming p (text_at btf.now.strings data_sec.now.name)) []) }
 {
     let name = btf.string_at(data_sec.name_offset())?;
     let renamed = section_name(btf.allocator(), name.as_str(), granted)?;

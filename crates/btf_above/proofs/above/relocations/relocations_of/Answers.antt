@@ -3,7 +3,7 @@ use Rattle.std.specs.Option.{option_map}
 use Rattle.std.proofs.lemmas.Option.{slice_get-map, slice_get_read}
 use Rattle.std.proofs.lemmas.List.{length-map}
 use Rattle.btf_model.specs.Words.{RelocationSection, Words}
-use Rattle.btf_words.specs.Error.{Answers}
+use Rattle.btf_words.specs.Error.{MeetsOrNoMemory}
 use Rattle.btf_ext.specs.Relocation.{relocation}
 use Rattle.btf_above.proofs.Finding.{handed, section_error, only_words, all_read, names_more, words_joined, words_passed}
 use Rattle.btf_above.proofs.above.relocations.relocations_of.Goals as goal
@@ -14,7 +14,7 @@ returns-in_err-is_named c =
     let ss : _ = c.relocations-offset-items.result.now in
     let i : ℕ = c.loop-offset.offset-index in
     let e : _ = c.in_err-is_named.field-0.0 in
-    let words : Answers (λ v. v.items) c.from_residual.result (Words c.args.btf.now.strings (map relocation ss) c.args.name.now) =
+    let words : MeetsOrNoMemory (λ v. v.items) c.from_residual.result (Words c.args.btf.now.strings (map relocation ss) c.args.name.now) =
     section_error (λ v. v.items) c.args.btf.now.strings c.args.name.now (map relocation ss) i (relocation c.loop-offset-item.result) e c.from_residual.result (handed c.from_residual.result e c.from_residual.ensures.1)
     (slice_get-map relocation ss i ∙ ap (option_map relocation) (slice_get_read ss (length ss) i c.loop-offset-item.result refl c.loop-offset-test.true c.loop-offset-item.is))
     c.loop-offset.invariant.names c.in_err-is_named.ensures.named in

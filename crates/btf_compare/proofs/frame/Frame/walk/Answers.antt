@@ -2,7 +2,7 @@ use Rattle.std.proofs.Common.{refl, sym, ◌∙◌, ap, subst, arith, Bool, Resu
 use Rattle.std.proofs.lemmas.Result.{err_from_is_err_and}
 use Rattle.btf_model.specs.Run as runs
 use Rattle.btf_model.specs.Run.{IsNext}
-use Rattle.btf_words.specs.Error.{Tells}
+use Rattle.btf_words.specs.Error.{Meets}
 use Rattle.btf_words.specs.declared.error.BtfError.{BtfError}
 use Rattle.btf_compare.specs.declared.frame.Frame.{Frame}
 use Rattle.btf_compare.specs.Compared.{AreAt, WalksTo, frame_of}
@@ -16,12 +16,12 @@ positions-init c = record { walks = WalksTo.here; pair = refl }
 pub returns-in_err-answer-in-Told-clause-comes : goal.returns-in_err-answer-in-Told-clause-comes
 returns-in_err-answer-in-Told-clause-comes c =
     let given = err_from_is_err_and c.from_residual.result c.from_residual.ensures.1 in
-    rw (given.1, given.2) (subst (λ (r : Result Bool BtfError). Tells (λ b. b) r (λ a. IsNext c.args.local.now c.args.target.now (frame_of c.positions.self) (runs.Ends a))) c.in_err-answer-in-Told.was
+    rw (given.1, given.2) (subst (λ (r : Result Bool BtfError). Meets (λ b. b) r (λ a. IsNext c.args.local.now c.args.target.now (frame_of c.positions.self) (runs.Ends a))) c.in_err-answer-in-Told.was
     (told c.args.local.now c.args.target.now c.positions.self c.in-Told.answer c.positions-test.true c.in-Told.ensures.position))
 
 pub returns-in-Told-clause-comes : goal.returns-in-Told-clause-comes
 returns-in-Told-clause-comes c =
-    subst (λ (r : Result Bool BtfError). Tells (λ b. b) r (λ a. IsNext c.args.local.now c.args.target.now (frame_of c.positions.self) (runs.Ends a))) c.in_ok-answer-in-Told.was
+    subst (λ (r : Result Bool BtfError). Meets (λ b. b) r (λ a. IsNext c.args.local.now c.args.target.now (frame_of c.positions.self) (runs.Ends a))) c.in_ok-answer-in-Told.was
     (told c.args.local.now c.args.target.now c.positions.self c.in-Told.answer c.positions-test.true c.in-Told.ensures.position)
 
 pub positions-preserved-in-On : goal.positions-preserved-in-On

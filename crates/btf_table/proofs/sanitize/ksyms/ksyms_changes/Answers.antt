@@ -12,7 +12,7 @@ use Rattle.btf_table.specs.Changes.{AreOf, changed}
 use Rattle.btf_table.specs.KsymsStep.{ksyms_ids, MakesKsyms, AreStepped}
 use Rattle.btf_words.proofs.Refused.{handed_on}
 use Rattle.btf_table.proofs.KsymsSteps.{stays_as_stepped, grows_by_int, int_has_room}
-use Rattle.btf_table.proofs.sanitize.ksyms.ksyms_changes.Goals.{then-step+in_ok-add_string+in_ok-add_type, else-step}
+use Rattle.btf_table.proofs.sanitize.ksyms.ksyms_changes.Goals.{then-step+in_ok-push_text+in_ok-push_type, else-step}
 use Rattle.btf_table.proofs.sanitize.ksyms.ksyms_changes.Goals as goal
 
 pub returns-in_err-new_types : goal.returns-in_err-new_types
@@ -33,16 +33,16 @@ returns c =
     let is_int : appends_int t ids.placeholder ≡ c.in_ok-step.step.target.appends_int = ap (λ x. x.appends_int) (sym c.in_ok-step.ensures.1.target) in
     let both : AreOf t c.if-step.changes × (changed t c.if-step.changes ≡ ksyms_table t ids) =
     elim c.if-step.branch [
-      | then-step+in_ok-add_string+in_ok-add_type w ↦
-          let here : c.if-step.changes.types.items ≡ c.in_ok-new_types.field-0.items = ap (λ x. x.types.items) w.changes-is ∙ ap (λ v. v.items) (w.add_type.ensures.types ∙ w.add_string.ensures.types) in
+      | then-step+in_ok-push_text+in_ok-push_type w ↦
+          let here : c.if-step.changes.types.items ≡ c.in_ok-new_types.field-0.items = ap (λ x. x.types.items) w.changes-is ∙ ap (λ v. v.items) (w.push_type.ensures.types ∙ w.push_text.ensures.types) in
           let room : _ = int_has_room t ids c.in_ok-step.ensures.0 (is_int ∙ w.if-step.true) in
           let strings : c.if-step.changes.new_strings.items ≡ int_text ++ 0 ∷ [] =
-          ap (λ x. x.new_strings.items) w.changes-is ∙ ap (λ v. v.items) w.add_type.ensures.strings ∙ w.in_ok-add_string.ensures.strings ∙ ap (λ xs. xs ++ (int_text ++ 0 ∷ [])) c.new-2.ensures.items in
+          ap (λ x. x.new_strings.items) w.changes-is ∙ ap (λ v. v.items) w.push_type.ensures.strings ∙ w.in_ok-push_text.ensures.strings ∙ ap (λ xs. xs ++ (int_text ++ 0 ∷ [])) c.new-2.ensures.items in
           let int : BtfType = Int w.new-int.result in
           let types : c.if-step.changes.new_types.items ≡ int ∷ [] =
-          ap (λ x. x.new_types.items) w.changes-is ∙ w.in_ok-add_type.ensures.new_types ∙ ap (λ v. v.items ++ int ∷ []) w.add_string.ensures.new_types ∙ ap (λ xs. xs ++ int ∷ []) c.new-3.ensures.items in
+          ap (λ x. x.new_types.items) w.changes-is ∙ w.in_ok-push_type.ensures.new_types ∙ ap (λ v. v.items ++ int ∷ []) w.push_text.ensures.new_types ∙ ap (λ xs. xs ++ int ∷ []) c.new-3.ensures.items in
           let len : c.if-step.changes.type_len ≡ length (type_bytes t) + 16 =
-          ap (λ x. x.type_len) w.changes-is ∙ w.in_ok-add_type.ensures.type_len ∙ omega (arith, w.add_string.ensures.type_len, c.type_len.ensures.len, ap (λ (r : Record). length r.tail) w.new-int.ensures) in
+          ap (λ x. x.type_len) w.changes-is ∙ w.in_ok-push_type.ensures.type_len ∙ omega (arith, w.push_text.ensures.type_len, c.type_len.ensures.len, ap (λ (r : Record). length r.tail) w.new-int.ensures) in
           grows_by_int t ids c.if-step.changes (subst (λ cs. AreStepped t ids (length t.records) cs) (sym here) stepped) many c.allocator-alloc.ensures string_room type_room c.as_slice.ensures.first.0 int c.as_slice.ensures.first.1
           (is_int ∙ w.if-step.true) strings (w.new-int.ensures ∙ ap c_int c.string_len-name_offset.ensures.len) refl types len room.0 room.1
       | else-step w ↦

@@ -6,7 +6,7 @@ use Rattle.std.proofs.lemmas.Option.{none-some, IfSome_then}
 use Rattle.btf_model.specs.Record.{Record}
 use Rattle.btf_rewrite_model.specs.Pass.{Pass}
 use Rattle.btf_model.proofs.Comparisons.{same_ok}
-use Rattle.btf_words.specs.Error.{Answers}
+use Rattle.btf_words.specs.Error.{MeetsOrNoMemory}
 use Rattle.btf_words.specs.declared.error.BtfError.{BtfError}
 use Rattle.btf_rewrite_model.specs.Made.{data_sec}
 use Rattle.btf_items.specs.Items.{entry_words}
@@ -22,7 +22,7 @@ use Rattle.btf_table.proofs.sanitize.made.Made.filled.Goals as goal
 pub returns-in_err-filler : goal.returns-in_err-filler
 returns-in_err-filler c = λ given answers id r before n fills known.
     let p : Pass = pass_on c.args.btf.now given answers in
-    elim c.args.self.now.filler as (λ (o : Option ℕ). c.args.self.now.filler ≡ o → Answers (λ new. unwrap_or new (DataSec r)) c.from_residual.result (Rules p id (DataSec r) before c.filler.new.self)) [
+    elim c.args.self.now.filler as (λ (o : Option ℕ). c.args.self.now.filler ≡ o → MeetsOrNoMemory (λ new. unwrap_or new (DataSec r)) c.from_residual.result (Rules p id (DataSec r) before c.filler.new.self)) [
       | None ↦ λ none.
           handed_on (λ new. unwrap_or new (DataSec r)) c.in_err-filler.field-0.0 c.from_residual.result (Rules p id (DataSec r) before c.filler.new.self) c.from_residual.ensures.1
           (IfSome_then _ (c.in_err-filler.ensures.answer none) (λ refusal is. filler_fault p id r c.args.name_offset before c.args.self.now n fills c.args.size known refusal none (checked_err _ _ refusal is)))

@@ -1,7 +1,7 @@
 use Rattle.std.proofs.Common.{◌≡◌, true, [], sym, ap, subst, ◌∙◌}
 use Rattle.std.specs.Option.{unwrap_or}
 use Rattle.btf_model.specs.Record.{kind_of}
-use Rattle.btf_words.specs.Error.{Answers}
+use Rattle.btf_words.specs.Error.{MeetsOrNoMemory}
 use Rattle.btf_records.specs.BtfType.{record_of}
 use Rattle.btf_records.specs.declared.btf_type.BtfType.{BtfType}
 use Rattle.btf_rules.specs.Features.{answers_of}
@@ -15,7 +15,7 @@ use Rattle.btf_table.proofs.sanitize.made.Made.rewrite.Goals as goal
 pub returns-in-Func-clause-steps : goal.returns-in-Func-clause-steps
 returns-in-Func-clause-steps g c = λ given id policy sections symbols there below here.
     subst (λ (b : BtfType). IsType c.args.btf.now id b
-    → Answers (λ new. unwrap_or new b) c.rewrite_func.result (Steps (pass_on c.args.btf.now given (answers_of c.args.resolver.now.1)) id c.rewrite_func.new.resolver.1 b c.args.self.now c.args.self.now)) (sym c.in-Func.is)
+    → MeetsOrNoMemory (λ new. unwrap_or new b) c.rewrite_func.result (Steps (pass_on c.args.btf.now given (answers_of c.args.resolver.now.1)) id c.rewrite_func.new.resolver.1 b c.args.self.now c.args.self.now)) (sym c.in-Func.is)
     (λ is. c.rewrite_func.ensures.steps given id c.args.self.now is below here) there
 
 one : (g : Over) (c : goal.After-rewrite_by g) → asks_one (kind_of (record_of c.args.btf_type.now).info) ≡ true

@@ -5,7 +5,7 @@ use Rattle.btf_model.specs.Record.{kind_of}
 use Rattle.btf_model.specs.Refusal.{Refusal}
 use Rattle.btf_rewrite_model.specs.Pass.{Pass}
 use Rattle.btf_model.proofs.Comparisons.{same_ok}
-use Rattle.btf_words.specs.Error.{Answers}
+use Rattle.btf_words.specs.Error.{MeetsOrNoMemory}
 use Rattle.btf_words.specs.declared.error.BtfError.{BtfError}
 use Rattle.btf_records.specs.declared.btf_type.BtfType.{BtfType}
 use Rattle.btf_records.specs.declared.btf_type.BtfType.TheVariants.{Enum64, Union}
@@ -19,7 +19,7 @@ pub returns-in_err-member_type : goal.returns-in_err-member_type
 returns-in_err-member_type c = λ given answers id there here denied.
     let p : Pass = pass_on c.args.btf.now given answers in
     let kind = ap kind_of (sym c.info.ensures.value) ∙ c.info.ensures.kind in
-    elim c.args.self.now.placeholder as (λ (o : Option ℕ). c.args.self.now.placeholder ≡ o → Answers (λ new. new) c.from_residual.result (Rules p id (Enum64 c.args.enum64.now) c.args.self.now c.placeholder.new.self)) [
+    elim c.args.self.now.placeholder as (λ (o : Option ℕ). c.args.self.now.placeholder ≡ o → MeetsOrNoMemory (λ new. new) c.from_residual.result (Rules p id (Enum64 c.args.enum64.now) c.args.self.now c.placeholder.new.self)) [
       | None ↦ λ none.
           handed_on (λ new. new) c.in_err-member_type.field-0.0 c.from_residual.result (Rules p id (Enum64 c.args.enum64.now) c.args.self.now c.placeholder.new.self) c.from_residual.ensures.1
           (IfSome_then _ (c.in_err-member_type.ensures.answer none) (λ refusal is. enum64_fault p id (Enum64 c.args.enum64.now) c.args.self.now there kind here denied none ∙ checked_err _ _ refusal is))

@@ -7,7 +7,7 @@ ghost use Rattle.btf_rewrite_model.specs.Made as model;
 ghost use Rattle.btf_rewrite_model.specs.Pass.{Pass};
 ghost use Rattle.btf_rewrite_model.specs.Rule.{becomes_by};
 ghost use Rattle.btf_rewrite_model.specs.Passing.{is_quiet};
-ghost use Rattle.btf_words.specs.Error.{Gives};
+ghost use Rattle.btf_words.specs.Error.{IsOrNoMemory};
 ghost use Rattle.btf_records.specs.BtfType.{record_of, fallback_of};
 ghost use Rattle.btf_rules.specs.Features.{feature_of};
 ghost use Rattle.btf_rules.specs.SoleFeature.{IsGranted};
@@ -66,7 +66,9 @@ pub fn replaced(
     ensures words { (p : Pass) (lower : List Record) (id : ℕ)
         → IsGranted p (sole.sole_feature (kind_of (record_of btf_type.now).info)
         (record_of btf_type.now)) granted → is_quiet (kind_of (record_of btf_type.now).info) ≡ true
-        → Gives (λ new. record_of (unwrap_or new btf_type.now)) result (Ok (becomes_by p lower id (kind_of (record_of btf_type.now).info) (record_of btf_type.now))) }
+        → IsOrNoMemory (λ new. record_of (unwrap_or new btf_type.now)) result
+        (Ok (becomes_by p lower id (kind_of (record_of btf_type.now).info)
+        (record_of btf_type.now))) }
     ensures len { IfOk result (λ new. length (record_of (unwrap_or new btf_type.now)).tail ≡ length
         (record_of btf_type.now).tail) }
     ensures fallback { IfOk result (λ new. fallback_of

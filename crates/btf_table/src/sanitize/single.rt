@@ -7,7 +7,7 @@ ghost use Rattle.btf_rewrite_model.specs.Made as model;
 ghost use Rattle.btf_rewrite_model.specs.Pass.{Pass};
 ghost use Rattle.btf_rewrite_model.specs.Rule.{becomes_by};
 ghost use Rattle.btf_rewrite_model.specs.Passing.{is_quiet};
-ghost use Rattle.btf_words.specs.Error.{Answers, Gives};
+ghost use Rattle.btf_words.specs.Error.{MeetsOrNoMemory, IsOrNoMemory};
 ghost use Rattle.btf_records.specs.BtfType.{record_of, fallback_of};
 ghost use Rattle.btf_rules.specs.Features.{feature_of};
 ghost use Rattle.btf_table.specs.Adding.{HasRoom};
@@ -45,7 +45,9 @@ impl Made {
             → IsType btf.now id (BtfType.FuncProto proto.now)
             → IsHere (pass_on btf.now given answers) id self.old
             → grants answers features.Func ≡ granted
-            → Answers (λ new. unwrap_or new (BtfType.FuncProto proto.now)) result (Rules (pass_on btf.now given answers) id (BtfType.FuncProto proto.now) self.old self.new) }
+            → MeetsOrNoMemory (λ new. unwrap_or new (BtfType.FuncProto proto.now)) result
+            (Rules (pass_on btf.now given answers) id (BtfType.FuncProto proto.now) self.old
+            self.new) }
     {
         // The contract speaks of the kind in the info word, which a use of it shows.
         let _ = proto.info();
@@ -67,7 +69,9 @@ impl Made {
             → IsType btf.now id (BtfType.Enum64 enum64.now)
             → IsHere (pass_on btf.now given answers) id self.old
             → grants answers features.Enum64 ≡ false
-            → Answers (λ new. new) result (Rules (pass_on btf.now given answers) id (BtfType.Enum64 enum64.now) self.old self.new) }
+            → MeetsOrNoMemory (λ new. new) result
+            (Rules (pass_on btf.now given answers) id (BtfType.Enum64 enum64.now) self.old
+            self.new) }
     {
         // The contract speaks of the kind in the info word, and of the words, which a use of them shows.
         let _ = enum64.info();
@@ -88,8 +92,11 @@ impl Made {
         ensures { (given : Given) (answers : List Answer) (id : ℕ) → IsType btf.now id btf_type.now
             → IsHere (pass_on btf.now given answers) id self.old
             → asks_one (kind_of (record_of btf_type.now).info) ≡ true
-            → IsGranted (pass_on btf.now given answers) (step.sole_feature (kind_of (record_of btf_type.now).info) (record_of btf_type.now)) granted
-            → Answers (λ new. unwrap_or new btf_type.now) result (Rules (pass_on btf.now given answers) id btf_type.now self.old self.new) }
+            → IsGranted (pass_on btf.now given answers)
+            (step.sole_feature (kind_of (record_of btf_type.now).info) (record_of btf_type.now))
+            granted
+            → MeetsOrNoMemory (λ new. unwrap_or new btf_type.now) result
+            (Rules (pass_on btf.now given answers) id btf_type.now self.old self.new) }
     {
         // The contract speaks of the kind in the info word, which a use of it shows.
         let _ = btf_type.info();
