@@ -28,8 +28,8 @@ impl Model for Func {
       name = a.name_offset;
       info = a.info;
       third = a.btf_type;
-      tail = [] };
-    };
+      tail = [];
+    } };
 
     ghost invariant = { λ a. kind_of a.info ≡ Some FuncKind };
 }

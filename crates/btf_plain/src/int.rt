@@ -28,8 +28,8 @@ impl Model for Int {
       name = a.name_offset;
       info = a.info;
       third = a.size;
-      tail = a.word ∷ [] };
-    };
+      tail = a.word ∷ [];
+    } };
 
     ghost invariant = { λ a. kind_of a.info ≡ Some IntKind };
 }

@@ -25,8 +25,8 @@ impl Model for Const {
       name = a.name_offset;
       info = a.info;
       third = a.btf_type;
-      tail = [] };
-    };
+      tail = [];
+    } };
 
     ghost invariant = { λ a. kind_of a.info ≡ Some ConstKind };
 }

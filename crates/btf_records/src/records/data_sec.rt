@@ -37,11 +37,11 @@ impl Model for DataSec {
       name = a.name_offset;
       info = a.info;
       third = a.size;
-      tail = flat_map entry_words a.entries.items };
-    };
+      tail = flat_map entry_words a.entries.items;
+    } };
 
     ghost invariant = { λ a. (kind_of a.info ≡ Some DataSecKind)
-    × (vlen a.info ≡ length a.entries.items) };
+        × (vlen a.info ≡ length a.entries.items) };
 }
 
 impl DataSec {
@@ -120,7 +120,7 @@ impl DataSec {
         requires { index < vlen self.old.info }
         ensures { self.new ≡ record self.old {
           tail = take (3 * index) self.old.tail ++ entry_words entry
-          ++ drop (3 * index + 3) self.old.tail;
+              ++ drop (3 * index + 3) self.old.tail;
         } }
     {
         self.entries[index] = entry;

@@ -39,11 +39,11 @@ impl Model for Enum64 {
       name = a.name_offset;
       info = a.info;
       third = a.size;
-      tail = flat_map enum64_words a.variants.items };
-    };
+      tail = flat_map enum64_words a.variants.items;
+    } };
 
     ghost invariant = { λ a. (kind_of a.info ≡ Some Enum64Kind)
-    × (vlen a.info ≡ length a.variants.items) };
+        × (vlen a.info ≡ length a.variants.items) };
 }
 
 impl Enum64 {

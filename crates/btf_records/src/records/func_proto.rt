@@ -37,11 +37,11 @@ impl Model for FuncProto {
       name = a.name_offset;
       info = a.info;
       third = a.return_type;
-      tail = flat_map param_words a.params.items };
-    };
+      tail = flat_map param_words a.params.items;
+    } };
 
     ghost invariant = { λ a. (kind_of a.info ≡ Some FuncProtoKind)
-    × (vlen a.info ≡ length a.params.items) };
+        × (vlen a.info ≡ length a.params.items) };
 }
 
 impl FuncProto {

@@ -36,11 +36,11 @@ impl Model for Struct {
       name = a.name_offset;
       info = a.info;
       third = a.size;
-      tail = flat_map member_words a.members.items };
-    };
+      tail = flat_map member_words a.members.items;
+    } };
 
     ghost invariant = { λ a. (kind_of a.info ≡ Some StructKind)
-    × (vlen a.info ≡ length a.members.items) };
+        × (vlen a.info ≡ length a.members.items) };
 }
 
 impl Struct {
