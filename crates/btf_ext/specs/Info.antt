@@ -1,6 +1,8 @@
 -- Function and line records as the definitions have them.
-use Rattle.std.specs.Prelude.{◌≡◌, ℕ, List, [], ◌∷◌, map, option_map, Option, Result, Ok, Err}
+use Rattle.std.specs.Prelude.{◌≡◌, ℕ, if◌then◌else◌, List, [], ◌∷◌, map, option_map, Option, Some, None, Result, Ok, Err}
 use Rattle.std.specs.HashMap.{get_by_text}
+use Rattle.std.specs.Option.{option_or}
+use Rattle.std.specs.Str.{bytes_eq}
 use Rattle.btf_model.specs.Ext.{Part, Named, Records, AreNamed, records_named}
 use Rattle.btf_model.specs.Refusal.{Refusal}
 use Rattle.btf_model.specs.Word.{Order}
@@ -31,6 +33,12 @@ funcs_by_name = by_name func_records
 
 abbrev pub lines_by_name : BySection LineSecInfo → List ℕ → Option Records
 lines_by_name = by_name line_records
+
+-- What is found under each name, before and after records are added under this one: what was found stays, and a name
+-- that had none has these now.
+abbrev pub GainsUnder : List ℕ → Records → (List ℕ → Option Records) → (List ℕ → Option Records) → Type 0
+GainsUnder text records old new =
+    (name : List ℕ) → new name ≡ option_or (old name) (if bytes_eq name text then Some records else None)
 
 -- What reading named sections of a part returns: the records under each name, of so many words each, or the refusal.
 abbrev pub AreByName : Order → ℕ → List ℕ → Part → Result (List ℕ → Option Records) Refusal → Type 0

@@ -1,6 +1,8 @@
--- The section that a `SecInfo` is, and what the next of a `SecInfoIter` is.
-use Rattle.std.specs.Prelude.{◌≡◌, ◌≢◌, [], ◌++◌, Option, Some, None, Result, Ok, Err}
-use Rattle.btf_model.specs.Ext.{Section, SectionBytes, IsSection, BeginsNoSection, section_bytes, cut_refusal}
+-- The section that a `SecInfo` is, what the next of a `SecInfoIter` is, and sections whose names can be read.
+use Rattle.std.specs.Prelude.{◌≡◌, ◌≢◌, ℕ, List, [], ◌++◌, Option, Some, None, Result, Ok, Err}
+use Rattle.btf_model.specs.Ext.{Section, SectionBytes, Named, IsSection, BeginsNoSection, AreNamed, section_bytes, sections_of, cut_refusal}
+use Rattle.btf_model.specs.Refusal.{Refusal}
+use Rattle.btf_model.specs.Word.{Order}
 use Rattle.btf_words.specs.declared.error.BtfError.{BtfError}
 use Rattle.btf_words.specs.Error.{refusal_of}
 use Rattle.btf_ext.specs.declared.ext.sections.SecInfo.{SecInfo}
@@ -19,3 +21,10 @@ GivesSection before (Some (Err e)) after =
     (before.bytes ≢ []) × BeginsNoSection before.order before.size before.bytes
     × (refusal_of e ≡ Some (cut_refusal before.order before.size before.bytes))
     × (after ≡ record before { bytes = [] })
+
+-- What reading the sections of a part returns, where the name of each can be read, but none is kept: the sections of
+-- some named sections, or the refusal.
+abbrev pub AreReadable : Order → ℕ → List ℕ → List ℕ → Result (List Section) Refusal → Type 0
+AreReadable order size strings bytes (Ok sections) =
+    (named : List Named) × (sections_of named ≡ sections) × AreNamed order size strings bytes (Ok named)
+AreReadable order size strings bytes (Err refusal) = AreNamed order size strings bytes (Err refusal)

@@ -1,4 +1,4 @@
-//! Names of sections, and the sections of relocation records.
+//! Sections and their names, and the sections of relocation records.
 
 ghost use Rattle.std.specs.Prelude.{◌≡◌, ◌<◌, ◌≤◌, length, map, string_bytes, IfOk};
 ghost use Rattle.std.specs.List.{AllByRecursion};
@@ -6,7 +6,7 @@ ghost use Rattle.btf_model.specs.Ext.{AreSections, IsSection, relocation_section
 ghost use Rattle.btf_model.specs.Text.{text_at};
 ghost use Rattle.btf_words.specs.Error.{MeetsOrNoMemory, IsOrNoMemory};
 ghost use Rattle.btf_words.specs.Endianness.{order_of};
-ghost use Rattle.btf_ext.specs.SecInfo.{section_of};
+ghost use Rattle.btf_ext.specs.SecInfo.{section_of, AreReadable};
 ghost use Rattle.btf_ext.specs.Relocation.{relocation};
 
 use crate::ext::header::Part;
@@ -15,6 +15,7 @@ use crate::info::records::read_records;
 use btf_plain::{BtfError, Endianness};
 use btf_table::{Btf, BtfStr};
 use std::alloc::{AllocError, Global};
+use std::collections::BTreeSet;
 
 /// The text at a string offset, in memory of its own. `InvalidStringOffset` where it can't be read.
 pub fn name_at(alloc: Global, btf: &Btf, offset: u32) -> Result<String, BtfError>
@@ -38,6 +39,33 @@ pub fn read_sections<'a>(
     let mut sections = Vec::new(alloc);
     for section in SecInfoIter::new(part.sections, part.rec_size, endianness) {
         sections.push(section?)?;
+    }
+    Ok(sections)
+}
+
+/// The sections of a part, in order, where the name of each can be read. A name is read once for each string offset,
+/// however many sections share it, and none is kept.
+///
+/// Of each section in turn: `InvalidInfo` as `SecInfoIter` has it, and `InvalidStringOffset` where its name can't be
+/// read.
+pub fn readable_sections<'a>(
+    alloc: Global,
+    part: &Part<'a>,
+    endianness: Endianness,
+    btf: &Btf,
+) -> Result<Vec<SecInfo<'a>>, BtfError>
+    ensures { MeetsOrNoMemory (λ v. map section_of v.items) result (AreReadable
+        (order_of endianness) part.now.rec_size btf.now.strings part.now.sections.now) }
+{
+    let mut sections = Vec::new(alloc);
+    let mut met = BTreeSet::new(alloc);
+    for section in SecInfoIter::new(part.sections, part.rec_size, endianness) {
+        let section = section?;
+        let is_new = met.insert(section.name_offset)?;
+        if is_new {
+            btf.string_at(section.name_offset)?;
+        }
+        sections.push(section)?;
     }
     Ok(sections)
 }

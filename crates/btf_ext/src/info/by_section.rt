@@ -1,20 +1,21 @@
 //! Records under the names of sections.
 
-ghost use Rattle.std.specs.Prelude.{◌≡◌, ℕ, ◌*◌, ◌<◌, ◌≤◌, List, None, Ok, IfOk, unwrap_or};
+ghost use Rattle.std.specs.Prelude.{◌≡◌, ℕ, ◌*◌, ◌<◌, ◌≤◌, List, None, Ok, Err, IfOk, OnOk, IfErr, IfSome, unwrap_or};
 ghost use Rattle.btf_model.specs.Ext.{Records, IsSection, instruction_records, no_records};
-ghost use Rattle.btf_words.specs.Error.{MeetsOrNoMemory, IsOrNoMemory};
+ghost use Rattle.btf_model.specs.Text.{text_at};
+ghost use Rattle.btf_words.specs.Error.{MeetsOrNoMemory, IsOrNoMemory, refusal_of};
 ghost use Rattle.btf_words.specs.Endianness.{order_of};
 ghost use Rattle.btf_ext.specs.SecInfo.{section_of};
 ghost use Rattle.btf_ext.specs.ExtHeader.{part as part_of};
-ghost use Rattle.btf_ext.specs.Info.{by_name, AreByName};
+ghost use Rattle.btf_ext.specs.Info.{by_name, AreByName, GainsUnder};
 
+use crate::ext::SecInfo;
 use crate::ext::header::Part;
-use crate::ext::read::name_at;
-use crate::ext::{SecInfo, SecInfoIter};
+use crate::ext::read::{name_at, readable_sections};
 use btf_plain::{BtfError, Endianness};
 use btf_table::Btf;
 use std::alloc::{AllocError, Global};
-use std::collections::HashMap;
+use std::collections::{BTreeSet, HashMap};
 
 /// The records of one section of a program: its function records, or its line records.
 pub trait SectionRecords: Sized + Drop {
@@ -65,8 +66,7 @@ impl<S: SectionRecords> BySection<S> {
         }
     }
 
-    /// The records of a part's sections, each put under the name of its section as that is met. Of a name the last
-    /// section counts.
+    /// The records of a part's sections, under their names. Of a name the last section counts.
     ///
     /// Of each section in turn: `InvalidInfo` as `SecInfoIter` has it, and `InvalidStringOffset` where its name can't
     /// be read.
@@ -80,14 +80,45 @@ impl<S: SectionRecords> BySection<S> {
         ensures { MeetsOrNoMemory (by_name S.records) result
             (AreByName (order_of endianness) S.width btf.now.strings (part_of part.now)) }
     {
+        let sections = readable_sections(alloc, part, endianness, btf)?;
         let mut info = Self::new(alloc);
-        for section in SecInfoIter::new(part.sections, part.rec_size, endianness) {
-            let section = section?;
-            let name = name_at(alloc, btf, section.name_offset)?;
-            let records = S::read(alloc, &section, part.rec_size, endianness)?;
-            info.sections.insert(name, records)?;
+        let mut taken = BTreeSet::new(alloc);
+        // The last section of a name counts, so at an offset that was met its name has records already.
+        for section in sections.iter().rev() {
+            let is_new = taken.insert(section.name_offset)?;
+            if is_new {
+                info.add(section, part.rec_size, endianness, btf)?;
+            }
         }
         Ok(info)
+    }
+
+    /// Adds the records of a section under its name. A name that has records keeps them, and then no record is read.
+    ///
+    /// `InvalidStringOffset` where the name can't be read.
+    fn add(
+        &mut self,
+        section: &SecInfo<'_>,
+        rec_size: usize,
+        endianness: Endianness,
+        btf: &Btf,
+    ) -> Result<(), BtfError>
+        requires whole { IsSection rec_size (section_of section.now) }
+        requires wide { 4 * S.width ≤ rec_size }
+        ensures added { OnOk result ((text : List ℕ)
+            → text_at btf.now.strings section.now.name_offset ≡ Ok text
+            → GainsUnder text (instruction_records (order_of endianness) rec_size S.width
+            (section_of section.now)) (by_name S.records self.old) (by_name S.records self.new)) }
+        ensures refused { IfErr result (λ e. IfSome (refusal_of e)
+            (λ f. text_at btf.now.strings section.now.name_offset ≡ Err f)) }
+    {
+        let name = name_at(self.alloc, btf, section.name_offset)?;
+        if self.sections.contains_key(name.as_str()) {
+            return Ok(());
+        }
+        let records = S::read(self.alloc, section, rec_size, endianness)?;
+        self.sections.insert(name, records)?;
+        Ok(())
     }
 
     /// A copy of the records under a name, or of none. `OutOfMemory` is the only error.
