@@ -5,7 +5,7 @@ use Rattle.btf_model.specs.Refusal.{Refusal}
 use Rattle.btf_model.specs.Word.{Order}
 use Rattle.btf_model.specs.Table.{Table, strip, with_string, with_type}
 use Rattle.btf_model.specs.Blob.{IsTable}
-use Rattle.btf_rewrite_model.specs.Feature.{Answer}
+use Rattle.btf_rewrite_model.specs.Feature.{Answer, FillPolicy}
 use Rattle.btf_rewrite_model.specs.Ksyms.{KsymsIds, appends_int, each_stepped, int_text}
 use Rattle.btf_rewrite_model.specs.Made.{c_int}
 use Rattle.btf_rewrite_model.specs.Rewritten.{begun, pass_with, step_fault, RewrittenWith}
@@ -39,20 +39,23 @@ rewrites_by {X} {Y} view (Err e) old t new k given answers step is told = refuse
 
 -- ---- what follows
 
-pub granted_of : {X : Type 0} (old new : Table) (k : Option KsymsIds) (given : Given) (answers : List Answer) (x : X) → RewritesWith given.policy old k given.layout answers new (Ok x) → NeedsAreGrantedWith given.policy old k answers new
-granted_of old new k given answers x h = suffice given.policy old new k given.layout answers h.0 h.1
+-- What a rewrite grants and keeps.
+pub record Keeps (policy : FillPolicy) (old : Table) (k : Option KsymsIds) (answers : List Answer) (new : Table) : Type 0 where
+  pub granted : NeedsAreGrantedWith policy old k answers new
+  pub sizes : KeepsSizes old new
+  pub resolutions : KeepsResolutions old new
+  pub values : KeepsValues old new
+  pub appended : AppendsAtMost 4 old new
 
-pub sizes_of : {X : Type 0} (old new : Table) (k : Option KsymsIds) (given : Given) (answers : List Answer) (x : X) → RewritesWith given.policy old k given.layout answers new (Ok x) → KeepsSizes old new
-sizes_of old new k given answers x h = kept.sizes_stay given.policy old new k given.layout answers h.0
-
-pub resolutions_of : {X : Type 0} (old new : Table) (k : Option KsymsIds) (given : Given) (answers : List Answer) (x : X) → RewritesWith given.policy old k given.layout answers new (Ok x) → KeepsResolutions old new
-resolutions_of old new k given answers x h = kept.resolutions_stay given.policy old new k given.layout answers h.0
-
-pub values_of : {X : Type 0} (old new : Table) (k : Option KsymsIds) (given : Given) (answers : List Answer) (x : X) → RewritesWith given.policy old k given.layout answers new (Ok x) → KeepsValues old new
-values_of old new k given answers x h = value_stays given.policy old new k given.layout answers h.0
-
-pub appended_of : {X : Type 0} (old new : Table) (k : Option KsymsIds) (given : Given) (answers : List Answer) (x : X) → RewritesWith given.policy old k given.layout answers new (Ok x) → AppendsAtMost 4 old new
-appended_of old new k given answers x h = few_in_a_rewrite given.policy old new k given.layout answers h.0
+-- one that succeeds does
+pub keeps_of : {X : Type 0} (old new : Table) (k : Option KsymsIds) (given : Given) (answers : List Answer) (x : X) → RewritesWith given.policy old k given.layout answers new (Ok x) → Keeps given.policy old k answers new
+keeps_of old new k given answers x h = record {
+  granted = suffice given.policy old new k given.layout answers h.0 h.1;
+  sizes = kept.sizes_stay given.policy old new k given.layout answers h.0;
+  resolutions = kept.resolutions_stay given.policy old new k given.layout answers h.0;
+  values = value_stays given.policy old new k given.layout answers h.0;
+  appended = few_in_a_rewrite given.policy old new k given.layout answers h.0;
+}
 
 -- of the tables that bytes stand for there is one each
 pub of_tables : (order : Order) (bytes written : List ℕ) (old new : Table) (P : Table → Table → Type 0) → IsTable order bytes old → IsTable order written (strip new) → P old (strip new) → OfTables order bytes written P

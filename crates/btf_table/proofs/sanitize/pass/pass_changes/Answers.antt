@@ -9,14 +9,15 @@ use Rattle.btf_records.specs.BtfType.{record_of, fallback_of}
 use Rattle.btf_records.specs.declared.btf_type.BtfType.{BtfType}
 use Rattle.btf_rules.specs.Features.{answers_of, Called}
 use Rattle.btf_rules.specs.Layout.{layout_of}
-use Rattle.btf_table.specs.PassStep.{pass_on, under, IsType, IsHere, IsMade, Passes}
+use Rattle.btf_table.specs.PassStep.{Given, pass_on, under, IsType, IsHere, IsMade, Passes, BeginsAsked}
 use Rattle.btf_records.specs.declared.btf_type.BtfType.TheVariants.{Unknown}
 use Rattle.btf_words.proofs.Refused.{handed_on}
-use Rattle.btf_rules.specs.declared.features.FeatureAnswer.{FeatureAnswer}
 use Rattle.btf_table.proofs.PassAsking.{begins_at, begins_all, begins_none, further_answers}
 use Rattle.btf_table.proofs.PassStates.{here_of_made, steps_on, refused_at, passes_whole, made_at_start, type_there}
 use Rattle.btf_table.specs.contracts.sanitize.pass.pass_changes.F-FnMut.{words}
+use Rattle.btf_table.proofs.sanitize.pass.pass_changes.Given.{Over}
 use Rattle.btf_table.proofs.sanitize.pass.pass_changes.Goals as goal
+use Rattle.btf_table.proofs.sanitize.pass.pass_changes.Goals.{After-rewrite}
 
 pub returns-in_err-made-clause-asks : goal.returns-in_err-made-clause-asks
 returns-in_err-made-clause-asks g c = begins_none (pass_on c.args.btf.now (under c.args.policy (layout_of c.args.sections.now c.args.symbols.now)) (answers_of c.args.resolver.now.1)) (ap answers_of c.requires.unasked)
@@ -44,82 +45,68 @@ loop-id-init g c =
     }) in
     (c.requires.callable, subst (λ answers. Called (words g.row.F g.F.FnMut).step c.args.resolver.now.0 answers c.args.resolver.now.0) (sym none) refl, start.0, start.1)
 
+-- ---- an id, once it is asked what its type becomes
+
+module _ (g : Over) (c : After-rewrite g) where
+  abbrev given : Given
+  given = under c.args.policy (layout_of c.args.sections.now c.args.symbols.now)
+
+  abbrev before : Pass
+  before = pass_on c.args.btf.now given (answers_of c.loop-id.resolver.1)
+
+  abbrev after : Pass
+  after = pass_on c.args.btf.now given (answers_of c.rewrite.new.resolver.1)
+
+  -- the table has the type there
+  type_is : IsType c.args.btf.now c.loop-id.id c.index-types-id.result
+  type_is = type_there c.args.btf.now c.as_slice-types.result.now c.as_slice-types.ensures.records c.as_slice-types.ensures.fallbacks c.loop-id.id c.index-types-id.result c.loop-id-test.true c.index-types-id.is
+
+  -- what lower ids have made is there under the new answers too
+  here_is : IsHere after c.loop-id.id c.loop-id.made
+  here_is =
+      let further = c.rewrite.ensures.further in
+      here_of_made before c.loop-id.id c.loop-id.made after.answers (answers_of further.0) (further_answers c.loop-id.resolver.1 c.rewrite.new.resolver.1 further) c.loop-id.invariant.2 c.loop-id.invariant.3
+
+  -- the id is one of the table
+  is_below : c.loop-id.id < length c.args.btf.now.records
+  is_below = omega (arith, c.loop-id-test.true, ap length (sym c.as_slice-types.ensures.records), length-map c.as_slice-types.result.now record_of)
+
+  -- the answers are to the first features that the pass asks for
+  begins : BeginsAsked after
+  begins =
+      let asks = c.rewrite.ensures.asks given c.loop-id.id refl refl type_is here_is c.loop-id.invariant.2.asked in
+      begins_at before c.loop-id.id after.answers asks.0 c.loop-id.invariant.2 is_below asks.1
+
 pub returns-in_err-new_type-clause-called : goal.returns-in_err-new_type-clause-called
 returns-in_err-new_type-clause-called g c = c.rewrite.ensures.called c.args.resolver.now.0 c.loop-id.invariant.1
 
 pub returns-in_err-new_type-clause-asks : goal.returns-in_err-new_type-clause-asks
-returns-in_err-new_type-clause-asks g c =
-    let t : Table = c.args.btf.now in
-    let ts : List BtfType = c.as_slice-types.result.now in
-    let p : Pass = pass_on t (under c.args.policy (layout_of c.args.sections.now c.args.symbols.now)) (answers_of c.loop-id.resolver.1) in
-    let id : ℕ = c.loop-id.id in
-    let at : IsAt p id = c.loop-id.invariant.2 in
-    let made : IsMade p id c.loop-id.made = c.loop-id.invariant.3 in
-    let b : BtfType = c.index-types-id.result in
-    let there : IsType t id b = type_there t ts c.as_slice-types.ensures.records c.as_slice-types.ensures.fallbacks id b c.loop-id-test.true c.index-types-id.is in
-    let further = c.rewrite.ensures.further in
-    let new : List FeatureAnswer = c.rewrite.new.resolver.1 in
-    let here : IsHere (pass_on t (under c.args.policy (layout_of c.args.sections.now c.args.symbols.now)) (answers_of new)) id c.loop-id.made = here_of_made p id c.loop-id.made (answers_of new) (answers_of further.0) (further_answers c.loop-id.resolver.1 new further) at made in
-    let lt : id < length t.records = omega (arith, c.loop-id-test.true, ap length (sym c.as_slice-types.ensures.records), length-map ts record_of) in
-    let asks = c.rewrite.ensures.asks (under c.args.policy (layout_of c.args.sections.now c.args.symbols.now)) id refl refl there here at.asked in
-    begins_at p id (answers_of new) asks.0 at lt asks.1
+returns-in_err-new_type-clause-asks g c = begins g (goal.at.returns-in_err-new_type-clause-asks g c).After-rewrite
 
 pub returns-in_err-new_type-clause-passes : goal.returns-in_err-new_type-clause-passes
 returns-in_err-new_type-clause-passes g c =
-    let t : Table = c.args.btf.now in
-    let ts : List BtfType = c.as_slice-types.result.now in
-    let p : Pass = pass_on t (under c.args.policy (layout_of c.args.sections.now c.args.symbols.now)) (answers_of c.loop-id.resolver.1) in
+    let s = (goal.at.returns-in_err-new_type-clause-passes g c).After-rewrite in
     let id : ℕ = c.loop-id.id in
-    let at : IsAt p id = c.loop-id.invariant.2 in
-    let made : IsMade p id c.loop-id.made = c.loop-id.invariant.3 in
-    let b : BtfType = c.index-types-id.result in
-    let there : IsType t id b = type_there t ts c.as_slice-types.ensures.records c.as_slice-types.ensures.fallbacks id b c.loop-id-test.true c.index-types-id.is in
-    let further = c.rewrite.ensures.further in
-    let new : List FeatureAnswer = c.rewrite.new.resolver.1 in
-    let here : IsHere (pass_on t (under c.args.policy (layout_of c.args.sections.now c.args.symbols.now)) (answers_of new)) id c.loop-id.made = here_of_made p id c.loop-id.made (answers_of new) (answers_of further.0) (further_answers c.loop-id.resolver.1 new further) at made in
-    let lt : id < length t.records = omega (arith, c.loop-id-test.true, ap length (sym c.as_slice-types.ensures.records), length-map ts record_of) in
-    let q : Pass = pass_on t (under c.args.policy (layout_of c.args.sections.now c.args.symbols.now)) (answers_of new) in
-    handed_on (λ c. c) c.in_err-new_type.field-0.0 c.from_residual-in_err-new_type.result (Passes q) c.from_residual-in_err-new_type.ensures.1
-    (IfSome_then _ (c.in_err-new_type.ensures.steps (under c.args.policy (layout_of c.args.sections.now c.args.symbols.now)) id refl refl refl there at.asked here) (λ refusal s. refused_at p id (answers_of new) refusal lt at s.0 s.1))
+    let at : IsAt (before g s) id = c.loop-id.invariant.2 in
+    handed_on (λ c. c) c.in_err-new_type.field-0.0 c.from_residual-in_err-new_type.result (Passes (after g s)) c.from_residual-in_err-new_type.ensures.1
+    (IfSome_then _ (c.in_err-new_type.ensures.steps (given g s) id refl refl refl (type_is g s) at.asked (here_is g s)) (λ refusal h. refused_at (before g s) id (answers_of c.rewrite.new.resolver.1) refusal (is_below g s) at h.0 h.1))
 
 pub returns-in_err-keep-clause-called : goal.returns-in_err-keep-clause-called
 returns-in_err-keep-clause-called g c = c.rewrite.ensures.called c.args.resolver.now.0 c.loop-id.invariant.1
 
 pub returns-in_err-keep-clause-asks : goal.returns-in_err-keep-clause-asks
-returns-in_err-keep-clause-asks g c =
-    let t : Table = c.args.btf.now in
-    let ts : List BtfType = c.as_slice-types.result.now in
-    let p : Pass = pass_on t (under c.args.policy (layout_of c.args.sections.now c.args.symbols.now)) (answers_of c.loop-id.resolver.1) in
-    let id : ℕ = c.loop-id.id in
-    let at : IsAt p id = c.loop-id.invariant.2 in
-    let made : IsMade p id c.loop-id.made = c.loop-id.invariant.3 in
-    let b : BtfType = c.index-types-id.result in
-    let there : IsType t id b = type_there t ts c.as_slice-types.ensures.records c.as_slice-types.ensures.fallbacks id b c.loop-id-test.true c.index-types-id.is in
-    let further = c.rewrite.ensures.further in
-    let new : List FeatureAnswer = c.rewrite.new.resolver.1 in
-    let here : IsHere (pass_on t (under c.args.policy (layout_of c.args.sections.now c.args.symbols.now)) (answers_of new)) id c.loop-id.made = here_of_made p id c.loop-id.made (answers_of new) (answers_of further.0) (further_answers c.loop-id.resolver.1 new further) at made in
-    let lt : id < length t.records = omega (arith, c.loop-id-test.true, ap length (sym c.as_slice-types.ensures.records), length-map ts record_of) in
-    let asks = c.rewrite.ensures.asks (under c.args.policy (layout_of c.args.sections.now c.args.symbols.now)) id refl refl there here at.asked in
-    begins_at p id (answers_of new) asks.0 at lt asks.1
+returns-in_err-keep-clause-asks g c = begins g (goal.at.returns-in_err-keep-clause-asks g c).After-rewrite
 
 pub loop-id-preserved : goal.loop-id-preserved
 loop-id-preserved g c =
-    let t : Table = c.args.btf.now in
-    let ts : List BtfType = c.as_slice-types.result.now in
-    let p : Pass = pass_on t (under c.args.policy (layout_of c.args.sections.now c.args.symbols.now)) (answers_of c.loop-id.resolver.1) in
+    let s = (goal.at.loop-id-preserved g c).After-rewrite in
     let id : ℕ = c.loop-id.id in
-    let at : IsAt p id = c.loop-id.invariant.2 in
-    let made : IsMade p id c.loop-id.made = c.loop-id.invariant.3 in
+    let at : IsAt (before g s) id = c.loop-id.invariant.2 in
     let b : BtfType = c.index-types-id.result in
-    let there : IsType t id b = type_there t ts c.as_slice-types.ensures.records c.as_slice-types.ensures.fallbacks id b c.loop-id-test.true c.index-types-id.is in
-    let further = c.rewrite.ensures.further in
-    let new : List FeatureAnswer = c.rewrite.new.resolver.1 in
-    let here : IsHere (pass_on t (under c.args.policy (layout_of c.args.sections.now c.args.symbols.now)) (answers_of new)) id c.loop-id.made = here_of_made p id c.loop-id.made (answers_of new) (answers_of further.0) (further_answers c.loop-id.resolver.1 new further) at made in
-    let lt : id < length t.records = omega (arith, c.loop-id-test.true, ap length (sym c.as_slice-types.ensures.records), length-map ts record_of) in
     let low : 0 < id = omega (arith, c.loop-id.auto.id) in
     let o : Option BtfType = c.in_ok-new_type.new_type in
-    let next = steps_on p id new b (unwrap_or o b) o c.loop-id.made c.rewrite.new.self c.keep.new.self low at made there refl
-    (c.in_ok-new_type.ensures.steps (under c.args.policy (layout_of c.args.sections.now c.args.symbols.now)) id refl refl refl there at.asked here)
+    let next = steps_on (before g s) id c.rewrite.new.resolver.1 b (unwrap_or o b) o c.loop-id.made c.rewrite.new.self c.keep.new.self low at c.loop-id.invariant.3 (type_is g s) refl
+    (c.in_ok-new_type.ensures.steps (given g s) id refl refl refl (type_is g s) at.asked (here_is g s))
     (record {
       types = c.in_ok-keep.ensures.types;
       names = c.in_ok-keep.ensures.names;
@@ -129,9 +116,8 @@ loop-id-preserved g c =
       placeholder = c.keep.ensures.placeholder;
       filler = c.keep.ensures.filler;
     }) c.in_ok-keep.ensures.kind in
-    let q : Pass = pass_on t (under c.args.policy (layout_of c.args.sections.now c.args.symbols.now)) (answers_of new) in
     let one_on : suc id ≡ id + 1 = omega arith in
-    (c.rewrite.ensures.callable, c.rewrite.ensures.called c.args.resolver.now.0 c.loop-id.invariant.1, subst (IsAt q) one_on next.0, subst (λ n. IsMade q n c.keep.new.self) one_on next.1)
+    (c.rewrite.ensures.callable, c.rewrite.ensures.called c.args.resolver.now.0 c.loop-id.invariant.1, subst (IsAt (after g s)) one_on next.0, subst (λ n. IsMade (after g s) n c.keep.new.self) one_on next.1)
 
 pub returns-clause-asks : goal.returns-clause-asks
 returns-clause-asks g c =
@@ -140,7 +126,6 @@ returns-clause-asks g c =
     let p : Pass = pass_on t (under c.args.policy (layout_of c.args.sections.now c.args.symbols.now)) (answers_of c.loop-id.resolver.1) in
     let id : ℕ = c.loop-id.id in
     let at : IsAt p id = c.loop-id.invariant.2 in
-    let made : IsMade p id c.loop-id.made = c.loop-id.invariant.3 in
     let end : id ≡ length t.records = omega (arith, c.loop-id-test.false, c.loop-id.auto.id-end, ap length c.as_slice-types.ensures.first.1, ap length c.as_slice-types.ensures.records, length-map ts record_of) in
     begins_all p (subst (IsAt p) end at)
 

@@ -10,56 +10,39 @@ use Rattle.btf_rules.specs.Features.{answers_of, policy_of}
 use Rattle.btf_table.specs.KsymsStep.{ksyms_ids}
 use Rattle.btf_rules.specs.Layout.{layout_of}
 use Rattle.btf_table.specs.PassStep.{Given, under}
-use Rattle.btf_table.specs.Rewrites.{ids_of, RewritesWith, NeedsAreGrantedWith, KeepsSizes, KeepsResolutions, KeepsValues, AppendsAtMost}
+use Rattle.btf_table.specs.Rewrites.{ids_of, RewritesWith}
 use Rattle.btf_table.specs.declared.sanitize.KsymsIds.{KsymsIds}
 use Rattle.btf_rules.specs.declared.features.FeatureAnswer.{FeatureAnswer}
 use Rattle.btf_table.proofs.PassAsking.{begins_none}
-use Rattle.btf_table.proofs.Rewriting.{stepped_by, rewrites_by, granted_of, sizes_of, resolutions_of, values_of, appended_of, on_ok}
+use Rattle.btf_table.proofs.Rewriting.{stepped_by, rewrites_by, Keeps, keeps_of, on_ok}
+use Rattle.btf_table.proofs.table.Btf.fixup_and_sanitize_with.Given.{Over}
 use Rattle.btf_table.proofs.table.Btf.fixup_and_sanitize_with.Goals as goal
+use Rattle.btf_table.proofs.table.Btf.fixup_and_sanitize_with.Goals.{After-sanitize, After-drop-undo}
+
+-- without symbols: what is kept of the table, where it is rewritten
+keeps_alone : (g : Over) (c : After-sanitize g) (Q : Type 0) → (Keeps (policy_of c.args.policy) c.args.self.now (ids_of c.args.ksyms) (answers_of c.sanitize.new.resolver.1) c.sanitize.new.self → Q) → OnOk c.sanitize.result Q
+keeps_alone g c Q follows =
+    let old : Table = c.args.self.now in
+    let new : Table = c.sanitize.new.self in
+    let given : Given = under c.args.policy (layout_of c.args.sections.now c.args.symbols.now) in
+    let answers = answers_of c.sanitize.new.resolver.1 in
+    on_ok (λ a. a.items) c.sanitize.result (RewritesWith given.policy old None given.layout answers new) Q (rewrites_by (λ a. a.items) c.sanitize.result old old new None given answers refl refl c.sanitize.ensures.sanitizes)
+    (λ items h. follows (subst (λ (k : Option KsymsIds). Keeps given.policy old (ids_of k) answers new) (sym c.in_default.is) (keeps_of old new None given answers items h)))
 
 pub returns-in_default-clause-granted : goal.returns-in_default-clause-granted
-returns-in_default-clause-granted g c =
-    let old : Table = c.args.self.now in
-    let given : Given = under c.args.policy (layout_of c.args.sections.now c.args.symbols.now) in
-    let is : c.args.ksyms ≡ None = c.in_default.is in
-    let answers = answers_of c.sanitize.new.resolver.1 in
-    let rewrites = rewrites_by (λ a. a.items) c.sanitize.result old old c.sanitize.new.self None given answers refl refl c.sanitize.ensures.sanitizes in
-    subst (λ (k : Option KsymsIds). OnOk c.sanitize.result (NeedsAreGrantedWith given.policy old (ids_of k) answers c.sanitize.new.self)) (sym is) (on_ok (λ a. a.items) c.sanitize.result (RewritesWith given.policy old None given.layout answers c.sanitize.new.self) (NeedsAreGrantedWith given.policy old None answers c.sanitize.new.self) rewrites (λ y h. granted_of old c.sanitize.new.self None given answers y h))
+returns-in_default-clause-granted g c = keeps_alone g c _ (λ k. k.granted)
 
 pub returns-in_default-clause-sizes : goal.returns-in_default-clause-sizes
-returns-in_default-clause-sizes g c =
-    let old : Table = c.args.self.now in
-    let given : Given = under c.args.policy (layout_of c.args.sections.now c.args.symbols.now) in
-    let is : c.args.ksyms ≡ None = c.in_default.is in
-    let answers = answers_of c.sanitize.new.resolver.1 in
-    let rewrites = rewrites_by (λ a. a.items) c.sanitize.result old old c.sanitize.new.self None given answers refl refl c.sanitize.ensures.sanitizes in
-    on_ok (λ a. a.items) c.sanitize.result (RewritesWith given.policy old None given.layout answers c.sanitize.new.self) (KeepsSizes old c.sanitize.new.self) rewrites (λ y h. sizes_of old c.sanitize.new.self None given answers y h)
+returns-in_default-clause-sizes g c = keeps_alone g c _ (λ k. k.sizes)
 
 pub returns-in_default-clause-resolutions : goal.returns-in_default-clause-resolutions
-returns-in_default-clause-resolutions g c =
-    let old : Table = c.args.self.now in
-    let given : Given = under c.args.policy (layout_of c.args.sections.now c.args.symbols.now) in
-    let is : c.args.ksyms ≡ None = c.in_default.is in
-    let answers = answers_of c.sanitize.new.resolver.1 in
-    let rewrites = rewrites_by (λ a. a.items) c.sanitize.result old old c.sanitize.new.self None given answers refl refl c.sanitize.ensures.sanitizes in
-    on_ok (λ a. a.items) c.sanitize.result (RewritesWith given.policy old None given.layout answers c.sanitize.new.self) (KeepsResolutions old c.sanitize.new.self) rewrites (λ y h. resolutions_of old c.sanitize.new.self None given answers y h)
+returns-in_default-clause-resolutions g c = keeps_alone g c _ (λ k. k.resolutions)
 
 pub returns-in_default-clause-values : goal.returns-in_default-clause-values
-returns-in_default-clause-values g c =
-    let old : Table = c.args.self.now in
-    let given : Given = under c.args.policy (layout_of c.args.sections.now c.args.symbols.now) in
-    let is : c.args.ksyms ≡ None = c.in_default.is in
-    let answers = answers_of c.sanitize.new.resolver.1 in
-    let rewrites = rewrites_by (λ a. a.items) c.sanitize.result old old c.sanitize.new.self None given answers refl refl c.sanitize.ensures.sanitizes in
-    on_ok (λ a. a.items) c.sanitize.result (RewritesWith given.policy old None given.layout answers c.sanitize.new.self) (KeepsValues old c.sanitize.new.self) rewrites (λ y h. values_of old c.sanitize.new.self None given answers y h)
+returns-in_default-clause-values g c = keeps_alone g c _ (λ k. k.values)
 
 pub returns-in_default-clause-appended : goal.returns-in_default-clause-appended
-returns-in_default-clause-appended g c =
-    let old : Table = c.args.self.now in
-    let given : Given = under c.args.policy (layout_of c.args.sections.now c.args.symbols.now) in
-    let answers = answers_of c.sanitize.new.resolver.1 in
-    let rewrites = rewrites_by (λ a. a.items) c.sanitize.result old old c.sanitize.new.self None given answers refl refl c.sanitize.ensures.sanitizes in
-    on_ok (λ a. a.items) c.sanitize.result (RewritesWith given.policy old None given.layout answers c.sanitize.new.self) (AppendsAtMost 4 old c.sanitize.new.self) rewrites (λ y h. appended_of old c.sanitize.new.self None given answers y h)
+returns-in_default-clause-appended g c = keeps_alone g c _ (λ k. k.appended)
 
 pub returns-in_err-changes-clause-asked : goal.returns-in_err-changes-clause-asked
 returns-in_err-changes-clause-asked g c = begins_none (pass_with (policy_of c.args.policy) c.args.self.now (ids_of c.args.ksyms) (layout_of c.args.sections.now c.args.symbols.now) (answers_of c.args.resolver.now.1)) (ap answers_of c.requires.unasked)
@@ -67,60 +50,32 @@ returns-in_err-changes-clause-asked g c = begins_none (pass_with (policy_of c.ar
 pub returns-in_err-undo-clause-asked : goal.returns-in_err-undo-clause-asked
 returns-in_err-undo-clause-asked g c = begins_none (pass_with (policy_of c.args.policy) c.args.self.now (ids_of c.args.ksyms) (layout_of c.args.sections.now c.args.symbols.now) (answers_of c.args.resolver.now.1)) (ap answers_of c.requires.unasked)
 
-pub returns-in-Ok-clause-granted : goal.returns-in-Ok-clause-granted
-returns-in-Ok-clause-granted g c =
+-- with symbols: what is kept of the table
+keeps_stepped : (g : Over) (c : After-drop-undo g) → Keeps (policy_of c.args.policy) c.args.self.now (ids_of c.args.ksyms) (answers_of c.sanitize-2.new.resolver.1) c.sanitize-2.new.self
+keeps_stepped g c =
     let old : Table = c.args.self.now in
+    let new : Table = c.sanitize-2.new.self in
     let given : Given = under c.args.policy (layout_of c.args.sections.now c.args.symbols.now) in
     let ids : model.KsymsIds = ksyms_ids c.in-Some.ids.datasec_id c.in-Some.ids.placeholder_id in
     let there : c.apply.new.self ≡ begun old (Some ids) = c.in_ok-undo.ensures.ok ∙ c.in_ok-changes.ensures.2 in
     let answers = answers_of c.sanitize-2.new.resolver.1 in
-    let new : Table = c.sanitize-2.new.self in
     let h = stepped_by old c.apply.new.self new (Some ids) given answers (Ok c.in-Ok.answers.items) c.in_ok-changes.ensures.0 there c.in-Ok.ensures.sanitizes in
-    subst (λ (k : Option KsymsIds). NeedsAreGrantedWith given.policy old (ids_of k) answers new) (sym c.in-Some.is) (granted_of old new (Some ids) given answers c.in-Ok.answers.items h)
+    subst (λ (k : Option KsymsIds). Keeps given.policy old (ids_of k) answers new) (sym c.in-Some.is) (keeps_of old new (Some ids) given answers c.in-Ok.answers.items h)
+
+pub returns-in-Ok-clause-granted : goal.returns-in-Ok-clause-granted
+returns-in-Ok-clause-granted g c = (keeps_stepped g c).granted
 
 pub returns-in-Ok-clause-sizes : goal.returns-in-Ok-clause-sizes
-returns-in-Ok-clause-sizes g c =
-    let old : Table = c.args.self.now in
-    let given : Given = under c.args.policy (layout_of c.args.sections.now c.args.symbols.now) in
-    let ids : model.KsymsIds = ksyms_ids c.in-Some.ids.datasec_id c.in-Some.ids.placeholder_id in
-    let there : c.apply.new.self ≡ begun old (Some ids) = c.in_ok-undo.ensures.ok ∙ c.in_ok-changes.ensures.2 in
-    let answers = answers_of c.sanitize-2.new.resolver.1 in
-    let new : Table = c.sanitize-2.new.self in
-    let h = stepped_by old c.apply.new.self new (Some ids) given answers (Ok c.in-Ok.answers.items) c.in_ok-changes.ensures.0 there c.in-Ok.ensures.sanitizes in
-    sizes_of old new (Some ids) given answers c.in-Ok.answers.items h
+returns-in-Ok-clause-sizes g c = (keeps_stepped g c).sizes
 
 pub returns-in-Ok-clause-resolutions : goal.returns-in-Ok-clause-resolutions
-returns-in-Ok-clause-resolutions g c =
-    let old : Table = c.args.self.now in
-    let given : Given = under c.args.policy (layout_of c.args.sections.now c.args.symbols.now) in
-    let ids : model.KsymsIds = ksyms_ids c.in-Some.ids.datasec_id c.in-Some.ids.placeholder_id in
-    let there : c.apply.new.self ≡ begun old (Some ids) = c.in_ok-undo.ensures.ok ∙ c.in_ok-changes.ensures.2 in
-    let answers = answers_of c.sanitize-2.new.resolver.1 in
-    let new : Table = c.sanitize-2.new.self in
-    let h = stepped_by old c.apply.new.self new (Some ids) given answers (Ok c.in-Ok.answers.items) c.in_ok-changes.ensures.0 there c.in-Ok.ensures.sanitizes in
-    resolutions_of old new (Some ids) given answers c.in-Ok.answers.items h
+returns-in-Ok-clause-resolutions g c = (keeps_stepped g c).resolutions
 
 pub returns-in-Ok-clause-values : goal.returns-in-Ok-clause-values
-returns-in-Ok-clause-values g c =
-    let old : Table = c.args.self.now in
-    let given : Given = under c.args.policy (layout_of c.args.sections.now c.args.symbols.now) in
-    let ids : model.KsymsIds = ksyms_ids c.in-Some.ids.datasec_id c.in-Some.ids.placeholder_id in
-    let there : c.apply.new.self ≡ begun old (Some ids) = c.in_ok-undo.ensures.ok ∙ c.in_ok-changes.ensures.2 in
-    let answers = answers_of c.sanitize-2.new.resolver.1 in
-    let new : Table = c.sanitize-2.new.self in
-    let h = stepped_by old c.apply.new.self new (Some ids) given answers (Ok c.in-Ok.answers.items) c.in_ok-changes.ensures.0 there c.in-Ok.ensures.sanitizes in
-    values_of old new (Some ids) given answers c.in-Ok.answers.items h
+returns-in-Ok-clause-values g c = (keeps_stepped g c).values
 
 pub returns-in-Ok-clause-appended : goal.returns-in-Ok-clause-appended
-returns-in-Ok-clause-appended g c =
-    let old : Table = c.args.self.now in
-    let given : Given = under c.args.policy (layout_of c.args.sections.now c.args.symbols.now) in
-    let ids : model.KsymsIds = ksyms_ids c.in-Some.ids.datasec_id c.in-Some.ids.placeholder_id in
-    let there : c.apply.new.self ≡ begun old (Some ids) = c.in_ok-undo.ensures.ok ∙ c.in_ok-changes.ensures.2 in
-    let answers = answers_of c.sanitize-2.new.resolver.1 in
-    let new : Table = c.sanitize-2.new.self in
-    let h = stepped_by old c.apply.new.self new (Some ids) given answers (Ok c.in-Ok.answers.items) c.in_ok-changes.ensures.0 there c.in-Ok.ensures.sanitizes in
-    appended_of old new (Some ids) given answers c.in-Ok.answers.items h
+returns-in-Ok-clause-appended g c = (keeps_stepped g c).appended
 
 pub returns-in-Err-clause-rewrites : goal.returns-in-Err-clause-rewrites
 returns-in-Err-clause-rewrites g c =
