@@ -1,19 +1,7 @@
 //! `btftool`: reads a BTF table from standard input, and writes what a command makes of it.
 #![tactic(auto)]
 
-mod comparison;
-mod fault;
-mod line;
-mod listing;
-mod number;
-mod request;
-mod rewrite;
-mod run;
-#[cfg(test)]
-mod tests;
-mod word;
-
-pub use run::run;
+use btf_cli::run;
 use std::alloc::Global;
 use std::io::{ErrorKind, Write};
 use std::process::ExitCode;

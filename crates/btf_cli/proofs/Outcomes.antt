@@ -1,0 +1,99 @@
+-- A command has one outcome: what it writes something of, it does not refuse.
+use Rattle.std.proofs.Common.{◌≡◌, ◌∙◌, ℕ, Bool, List, [], Ok, Err, refl, sym, ap, subst, ⊎_elim, Result, Option, Some, None, inr, Vec, Global}
+use Rattle.std.specs.Prelude.{slice_get, IfOk, IfErr, IfSome, IsErr, IsErrAnd}
+use Rattle.std.specs.Result.{is_ok, result_ok}
+use Rattle.std.proofs.lemmas.Bool.{false≢true}
+use Rattle.std.proofs.lemmas.Option.{none-some}
+use Rattle.std.proofs.lemmas.Result.{err_from_is_err_and}
+use Rattle.btf_model.specs.Record.{Record}
+use Rattle.btf_model.specs.Refusal.{Refusal, MaximumTypeDepthReached}
+use Rattle.btf_model.specs.Table.{Table}
+use Rattle.btf_model.specs.Blob.{IsTable}
+use Rattle.btf_rewrite_model.specs.Rewritten.{IsRefusedWith}
+use Rattle.btf_model.specs.Walk.{By, HasSize, size_in}
+use Rattle.btf_model.proofs.Blobs.{same_table, table_not_refused}
+use Rattle.btf_rewrite_model.proofs.Kernels.{rewritten_not_refused}
+use Rattle.btf_model.proofs.OnePlain.{one_plain}
+use Rattle.btf_model.proofs.Walks.{one_answer, by_one}
+use Rattle.btf_words.specs.Endianness.{order_of}
+use Rattle.btf_words.specs.Error.{refusal_of}
+use Rattle.btf_words.specs.declared.error.BtfError.{BtfError}
+use Rattle.btf_types.specs.Pairs.{pair}
+use Rattle.btf_cli.specs.Saying.{Saying}
+use Rattle.btf_cli.specs.Sayings.{layout_said, kernel_said, policy_said}
+use Rattle.btf_cli.specs.Request.{request_words, request_ids}
+use Rattle.btf_cli.specs.declared.request.Request.{Request}
+use Rattle.btf_cli.specs.declared.line.Line.{Line}
+use Rattle.btf_cli.specs.declared.line.Query.{Query}
+use Rattle.btf_cli.specs.declared.line.Query.TheVariants.{Copy, Types, Size, Compat}
+use Rattle.btf_cli.specs.declared.line.Command.{Command}
+use Rattle.btf_cli.specs.declared.line.Command.TheVariants.{Ask, Rewrite}
+use Rattle.btf_cli.specs.Answer.{Compares, Rewrites, Writes, Declines, IsAnswer, IsDeclined}
+use Rattle.btf_cli.specs.Fault.{fault_refusal}
+use Rattle.btf_cli.specs.declared.fault.Fault.{Fault}
+use Rattle.btf_cli.specs.declared.fault.Fault.TheVariants as faults
+use Rattle.btf_cli.proofs.Told.{said_once}
+
+compared_or_refused : (t : Table) (id other : ℕ) (found : Bool × ℕ) (refusal : Refusal) → Compares t id other (Ok found) → Compares t id other (Err refusal) → ⊥
+compared_or_refused t id other found refusal has not = false≢true (ap is_ok (one_plain t t [] (pair id other) (Err refusal) (Ok found.0) not.0 has.0 not.1 has.1).0)
+
+sized_or_refused : (records : List Record) (id n : ℕ) (refusal : Refusal) → HasSize records id (Ok n) → HasSize records id (Err refusal) → ⊥
+sized_or_refused records id n refusal has not =
+    none-some n (ap result_ok (one_answer (By (λ at. size_in at (slice_get records at.type))) (by_one (λ at. size_in at (slice_get records at.type))) (record { count = 1; type = id }) (λ _. MaximumTypeDepthReached id) (Err refusal) (Ok n) not has))
+
+rewritten_or_refused : (request : Request) (t new : Table) (refusal : Refusal) → Rewrites request t (Ok new) → Rewrites request t (Err refusal) → ⊥
+rewritten_or_refused request t new refusal has not =
+    let same : not.0 ≡ has.0 = said_once (request_words request) not.0 has.0 not.1.all has.1.all in
+    rewritten_not_refused (policy_said has.0) t new (request_ids request) (layout_said has.0) (kernel_said has.0) refusal has.2 (subst (λ (said : List Saying). IsRefusedWith (policy_said said) t (request_ids request) (layout_said said) (kernel_said said) refusal) same not.2)
+
+written_or_declined : (command : Command) (t : Table) (written : List ℕ) (refusal : Refusal) → Writes command t written → Declines command t refusal → ⊥
+written_or_declined (Ask Copy) t written refusal writes declines = declines
+written_or_declined (Ask Types) t written refusal writes declines = declines
+written_or_declined (Ask (Size id)) t written refusal writes declines = sized_or_refused t.records id writes.0 refusal writes.1 declines
+written_or_declined (Ask (Compat id other)) t written refusal writes declines = compared_or_refused t id other (writes.0, writes.1) refusal writes.2 declines
+written_or_declined (Rewrite request) t written refusal writes declines = rewritten_or_refused request t writes.0 refusal writes.1 declines
+
+pub answered_not_declined : (line : Line) (bytes written : List ℕ) (refusal : Refusal) → IsAnswer line bytes written → IsDeclined line bytes refusal → ⊥
+answered_not_declined line bytes written refusal answer declined =
+    ⊎_elim
+    (λ no_table. table_not_refused (order_of line.endianness) bytes answer.0 refusal answer.1 no_table)
+    (λ p.
+    written_or_declined line.command answer.0 written refusal answer.2
+    (subst (λ (u : Table). Declines line.command u refusal) (same_table (order_of line.endianness) bytes p.0 answer.0 p.1 answer.1) p.2))
+    declined.cause
+
+-- ---- results
+
+-- what is declined fails, where what succeeds is an answer
+pub declined_fails : (line : Line) (bytes : List ℕ) (r : Result (Vec ℕ Global) BtfError) → IfOk r (λ v. IsAnswer line bytes v.items) → (refusal : Refusal) → IsDeclined line bytes refusal → IsErr r
+declined_fails line bytes (Ok v) made refusal declined = absurd (answered_not_declined line bytes v.items refusal made declined)
+declined_fails line bytes (Err e) made refusal declined = refl
+
+-- the answer to a query of a line
+pub query_made : (line : Line) (bytes : List ℕ) (query : Query) (t : Table) (r : Result (Vec ℕ Global) BtfError) → line.command ≡ Ask query → IsTable (order_of line.endianness) bytes t → IfOk r (λ v. Writes (Ask query) t v.items)
+    → IfOk r (λ v. IsAnswer line bytes v.items)
+query_made line bytes query t (Ok v) is parsed made = (t, parsed, subst (λ (command : Command). Writes command t v.items) (sym is) made)
+query_made line bytes query t (Err e) is parsed made = tt
+
+pub query_told : (line : Line) (bytes : List ℕ) (query : Query) (t : Table) (r : Result (Vec ℕ Global) BtfError) → line.command ≡ Ask query → IsTable (order_of line.endianness) bytes t → IfErr r (λ e. IfSome (refusal_of e) (Declines (Ask query) t))
+    → IfErr r (λ e. IfSome (refusal_of e) (IsDeclined line bytes))
+query_told line bytes query t (Ok v) is parsed told = tt
+query_told line bytes query t (Err e) is parsed told =
+    elim (refusal_of e) as (λ (o : Option Refusal). IfSome o (Declines (Ask query) t) → IfSome o (IsDeclined line bytes))
+    [ Some refusal ↦ λ declines. record { cause = inr (t, parsed, subst (λ (command : Command). Declines command t refusal) (sym is) declines) } | None ↦ λ none. tt ] told
+
+-- a line by its command
+pub line_of : (line : Line) (command : Command) → line.command ≡ command → line ≡ record { endianness = line.endianness; command = command }
+line_of line command is = ap (λ (x : Command). record { endianness = line.endianness; command = x }) is
+
+-- ---- faults
+
+-- a refusal of what was read is one of the known bytes
+pub fault_told : {X : Type 0} (line : Line) (read : List ℕ) (known : Option (List ℕ)) (e : BtfError) (r : Result X Fault) → IfSome known (λ bytes. read ≡ bytes) → IfSome (refusal_of e) (IsDeclined line read) → IsErrAnd r (λ fault. fault ≡ faults.Btf e)
+    → IfErr r (λ fault. IfSome known (λ bytes. IfSome (fault_refusal fault) (IsDeclined line bytes)))
+fault_told {X} line read known e r whole told err =
+    let q = err_from_is_err_and r err in
+    let here : IfSome known (λ bytes. IfSome (refusal_of e) (IsDeclined line bytes)) =
+    elim known as (λ (o : Option (List ℕ)). IfSome o (λ bytes. read ≡ bytes) → IfSome o (λ bytes. IfSome (refusal_of e) (IsDeclined line bytes)))
+    [ None ↦ λ none. tt | Some bytes ↦ λ is. subst (λ (bs : List ℕ). IfSome (refusal_of e) (IsDeclined line bs)) is told ] whole in
+    subst (λ (x : Result X Fault). IfErr x (λ fault. IfSome known (λ bytes. IfSome (fault_refusal fault) (IsDeclined line bytes)))) (sym (q.1 ∙ ap (λ (x : Fault). Err x) q.2)) here

@@ -1,0 +1,68 @@
+-- A rewrite under the answers to what was asked is the one that a request asks for.
+use Rattle.std.proofs.Common.{◌≡◌, ℕ, List, Option, None, Some, Ok, Err, Result, Vec, Global, sym, ap, subst, ◌∙◌, inl, inr}
+use Rattle.std.specs.Prelude.{IfErr, IfSome, IsErrAnd}
+use Rattle.std.proofs.Math.Path.{fun_ext}
+use Rattle.std.proofs.lemmas.Result.{err_from_is_err_and}
+use Rattle.btf_model.specs.Refusal.{Refusal}
+use Rattle.btf_model.specs.Table.{Table}
+use Rattle.btf_rewrite_model.specs.Feature.{Answer, FillPolicy}
+use Rattle.btf_rewrite_model.specs.Pass.{Layout, Asked}
+use Rattle.btf_rewrite_model.specs.Rewritten.{pass_with, RewrittenWith}
+use Rattle.btf_rewrite_model.proofs.Kernels.{AgreeWith, rewritten_alike, refused_alike}
+use Rattle.btf_words.specs.Endianness.{order_of}
+use Rattle.btf_words.specs.Error.{refusal_of}
+use Rattle.btf_words.specs.declared.error.BtfError.{BtfError}
+use Rattle.btf_words.specs.declared.words.Endianness.{Endianness}
+use Rattle.btf_types.specs.Rewrites.{features_asked, Refuses, RewritesBytesWith}
+use Rattle.btf_rules.specs.declared.features.FeatureAnswer.{FeatureAnswer}
+use Rattle.btf_cli.specs.Saying.{Saying}
+use Rattle.btf_cli.specs.Sayings.{layout_said, kernel_said, policy_said, last_said, size_said, offset_said}
+use Rattle.btf_cli.specs.Request.{request_ids, IsSaid}
+use Rattle.btf_cli.specs.declared.request.Request.{Request}
+use Rattle.btf_cli.specs.declared.line.Command.TheVariants.{Rewrite}
+use Rattle.btf_cli.specs.Answer.{Rewrites, IsAnswer, IsDeclined}
+
+-- a layout is the one that was said if it has each name's numbers
+pub layout_is : (layout : Layout) (said : List Saying) → ((name : List ℕ) → layout.sections name ≡ last_said (size_said name) said) → ((name : List ℕ) → layout.symbols name ≡ last_said (offset_said name) said) → layout ≡ layout_said said
+layout_is layout said sizes offsets =
+    ap (λ (sections : List ℕ → Option ℕ). record { sections = sections; symbols = layout.symbols }) (fun_ext sizes)
+    ∙ ap (λ (symbols : List ℕ → Option ℕ). record { sections = λ name. last_said (size_said name) said; symbols = symbols }) (fun_ext offsets)
+
+-- What is known of a rewrite that was made for a request: its layout and its policy are those that were said, and its
+-- answers are the kernel's.
+pub record IsFor (request : Request) (layout : Layout) (policy : FillPolicy) (answers : List Answer) (said : List Saying) : Type 0 where
+  pub is_said : IsSaid request said
+  pub same_layout : layout ≡ layout_said said
+  pub same_policy : policy ≡ policy_said said
+  pub agree : AgreeWith answers (kernel_said said)
+
+module _ (request : Request) (layout : Layout) (policy : FillPolicy) (answers : List Answer) (said : List Saying) (for_request : IsFor request layout policy answers said) where
+  rewrites_so : (t new : Table) → RewrittenWith policy t (request_ids request) layout answers new → features_asked answers ≡ Asked (pass_with policy t (request_ids request) layout answers) → Rewrites request t (Ok new)
+  rewrites_so t new is asked =
+      let Known : FillPolicy → Layout → Type 0 = λ f l. RewrittenWith f t (request_ids request) l answers new × (features_asked answers ≡ Asked (pass_with f t (request_ids request) l answers)) in
+      let known : Known (policy_said said) (layout_said said) = subst (λ (f : FillPolicy). Known f (layout_said said)) for_request.same_policy (subst (Known policy) for_request.same_layout (is, asked)) in
+      (said, for_request.is_said, rewritten_alike (policy_said said) t new (request_ids request) (layout_said said) answers (kernel_said said) known.0 known.1 for_request.agree)
+
+  refuses_so : (t : Table) (refusal : Refusal) → Refuses policy t (request_ids request) layout answers refusal → Rewrites request t (Err refusal)
+  refuses_so t refusal is =
+      let known : Refuses (policy_said said) t (request_ids request) (layout_said said) answers refusal =
+      subst (λ (f : FillPolicy). Refuses f t (request_ids request) (layout_said said) answers refusal) for_request.same_policy (subst (λ (l : Layout). Refuses policy t (request_ids request) l answers refusal) for_request.same_layout is) in
+      (said, for_request.is_said, refused_alike (policy_said said) t (request_ids request) (layout_said said) answers (kernel_said said) refusal known for_request.agree)
+
+  -- the bytes that are written are the answer
+  pub rewritten_answer : (endianness : Endianness) (bytes written : List ℕ) (listed : List FeatureAnswer) → RewritesBytesWith policy (order_of endianness) bytes (request_ids request) layout answers (Ok (written, listed))
+      → IsAnswer (record { endianness = endianness; command = Rewrite request }) bytes written
+  rewritten_answer endianness bytes written listed is = (is.0, is.2, (is.1, rewrites_so is.0 is.1 is.3 is.4, is.5))
+
+  -- what is refused is declined
+  pub rewritten_declined : (endianness : Endianness) (bytes : List ℕ) (refusal : Refusal) → RewritesBytesWith policy (order_of endianness) bytes (request_ids request) layout answers (Err refusal)
+      → IsDeclined (record { endianness = endianness; command = Rewrite request }) bytes refusal
+  rewritten_declined endianness bytes refusal (inl no_table) = record { cause = inl no_table.0 }
+  rewritten_declined endianness bytes refusal (inr table) = record { cause = inr (table.0, table.1, refuses_so table.0 refusal table.2) }
+
+-- what is said of an error that is passed on
+pub told_through : (P Q : Refusal → Type 0) (e : BtfError) (r : Result (Vec ℕ Global) BtfError) → ((refusal : Refusal) → P refusal → Q refusal) → IfSome (refusal_of e) P → IsErrAnd r (λ y. y ≡ e) → IfErr r (λ y. IfSome (refusal_of y) Q)
+told_through P Q e r so told err =
+    let q = err_from_is_err_and r err in
+    let here : IfSome (refusal_of e) Q = elim (refusal_of e) as (λ (o : Option Refusal). IfSome o P → IfSome o Q) [ Some refusal ↦ so refusal | None ↦ λ none. tt ] told in
+    subst (λ (x : Result (Vec ℕ Global) BtfError). IfErr x (λ y. IfSome (refusal_of y) Q)) (sym (q.1 ∙ ap (λ (x : BtfError). Err x) q.2)) here

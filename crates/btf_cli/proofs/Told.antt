@@ -1,0 +1,78 @@
+-- A word says one thing.
+use Rattle.std.proofs.Common.{◌≡◌, ℕ, List, [], ◌∷◌, drop, Option, None, Some, refl, sym, ap, ◌∙◌}
+use Rattle.std.specs.Prelude.{if◌then◌else◌, codes, nat_eq, map}
+use Rattle.std.specs.List.{starts_with}
+use Rattle.std.specs.Str.{bytes_eq}
+use Rattle.std.specs.Str.Parse.{digits_value}
+use Rattle.btf_rewrite_model.specs.Feature as features
+use Rattle.btf_rewrite_model.specs.Feature.{Feature}
+use Rattle.btf_cli.specs.Saying.{Saying, Grants, FillsSized, SectionSize, SymbolOffset, KsymsId, PlaceholderId, Says, feature_word, IsNamed}
+use Rattle.btf_cli.specs.Sayings.{SayAll}
+use Rattle.btf_cli.proofs.NameEnds.{cut_last, cut_named}
+
+-- the feature that a word names, if it names one
+abbrev pub feature_told : List ℕ → Feature
+feature_told word =
+    if bytes_eq word (codes "Func") then features.Func
+    else (if bytes_eq word (codes "FuncGlobal") then features.FuncGlobal
+    else (if bytes_eq word (codes "DataSec") then features.DataSec
+    else (if bytes_eq word (codes "DataSecZero") then features.DataSecZero
+    else (if bytes_eq word (codes "Float") then features.Float
+    else (if bytes_eq word (codes "DeclTag") then features.DeclTag
+    else (if bytes_eq word (codes "TypeTag") then features.TypeTag else features.Enum64))))))
+
+pub feature_is : (f : Feature) → feature_told (feature_word f) ≡ f
+feature_is features.Func = refl
+feature_is features.FuncGlobal = refl
+feature_is features.DataSec = refl
+feature_is features.DataSecZero = refl
+feature_is features.Float = refl
+feature_is features.DeclTag = refl
+feature_is features.TypeTag = refl
+feature_is features.Enum64 = refl
+
+-- what the parts of a text with `=` tell
+abbrev named_told : (List ℕ → ℕ → Saying) → Option (List ℕ × List ℕ) → Saying
+named_told kind (Some parts) = kind parts.0 (digits_value 10 parts.1)
+named_told kind None = kind [] 0
+
+-- what a word tells, if it can be read
+abbrev pub told : List ℕ → Saying
+told word =
+    if starts_with nat_eq word (codes "section:") then named_told SectionSize (cut_last (drop 8 word))
+    else (if starts_with nat_eq word (codes "symbol:") then named_told SymbolOffset (cut_last (drop 7 word))
+    else (if starts_with nat_eq word (codes "ksyms:") then KsymsId (digits_value 10 (drop 6 word))
+    else (if starts_with nat_eq word (codes "placeholder:") then PlaceholderId (digits_value 10 (drop 12 word))
+    else (if bytes_eq word (codes "fill-sized") then FillsSized else Grants (feature_told word)))))
+
+feature_word_told : (f : Feature) → told (feature_word f) ≡ Grants (feature_told (feature_word f))
+feature_word_told features.Func = refl
+feature_word_told features.FuncGlobal = refl
+feature_word_told features.DataSec = refl
+feature_word_told features.DataSecZero = refl
+feature_word_told features.Float = refl
+feature_word_told features.DeclTag = refl
+feature_word_told features.TypeTag = refl
+feature_word_told features.Enum64 = refl
+
+told_named : (kind : List ℕ → ℕ → Saying) (text name : List ℕ) (n : ℕ) → IsNamed text name n → named_told kind (cut_last text) ≡ kind name n
+told_named kind text name n named = ap (named_told kind) (cut_named text name n named) ∙ ap (kind name) named.2.1
+
+-- a word tells what it says
+pub told_is : (word : List ℕ) (saying : Saying) → Says word saying → told word ≡ saying
+told_is word (Grants feature) says = ap told says ∙ feature_word_told feature ∙ ap (λ f. Grants f) (feature_is feature)
+told_is word FillsSized says = ap told says
+told_is word (SectionSize name size) says = ap told says.1 ∙ told_named SectionSize says.0 name size says.2
+told_is word (SymbolOffset name offset) says = ap told says.1 ∙ told_named SymbolOffset says.0 name offset says.2
+told_is word (KsymsId id) says = ap told says.1 ∙ ap (λ n. KsymsId n) says.2.1
+told_is word (PlaceholderId id) says = ap told says.1 ∙ ap (λ n. PlaceholderId n) says.2.1
+
+-- so words say one thing each
+pub all_told : (words : List (List ℕ)) (said : List Saying) → SayAll words said → said ≡ map told words
+all_told [] [] all = refl
+all_told [] (saying ∷ said) all = absurd all
+all_told (word ∷ words) [] all = absurd all
+all_told (word ∷ words) (saying ∷ said) all = ap (λ s. s ∷ said) (sym (told_is word saying all.0)) ∙ ap (λ ss. told word ∷ ss) (all_told words said all.1)
+
+pub said_once : (words : List (List ℕ)) (said other : List Saying) → SayAll words said → SayAll words other → said ≡ other
+said_once words said other all all_other = all_told words said all ∙ sym (all_told words other all_other)

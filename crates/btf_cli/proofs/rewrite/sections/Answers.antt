@@ -1,0 +1,31 @@
+use Rattle.std.proofs.Common.{ℕ, List, Option, Some, take, sym, ap, ◌∙◌}
+use Rattle.std.specs.Prelude.{if◌then◌else◌, option_map, string_bytes}
+use Rattle.std.specs.HashMap.{get_by_text}
+use Rattle.std.specs.Str.{bytes_eq}
+use Rattle.std.proofs.lemmas.Map.Text.{hash_map_updates_text}
+use Rattle.btf_words.specs.declared.words.SectionIndex.{SectionIndex}
+use Rattle.btf_types.specs.Layout.{sizes_of}
+use Rattle.btf_cli.specs.Sayings.{last_said, size_said}
+use Rattle.btf_cli.proofs.Layouts.{next_said, said_whole, no_section, one_section, section_kept}
+use Rattle.btf_cli.proofs.rewrite.sections.Goals as goal
+use Rattle.btf_cli.proofs.rewrite.sections.Goals.{in-Some+in_ok-to_string+in_ok-insert, in_default}
+
+pub loop-word-preserved : goal.loop-word-preserved
+loop-word-preserved c = λ said all name.
+    let i : ℕ = c.loop-word.word-index in
+    let next = next_said c.args.words.now said i c.word-item.result c.as_str.result.now all c.loop-word-test.true c.word-item.is c.as_str.ensures.value in
+    let before = c.loop-word.invariant said all name in
+    elim c.match-read_section.branch [
+      | in-Some+in_ok-to_string+in_ok-insert w ↦
+          let key : List ℕ = string_bytes w.in_ok-to_string.field-0 in
+          let section : SectionIndex × ℕ = (record { 0 = 0 }, w.in-Some.size) in
+          let updated = hash_map_updates_text key c.loop-word.sections w.insert.new.self (Some section) w.in_ok-insert.ensures.updates name in
+          ap (λ m. sizes_of m name) w.sections-is ∙ ap (λ (o : Option (SectionIndex × ℕ)). option_map (λ (s : SectionIndex × ℕ). s.1) o) updated
+          ∙ section_kept (bytes_eq key name) section (get_by_text c.loop-word.sections name) (last_said (size_said name) (take i said)) before
+          ∙ ap (λ (k : List ℕ). if bytes_eq k name then Some w.in-Some.size else last_said (size_said name) (take i said)) w.in_ok-to_string.ensures.ok
+          ∙ sym (one_section c.as_str.result.now said i w.in-Some.name.now w.in-Some.size name next w.in-Some.ensures.some)
+      | in_default w ↦ ap (λ m. sizes_of m name) w.sections-is ∙ before ∙ sym (no_section c.as_str.result.now said i name next w.in_default.ensures.none)
+    ]
+
+pub returns : goal.returns
+returns c = λ said all name. c.loop-word.invariant said all name ∙ ap (last_said (size_said name)) (said_whole c.args.words.now said c.loop-word.word-index all c.loop-word-test.false)

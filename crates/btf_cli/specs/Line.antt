@@ -1,0 +1,41 @@
+-- What a command line asks for.
+use Rattle.std.specs.Prelude.{◌≡◌, List, [], ◌∷◌, ℕ, codes}
+use Rattle.std.specs.Prelude.{String}
+use Rattle.std.specs.declared.alloc.Global.{Global}
+use Rattle.btf_model.specs.Word.{Order, Little, Big}
+use Rattle.btf_words.specs.Endianness.{order_of}
+use Rattle.btf_cli.specs.Saying.{texts, IsId}
+use Rattle.btf_cli.specs.Request.{Requests}
+use Rattle.btf_cli.specs.declared.line.Line.{Line}
+use Rattle.btf_cli.specs.declared.line.Query.{Query}
+use Rattle.btf_cli.specs.declared.line.Query.TheVariants.{Copy, Types, Size, Compat}
+use Rattle.btf_cli.specs.declared.line.Command.{Command}
+use Rattle.btf_cli.specs.declared.line.Command.TheVariants.{Ask, Rewrite}
+
+-- the word for a byte order
+abbrev pub order_word : Order → List ℕ
+order_word Little = codes "little"
+order_word Big = codes "big"
+
+-- the words ask this of a table
+abbrev pub AsksQuery : List (List ℕ) → Query → Type 0
+AsksQuery words Copy = words ≡ codes "copy" ∷ []
+AsksQuery words Types = words ≡ codes "types" ∷ []
+AsksQuery words (Size id) = (word : List ℕ) × (words ≡ codes "size" ∷ word ∷ []) × IsId word id
+AsksQuery words (Compat id other) =
+    (word second : List ℕ) × (words ≡ codes "compat" ∷ word ∷ second ∷ []) × IsId word id × IsId second other
+
+-- the words ask for this command
+abbrev pub AsksCommand : List (List ℕ) → Command → Type 0
+AsksCommand words (Ask query) = AsksQuery words query
+AsksCommand words (Rewrite request) = (rest : List (List ℕ)) × (words ≡ codes "rewrite" ∷ rest) × Requests rest request
+
+-- The words ask for this: an order, and then a command
+abbrev pub Asks : List (String Global) → Line → Type 0
+Asks words line =
+    (rest : List (List ℕ)) × (texts words ≡ order_word (order_of line.endianness) ∷ rest)
+    × AsksCommand rest line.command
+
+-- some words ask for this
+abbrev pub IsAsked : Line → Type 0
+IsAsked line = (words : List (String Global)) × Asks words line

@@ -1,0 +1,17 @@
+//! The comparison of two types of one table.
+
+ghost use Rattle.btf_words.specs.Error.{MeetsOrNoMemory};
+ghost use Rattle.btf_cli.specs.Answer.{Compares};
+
+use btf_plain::BtfError;
+use btf_types::{Btf, types_are_compatible_traced};
+use std::alloc::Global;
+
+/// Whether the types of two ids are compatible, and how many pairs were started to find that out.
+pub fn compared(alloc: Global, table: &Btf, id: u32, other: u32) -> Result<(bool, usize), BtfError>
+    ensures { MeetsOrNoMemory (λ found. found) result (Compares table.now id other) }
+{
+    let mut starts = Vec::new(alloc);
+    let answer = types_are_compatible_traced(table, id, table, other, &mut starts)?;
+    Ok((answer, starts.len()))
+}

@@ -1,0 +1,124 @@
+//! What the words after the program's name ask for.
+
+ghost use Rattle.std.specs.Prelude.{◌≡◌, ◌≢◌, IfSome, IfNone};
+ghost use Rattle.btf_model.specs.Word.{Order};
+ghost use Rattle.btf_words.specs.Endianness.{order_of};
+ghost use Rattle.btf_cli.specs.Line.{order_word};
+
+use crate::number::read_id;
+use crate::request::Request;
+use btf_plain::Endianness;
+
+/// What is asked of a table as it is.
+#[derive(Clone, Copy)]
+pub enum Query {
+    /// The table written again.
+    Copy,
+    /// A line for each type.
+    Types,
+    /// The size of the type of an id.
+    Size(u32),
+    /// Whether the types of two ids are compatible.
+    Compat(u32, u32),
+}
+
+/// What is to be made of a table.
+#[derive(Clone, Copy)]
+pub enum Command<'a> {
+    /// The answer to a query.
+    Ask(Query),
+    /// The table rewritten for a kernel.
+    Rewrite(Request<'a>),
+}
+
+/// A command line that can be read.
+#[derive(Clone, Copy)]
+pub struct Line<'a> {
+    pub endianness: Endianness,
+    pub command: Command<'a>,
+}
+
+/// The byte order that a word names.
+fn read_order(word: &str) -> Option<Endianness>
+    ensures some { IfSome result (λ endianness. word.now ≡ order_word (order_of endianness)) }
+    ensures none { IfNone result ((order : Order) → word.now ≢ order_word order) }
+{
+    match word {
+        "little" => Some(Endianness::Little),
+        "big" => Some(Endianness::Big),
+        _ => None,
+    }
+}
+
+impl Query {
+    ghost use Rattle.std.specs.Prelude.{IfSome, IfNone};
+    ghost use Rattle.btf_cli.specs.Line.{AsksQuery};
+    ghost use Rattle.btf_cli.specs.Saying.{texts};
+    ghost use Rattle.btf_cli.specs.declared.line.Query.{Query};
+
+    /// The query that the words after the order make.
+    fn read(words: &[String]) -> Option<Query>
+        ensures some { IfSome result (AsksQuery (texts words.now)) }
+        ensures none { IfNone result ((query : Query) → AsksQuery (texts words.now) query → ⊥) }
+    {
+        match words {
+            [word] => match word.as_str() {
+                "copy" => Some(Query::Copy),
+                "types" => Some(Query::Types),
+                _ => None,
+            },
+            [word, id] => match word.as_str() {
+                "size" => Some(Query::Size(read_id(id.as_str())?)),
+                _ => None,
+            },
+            [word, id, other] => match word.as_str() {
+                "compat" => {
+                    let id = read_id(id.as_str())?;
+                    Some(Query::Compat(id, read_id(other.as_str())?))
+                }
+                _ => None,
+            },
+            _ => None,
+        }
+    }
+}
+
+impl<'a> Command<'a> {
+    ghost use Rattle.std.specs.Prelude.{IfSome, IfNone};
+    ghost use Rattle.btf_cli.specs.Line.{AsksCommand};
+    ghost use Rattle.btf_cli.specs.Saying.{texts};
+    ghost use Rattle.btf_cli.specs.declared.line.Command.{Command};
+
+    /// The command that the words after the order make.
+    fn read(words: &'a [String]) -> Option<Command<'a>>
+        ensures some { IfSome result (AsksCommand (texts words.now)) }
+        ensures none { IfNone result ((command : Command) → AsksCommand (texts words.now) command
+            → ⊥) }
+    {
+        let (word, rest) = words.split_first()?;
+        if word.as_str() == "rewrite" {
+            return Some(Command::Rewrite(Request::read(rest)?));
+        }
+        Some(Command::Ask(Query::read(words)?))
+    }
+}
+
+impl<'a> Line<'a> {
+    ghost use Rattle.std.specs.Prelude.{IfSome, IfNone};
+    ghost use Rattle.btf_cli.specs.Line.{Asks};
+    ghost use Rattle.btf_cli.specs.declared.line.Line.{Line};
+
+    /// The line that the words make, or None where they can't be read.
+    pub fn read(words: &'a [String]) -> Option<Line<'a>>
+        ensures some { IfSome result (Asks words.now) }
+        ensures none { IfNone result ((line : Line) → Asks words.now line → ⊥) }
+    {
+        let (order, rest) = words.split_first()?;
+        let endianness = read_order(order.as_str())?;
+        let command = Command::read(rest)?;
+        Some(Line {
+            endianness,
+            command,
+        })
+    }
+}

@@ -1,0 +1,132 @@
+//! The program over any streams.
+
+ghost use Rattle.std.specs.Prelude.{◌≡◌, ℕ, List, ◌↔◌, None, Some, IfOk, IfErr, OnOk, IfSome, IsErr};
+ghost use Rattle.std.specs.Io.KnownBytes.{IsAtEnd, Keeps};
+ghost use Rattle.btf_model.specs.Refusal.{Refusal};
+ghost use Rattle.btf_words.specs.Error.{refusal_of};
+ghost use Rattle.btf_cli.specs.declared.line.Command.TheVariants.{Ask};
+ghost use Rattle.btf_cli.specs.declared.line.Line.{Line};
+ghost use Rattle.btf_cli.specs.Fault.{fault_refusal};
+ghost use Rattle.btf_cli.specs.Line.{Asks, IsAsked};
+ghost use Rattle.btf_cli.specs.Answer.{Writes, Declines, IsAnswer, IsDeclined, IsWritten};
+
+use crate::comparison::compared;
+use crate::fault::Fault;
+use crate::line::{Command, Line, Query};
+use crate::listing::{comparison_lines, listing, size_line};
+use crate::rewrite::rewritten;
+use btf_plain::{BtfError, Endianness};
+use btf_types::Btf;
+use std::alloc::Global;
+use std::io::{ErrorKind, Read, Write};
+
+const USAGE: &str = "usage: btftool little|big copy|types|size ID|compat ID ID|rewrite WORD..";
+
+/// The whole input.
+fn read_input<R: Read>(alloc: Global, input: &mut R) -> Result<Vec<u8>, Fault>
+    ensures whole { IfOk result (λ v. IfSome (R.remaining input.old) (λ bytes. v.items ≡ bytes)) }
+    ensures end { OnOk result (IsAtEnd (R.remaining input.new)) }
+    ensures no_refusal { IfErr result (λ fault. fault_refusal fault ≡ None) }
+{
+    let mut bytes = Vec::new(alloc);
+    match input.read_to_end(&mut bytes) {
+        Ok(_) => Ok(bytes),
+        Err(e) if e.kind() == ErrorKind::OutOfMemory => Err(Fault::Btf(BtfError::OutOfMemory)),
+        Err(_) => Err(Fault::Read),
+    }
+}
+
+/// The answer to a query about a table.
+fn asked(alloc: Global, query: Query, table: &Btf) -> Result<Vec<u8>, BtfError>
+    ensures made { IfOk result (λ v. Writes (Ask query) table.now v.items) }
+    ensures told { IfErr result (λ e. IfSome (refusal_of e) (Declines (Ask query) table.now)) }
+{
+    match query {
+        Query::Copy => table.to_bytes(),
+        Query::Types => listing(alloc, table),
+        Query::Size(id) => size_line(alloc, table.type_size(id)?),
+        Query::Compat(id, other) => {
+            let (answer, starts) = compared(alloc, table, id, other)?;
+            comparison_lines(alloc, answer, starts)
+        }
+    }
+}
+
+/// What the command makes of a blob.
+fn answer(alloc: Global, line: Line, blob: &[u8]) -> Result<Vec<u8>, BtfError>
+    requires { IsAsked line }
+    ensures made { IfOk result (λ v. IsAnswer line.entry blob.now v.items) }
+    ensures refused { (f : Refusal) → IsDeclined line.entry blob.now f → IsErr result }
+    // A refusal is reported for its cause alone.
+    ensures told { IfErr result (λ e. IfSome (refusal_of e) (IsDeclined line.entry blob.now)) }
+{
+    match line.command {
+        Command::Ask(query) => {
+            let table = Btf::parse(alloc, blob, line.endianness)?;
+            asked(alloc, query, &table)
+        }
+        Command::Rewrite(request) => rewritten(alloc, line.endianness, request, blob),
+    }
+}
+
+/// Reads the input, and writes what the command makes of it.
+fn carry_out<R: Read, W: Write>(
+    alloc: Global,
+    line: Line,
+    input: &mut R,
+    out: &mut W,
+) -> Result<(), Fault>
+    requires { IsAsked line }
+    ensures written { OnOk result (IfSome (R.remaining input.old) (λ bytes.
+        IsWritten (W.contents out.old) (W.contents out.new) line.entry bytes)) }
+    ensures refused { (bytes : List ℕ) (f : Refusal) → R.remaining input.old ≡ Some bytes
+        → IsDeclined line.entry bytes f
+        → IsErr result × Keeps (W.contents out.old) (W.contents out.new) }
+    // A refusal is reported for its cause alone.
+    ensures told { IfErr result (λ fault. IfSome (R.remaining input.old) (λ bytes.
+        IfSome (fault_refusal fault) (IsDeclined line.entry bytes))) }
+    ensures end { OnOk result (IsAtEnd (R.remaining input.new)) }
+{
+    let blob = read_input(alloc, input)?;
+    let bytes = answer(alloc, line, &blob)?;
+    out.write_all(&bytes).map_err(|_| Fault::Write)
+}
+
+/// The program: reads what the words ask for, then the input to its end, and writes the answer.
+///
+/// The answer is the status: 0 on success; 1 where a stream fails or the table is refused, with the fault's
+/// text on `err`; 2 for words that can't be read, with the usage on `err` and nothing read.
+pub fn run<R: Read, W: Write, E: Write>(
+    alloc: Global,
+    words: &[String],
+    input: &mut R,
+    out: &mut W,
+    err: &mut E,
+) -> u8
+    // Words that can't be read are reported so, and then nothing is read or written but the usage.
+    ensures usage { (result ≡ 2) ↔ ((line : Line) → Asks words.now line → ⊥) }
+    ensures usage_alone { result ≡ 2 → (input.new ≡ input.old) × (out.new ≡ out.old) }
+    // On success the input stands for a table, and what the command makes of it is written.
+    ensures written { (line : Line) → Asks words.now line → result ≡ 0
+        → IfSome (R.remaining input.old) (λ bytes.
+        IsWritten (W.contents out.old) (W.contents out.new) line bytes) }
+    // Then the input has been read to its end.
+    ensures end { result ≡ 0 → IsAtEnd (R.remaining input.new) }
+    // Input that stands for no table, or for one that the command refuses, ends so, and nothing is written on standard
+    // output.
+    ensures refused { (line : Line) (bytes : List ℕ) (f : Refusal) → Asks words.now line
+        → R.remaining input.old ≡ Some bytes
+        → IsDeclined line bytes f → (result ≡ 1) × Keeps (W.contents out.old) (W.contents out.new) }
+{
+    let Some(line) = Line::read(words) else {
+        let _ = writeln!(err, "{USAGE}");
+        return 2;
+    };
+    match carry_out(alloc, line, input, out) {
+        Ok(()) => 0,
+        Err(fault) => {
+            let _ = writeln!(err, "{fault}");
+            1
+        }
+    }
+}

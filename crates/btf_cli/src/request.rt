@@ -1,0 +1,84 @@
+//! What the words of a rewrite ask for together.
+
+ghost use Rattle.std.specs.Prelude.{◌≡◌, ◌↔◌, None, Some, IsSome, OnSome};
+
+use crate::word::{FILL_SIZED, Word, feature_word};
+use btf_types::{BtfFeature, FillPolicy, KsymsIds};
+
+/// The words of a rewrite, all of which can be read, and the ids of `.ksyms` that they say.
+#[derive(Clone, Copy)]
+pub struct Request<'a> {
+    pub words: &'a [String],
+    pub ksyms: Option<KsymsIds>,
+}
+
+/// Keeps an id where none is kept yet. Returns None, and keeps the first, where one is.
+fn keep(place: &mut Option<u32>, id: u32) -> Option<()>
+    ensures first { IsSome result ↔ (place.old ≡ None) }
+    ensures kept { OnSome result (place.new ≡ Some id) }
+{
+    if place.is_some() {
+        return None;
+    }
+    *place = Some(id);
+    Some(())
+}
+
+impl<'a> Request<'a> {
+    ghost use Rattle.std.specs.Prelude.{◌≡◌, IfSome, IfNone};
+    ghost use Rattle.btf_types.specs.Features.{feature_of, policy_of};
+    ghost use Rattle.btf_cli.specs.Saying.{texts};
+    ghost use Rattle.btf_cli.specs.Request.{has_word, names, policy_named, Requests};
+    ghost use Rattle.btf_cli.specs.declared.request.Request.{Request};
+
+    /// The request that the words make, or None where they can't be read.
+    pub fn read(words: &'a [String]) -> Option<Request<'a>>
+        ensures some { IfSome result (Requests (texts words.now)) }
+        ensures none { IfNone result ((request : Request) → Requests (texts words.now) request
+            → ⊥) }
+    {
+        let mut ksyms = None;
+        let mut placeholder = None;
+        for word in words {
+            match Word::read(word.as_str())? {
+                Word::Ksyms(id) => keep(&mut ksyms, id)?,
+                Word::Placeholder(id) => keep(&mut placeholder, id)?,
+                _ => {}
+            }
+        }
+        let ksyms = match (ksyms, placeholder) {
+            (Some(datasec_id), placeholder_id) => Some(KsymsIds {
+                datasec_id,
+                placeholder_id,
+            }),
+            (None, None) => None,
+            (None, Some(_)) => return None,
+        };
+        Some(Request { words, ksyms })
+    }
+
+    /// Whether one of the words is this.
+    fn has(&self, text: &str) -> bool
+        ensures { result ≡ has_word self.now text.now }
+    {
+        self.words.iter().any(|word| word.as_str() == text)
+    }
+
+    /// Whether one of the words grants a feature.
+    pub fn grants(&self, feature: BtfFeature) -> bool
+        ensures { result ≡ names self.now (feature_of feature) }
+    {
+        self.has(feature_word(feature))
+    }
+
+    /// What the words choose for DATASECs that have a size and no entries.
+    pub fn policy(&self) -> FillPolicy
+        ensures { policy_of result ≡ policy_named self.now }
+    {
+        if self.has(FILL_SIZED) {
+            FillPolicy::FillSized
+        } else {
+            FillPolicy::KeepSized
+        }
+    }
+}

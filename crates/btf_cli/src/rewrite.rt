@@ -1,0 +1,104 @@
+//! The rewrite of a table that a request asks for.
+
+ghost use Rattle.std.specs.Prelude.{◌≡◌, ℕ, List, IfOk, IfErr, IfSome, IfNone};
+ghost use Rattle.btf_words.specs.Error.{refusal_of};
+ghost use Rattle.btf_types.specs.Features.{feature_of};
+ghost use Rattle.btf_types.specs.Layout.{sizes_of, offsets_of};
+ghost use Rattle.btf_cli.specs.Answer.{rewriting, IsAnswer, IsDeclined};
+ghost use Rattle.btf_cli.specs.Request.{IsSaid, names};
+ghost use Rattle.btf_cli.specs.Saying.{Saying, SectionSize, SymbolOffset, Says, texts};
+ghost use Rattle.btf_cli.specs.Sayings.{SayAll, last_said, size_said, offset_said};
+
+use crate::request::Request;
+use crate::word::Word;
+use btf_plain::{BtfError, Endianness, SectionIndex};
+use btf_types::{BtfFeature, BtfFeatureResolver, rewrite_bytes_with};
+use std::alloc::{AllocError, Global};
+use std::collections::HashMap;
+
+/// The name and the size of a section, where a word says these.
+fn read_section(word: &str) -> Option<(&str, u64)>
+    ensures some { IfSome result (λ named. Says word.now (SectionSize named.0.now named.1)) }
+    ensures none { IfNone result
+        ((name : List ℕ) (size : ℕ) → Says word.now (SectionSize name size) → ⊥) }
+{
+    match Word::read(word)? {
+        Word::Section { name, size } => Some((name, size)),
+        _ => None,
+    }
+}
+
+/// The name and the offset of a symbol, where a word says these.
+fn read_symbol(word: &str) -> Option<(&str, u64)>
+    ensures some { IfSome result (λ named. Says word.now (SymbolOffset named.0.now named.1)) }
+    ensures none { IfNone result
+        ((name : List ℕ) (offset : ℕ) → Says word.now (SymbolOffset name offset) → ⊥) }
+{
+    match Word::read(word)? {
+        Word::Symbol { name, offset } => Some((name, offset)),
+        _ => None,
+    }
+}
+
+/// The sizes of the sections that the words name, each with an index that is not read.
+fn sections(
+    alloc: Global,
+    words: &[String],
+) -> Result<HashMap<String, (SectionIndex, u64)>, AllocError>
+    ensures { IfOk result (λ sections. (said : List Saying) → SayAll (texts words.now) said
+        → (name : List ℕ) → sizes_of sections name ≡ last_said (size_said name) said) }
+{
+    let mut sections = HashMap::new(alloc);
+    for word in words {
+        if let Some((name, size)) = read_section(word.as_str()) {
+            sections.insert(name.to_string(alloc)?, (SectionIndex(0), size))?;
+        }
+    }
+    Ok(sections)
+}
+
+/// The offsets of the symbols that the words name.
+fn symbols(alloc: Global, words: &[String]) -> Result<HashMap<String, u64>, AllocError>
+    ensures { IfOk result (λ symbols. (said : List Saying) → SayAll (texts words.now) said
+        → (name : List ℕ) → offsets_of symbols name ≡ last_said (offset_said name) said) }
+{
+    let mut symbols = HashMap::new(alloc);
+    for word in words {
+        if let Some((name, offset)) = read_symbol(word.as_str()) {
+            symbols.insert(name.to_string(alloc)?, offset)?;
+        }
+    }
+    Ok(symbols)
+}
+
+/// The bytes of the table that a blob stands for, rewritten as a request says.
+pub fn rewritten(
+    alloc: Global,
+    endianness: Endianness,
+    request: Request,
+    blob: &[u8],
+) -> Result<Vec<u8>, BtfError>
+    requires { (said : List Saying) × IsSaid request said }
+    ensures made { IfOk result (λ v. IsAnswer
+        (rewriting endianness request.entry) blob.now v.items) }
+    ensures told { IfErr result (λ e. IfSome (refusal_of e)
+        (IsDeclined (rewriting endianness request.entry) blob.now)) }
+{
+    let sections = sections(alloc, request.words)?;
+    let symbols = symbols(alloc, request.words)?;
+    let is_granted = |feature: BtfFeature| -> bool
+        ensures { result ≡ names request.entry (feature_of feature) }
+    { request.grants(feature) };
+    let mut resolver = BtfFeatureResolver::new(is_granted);
+    let (bytes, _) = rewrite_bytes_with(
+        alloc,
+        blob,
+        endianness,
+        &sections,
+        &symbols,
+        request.ksyms,
+        request.policy(),
+        &mut resolver,
+    )?;
+    Ok(bytes)
+}

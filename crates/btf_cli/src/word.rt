@@ -1,0 +1,105 @@
+//! The words of a rewrite.
+
+ghost use Rattle.std.specs.Prelude.{◌≡◌, ◌≢◌, ℕ, List, IfSome, IfNone};
+ghost use Rattle.btf_rewrite_model.specs.Feature.{Feature};
+ghost use Rattle.btf_types.specs.Features.{feature_of};
+ghost use Rattle.btf_cli.specs.Saying.{feature_word as word_of, IsNamed};
+
+use crate::number::{read_id, read_number};
+use btf_types::BtfFeature;
+
+/// The word that has DATASECs filled that have a size.
+pub const FILL_SIZED: &str = "fill-sized";
+
+/// What a word of a rewrite says.
+#[derive(Clone, Copy)]
+pub enum Word<'a> {
+    /// The kernel has a feature.
+    Grant(BtfFeature),
+    /// DATASECs are filled that have a size and no entries.
+    FillSized,
+    /// The size of the section of a name.
+    Section { name: &'a str, size: u64 },
+    /// The offset of the symbol of a name.
+    Symbol { name: &'a str, offset: u64 },
+    /// The id of the DATASEC `.ksyms`.
+    Ksyms(u32),
+    /// The id of the VAR that takes the place of functions in it.
+    Placeholder(u32),
+}
+
+/// The word that grants a feature.
+pub fn feature_word(feature: BtfFeature) -> &'static str
+    ensures { result.now ≡ word_of (feature_of feature) }
+{
+    match feature {
+        BtfFeature::Func => "Func",
+        BtfFeature::FuncGlobal => "FuncGlobal",
+        BtfFeature::DataSec => "DataSec",
+        BtfFeature::DataSecZero => "DataSecZero",
+        BtfFeature::Float => "Float",
+        BtfFeature::DeclTag => "DeclTag",
+        BtfFeature::TypeTag => "TypeTag",
+        BtfFeature::Enum64 => "Enum64",
+    }
+}
+
+/// The feature that a word grants.
+fn read_feature(word: &str) -> Option<BtfFeature>
+    ensures some { IfSome result (λ feature. word.now ≡ word_of (feature_of feature)) }
+    ensures none { IfNone result ((feature : Feature) → word.now ≢ word_of feature) }
+{
+    match word {
+        "Func" => Some(BtfFeature::Func),
+        "FuncGlobal" => Some(BtfFeature::FuncGlobal),
+        "DataSec" => Some(BtfFeature::DataSec),
+        "DataSecZero" => Some(BtfFeature::DataSecZero),
+        "Float" => Some(BtfFeature::Float),
+        "DeclTag" => Some(BtfFeature::DeclTag),
+        "TypeTag" => Some(BtfFeature::TypeTag),
+        "Enum64" => Some(BtfFeature::Enum64),
+        _ => None,
+    }
+}
+
+/// The name before the last `=` of a text, and the number after it.
+fn read_named(text: &str) -> Option<(&str, u64)>
+    ensures some { IfSome result (λ named. IsNamed text.now named.0.now named.1) }
+    ensures none { IfNone result ((name : List ℕ) (n : ℕ) → IsNamed text.now name n → ⊥) }
+{
+    let (name, number) = text.rsplit_once('=')?;
+    Some((name, read_number(number)?))
+}
+
+impl<'a> Word<'a> {
+    ghost use Rattle.std.specs.Prelude.{IfSome, IfNone};
+    ghost use Rattle.btf_cli.specs.Saying.{Saying, Says};
+    ghost use Rattle.btf_cli.specs.Word.{saying_of};
+
+    /// What the word of this text says, or None where it can't be read. No memory is taken.
+    pub fn read(text: &'a str) -> Option<Word<'a>>
+        ensures some { IfSome result (λ word. Says text.now (saying_of word)) }
+        ensures none { IfNone result ((saying : Saying) → Says text.now saying → ⊥) }
+    {
+        if let Some(feature) = read_feature(text) {
+            return Some(Word::Grant(feature));
+        }
+        if text == FILL_SIZED {
+            return Some(Word::FillSized);
+        }
+        let (what, rest) = text.split_once(':')?;
+        match what {
+            "section" => {
+                let (name, size) = read_named(rest)?;
+                Some(Word::Section { name, size })
+            }
+            "symbol" => {
+                let (name, offset) = read_named(rest)?;
+                Some(Word::Symbol { name, offset })
+            }
+            "ksyms" => Some(Word::Ksyms(read_id(rest)?)),
+            "placeholder" => Some(Word::Placeholder(read_id(rest)?)),
+            _ => None,
+        }
+    }
+}

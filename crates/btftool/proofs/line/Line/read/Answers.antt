@@ -1,7 +1,0 @@
-use Rattle.std.proofs.Common.{rules}
-use Rattle.btftool.specs.Saying.{texts}
-use Rattle.btftool.proofs.line.Line.read.Goals as goal
-
--- src/line.rt:80:5
-pub returns-clause-some : goal.returns-clause-some
-returns-clause-some c = (texts c.in_ok-order.rest.now, search rules, c.in_ok-command.ensures.some)

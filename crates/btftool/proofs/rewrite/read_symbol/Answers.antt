@@ -1,5 +1,0 @@
-use Rattle.btftool.specs.Saying.{SymbolOffset}
-use Rattle.btftool.proofs.rewrite.read_symbol.Goals as goal
-
-pub returns-in_err-name-clause-none : goal.returns-in_err-name-clause-none
-returns-in_err-name-clause-none c = rw c.from_residual.ensures (λ name offset says. c.in_err-name.ensures.none (SymbolOffset name offset) says)

@@ -1,8 +1,0 @@
-use Rattle.std.proofs.Common.{◌≡◌, ℕ, List, take}
-use Rattle.btf_types.specs.Layout.{offsets_of}
-use Rattle.btftool.specs.Saying.{Saying, texts}
-use Rattle.btftool.specs.Sayings.{SayAll, last_said, offset_said}
-use Rattle.btftool.proofs.rewrite.symbols.Given as goal
-
-abbrev pub invariant-loop-word : goal.invariant-loop-word
-invariant-loop-word l = (said : List Saying) → SayAll (texts l.words) said → (name : List ℕ) → offsets_of l.symbols name ≡ last_said (offset_said name) (take l.word-index said)

@@ -1,0 +1,13 @@
+//! Tests of the program's command lines: statuses, what is written, and the texts.
+#![tactic(auto)]
+
+#[cfg(test)]
+mod filling;
+#[cfg(test)]
+mod rewrite;
+#[cfg(test)]
+mod rewrite_lines;
+#[cfg(test)]
+mod runs;
+#[cfg(test)]
+mod streams;

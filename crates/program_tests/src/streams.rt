@@ -1,0 +1,224 @@
+//! Streams that move a few bytes at a time, are interrupted, or fail at each of their calls in turn.
+
+use crate::runs::{blob_of, words};
+use btf_cli::run;
+use std::alloc::Global;
+use std::io;
+use std::io::{ErrorKind, Read, Write};
+use std::test::Fail;
+
+/// A reader that moves at most so many bytes at a call, and fails once, after so many calls.
+#[derive(Drop)]
+struct Slow<'a> {
+    rest: &'a [u8],
+    at_once: usize,
+    before: Option<usize>,
+    kind: ErrorKind,
+}
+
+impl Read for Slow<'_> {
+    fn read(&mut self, buf: &mut [u8]) -> io::Result<usize> {
+        if self.before == Some(0) {
+            self.before = None;
+            return Err(io::Error::from(self.kind));
+        }
+        self.before = self.before.map(|n| n.saturating_sub(1));
+        let most = self.at_once.min(buf.len());
+        let mut rest = self.rest;
+        let read = rest.read(&mut buf[..most])?;
+        self.rest = rest;
+        Ok(read)
+    }
+}
+
+/// A writer of that kind, with what it took.
+#[derive(Drop)]
+struct Sink {
+    taken: Vec<u8>,
+    at_once: usize,
+    before: Option<usize>,
+    kind: ErrorKind,
+}
+
+impl Write for Sink {
+    fn write(&mut self, buf: &[u8]) -> io::Result<usize> {
+        if self.before == Some(0) {
+            self.before = None;
+            return Err(io::Error::from(self.kind));
+        }
+        self.before = self.before.map(|n| n.saturating_sub(1));
+        let most = self.at_once.min(buf.len());
+        self.taken.extend_from_slice(&buf[..most])?;
+        Ok(most)
+    }
+
+    fn flush(&mut self) -> io::Result<()> {
+        Ok(())
+    }
+}
+
+/// How a stream behaves: how much it moves at once, after how many calls it fails, and how.
+#[derive(Clone, Copy)]
+struct Way(usize, Option<usize>, ErrorKind);
+
+/// The status of a line over a slow reader, with all that was written after it.
+fn read_slowly(alloc: Global, line: &str, blob: &[u8], way: Way) -> Result<String, Fail> {
+    let Way(at_once, before, kind) = way;
+    let mut input = Slow {
+        rest: blob,
+        at_once,
+        before,
+        kind,
+    };
+    let mut out = Vec::new(alloc);
+    let mut err = Vec::new(alloc);
+    let status = run(alloc, &words(alloc, line)?, &mut input, &mut out, &mut err);
+    out.extend_from_slice(&err)?;
+    said(alloc, status, &out)
+}
+
+/// A status, and bytes as a text.
+fn said(alloc: Global, status: u8, bytes: &[u8]) -> Result<String, Fail> {
+    let text = String::from_utf8_lossy(alloc, bytes)?;
+    Ok(format!(in alloc; "{status} {text}")?)
+}
+
+/// What a slow writer took of a line's output, and the status with the text of the fault.
+fn write_slowly(
+    alloc: Global,
+    line: &str,
+    blob: &[u8],
+    way: Way,
+) -> Result<(Vec<u8>, String), Fail> {
+    let Way(at_once, before, kind) = way;
+    let mut input = blob;
+    let mut out = Sink {
+        taken: Vec::new(alloc),
+        at_once,
+        before,
+        kind,
+    };
+    let mut err = Vec::new(alloc);
+    let status = run(alloc, &words(alloc, line)?, &mut input, &mut out, &mut err);
+    let text = said(alloc, status, &err)?;
+    Ok((out.taken, text))
+}
+
+/// The table of one INT, and the lines of the five commands over it, with what they write.
+fn int(alloc: Global) -> Result<Vec<u8>, Fail> {
+    blob_of(alloc, "1 1000000 4 1000020", "\0int\0")
+}
+
+const LINES: [(&str, &str); 5] = [
+    ("little types", "1 [INT] int\n"),
+    ("little size 1", "4\n"),
+    ("little compat 1 1", "true\nstarts 1\n"),
+    ("little copy", INT),
+    ("little rewrite", INT),
+];
+
+/// The bytes of that table as a text: those of its magic number are no UTF-8.
+const INT: &str = "\u{fffd}\u{fffd}\x01\0\x18\0\0\0\0\0\0\0\x10\0\0\0\x10\0\0\0\x05\0\0\0\
+\x01\0\0\0\0\0\0\x01\x04\0\0\0\x20\0\0\x01\0int\0";
+
+/// How many calls of a reader fail in turn, each with this text, until one run ends well; none where another comes out.
+fn failing_reads(
+    alloc: Global,
+    line: &str,
+    wanted: &str,
+    kind: ErrorKind,
+    fault: &str,
+) -> Result<usize, Fail> {
+    let blob = int(alloc)?;
+    for before in 0..64 {
+        let said = read_slowly(alloc, line, &blob, Way(16, Some(before), kind))?;
+        if said.strip_prefix("0 ") == Some(wanted) {
+            return Ok(before);
+        }
+        if said.as_str() != fault {
+            return Ok(0);
+        }
+    }
+    Ok(0)
+}
+
+#[test]
+fn each_read_fails_in_turn(rt: HostRuntime) -> Result<(), Fail> {
+    for (line, wanted) in LINES {
+        let fault = "1 cannot read standard input\n";
+        let failing = failing_reads(rt.alloc(), line, wanted, ErrorKind::Other, fault)?;
+        assert!(rt; failing >= 4, "{line}");
+    }
+    Ok(())
+}
+
+#[test]
+fn memory_refused_while_the_input_is_read(rt: HostRuntime) -> Result<(), Fail> {
+    for (line, wanted) in LINES {
+        let fault = "1 out of memory\n";
+        let failing = failing_reads(rt.alloc(), line, wanted, ErrorKind::OutOfMemory, fault)?;
+        assert!(rt; failing >= 4, "{line}");
+    }
+    Ok(())
+}
+
+/// Whether bytes are a beginning of those of a text, in which each byte that is no UTF-8 is U+FFFD.
+fn begins(alloc: Global, taken: &[u8], wanted: &str) -> Result<bool, Fail> {
+    let text = String::from_utf8_lossy(alloc, taken)?;
+    Ok(wanted.starts_with(&*text))
+}
+
+/// How many calls of a writer fail in turn, each with the fault's text, until one run ends well; none where another
+/// comes out, or the writer took something else than a beginning of the output.
+fn failing_writes(alloc: Global, line: &str, wanted: &str) -> Result<usize, Fail> {
+    let blob = int(alloc)?;
+    for before in 0..64 {
+        let way = Way(3, Some(before), ErrorKind::Other);
+        let (taken, said) = write_slowly(alloc, line, &blob, way)?;
+        if !begins(alloc, &taken, wanted)? {
+            return Ok(0);
+        }
+        if said.as_str() == "0 " {
+            return Ok(before);
+        }
+        if said.as_str() != "1 cannot write standard output\n" {
+            return Ok(0);
+        }
+    }
+    Ok(0)
+}
+
+#[test]
+fn each_write_fails_in_turn(rt: HostRuntime) -> Result<(), Fail> {
+    for (line, wanted) in LINES {
+        assert!(rt; failing_writes(rt.alloc(), line, wanted)? > 0, "{line}");
+    }
+    Ok(())
+}
+
+/// Whether a line has its output over a reader and a writer that behave so.
+fn is_moved(alloc: Global, line: &str, wanted: &str, way: Way) -> Result<bool, Fail> {
+    let blob = int(alloc)?;
+    let said = read_slowly(alloc, line, &blob, way)?;
+    let (taken, status) = write_slowly(alloc, line, &blob, way)?;
+    let is_begun = begins(alloc, &taken, wanted)?;
+    Ok(said.strip_prefix("0 ") == Some(wanted) && is_begun && status.as_str() == "0 ")
+}
+
+#[test]
+fn a_byte_at_a_time_will_do(rt: HostRuntime) -> Result<(), Fail> {
+    for (line, wanted) in LINES {
+        let way = Way(1, None, ErrorKind::Other);
+        assert!(rt; is_moved(rt.alloc(), line, wanted, way)?, "{line}");
+    }
+    Ok(())
+}
+
+#[test]
+fn interrupted_calls_are_made_again(rt: HostRuntime) -> Result<(), Fail> {
+    for (line, wanted) in LINES {
+        let way = Way(16, Some(1), ErrorKind::Interrupted);
+        assert!(rt; is_moved(rt.alloc(), line, wanted, way)?, "{line}");
+    }
+    Ok(())
+}
