@@ -1,9 +1,10 @@
 -- What the parts of the step of `.ksyms` stand for.
-use Rattle.std.specs.Prelude.{◌≡◌, ℕ, ◌*◌, ◌==◌, ◌&&◌, nat_eq, Bool, false, if◌then◌else◌, List, length, map, take, Option, Some, None, Result, Ok, Err}
+use Rattle.std.specs.Prelude.{◌≡◌, ℕ, ◌*◌, ◌==◌, ◌&&◌, Bool, false, if◌then◌else◌, List, length, map, take, Option, Some, None, Result, Ok, Err}
 use Rattle.std.specs.List.{list_any, flat_map, range_with_len}
 use Rattle.std.specs.Option.{option_map}
-use Rattle.std.specs.HashSet as hash
-use Rattle.std.specs.HashSet.{HashSet}
+use Rattle.std.specs.Ordering.{nat_cmp}
+use Rattle.std.specs.BTreeSet as ordered
+use Rattle.std.specs.BTreeSet.{BTreeSet}
 use Rattle.btf_model.specs.Record.{Kind, Record, kind_of}
 use Rattle.btf_model.specs.Refusal.{Refusal}
 use Rattle.btf_model.specs.Table.{Table}
@@ -49,8 +50,8 @@ abbrev pub is_this : Option ℕ → ℕ → Bool
 is_this (Some prototype) id = prototype == id
 is_this None id = false
 
-abbrev pub has : {S : Type 0} → HashSet ℕ S → ℕ → Bool
-has set id = hash.contains nat_eq set id
+abbrev pub has : BTreeSet ℕ → ℕ → Bool
+has set id = ordered.contains nat_cmp set id
 
 -- the sets have what these entries name, and the prototypes of the functions among them
 pub record HasSymbols (t : Table) (es : List Entry) (symbols : Symbols) : Type 0 where

@@ -18,7 +18,7 @@ use btf_plain::{BtfError, Func, FuncLinkage, Int, IntEncoding, Var, VarLinkage};
 use btf_records::{BtfParam, BtfType, DataSec, DataSecEntry, FuncProto};
 use btf_rules::{global, global_of, int_of_4, with_names};
 use std::alloc::{AllocError, Global};
-use std::collections::HashSet;
+use std::collections::BTreeSet;
 
 /// The text that names the INT, and the length of its record in bytes.
 const INT: &str = "int";
@@ -43,13 +43,13 @@ struct Target {
     placeholder: Option<Placeholder>,
 }
 
-/// The ids that the entries name.
+/// The ids that the entries name, in sets that are ordered, since a stranger chose the ids.
 #[derive(Drop)]
 struct Symbols {
     /// The functions and variables themselves.
-    ids: HashSet<u32>,
+    ids: BTreeSet<u32>,
     /// The prototypes of the functions.
-    prototypes: HashSet<u32>,
+    prototypes: BTreeSet<u32>,
 }
 
 impl Symbols {
@@ -62,8 +62,8 @@ impl Symbols {
         ensures prototypes { (q : _) → has result.prototypes q ≡ false }
     {
         Symbols {
-            ids: HashSet::new(alloc),
-            prototypes: HashSet::new(alloc),
+            ids: BTreeSet::new(alloc),
+            prototypes: BTreeSet::new(alloc),
         }
     }
 
