@@ -1,7 +1,6 @@
 //! Runs of `rewrite` with the word `fill-sized`.
 
-use crate::rewrite::written;
-use crate::runs::blob_of;
+use crate::runs::{blob_of, written};
 use std::test::Fail;
 
 /// A DATASEC of 9 bytes without entries, and what it is with the filler.

@@ -1,8 +1,6 @@
 //! Runs of `rewrite`: what is written of a table, and why it is refused.
 
-use crate::runs::{RECORDS, STRINGS, blob_of, outcome, words};
-use btf_cli::run;
-use std::alloc::Global;
+use crate::runs::{RECORDS, STRINGS, blob_of, outcome, written};
 use std::test::Fail;
 
 /// The records of the program where the kernel has no feature.
@@ -33,15 +31,6 @@ const SYMBOL_STRINGS: &str = "\0f\0ph\0.ksyms\0int\0";
 
 const COMPLETED: &str =
     "little rewrite Func FuncGlobal DataSec section:license=4 symbol:_license=0";
-
-/// The status of a line over a blob, and what is written on standard output.
-pub fn written(alloc: Global, line: &str, blob: &[u8]) -> Result<(u8, Vec<u8>), Fail> {
-    let mut input = blob;
-    let mut out = Vec::new(alloc);
-    let mut err = Vec::new(alloc);
-    let status = run(alloc, &words(alloc, line)?, &mut input, &mut out, &mut err);
-    Ok((status, out))
-}
 
 #[test]
 fn sections_get_their_sizes(rt: HostRuntime) -> Result<(), Fail> {

@@ -1,8 +1,6 @@
 //! Lines of `rewrite` that can be read, and lines that can't.
 
-use crate::runs::{EMPTY, Failing, USAGE, words};
-use btf_cli::run;
-use std::alloc::Global;
+use crate::runs::{EMPTY, has_usage, written};
 use std::test::Fail;
 
 const READABLE: [&str; 10] = [
@@ -67,27 +65,10 @@ const UNREADABLE: [&str; 46] = [
     "middle rewrite Func",
 ];
 
-/// The status of a line over an empty table, with what is written on standard output.
-fn copied(alloc: Global, line: &str) -> Result<(u8, Vec<u8>), Fail> {
-    let mut input = EMPTY.as_slice();
-    let mut out = Vec::new(alloc);
-    let mut err = Vec::new(alloc);
-    let status = run(alloc, &words(alloc, line)?, &mut input, &mut out, &mut err);
-    Ok((status, out))
-}
-
-/// The status of a line whose input and output would fail, with the message.
-fn unread(alloc: Global, line: &str) -> Result<(u8, Vec<u8>), Fail> {
-    let mut err = Vec::new(alloc);
-    let words = words(alloc, line)?;
-    let status = run(alloc, &words, &mut Failing, &mut Failing, &mut err);
-    Ok((status, err))
-}
-
 #[test]
 fn readable_lines_are_carried_out(rt: HostRuntime) -> Result<(), Fail> {
     for line in READABLE {
-        let (status, out) = copied(rt.alloc(), line)?;
+        let (status, out) = written(rt.alloc(), line, &EMPTY)?;
         assert!(rt; status == 0, "{line}");
         assert!(rt; out.as_slice() == EMPTY.as_slice(), "{line}");
     }
@@ -97,9 +78,7 @@ fn readable_lines_are_carried_out(rt: HostRuntime) -> Result<(), Fail> {
 #[test]
 fn unreadable_lines_have_the_usage(rt: HostRuntime) -> Result<(), Fail> {
     for line in UNREADABLE {
-        let (status, err) = unread(rt.alloc(), line)?;
-        assert!(rt; status == 2, "{line}");
-        assert!(rt; err.as_slice() == USAGE.as_bytes(), "{line}");
+        assert!(rt; has_usage(rt.alloc(), line)?, "{line}");
     }
     Ok(())
 }

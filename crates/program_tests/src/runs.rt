@@ -42,9 +42,35 @@ pub(crate) fn words(alloc: Global, line: &str) -> Result<Vec<String>, AllocError
     Ok(words)
 }
 
+/// The status of a line over a blob, and what is written on standard output.
+pub(crate) fn written(alloc: Global, line: &str, blob: &[u8]) -> Result<(u8, Vec<u8>), Fail> {
+    let mut input = blob;
+    let mut out = Vec::new(alloc);
+    let mut err = Vec::new(alloc);
+    let status = run(alloc, &words(alloc, line)?, &mut input, &mut out, &mut err);
+    Ok((status, out))
+}
+
+/// The status of words whose input and output fail, and what is written on standard error.
+fn unread(alloc: Global, words: &[String]) -> (u8, Vec<u8>) {
+    let mut err = Vec::new(alloc);
+    let status = run(alloc, words, &mut Failing, &mut Failing, &mut err);
+    (status, err)
+}
+
+/// Whether words have the usage as their message, and status 2. They are looked at before the input, which would fail.
+fn have_usage(alloc: Global, words: &[String]) -> bool {
+    let (status, err) = unread(alloc, words);
+    status == 2 && err.as_slice() == USAGE.as_bytes()
+}
+
+/// Whether a line has the usage as its message.
+pub(crate) fn has_usage(alloc: Global, line: &str) -> Result<bool, Fail> {
+    Ok(have_usage(alloc, &words(alloc, line)?))
+}
+
 #[test]
 fn copies_over_memory(rt: HostRuntime) -> Result<(), Fail> {
-    let alloc = rt.alloc();
     let mut other = EMPTY;
     other[0] = 0;
     other[1] = 0;
@@ -60,13 +86,9 @@ fn copies_over_memory(rt: HostRuntime) -> Result<(), Fail> {
         ("big copy", &big),
     ];
     for (line, blob) in rows {
-        let words = words(alloc, line)?;
-        let mut input = blob;
-        let mut out = Vec::new(alloc);
-        let mut err = Vec::new(alloc);
-        assert_eq!(rt; run(alloc, &words, &mut input, &mut out, &mut err), 0);
-        assert_eq!(rt; out.as_slice(), blob);
-        assert_eq!(rt; err.len(), 0);
+        let (status, out) = written(rt.alloc(), line, blob)?;
+        assert!(rt; status == 0, "{line}");
+        assert!(rt; out.as_slice() == blob, "{line}");
     }
     Ok(())
 }
@@ -203,28 +225,21 @@ fn comparisons_are_told(rt: HostRuntime) -> Result<(), Fail> {
 
 #[test]
 fn refused_input_has_the_fault_s_text(rt: HostRuntime) -> Result<(), Fail> {
-    let alloc = rt.alloc();
     let mut cut_types = EMPTY;
     cut_types[12] = 4;
-    let rows: [(&[u8], &[u8]); 2] = [
-        (&EMPTY[..23], b"error parsing BTF header\n"),
-        (&cut_types, b"invalid BTF type info segment\n"),
+    let rows: [(&[u8], &str); 2] = [
+        (&EMPTY[..23], "1 error parsing BTF header\n"),
+        (&cut_types, "1 invalid BTF type info segment\n"),
     ];
-    let words = words(alloc, "little copy")?;
-    for (blob, text) in rows {
-        let mut input = blob;
-        let mut out = Vec::new(alloc);
-        let mut err = Vec::new(alloc);
-        assert_eq!(rt; run(alloc, &words, &mut input, &mut out, &mut err), 1);
-        assert_eq!(rt; out.len(), 0);
-        assert_eq!(rt; err.as_slice(), text);
+    for (blob, told) in rows {
+        let answer = outcome(rt.alloc(), "little copy", blob)?;
+        assert!(rt; answer.as_str() == told, "{told}");
     }
     Ok(())
 }
 
 #[test]
 fn unreadable_lines_have_the_usage(rt: HostRuntime) -> Result<(), Fail> {
-    let alloc = rt.alloc();
     let lines = [
         "",
         "little",
@@ -246,46 +261,41 @@ fn unreadable_lines_have_the_usage(rt: HostRuntime) -> Result<(), Fail> {
         "little compat 1 4294967296",
         "little rewritten",
     ];
+    assert!(rt; have_usage(rt.alloc(), &[]));
     for line in lines {
-        let words = words(alloc, line)?;
-        let mut out = Vec::new(alloc);
-        let mut err = Vec::new(alloc);
-        // The line is looked at before the input, which would fail.
-        assert_eq!(rt;
-            run(alloc, &words, &mut Failing, &mut out, &mut err),
-            2,
-            "at {line}"
-        );
-        assert_eq!(rt; out.len(), 0);
-        assert_eq!(rt; err.as_slice(), USAGE.as_bytes());
+        assert!(rt; has_usage(rt.alloc(), line)?, "{line}");
     }
+    Ok(())
+}
+
+/// The status of a copy whose output fails, and what is written on standard error.
+fn unwritten(alloc: Global) -> Result<(u8, Vec<u8>), Fail> {
+    let mut input = EMPTY.as_slice();
     let mut err = Vec::new(alloc);
-    let none: Vec<String> = Vec::new(alloc);
-    assert_eq!(rt; run(alloc, &none, &mut Failing, &mut Failing, &mut err), 2);
-    assert_eq!(rt; err.as_slice(), USAGE.as_bytes());
+    let words = words(alloc, "little copy")?;
+    let status = run(alloc, &words, &mut input, &mut Failing, &mut err);
+    Ok((status, err))
+}
+
+#[test]
+fn an_input_that_fails_is_told(rt: HostRuntime) -> Result<(), Fail> {
+    let alloc = rt.alloc();
+    let words = words(alloc, "little copy")?;
+    let (status, err) = unread(alloc, &words);
+    assert!(rt; status == 1);
+    assert!(rt; err.as_slice() == b"cannot read standard input\n".as_slice());
+    // A message that cannot be written changes nothing.
+    assert_eq!(rt;
+        run(alloc, &words, &mut Failing, &mut Failing, &mut Failing),
+        1
+    );
     Ok(())
 }
 
 #[test]
-fn failing_streams_are_told(rt: HostRuntime) -> Result<(), Fail> {
-    let alloc = rt.alloc();
-    let words = words(alloc, "little copy")?;
-
-    let mut out = Vec::new(alloc);
-    let mut err = Vec::new(alloc);
-    assert_eq!(rt; run(alloc, &words, &mut Failing, &mut out, &mut err), 1);
-    assert_eq!(rt; out.len(), 0);
-    assert_eq!(rt; err.as_slice(), b"cannot read standard input\n".as_slice());
-
-    let mut input = EMPTY.as_slice();
-    let mut err = Vec::new(alloc);
-    assert_eq!(rt; run(alloc, &words, &mut input, &mut Failing, &mut err), 1);
-    assert_eq!(rt;
-        err.as_slice(),
-        b"cannot write standard output\n".as_slice()
-    );
-
-    // A fault in telling the fault changes nothing.
-    assert_eq!(rt; run(alloc, &words, &mut Failing, &mut out, &mut Failing), 1);
+fn an_output_that_fails_is_told(rt: HostRuntime) -> Result<(), Fail> {
+    let (status, err) = unwritten(rt.alloc())?;
+    assert!(rt; status == 1);
+    assert!(rt; err.as_slice() == b"cannot write standard output\n".as_slice());
     Ok(())
 }
