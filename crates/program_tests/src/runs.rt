@@ -51,6 +51,15 @@ pub(crate) fn written(alloc: Global, line: &str, blob: &[u8]) -> Result<(u8, Vec
     Ok((status, out))
 }
 
+/// What a line over a blob writes on standard error.
+fn messages(alloc: Global, line: &str, blob: &[u8]) -> Result<Vec<u8>, Fail> {
+    let mut input = blob;
+    let mut out = Vec::new(alloc);
+    let mut err = Vec::new(alloc);
+    run(alloc, &words(alloc, line)?, &mut input, &mut out, &mut err);
+    Ok(err)
+}
+
 /// The status of words whose input and output fail, and what is written on standard error.
 fn unread(alloc: Global, words: &[String]) -> (u8, Vec<u8>) {
     let mut err = Vec::new(alloc);
@@ -89,6 +98,7 @@ fn copies_over_memory(rt: HostRuntime) -> Result<(), Fail> {
         let (status, out) = written(rt.alloc(), line, blob)?;
         assert!(rt; status == 0, "{line}");
         assert!(rt; out.as_slice() == blob, "{line}");
+        assert!(rt; messages(rt.alloc(), line, blob)?.is_empty(), "{line}");
     }
     Ok(())
 }
