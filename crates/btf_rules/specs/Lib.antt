@@ -3,3 +3,4 @@ pub mod Checked
 pub mod Features
 pub mod SoleFeature
 pub mod Builtins
+pub mod InPlace

@@ -2,7 +2,6 @@
 #![tactic(auto)]
 
 mod data_sec;
-mod enumeration;
 mod enumeration64;
 mod features;
 mod func;
@@ -17,5 +16,5 @@ pub use features::{BtfFeature, BtfFeatureResolver, FeatureAnswer, FillPolicy, co
 pub use func::{global, is_builtin, made_static};
 pub use func_proto::{as_enum, param_text, with_names};
 pub use int::int_of_4;
-pub use single::{replaced, sole_feature};
+pub use single::{changes_in_place, denied_name_offset, deny, sole_feature};
 pub use var::global_of;

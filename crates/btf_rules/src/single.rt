@@ -1,23 +1,22 @@
-//! Types that ask for one feature at most, and whose rule appends nothing.
+//! Types that ask for one feature at most, and change where they stand: their rule appends nothing, and takes no memory.
 
-ghost use Rattle.std.specs.Prelude.{◌≡◌, ℕ, List, None, Ok, Option, length, true, IfOk};
-ghost use Rattle.std.specs.Option.{option_map, unwrap_or};
+ghost use Rattle.std.specs.Prelude.{◌≡◌, ℕ, List, Option, None, Some, length, true, if◌then◌else◌};
+ghost use Rattle.std.specs.Option.{option_map};
 ghost use Rattle.btf_model.specs.Record.{Record, kind_of};
 ghost use Rattle.btf_rewrite_model.specs.Made as model;
 ghost use Rattle.btf_rewrite_model.specs.Pass.{Pass};
 ghost use Rattle.btf_rewrite_model.specs.Rule.{becomes_by};
 ghost use Rattle.btf_rewrite_model.specs.Passing.{is_quiet};
-ghost use Rattle.btf_words.specs.Error.{IsOrNoMemory};
-ghost use Rattle.btf_records.specs.BtfType.{record_of, fallback_of};
+ghost use Rattle.btf_records.specs.BtfType.{record_of, fallback_of, type_kind};
 ghost use Rattle.btf_rules.specs.Features.{feature_of};
+ghost use Rattle.btf_rules.specs.InPlace.{denied, denied_type};
 ghost use Rattle.btf_rules.specs.SoleFeature.{IsGranted};
 ghost use Rattle.btf_rules.specs.SoleFeature as sole;
 
-use crate::enumeration::without_sign;
 use crate::features::BtfFeature;
-use btf_plain::{BtfError, Const, Int, IntEncoding, Ptr};
+use btf_plain::{Const, Int, IntEncoding, Typedef};
 use btf_records::{BtfType, Struct};
-use std::alloc::{AllocError, Global};
+use std::alloc::Global;
 
 /// The feature that a type asks for, where it asks for one alone: all but FUNC and DATASEC. None where it asks for
 /// none.
@@ -47,56 +46,99 @@ fn byte_int(name_offset: u32) -> BtfType
     BtfType::Int(Int::new(name_offset, 1, IntEncoding::None, 0))
 }
 
-/// The pointer without a name.
-fn without_name(ptr: &Ptr) -> Result<Ptr, AllocError>
-    ensures { IfOk result (λ r. r ≡ record ptr.now { name = 0 }) }
-{
-    let mut without_name = ptr.clone()?;
-    without_name.set_name_offset(0);
-    Ok(without_name)
-}
-
-/// What a type becomes whose rule appends nothing, where the kernel has the feature that it asks for, or where it has
-/// not; None where it stays.
-pub fn replaced(
-    alloc: Global,
-    btf_type: &BtfType,
-    granted: bool,
-) -> Result<Option<BtfType>, BtfError>
+/// Whether a type changes where it stands, as `deny` has it: a PTR that has a name, and one that asks for a feature which
+/// the kernel lacks, where `granted` says whether it has that. Not for a FUNC, whose rule asks for more.
+pub fn changes_in_place(btf_type: &BtfType, granted: bool) -> bool
     ensures words { (p : Pass) (lower : List Record) (id : ℕ)
         → IsGranted p (sole.sole_feature (kind_of (record_of btf_type.now).info)
         (record_of btf_type.now)) granted → is_quiet (kind_of (record_of btf_type.now).info) ≡ true
-        → IsOrNoMemory (λ new. record_of (unwrap_or new btf_type.now)) result
-        (Ok (becomes_by p lower id (kind_of (record_of btf_type.now).info)
-        (record_of btf_type.now))) }
-    ensures len { IfOk result (λ new. length (record_of (unwrap_or new btf_type.now)).tail ≡ length
-        (record_of btf_type.now).tail) }
-    ensures fallback { IfOk result (λ new. fallback_of
-        (unwrap_or new btf_type.now) ≡ fallback_of btf_type.now) }
+        → record_of (if result then denied_type btf_type.now else btf_type.now)
+        ≡ becomes_by p lower id (kind_of (record_of btf_type.now).info) (record_of btf_type.now) }
+    ensures len { length (record_of (if result then denied_type btf_type.now
+        else btf_type.now)).tail ≡ length (record_of btf_type.now).tail }
+    ensures fallback { fallback_of (if result then denied_type btf_type.now else btf_type.now)
+        ≡ fallback_of btf_type.now }
 {
     // The contract speaks of the kind in the info word, which a use of it shows.
     let _ = btf_type.info();
-    let new_type = match btf_type {
-        BtfType::Ptr(ptr) if ptr.name_offset() != 0 => BtfType::Ptr(without_name(ptr)?),
+    match btf_type {
+        BtfType::Ptr(ptr) => ptr.name_offset() != 0,
         // The contract speaks of the lengths of records, which a use of their words shows, here and below.
         BtfType::Var(var) if !granted => {
             let _ = var.linkage();
-            byte_int(var.name_offset())
+            true
         }
         BtfType::DeclTag(tag) if !granted => {
             let _ = tag.component_index();
-            byte_int(tag.name_offset())
+            true
         }
         BtfType::Float(float) if !granted => {
             let _ = float.info();
-            BtfType::Struct(Struct::new(0, Vec::new(alloc), float.size()))
+            true
         }
         BtfType::TypeTag(tag) if !granted => {
             let _ = tag.info();
+            true
+        }
+        BtfType::Enum(_) => !granted,
+        _ => false,
+    }
+}
+
+/// The string offset of the name that a type has once it is denied.
+pub fn denied_name_offset(btf_type: &BtfType) -> u32
+    ensures { result ≡ (record_of (denied_type btf_type.now)).name }
+{
+    match btf_type {
+        BtfType::Ptr(_) | BtfType::Float(_) | BtfType::TypeTag(_) => 0,
+        _ => btf_type.name_offset(),
+    }
+}
+
+/// Changes a type where it stands, as for a kernel that lacks its feature: a PTR loses its name, a VAR and a DECL_TAG
+/// become an INT of one byte, a FLOAT a STRUCT without members, a TYPE_TAG a CONST, a FUNC a TYPEDEF, and an ENUM loses
+/// its sign. Others stay.
+pub fn deny(alloc: Global, btf_type: &mut BtfType)
+    ensures words { record_of btf_type.new ≡ denied (record_of btf_type.old) }
+    ensures fallback { fallback_of btf_type.new ≡ fallback_of btf_type.old }
+    ensures len { length (record_of btf_type.new).tail ≡ length (record_of btf_type.old).tail }
+    ensures kind { kind_of (record_of btf_type.new).info ≡ Some (type_kind btf_type.new) }
+{
+    // The contract speaks of kinds and of lengths, which a use of the words shows, here and below.
+    let _ = btf_type.info();
+    let new_type = match btf_type {
+        BtfType::Ptr(ptr) => {
+            ptr.set_name_offset(0);
+            let _ = ptr.info();
+            return;
+        }
+        BtfType::Enum(enumeration) => {
+            enumeration.set_signed(false);
+            let _ = enumeration.info();
+            return;
+        }
+        BtfType::Var(var) => {
+            let _ = var.linkage();
+            byte_int(var.name_offset())
+        }
+        BtfType::DeclTag(tag) => {
+            let _ = tag.component_index();
+            byte_int(tag.name_offset())
+        }
+        BtfType::Float(float) => {
+            let _ = float.info();
+            BtfType::Struct(Struct::new(0, Vec::new(alloc), float.size()))
+        }
+        BtfType::TypeTag(tag) => {
+            let _ = tag.info();
             BtfType::Const(Const::new(tag.btf_type()))
         }
-        BtfType::Enum(enumeration) if !granted => BtfType::Enum(without_sign(enumeration)?),
-        _ => return Ok(None),
+        BtfType::Func(func) => {
+            let _ = func.info();
+            BtfType::Typedef(Typedef::new(func.name_offset(), func.btf_type()))
+        }
+        _ => return,
     };
-    Ok(Some(new_type))
+    let _ = new_type.info();
+    *btf_type = new_type;
 }
