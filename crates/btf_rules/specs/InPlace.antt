@@ -1,5 +1,5 @@
--- What a type becomes where it stands: its rule asks for no memory, appends nothing, and can't be refused. Source:
--- aya-obj's `fixup_and_sanitize`, for a kernel that lacks the feature which the kind asks for.
+-- What a type becomes in place, for a kernel that lacks the feature which its kind asks for: its rule appends nothing,
+-- and can't be refused. Source: aya-obj's `fixup_and_sanitize`.
 use Rattle.std.specs.Prelude.{Option, Some, []}
 use Rattle.btf_model.specs.Record as kinds
 use Rattle.btf_model.specs.Record.{Kind, Record, kind_of}

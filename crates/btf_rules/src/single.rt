@@ -1,4 +1,4 @@
-//! Types that ask for one feature at most, and change where they stand: their rule appends nothing, and takes no memory.
+//! Types that ask for one feature at most, and change in place: their rule appends nothing, and takes no memory.
 
 ghost use Rattle.std.specs.Prelude.{◌≡◌, ℕ, List, Option, None, Some, length, true, if◌then◌else◌};
 ghost use Rattle.std.specs.Option.{option_map};
@@ -46,8 +46,8 @@ fn byte_int(name_offset: u32) -> BtfType
     BtfType::Int(Int::new(name_offset, 1, IntEncoding::None, 0))
 }
 
-/// Whether a type changes where it stands, as `deny` has it: a PTR that has a name, and one that asks for a feature which
-/// the kernel lacks, where `granted` says whether it has that. Not for a FUNC, whose rule asks for more.
+/// Whether a type changes in place, as `deny` changes it: a PTR that has a name does, and so does a type that asks for a
+/// feature which is not granted. Not for a FUNC, whose rule asks for more.
 pub fn changes_in_place(btf_type: &BtfType, granted: bool) -> bool
     ensures words { (p : Pass) (lower : List Record) (id : ℕ)
         → IsGranted p (sole.sole_feature (kind_of (record_of btf_type.now).info)
@@ -85,19 +85,42 @@ pub fn changes_in_place(btf_type: &BtfType, granted: bool) -> bool
     }
 }
 
-/// The string offset of the name that a type has once it is denied.
+/// The string offset of the name that a type has after `deny`.
 pub fn denied_name_offset(btf_type: &BtfType) -> u32
-    ensures { result ≡ (record_of (denied_type btf_type.now)).name }
+    ensures name { result ≡ (record_of (denied_type btf_type.now)).name }
+    ensures len { length (record_of (denied_type btf_type.now)).tail
+        ≡ length (record_of btf_type.now).tail }
 {
     match btf_type {
-        BtfType::Ptr(_) | BtfType::Float(_) | BtfType::TypeTag(_) => 0,
+        BtfType::Ptr(_) => 0,
+        // The contract speaks of the lengths of records, which a use of their words shows, here and below.
+        BtfType::Float(float) => {
+            let _ = float.info();
+            0
+        }
+        BtfType::TypeTag(tag) => {
+            let _ = tag.info();
+            0
+        }
+        BtfType::Var(var) => {
+            let _ = var.linkage();
+            var.name_offset()
+        }
+        BtfType::DeclTag(tag) => {
+            let _ = tag.component_index();
+            tag.name_offset()
+        }
+        BtfType::Func(func) => {
+            let _ = func.info();
+            func.name_offset()
+        }
         _ => btf_type.name_offset(),
     }
 }
 
-/// Changes a type where it stands, as for a kernel that lacks its feature: a PTR loses its name, a VAR and a DECL_TAG
-/// become an INT of one byte, a FLOAT a STRUCT without members, a TYPE_TAG a CONST, a FUNC a TYPEDEF, and an ENUM loses
-/// its sign. Others stay.
+/// Changes a type in place, for a kernel that lacks its feature: a PTR loses its name, a VAR and a DECL_TAG become an INT
+/// of one byte, a FLOAT a STRUCT without members, a TYPE_TAG a CONST, a FUNC a TYPEDEF, and an ENUM loses its sign.
+/// Others stay.
 pub fn deny(alloc: Global, btf_type: &mut BtfType)
     ensures words { record_of btf_type.new ≡ denied (record_of btf_type.old) }
     ensures fallback { fallback_of btf_type.new ≡ fallback_of btf_type.old }

@@ -7,11 +7,8 @@ use Rattle.btf_model.specs.Word.{Order}
 use Rattle.btf_model.specs.Record.{Record, Kind, Unknown, Int, Ptr, Array, Struct, Union, Enum, Fwd, Typedef, Volatile, Const, Restrict, Func, FuncProto, Var, DataSec, Float, DeclTag, TypeTag, Enum64, kind_of, unknown}
 use Rattle.btf_model.specs.Spelling.{kept, IsRecord}
 use Rattle.btf_model.specs.Blob.{AreRecords}
+use Rattle.btf_table.specs.Denied.{AllHaveKinds}
 use Rattle.btf_model.proofs.Blobs.{slice_get-append_left, slice_get-push}
-
--- each of these records has a kind
-abbrev pub AllHaveKinds : List Record → Type 0
-AllHaveKinds rs = (id : ℕ) (r : Record) → slice_get rs id ≡ Some r → (k : Kind) × (kind_of r.info ≡ Some k)
 
 kept_kind : (k : Kind) (r : Record) → kind_of r.info ≡ Some k → kind_of (kept k r).info ≡ Some k
 kept_kind Unknown r is = refl

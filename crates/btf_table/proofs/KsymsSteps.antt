@@ -21,7 +21,8 @@ use Rattle.btf_model.specs.Spelling.{spell}
 use Rattle.btf_model.specs.Table.{Table, type_bytes, section_limit, with_string, with_type}
 use Rattle.btf_model.specs.Fields.{HaveKinds}
 use Rattle.btf_model.proofs.Records.{length-spell}
-use Rattle.btf_table.proofs.KnownKinds.{AllHaveKinds, one_more_kind}
+use Rattle.btf_table.specs.Denied.{AllHaveKinds}
+use Rattle.btf_table.proofs.KnownKinds.{one_more_kind}
 use Rattle.btf_rewrite_model.specs.Made as model
 use Rattle.btf_rewrite_model.specs.Made.{Entry, entries, record_at, c_int}
 use Rattle.btf_rewrite_model.specs.Ksyms.{KsymsIds, stepped, symbols, laid_out, appends_int, each_stepped, ksyms_table, ksyms_fault, int_text, placeholder_checks, data_sec_checks}

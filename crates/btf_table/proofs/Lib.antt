@@ -9,6 +9,9 @@ mod SectionItems
 pub mod PassRules
 pub mod Adding
 pub mod Put
+pub mod Outcomes
+pub mod Spelled
+pub mod Denials
 pub mod KsymsSteps
 pub mod KsymsItems
 pub mod KsymsEntries

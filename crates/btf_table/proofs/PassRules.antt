@@ -1,5 +1,5 @@
 -- That a type was rewritten by the rule of its kind.
-use Rattle.std.proofs.Common.{◌≡◌, ◌==◌, ℕ, suc, ◌+◌, ◌*◌, Bool, true, false, not, ◌&&◌, ◌||◌, List, [], ◌∷◌, ◌++◌, length, Option, None, Some, Result, Ok, Err, refl, sym, ap, subst, ◌∙◌, arith}
+use Rattle.std.proofs.Common.{◌≡◌, ◌==◌, ℕ, suc, ◌+◌, ◌*◌, Bool, true, false, not, ◌&&◌, ◌||◌, List, [], ◌∷◌, ◌++◌, length, Option, None, Some, refl, sym, ap, subst, ◌∙◌, arith}
 use Rattle.std.specs.Prelude.{if◌then◌else◌, slice_get}
 use Rattle.std.specs.Option.{unwrap_or}
 use Rattle.std.specs.List.{flat_map, sum_by}
@@ -21,12 +21,6 @@ use Rattle.btf_rewrite_model.specs.Passing.{is_quiet}
 use Rattle.btf_rewrite_model.proofs.Passing.{IsQuiet, quiet}
 use Rattle.btf_rewrite_model.specs.Passing.{MadeBelow}
 use Rattle.btf_rewrite_model.proofs.FirstMade.{makes_first, made_first, none_next, makes_no_second, made_next, made_is}
-use Rattle.std.specs.Prelude.{IfOk, IfSome}
-use Rattle.std.specs.Result.{result_ok}
-use Rattle.std.proofs.lemmas.Option.{none-some}
-use Rattle.btf_model.proofs.Comparisons.{same_ok}
-use Rattle.btf_words.specs.Error.{MeetsOrNoMemory, IsOrNoMemory, refusal_of}
-use Rattle.btf_words.specs.declared.error.BtfError.{BtfError}
 use Rattle.btf_records.specs.BtfType.{record_of, fallback_of, type_kind}
 use Rattle.btf_records.specs.declared.btf_type.BtfType.TheVariants as types
 use Rattle.btf_records.specs.declared.btf_type.BtfType.{BtfType}
@@ -36,8 +30,9 @@ use Rattle.btf_table.specs.Adding.{strings_end, next_id, Adds}
 use Rattle.btf_table.specs.Params.{lack_a_name}
 use Rattle.btf_table.proofs.Prototypes.{no_texts, names_stay}
 use Rattle.btf_table.proofs.Adding.{adds_none}
-use Rattle.btf_table.specs.PassStep.{IsType, IsHere, IsGrown, IsRuled, Rules, growth}
+use Rattle.btf_table.specs.PassStep.{IsType, IsHere, IsGrown, IsRuled, growth}
 use Rattle.btf_rules.specs.SoleFeature.{asks_one}
+use Rattle.btf_rules.specs.InPlace.{denied_type}
 use Rattle.btf_table.specs.declared.sanitize.made.Made.{Made}
 
 -- ---- the record of an id
@@ -323,14 +318,11 @@ quiet_type (types.Func x) one no_proto no_enum64 = absurd (false≢true one)
 quiet_type (types.DataSec x) one no_proto no_enum64 = absurd (false≢true one)
 quiet_type b one no_proto no_enum64 = refl
 
-refused_never : (o : Option Refusal) (x : Record) (Q : Refusal → Type 0) → IfSome o (λ f. ◌≡◌ {A = Result Record Refusal} (Err f) (Ok x)) → IfSome o Q
-refused_never None x Q is = tt
-refused_never (Some f) x Q is = absurd (none-some x (ap (result_ok {T = Record} {E = Refusal}) is))
-
--- what a rule that appends nothing returns
-pub quiet_answer : (p : Pass) (id : ℕ) (b : BtfType) (before : Made) (x : Record) (r : Result (Option BtfType) BtfError) → IsOrNoMemory (λ new. record_of (unwrap_or new b)) r (Ok x)
-    → IfOk r (λ new. length (record_of (unwrap_or new b)).tail ≡ length (record_of b).tail) → IfOk r (λ new. fallback_of (unwrap_or new b) ≡ fallback_of b)
-    → ((new : BtfType) → record_of new ≡ x → length (record_of new).tail ≡ length (record_of b).tail → fallback_of new ≡ fallback_of b → IsRuled p id b before before new) → MeetsOrNoMemory (λ new. unwrap_or new b) r (Rules p id b before before)
-quiet_answer p id b before x (Ok new) words len fallback rule = rule (unwrap_or new b) (same_ok {E = Refusal} (record_of (unwrap_or new b)) x words) len fallback
-quiet_answer p id b before x (Err e) words len fallback rule =
-    refused_never (refusal_of e) x (λ (f : Refusal). Rules p id b before before (Err f)) words
+-- one whose rule appends nothing stays, or is denied
+pub quiet_outcome : (p : Pass) (id : ℕ) (b : BtfType) (before : Made) (changes : Bool) → IsType p.table id b → IsHere p id before → asks_one (kind_of (record_of b).info) ≡ true → kind_of (record_of b).info ≡ Some (type_kind b)
+    → ((x : _) → b ≡ types.FuncProto x → ⊥) → ((x : _) → b ≡ types.Enum64 x → ⊥)
+    → (is_quiet (kind_of (record_of b).info) ≡ true → record_of (if changes then denied_type b else b) ≡ becomes_by p (ruled_below p id) id (kind_of (record_of b).info) (record_of b))
+    → length (record_of (if changes then denied_type b else b)).tail ≡ length (record_of b).tail → fallback_of (if changes then denied_type b else b) ≡ fallback_of b → IsRuled p id b before before (if changes then denied_type b else b)
+quiet_outcome p id b before changes there here one kind no_proto no_enum64 words len fallback =
+    let quiet : is_quiet (kind_of (record_of b).info) ≡ true = ap is_quiet kind ∙ quiet_type b (ap asks_one (sym kind) ∙ one) no_proto no_enum64 in
+    quiet_ruled p id b (if changes then denied_type b else b) before there quiet here (words quiet) len fallback

@@ -1,10 +1,10 @@
 -- The states of a pass: what it has made when it comes to an id, and what follows from it.
-use Rattle.std.proofs.Common.{◌≡◌, ℕ, zero, suc, ◌+◌, ◌<◌, ◌≤◌, Bool, true, false, not, ◌&&◌, List, [], ◌∷◌, ◌++◌, length, get_or, take, drop, map, Option, None, Some, Ok, Err, refl, sym, ap, subst, ◌∙◌, arith, inl, inr}
+use Rattle.std.proofs.Common.{◌≡◌, ℕ, zero, suc, ◌+◌, ◌<◌, ◌≤◌, Bool, true, false, not, ◌&&◌, List, [], ◌∷◌, ◌++◌, length, get_or, take, map, Option, None, Some, Ok, Err, refl, sym, ap, subst, ◌∙◌, arith, inl, inr, Vec, Global}
 use Rattle.std.specs.Prelude.{if◌then◌else◌, slice_get}
 use Rattle.std.specs.List.{flat_map, range_with_len, sum_by, list_any}
 use Rattle.std.specs.Option.{unwrap_or}
 use Rattle.std.proofs.lemmas.Bool.{cases_order, or_left}
-use Rattle.std.proofs.lemmas.List.{map-append, append-nil, append_assoc, length-append, length-map, length-take, take_all}
+use Rattle.std.proofs.lemmas.List.{map-append, append-nil, append_assoc, length-map, length-take, take_all}
 use Rattle.std.proofs.lemmas.List.FromFn.{map-range_with_len_more}
 use Rattle.std.proofs.lemmas.List.Folds.{list_any-append}
 use Rattle.std.proofs.lemmas.List.Sums.{sum_by-cons, sum_by-append}
@@ -15,10 +15,8 @@ use Rattle.btf_model.specs.Record as kinds
 use Rattle.btf_model.specs.Record.{Kind, Record, unknown, kind_of}
 use Rattle.btf_model.specs.Refusal.{Refusal}
 use Rattle.btf_model.specs.Table.{Table, Fallback, type_bytes, no_fallbacks}
-use Rattle.btf_model.specs.Spelling.{spell}
-use Rattle.btf_model.specs.Word.{Order}
 use Rattle.btf_rewrite_model.specs.Feature as features
-use Rattle.btf_rewrite_model.specs.Feature.{Feature, Answer, same_feature, grants}
+use Rattle.btf_rewrite_model.specs.Feature.{Feature, Answer, same_feature}
 use Rattle.btf_rewrite_model.specs.Made as model
 use Rattle.btf_rewrite_model.specs.Made.{record_at, kind_at}
 use Rattle.btf_rewrite_model.specs.Checks.{record_len}
@@ -33,18 +31,23 @@ use Rattle.btf_rewrite_model.specs.Passing.{MadeBelow}
 use Rattle.btf_rewrite_model.proofs.FirstMade.{none_next, none_below_zero, made_alike, placeholder_alike, filler_alike_below}
 use Rattle.btf_rewrite_model.specs.Passing.{features_of, is_quiet, AreAnswersTo, IsAt}
 use Rattle.btf_rewrite_model.proofs.Passing.{IsQuiet, quiet, Grows, grows, further_agree, further_same, goes_on, made_next}
-use Rattle.btf_model.proofs.Records.{length-spell}
 use Rattle.btf_rewrite_model.proofs.Ruled.{length-ruled}
-use Rattle.btf_records.specs.BtfType.{record_of, fallback_of}
+use Rattle.btf_records.specs.BtfType.{record_of, fallback_of, type_kind}
 use Rattle.btf_records.specs.declared.btf_type.BtfType.{BtfType}
 use Rattle.btf_table.specs.Adding.{HasRoom}
 use Rattle.btf_table.specs.Changes.{put_all, each, AreInside, AreOf, changed}
+use Rattle.btf_table.specs.Denied.{AllHaveKinds, AreIds, deny_all, with_denied}
 use Rattle.btf_rules.specs.Features.{answers_of}
 use Rattle.btf_rules.specs.declared.features.FeatureAnswer.{FeatureAnswer}
-use Rattle.btf_table.specs.PassStep.{kept_changes, IsType, IsHere, IsRuled, HasAsked, AsksUpTo, IsMade, Steps, Passes, growth}
+use Rattle.btf_table.specs.PassStep.{kept_changes, kept_ids, made_of, placed_of, placed_below, IsType, IsHere, IsRuled, HasAsked, AsksUpTo, IsMade, Steps, Passes, growth}
 use Rattle.btf_table.specs.declared.sanitize.made.Made.{Made}
-use Rattle.btf_table.proofs.KnownKinds.{AllHaveKinds, one_more_kind, only_unknown}
-use Rattle.btf_table.proofs.Put.{put_kept, put_new, inside_more, inside_next, first_stays}
+use Rattle.btf_table.specs.declared.sanitize.outcome.Outcome.{Outcome}
+use Rattle.btf_table.specs.declared.sanitize.outcome.Outcome.TheVariants.{Same, Denied, Other}
+use Rattle.btf_table.proofs.Denials.{deny_front, deny_last, ids_more, ids_next}
+use Rattle.btf_table.proofs.Spelled.{behind_len}
+use Rattle.btf_table.proofs.Outcomes.{denied_record, placed_fallback}
+use Rattle.btf_table.proofs.KnownKinds.{one_more_kind, only_unknown}
+use Rattle.btf_table.proofs.Put.{length-put, put_kept, put_new, inside_more, inside_next, first_stays}
 
 -- ---- what agrees up to an id agrees up to lower ones
 
@@ -92,8 +95,8 @@ range_alike f g (suc n) alike =
 -- ---- what is there at an id
 
 -- Further answers change nothing of what was made.
-pub here_of_made : (p : Pass) (id : ℕ) (m : Made) (answers more : List Answer) → answers ≡ p.answers ++ more → IsAt p id → IsMade p id m → IsHere (record p { answers = answers }) id m
-here_of_made p id m answers more is at made = subst (λ (told : List Answer). IsHere (with_answers p told) id m) (sym is) here
+pub here_of_made : (p : Pass) (id : ℕ) (m : Made) (ids : List ℕ) (answers more : List Answer) → answers ≡ p.answers ++ more → IsAt p id → IsMade p id m ids → IsHere (record p { answers = answers }) id m
+here_of_made p id m ids answers more is at made = subst (λ (told : List Answer). IsHere (with_answers p told) id m) (sym is) here
   where
     here : IsHere (with_answers p (p.answers ++ more)) id m
     here =
@@ -126,10 +129,14 @@ at_next p id answers at asks_up passed =
     subst (λ (told : List Answer). AreAnswersTo (asks_below p id ++ asks (with_answers p told) id) told → fault (with_answers p told) id ≡ None → IsAt (with_answers p told) (suc id))
     (sym has.further) (goes_on p id has.more at) all_asked passed
 
--- What is kept of an id: its new type, or None, where the old one stays.
-pub record Keeps (id : ℕ) (b : BtfType) (o : Option BtfType) (old new : Made) : Type 0 where
+-- What is kept of an id, with the ids that are to be denied before and after.
+pub record Keeps (id : ℕ) (b : BtfType) (o : Outcome) (old new : Made) (ids more : List ℕ) : Type 0 where
   pub types : new.changes.types.items ≡ kept_changes old.changes.types.items id o
-  pub names : new.names.items ≡ old.names.items ++ (record_of (unwrap_or o b)).name ∷ []
+  pub denied : more ≡ kept_ids ids id o
+  pub names : new.names.items ≡ old.names.items ++ (record_of (made_of o b)).name ∷ []
+  pub known : kind_of (record_of b).info ≡ Some (type_kind b)
+  pub kind : kind_of (record_of (placed_of o b)).info ≡ Some (type_kind (placed_of o b))
+  pub len : length (record_of (made_of o b)).tail ≡ length (record_of (placed_of o b)).tail
   pub strings : new.changes.new_strings ≡ old.changes.new_strings
   pub new_types : new.changes.new_types ≡ old.changes.new_types
   pub type_len : new.changes.type_len ≡ old.changes.type_len
@@ -145,17 +152,29 @@ take_at xs id x at =
 many : {X : Type 0} (xs : List X) (id : ℕ) (x : X) → slice_get xs id ≡ Some x → length (take id xs) ≡ id
 many xs id x at = omega (arith, length-take id xs, slice_get_within xs id x at)
 
-put_next : {X : Type 0} (f : BtfType → X) (cs : List (ℕ × BtfType)) (xs : List X) (id : ℕ) (b : BtfType) (o : Option BtfType) → AreInside id cs → slice_get xs id ≡ Some (f b)
-    → put_all (each f (kept_changes cs id o)) (take (suc id) xs) ≡ put_all (each f cs) (take id xs) ++ f (unwrap_or o b) ∷ []
-put_next f cs xs id b None inside at =
-    ap (put_all (each f cs)) (take_at xs id (f b) at) ∙ put_kept f cs (take id xs) (f b) (subst (λ (n : ℕ). AreInside n cs) (sym (many xs id (f b) at)) inside)
-put_next f cs xs id b (Some new) inside at =
+put_next : {X : Type 0} (f : BtfType → X) (cs : List (ℕ × BtfType)) (xs : List X) (id : ℕ) (b : BtfType) (o : Outcome) → AreInside id cs → slice_get xs id ≡ Some (f b)
+    → put_all (each f (kept_changes cs id o)) (take (suc id) xs) ≡ put_all (each f cs) (take id xs) ++ f (placed_of o b) ∷ []
+put_next f cs xs id b (Other new) inside at =
     ap (put_all (each f (cs ++ (id, new) ∷ []))) (take_at xs id (f b) at)
     ∙ put_new f cs (take id xs) (f b) id new (subst (λ (n : ℕ). AreInside n cs) (sym (many xs id (f b) at)) inside) (many xs id (f b) at)
+put_next f cs xs id b o inside at =
+    ap (put_all (each f cs)) (take_at xs id (f b) at) ∙ put_kept f cs (take id xs) (f b) (subst (λ (n : ℕ). AreInside n cs) (sym (many xs id (f b) at)) inside)
 
-kept_inside : (cs : List (ℕ × BtfType)) (id : ℕ) (o : Option BtfType) → 0 < id → AreInside id cs → AreInside (suc id) (kept_changes cs id o)
-kept_inside cs id None low inside = inside_more id (suc id) cs (omega arith) inside
-kept_inside cs id (Some new) low inside = inside_next (suc id) cs id new (inside_more id (suc id) cs (omega arith) inside) low (omega arith)
+-- one more that is denied, or is not
+deny_next : (ids : List ℕ) (xs : List Record) (id : ℕ) (b : BtfType) (o : Outcome) → AreIds id ids → length xs ≡ id → kind_of (record_of b).info ≡ Some (type_kind b)
+    → deny_all (kept_ids ids id o) (xs ++ record_of (placed_of o b) ∷ []) ≡ deny_all ids xs ++ record_of (made_of o b) ∷ []
+deny_next ids xs id b Denied inside at kind =
+    deny_last ids xs (record_of b) id (subst (λ (n : ℕ). AreIds n ids) (sym at) inside) at ∙ ap (λ r. deny_all ids xs ++ r ∷ []) (sym (denied_record b kind))
+deny_next ids xs id b Same inside at kind = deny_front ids xs (record_of b ∷ []) (subst (λ (n : ℕ). AreIds n ids) (sym at) inside)
+deny_next ids xs id b (Other new) inside at kind = deny_front ids xs (record_of new ∷ []) (subst (λ (n : ℕ). AreIds n ids) (sym at) inside)
+
+kept_inside : (cs : List (ℕ × BtfType)) (id : ℕ) (o : Outcome) → 0 < id → AreInside id cs → AreInside (suc id) (kept_changes cs id o)
+kept_inside cs id (Other new) low inside = inside_next (suc id) cs id new (inside_more id (suc id) cs (omega arith) inside) low (omega arith)
+kept_inside cs id o low inside = inside_more id (suc id) cs (omega arith) inside
+
+denied_inside : (ids : List ℕ) (id : ℕ) (o : Outcome) → 0 < id → AreIds id ids → AreIds (suc id) (kept_ids ids id o)
+denied_inside ids id Denied low inside = ids_next (suc id) ids id (ids_more id (suc id) ids (omega arith) inside) low (omega arith)
+denied_inside ids id o low inside = ids_more id (suc id) ids (omega arith) inside
 
 one_len : (r : Record) → sum_by record_len (r ∷ []) ≡ record_len r
 one_len r = sum_by-cons record_len r [] ∙ plus_none (record_len r)
@@ -163,23 +182,28 @@ one_len r = sum_by-cons record_len r [] ∙ plus_none (record_len r)
     plus_none : (n : ℕ) → n + 0 ≡ n
     plus_none n = omega arith
 
-one_more : (p : Pass) (id : ℕ) (more : List Answer) (b : BtfType) (o : Option BtfType) (before mid after : Made) → 0 < id → IsAt p id → IsMade p id before → IsType p.table id b
-    → Keeps id b o mid after → (k : Kind) × (kind_of (record_of (unwrap_or o b)).info ≡ Some k) → IsRuled (with_answers p (p.answers ++ more)) id b before mid (unwrap_or o b) → IsMade (with_answers p (p.answers ++ more)) (suc id) after
-one_more p id more b o before mid after low at made there keeps kind ruled =
+one_more : (p : Pass) (id : ℕ) (more : List Answer) (b : BtfType) (o : Outcome) (before mid after : Made) (ids more_ids : List ℕ) → 0 < id → IsAt p id → IsMade p id before ids → IsType p.table id b
+    → Keeps id b o mid after ids more_ids → IsRuled (with_answers p (p.answers ++ more)) id b before mid (made_of o b) → IsMade (with_answers p (p.answers ++ more)) (suc id) after more_ids
+one_more p id more b o before mid after ids more_ids low at made there keeps ruled =
     let q : Pass = with_answers p (p.answers ++ more) in
-    let new : BtfType = unwrap_or o b in
+    let new : BtfType = made_of o b in
+    let placed : BtfType = placed_of o b in
     let g : Grows p more id = grows p more id at in
     let agree : Agree p (p.answers ++ more) id = further_agree p id more at.asked in
     let old : List (ℕ × BtfType) = before.changes.types.items in
-    let n = made_next p id more before.changes.new_strings.items (map record_of before.changes.new_types.items) (put_all (each record_of old) (take id p.table.records)) before.changes.type_len at made.has_made in
+    let n = made_next p id more before.changes.new_strings.items (map record_of before.changes.new_types.items) (deny_all ids (placed_below p id before)) before.changes.type_len at made.has_made in
     let types : after.changes.types.items ≡ kept_changes old id o = keeps.types ∙ ap (λ ts. kept_changes ts.items id o) ruled.grown.types in
     let strings : after.changes.new_strings.items ≡ before.changes.new_strings.items ++ flat_map ended (texts q id) = ap (λ v. v.items) keeps.strings ∙ ruled.grown.strings in
     let records : map record_of after.changes.new_types.items ≡ map record_of before.changes.new_types.items ++ added q id = ap (λ v. map record_of v.items) keeps.new_types ∙ ruled.grown.records in
     let fallbacks : map fallback_of after.changes.new_types.items ≡ map fallback_of before.changes.new_types.items ++ no_fallbacks (added q id) = ap (λ v. map fallback_of v.items) keeps.new_types ∙ ruled.grown.fallbacks in
     let type_len : after.changes.type_len ≡ before.changes.type_len + sum_by record_len (added q id) + growth q id = keeps.type_len ∙ ruled.grown.type_len in
     let room : HasRoom p.table mid.changes = ruled.grown.room in
-    let ruled_len : sum_by record_len (ruled_below q (suc id)) ≡ sum_by record_len (ruled_below p id) + record_len (record_of new) =
-    ap (sum_by record_len) (g.ruled ∙ ap (λ r. ruled_below p id ++ r ∷ []) (sym ruled.record_is)) ∙ sum_by-append record_len (ruled_below p id) (record_of new ∷ []) ∙ ap (λ (x : ℕ). sum_by record_len (ruled_below p id) + x) (one_len (record_of new)) in
+    let front : List Record = placed_below p id before in
+    let long : length front ≡ id = length-put (each record_of old) (take id p.table.records) ∙ many p.table.records id (record_of b) there.record_is in
+    let placed_is : placed_below q (suc id) after ≡ front ++ record_of placed ∷ [] =
+    ap (λ cs. put_all (each record_of cs) (take (suc id) p.table.records)) types ∙ put_next record_of old p.table.records id b o made.inside there.record_is in
+    let placed_len : sum_by record_len (placed_below q (suc id) after) ≡ sum_by record_len front + record_len (record_of placed) =
+    ap (sum_by record_len) placed_is ∙ sum_by-append record_len front (record_of placed ∷ []) ∙ ap (λ (x : ℕ). sum_by record_len front + x) (one_len (record_of placed)) in
     let taken_len : sum_by record_len (take (suc id) p.table.records) ≡ sum_by record_len (take id p.table.records) + record_len (record_of b) =
     ap (sum_by record_len) (take_at p.table.records id (record_of b) there.record_is) ∙ sum_by-append record_len (take id p.table.records) (record_of b ∷ [])
     ∙ ap (λ (x : ℕ). sum_by record_len (take id p.table.records) + x) (one_len (record_of b)) in
@@ -187,12 +211,12 @@ one_more p id more b o before mid after low at made there keeps kind ruled =
       has_made = record {
         strings_are = strings ∙ n.strings_are;
         types_are = records ∙ n.types_are;
-        new_are = ap (λ cs. put_all (each record_of cs) (take (suc id) p.table.records)) types ∙ put_next record_of old p.table.records id b o made.inside there.record_is
-            ∙ ap (λ r. put_all (each record_of old) (take id p.table.records) ++ r ∷ []) ruled.record_is ∙ n.new_are;
+        new_are = ap (λ is. deny_all is (placed_below q (suc id) after)) keeps.denied ∙ ap (deny_all (kept_ids ids id o)) placed_is ∙ deny_next ids front id b o made.denied long keeps.known
+            ∙ ap (λ r. deny_all ids front ++ r ∷ []) ruled.record_is ∙ n.new_are;
         type_len_is = type_len ∙ n.type_len_is;
       };
       fallbacks = ap (λ cs. put_all (each fallback_of cs) (take (suc id) p.table.fallbacks)) types ∙ put_next fallback_of old p.table.fallbacks id b o made.inside there.fallback_is
-          ∙ ap (λ f. put_all (each fallback_of old) (take id p.table.fallbacks) ++ f ∷ []) ruled.fallback_is
+          ∙ ap (λ f. put_all (each fallback_of old) (take id p.table.fallbacks) ++ f ∷ []) (placed_fallback o b ∙ ruled.fallback_is)
           ∙ ap (λ fs. fs ++ falls_back q id ∷ []) (made.fallbacks ∙ sym (range_alike (falls_back q) (falls_back p) id (λ j lt. falls_back_lower p (p.answers ++ more) id j agree lt)))
           ∙ sym (range_next (falls_back q) id);
       new_fallbacks = fallbacks ∙ ap (λ fs. fs ++ no_fallbacks (added q id)) made.new_fallbacks ∙ sym (map-append _ (map record_of before.changes.new_types.items) (added q id)) ∙ ap no_fallbacks (sym records);
@@ -200,8 +224,9 @@ one_more p id more b o before mid after low at made there keeps kind ruled =
           ∙ sym (map-append (λ (r : Record). r.name) (ruled_below p id) (record_of new ∷ [])) ∙ ap (λ r. map (λ (r : Record). r.name) (ruled_below p id ++ r ∷ [])) ruled.record_is
           ∙ ap (map (λ (r : Record). r.name)) (sym g.ruled);
       inside = subst (AreInside (suc id)) (sym types) (kept_inside old id o low made.inside);
-      kinds = subst AllHaveKinds (ap (λ r. ruled_below p id ++ r ∷ []) ruled.record_is ∙ sym g.ruled) (one_more_kind (ruled_below p id) (record_of new) kind.0 made.kinds kind.1);
-      len = omega (arith, ruled_len, taken_len, made.len, ruled.len, g.growth);
+      denied = subst (AreIds (suc id)) (sym keeps.denied) (denied_inside ids id o low made.denied);
+      kinds = subst AllHaveKinds (sym placed_is) (one_more_kind front (record_of placed) (type_kind placed) made.kinds keeps.kind);
+      len = omega (arith, placed_len, taken_len, made.len, ruled.len, keeps.len, g.growth);
       placeholder = subst (MadeBelow (wants_placeholder q) (free_id q) (suc id)) (sym keeps.placeholder) ruled.grown.placeholder;
       filler = subst (MadeBelow (gets_filler q) (λ k. free_id q k + 1) (suc id)) (sym keeps.filler) ruled.grown.filler;
       room = record {
@@ -211,21 +236,20 @@ one_more p id more b o before mid after low at made there keeps kind ruled =
       };
     }
 
--- What is made when the next id is come to: what its rule appends, and its new type.
-pub made_on_next : (p : Pass) (id : ℕ) (answers more : List Answer) → answers ≡ p.answers ++ more → (b new : BtfType) (o : Option BtfType) (before mid after : Made) → 0 < id → IsAt p id → IsMade p id before → IsType p.table id b → new ≡ unwrap_or o b
-    → IsRuled (record p { answers = answers }) id b before mid new → Keeps id b o mid after → (k : Kind) × (kind_of (record_of new).info ≡ Some k) → IsMade (record p { answers = answers }) (suc id) after
-made_on_next p id answers more is b new o before mid after low at made there new_is ruled keeps kind =
-    subst (λ (told : List Answer). IsRuled (with_answers p told) id b before mid (unwrap_or o b) → IsMade (with_answers p told) (suc id) after) (sym is)
-    (one_more p id more b o before mid after low at made there keeps (kind.0, ap (λ t. kind_of (record_of t).info) (sym new_is) ∙ kind.1))
-    (subst (IsRuled (with_answers p answers) id b before mid) new_is ruled)
+-- What is made when the next id is come to: what its rule appends, and what it becomes.
+pub made_on_next : (p : Pass) (id : ℕ) (answers more : List Answer) → answers ≡ p.answers ++ more → (b : BtfType) (o : Outcome) (before mid after : Made) (ids more_ids : List ℕ) → 0 < id → IsAt p id → IsMade p id before ids → IsType p.table id b
+    → IsRuled (record p { answers = answers }) id b before mid (made_of o b) → Keeps id b o mid after ids more_ids → IsMade (record p { answers = answers }) (suc id) after more_ids
+made_on_next p id answers more is b o before mid after ids more_ids low at made there ruled keeps =
+    subst (λ (told : List Answer). IsRuled (with_answers p told) id b before mid (made_of o b) → IsMade (with_answers p told) (suc id) after more_ids) (sym is)
+    (one_more p id more b o before mid after ids more_ids low at made there keeps) ruled
 
 -- An id whose asks are answered and whose rule is kept is gone past.
-pub steps_on : (p : Pass) (id : ℕ) (answers : List FeatureAnswer) (b new : BtfType) (o : Option BtfType) (before mid after : Made) → 0 < id → IsAt p id → IsMade p id before → IsType p.table id b → new ≡ unwrap_or o b
-    → Steps p id answers b before mid (Ok new) → Keeps id b o mid after → (k : Kind) × (kind_of (record_of new).info ≡ Some k)
-    → IsAt (record p { answers = answers_of answers }) (suc id) × IsMade (record p { answers = answers_of answers }) (suc id) after
-steps_on p id answers b new o before mid after low at made there new_is steps keeps kind =
+pub steps_on : (p : Pass) (id : ℕ) (answers : List FeatureAnswer) (b : BtfType) (o : Outcome) (before mid after : Made) (ids more_ids : List ℕ) → 0 < id → IsAt p id → IsMade p id before ids → IsType p.table id b
+    → Steps p id answers b before mid (Ok (made_of o b)) → Keeps id b o mid after ids more_ids
+    → IsAt (record p { answers = answers_of answers }) (suc id) × IsMade (record p { answers = answers_of answers }) (suc id) after more_ids
+steps_on p id answers b o before mid after ids more_ids low at made there steps keeps =
     let has : HasAsked p id steps.0.0 (answers_of answers) = steps.0.1 in
-    (at_next p id (answers_of answers) at steps.0 steps.1.passed, made_on_next p id (answers_of answers) has.more has.further b new o before mid after low at made there new_is steps.1 keeps kind)
+    (at_next p id (answers_of answers) at steps.0 steps.1.passed, made_on_next p id (answers_of answers) has.more has.further b o before mid after ids more_ids low at made there steps.1 keeps)
 
 -- Further answers do not change that lower ids are not refused.
 still_ruled : (p : Pass) (id : ℕ) (more : List Answer) → IsAt p id → AreRuled (with_answers p (p.answers ++ more)) id
@@ -252,19 +276,6 @@ refused_at p id answers refusal lt at asks_up faults =
 
 -- ---- the end
 
--- the length of the spellings
-spelled_len : (order : Order) (rs : List Record) → length (flat_map (spell order) rs) ≡ sum_by record_len rs
-spelled_len order [] = refl
-spelled_len order (r ∷ rs) =
-    let here : sum_by record_len (r ∷ rs) ≡ record_len r + sum_by record_len rs = sum_by-cons record_len r rs in
-    omega (arith, here, length-append (spell order r) (flat_map (spell order) rs), length-spell order r, spelled_len order rs)
-
--- without the first, which is Unknown
-behind_len : (order : Order) (rs xs : List Record) → xs ≡ unknown ∷ rs → sum_by record_len xs ≡ 12 + length (flat_map (spell order) (drop 1 xs))
-behind_len order rs xs is =
-    let all : sum_by record_len xs ≡ 12 + sum_by record_len rs = ap (sum_by record_len) is ∙ sum_by-cons record_len unknown rs in
-    all ∙ ap (λ (n : ℕ). 12 + n) (sym (spelled_len order rs)) ∙ ap (λ ys. 12 + length (flat_map (spell order) (drop 1 ys))) (sym is)
-
 -- the records that are appended have kinds
 added_kind : (p : Pass) (free id : ℕ) (k : Option Kind) (rs : List Record) → AllHaveKinds rs → AllHaveKinds (rs ++ added_by p free id k)
 added_kind p free id (Some kinds.Enum64) rs have =
@@ -286,50 +297,59 @@ added_kinds p rs zero have = subst AllHaveKinds (sym (append-nil rs)) have
 added_kinds p rs (suc id) have =
     subst AllHaveKinds (append_assoc rs (added_below p id) (added p id)) (added_kind p (free_id p id) id (kind_at p.table id) (rs ++ added_below p id) (added_kinds p rs id have))
 
--- Where all ids are gone past, the changes are of the table, which is rewritten with them.
-pub passed_all : (p : Pass) (n : ℕ) (m : Made) (rs : List Record) → n ≡ length p.table.records → length p.table.fallbacks ≡ length p.table.records → p.table.records ≡ unknown ∷ rs → IsMade p n m
-    → AreOf p.table m.changes × (changed p.table m.changes ≡ rewritten p)
-passed_all p n m rs is as_many first made_n = whole (subst (λ (i : ℕ). IsMade p i m) is made_n)
+-- Where all ids are gone past, the changes are of the table, which is rewritten with them, and with the types denied that
+-- are to be.
+pub passed_all : (p : Pass) (n : ℕ) (m : Made) (ids : List ℕ) (rs : List Record) → n ≡ length p.table.records → length p.table.fallbacks ≡ length p.table.records → p.table.records ≡ unknown ∷ rs → IsMade p n m ids
+    → AreOf p.table m.changes × AreIds (length p.table.records) ids × (with_denied ids (changed p.table m.changes) ≡ rewritten p)
+passed_all p n m ids rs is as_many first made_n = whole (subst (λ (i : ℕ). IsMade p i m ids) is made_n)
   where
-    whole : IsMade p (length p.table.records) m → AreOf p.table m.changes × (changed p.table m.changes ≡ rewritten p)
+    whole : IsMade p (length p.table.records) m ids → AreOf p.table m.changes × AreIds (length p.table.records) ids × (with_denied ids (changed p.table m.changes) ≡ rewritten p)
     whole made =
         let t : Table = p.table in
+        let count : ℕ = length t.records in
         let cs : List (ℕ × BtfType) = m.changes.types.items in
-        let all_records : take (length t.records) t.records ≡ t.records = take_all (length t.records) t.records (omega arith) in
-        let all_fallbacks : take (length t.records) t.fallbacks ≡ t.fallbacks = take_all (length t.records) t.fallbacks (omega (arith, as_many)) in
-        let ruled : List Record = ruled_below p (length t.records) in
-        let put : put_all (each record_of cs) t.records ≡ ruled = ap (put_all (each record_of cs)) (sym all_records) ∙ made.has_made.new_are in
-        let fallen : put_all (each fallback_of cs) t.fallbacks ≡ map (falls_back p) (range_with_len 0 (length t.records)) = ap (put_all (each fallback_of cs)) (sym all_fallbacks) ∙ made.fallbacks in
-        let appended : map record_of m.changes.new_types.items ≡ added_below p (length t.records) = made.has_made.types_are in
-        let table : changed t m.changes ≡ rewritten p =
-        ap (λ xs. record (changed t m.changes) { strings = t.strings ++ xs }) made.has_made.strings_are
-        ∙ ap (λ xs. record (changed t m.changes) { strings = t.strings ++ flat_map ended (texts_below p (length t.records)); records = xs }) (ap (λ xs. xs ++ map record_of m.changes.new_types.items) put ∙ ap (λ xs. ruled ++ xs) appended)
+        let all_records : take count t.records ≡ t.records = take_all count t.records (omega arith) in
+        let all_fallbacks : take count t.fallbacks ≡ t.fallbacks = take_all count t.fallbacks (omega (arith, as_many)) in
+        let front : List Record = put_all (each record_of cs) t.records in
+        let placed : placed_below p count m ≡ front = ap (put_all (each record_of cs)) all_records in
+        let ruled : deny_all ids front ≡ ruled_below p count = ap (deny_all ids) (sym placed) ∙ made.has_made.new_are in
+        let fallen : put_all (each fallback_of cs) t.fallbacks ≡ map (falls_back p) (range_with_len 0 count) = ap (put_all (each fallback_of cs)) (sym all_fallbacks) ∙ made.fallbacks in
+        let new : List Record = map record_of m.changes.new_types.items in
+        let appended : new ≡ added_below p count = made.has_made.types_are in
+        let within : AreIds (length front) ids = subst (λ (n : ℕ). AreIds n ids) (sym (length-put (each record_of cs) t.records)) made.denied in
+        let records : deny_all ids (front ++ new) ≡ ruled_below p count ++ added_below p count =
+        deny_front ids front new within ∙ ap (λ xs. xs ++ new) ruled ∙ ap (λ xs. ruled_below p count ++ xs) appended in
+        let table : with_denied ids (changed t m.changes) ≡ rewritten p =
+        ap (λ xs. record (with_denied ids (changed t m.changes)) { strings = t.strings ++ xs }) made.has_made.strings_are
+        ∙ ap (λ xs. record (changed t m.changes) { strings = t.strings ++ flat_map ended (texts_below p count); records = xs }) records
         ∙ ap (λ xs. record (rewritten p) { fallbacks = xs })
-        (ap (λ xs. xs ++ map fallback_of m.changes.new_types.items) fallen ∙ ap (λ xs. map (falls_back p) (range_with_len 0 (length t.records)) ++ xs) (made.new_fallbacks ∙ ap no_fallbacks appended)) in
-        let head : (rest : List Record) × (put_all (each record_of cs) (unknown ∷ rs) ≡ unknown ∷ rest) = first_stays record_of (length t.records) cs unknown rs made.inside in
-        let ruled_first : ruled ≡ unknown ∷ head.0 = sym put ∙ ap (put_all (each record_of cs)) first ∙ head.1 in
-        let long : sum_by record_len (ruled ++ added_below p (length t.records)) ≡ 12 + length (type_bytes (rewritten p)) =
-        behind_len t.order (head.0 ++ added_below p (length t.records)) (ruled ++ added_below p (length t.records)) (ap (λ xs. xs ++ added_below p (length t.records)) ruled_first) in
-        let parts : sum_by record_len (ruled ++ added_below p (length t.records)) ≡ sum_by record_len ruled + sum_by record_len (added_below p (length t.records)) =
-        sum_by-append record_len ruled (added_below p (length t.records)) in
+        (ap (λ xs. xs ++ map fallback_of m.changes.new_types.items) fallen ∙ ap (λ xs. map (falls_back p) (range_with_len 0 count) ++ xs) (made.new_fallbacks ∙ ap no_fallbacks appended)) in
+        let head : (rest : List Record) × (put_all (each record_of cs) (unknown ∷ rs) ≡ unknown ∷ rest) = first_stays record_of count cs unknown rs made.inside in
+        let front_first : front ≡ unknown ∷ head.0 = ap (put_all (each record_of cs)) first ∙ head.1 in
+        let long : sum_by record_len (front ++ new) ≡ 12 + length (type_bytes (changed t m.changes)) = behind_len t.order (head.0 ++ new) (front ++ new) (ap (λ xs. xs ++ new) front_first) in
+        let parts : sum_by record_len (front ++ new) ≡ sum_by record_len front + sum_by record_len (added_below p count) =
+        sum_by-append record_len front new ∙ ap (λ rs. sum_by record_len front + sum_by record_len rs) appended in
         let old_len : sum_by record_len t.records ≡ 12 + length (type_bytes t) = behind_len t.order rs t.records first in
-        let len : sum_by record_len ruled ≡ sum_by record_len t.records + growth_below p (length t.records) = made.len ∙ ap (λ xs. sum_by record_len xs + growth_below p (length t.records)) all_records in
-        let type_len : m.changes.type_len ≡ length (type_bytes t) + sum_by record_len (added_below p (length t.records)) + growth_below p (length t.records) = made.has_made.type_len_is in (
+        let len : sum_by record_len front ≡ sum_by record_len t.records + growth_below p count =
+        ap (sum_by record_len) (sym placed) ∙ made.len ∙ ap (λ xs. sum_by record_len xs + growth_below p count) all_records in
+        let type_len : m.changes.type_len ≡ length (type_bytes t) + sum_by record_len (added_below p count) + growth_below p count = made.has_made.type_len_is in (
           record {
             ids = made.inside;
             strings = made.room.strings;
             limit = made.room.types;
-            types = omega (arith, type_len, len, old_len, parts, long) ∙ ap (λ (u : Table). length (type_bytes u)) (sym table);
-            kinds = subst (λ (u : Table). AllHaveKinds u.records) (sym table) (added_kinds p ruled (length t.records) made.kinds);
+            types = omega (arith, type_len, len, old_len, parts, long);
+            kinds = subst AllHaveKinds (ap (λ xs. front ++ xs) (sym appended)) (added_kinds p front count (subst AllHaveKinds placed made.kinds));
           },
+          made.denied,
           table,
         )
 
 -- So the pass is whole.
-pub passes_whole : (p : Pass) (n : ℕ) (m : Made) (rs : List Record) → n ≡ length p.table.records → length p.table.fallbacks ≡ length p.table.records → p.table.records ≡ unknown ∷ rs → IsAt p n → IsMade p n m → Passes p (Ok m.changes)
-passes_whole p n m rs is as_many first at made =
-    let whole : AreOf p.table m.changes × (changed p.table m.changes ≡ rewritten p) = passed_all p n m rs is as_many first made in
-    (subst (IsAt p) is at, whole.0, whole.1)
+pub passes_whole : (p : Pass) (n : ℕ) (m : Made) (denied : Vec ℕ Global) (rs : List Record) → n ≡ length p.table.records → length p.table.fallbacks ≡ length p.table.records → p.table.records ≡ unknown ∷ rs → IsAt p n → IsMade p n m denied.items
+    → Passes p (Ok (record { changes = m.changes; denied = denied }))
+passes_whole p n m denied rs is as_many first at made =
+    let passed = passed_all p n m denied.items rs is as_many first made in
+    (subst (IsAt p) is at, passed.0, passed.1, passed.2)
 
 -- ---- the start
 
@@ -345,7 +365,7 @@ pub record Begins (t : Table) (m : Made) : Type 0 where
   pub filler : m.filler ≡ None
 
 -- id 0 is Unknown, which asks for nothing, appends nothing and stays
-pub made_at_start : (p : Pass) (m : Made) (rs : List Record) (first_fallback : Option Fallback) → p.table.records ≡ unknown ∷ rs → slice_get p.table.fallbacks 0 ≡ Some first_fallback → p.answers ≡ [] → Begins p.table m → IsAt p 1 × IsMade p 1 m
+pub made_at_start : (p : Pass) (m : Made) (rs : List Record) (first_fallback : Option Fallback) → p.table.records ≡ unknown ∷ rs → slice_get p.table.fallbacks 0 ≡ Some first_fallback → p.answers ≡ [] → Begins p.table m → IsAt p 1 × IsMade p 1 m []
 made_at_start p m rs first_fallback first there none begins =
     let kind : kind_at p.table 0 ≡ Some kinds.Unknown = ap (λ (xs : List Record). kind_of (unwrap_or (slice_get xs 0) unknown).info) first in
     let q : IsQuiet p 0 = quiet p 0 (ap is_quiet kind) in
@@ -356,7 +376,8 @@ made_at_start p m rs first_fallback first there none begins =
     let added_none : added_below p 1 ≡ [] = added_first p 0 (kind_at p.table 0) kind in
     let growth_none : growth_below p 1 ≡ 0 = growth_first p 0 q.no_filler in
     let falls : falls_back p 0 ≡ first_fallback = q.fallback ∙ ap (λ (o : Option (Option Fallback)). unwrap_or o None) there in
-    let taken : take 1 p.table.records ≡ unknown ∷ [] = ap (take 1) first in (
+    let taken : take 1 p.table.records ≡ unknown ∷ [] = ap (take 1) first in
+    let placed : placed_below p 1 m ≡ unknown ∷ [] = ap (λ cs. put_all (each record_of cs) (take 1 p.table.records)) begins.types ∙ taken in (
       record {
         asked = ap features_of none ∙ ap each_once (sym asks_none);
         ruled = λ j lt.
@@ -367,15 +388,16 @@ made_at_start p m rs first_fallback first there none begins =
         has_made = record {
           strings_are = begins.strings ∙ ap (flat_map ended) (sym texts_none);
           types_are = ap (map record_of) begins.new_types ∙ sym added_none;
-          new_are = ap (λ cs. put_all (each record_of cs) (take 1 p.table.records)) begins.types ∙ taken ∙ sym ruled;
+          new_are = placed ∙ sym ruled;
           type_len_is = omega (arith, begins.type_len, ap (sum_by record_len) added_none, growth_none);
         };
         fallbacks = ap (λ cs. put_all (each fallback_of cs) (take 1 p.table.fallbacks)) begins.types ∙ take_at p.table.fallbacks 0 first_fallback there ∙ ap (λ f. f ∷ []) (sym falls);
         new_fallbacks = ap (λ ts. map fallback_of ts) begins.new_types ∙ ap (λ ts. no_fallbacks (map record_of ts)) (sym begins.new_types);
         names = begins.names ∙ ap (map (λ (r : Record). r.name)) (sym ruled);
         inside = subst (AreInside 1) (sym begins.types) tt;
-        kinds = subst AllHaveKinds (sym ruled) only_unknown;
-        len = ap (sum_by record_len) (ruled ∙ sym taken) ∙ plus_none (sum_by record_len (take 1 p.table.records)) ∙ ap (λ (n : ℕ). sum_by record_len (take 1 p.table.records) + n) (sym growth_none);
+        denied = tt;
+        kinds = subst AllHaveKinds (sym placed) only_unknown;
+        len = ap (sum_by record_len) (placed ∙ sym taken) ∙ plus_none (sum_by record_len (take 1 p.table.records)) ∙ ap (λ (n : ℕ). sum_by record_len (take 1 p.table.records) + n) (sym growth_none);
         placeholder = subst (MadeBelow (wants_placeholder p) (free_id p) 1) (sym begins.placeholder) (none_next (wants_placeholder p) (free_id p) 0 (none_below_zero (wants_placeholder p) (free_id p)) (ap (λ k. is_enum64 k && not (has p features.Enum64)) kind));
         filler = subst (MadeBelow (gets_filler p) (λ k. free_id p k + 1) 1) (sym begins.filler) (none_next (gets_filler p) (λ k. free_id p k + 1) 0 (none_below_zero (gets_filler p) (λ k. free_id p k + 1)) q.no_filler);
         room = begins.room;

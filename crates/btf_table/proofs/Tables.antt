@@ -24,7 +24,8 @@ use Rattle.btf_records.specs.declared.btf_type.BtfType.{BtfType}
 use Rattle.btf_table.specs.declared.table.Btf.{Btf}
 use Rattle.btf_table.specs.declared.table.Btf.TheInside.{Inside}
 use Rattle.btf_table.specs.declared.table.header.Header.{Header}
-use Rattle.btf_table.proofs.KnownKinds.{AllHaveKinds, one_more_kind}
+use Rattle.btf_table.specs.Denied.{AllHaveKinds}
+use Rattle.btf_table.proofs.KnownKinds.{one_more_kind}
 use Rattle.btf_table.specs.Header.{header}
 use Rattle.btf_table.specs.Btf.{table_of, IsKept}
 

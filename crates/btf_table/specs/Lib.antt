@@ -1,4 +1,5 @@
 pub mod Changes
+pub mod Denied
 pub mod Adding
 pub mod Params
 pub mod Readable
@@ -22,6 +23,7 @@ pub use Rattle.btf_words.specs.Error
 pub use Rattle.btf_rules.specs.Checked
 pub use Rattle.btf_rules.specs.Features
 pub use Rattle.btf_rules.specs.Layout
+pub use Rattle.btf_rules.specs.InPlace
 pub use Rattle.btf_rewrite_model.specs.Checks
 pub use Rattle.btf_rewrite_model.specs.Pass
 pub use Rattle.btf_rewrite_model.specs.Rule

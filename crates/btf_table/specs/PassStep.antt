@@ -16,12 +16,16 @@ use Rattle.btf_rewrite_model.specs.Passing.{MadeBelow}
 use Rattle.btf_records.specs.BtfType.{record_of, fallback_of}
 use Rattle.btf_records.specs.declared.btf_type.BtfType.{BtfType}
 use Rattle.btf_table.specs.Adding.{strings_end, next_id, HasRoom}
+use Rattle.btf_rules.specs.InPlace.{denied_type}
 use Rattle.btf_table.specs.Changes.{put_all, each, AreInside, AreOf, changed}
+use Rattle.btf_table.specs.Denied.{AreIds, deny_all, with_denied}
 use Rattle.btf_rules.specs.Features.{answers_of, policy_of}
 use Rattle.btf_rules.specs.declared.features.FillPolicy.{FillPolicy}
 use Rattle.btf_rules.specs.declared.features.FeatureAnswer.{FeatureAnswer}
 use Rattle.btf_table.specs.declared.sanitize.made.Made.{Made}
-use Rattle.btf_table.specs.declared.table.changes.Changes.{Changes}
+use Rattle.btf_table.specs.declared.sanitize.outcome.Outcome.{Outcome}
+use Rattle.btf_table.specs.declared.sanitize.outcome.Outcome.TheVariants.{Same, Denied, Other}
+use Rattle.btf_table.specs.declared.sanitize.pass.PassChanges.{PassChanges}
 
 -- what a pass is given beside its table
 pub record Given : Type 0 where
@@ -35,10 +39,31 @@ under policy layout = record { layout = layout; policy = policy_of policy }
 abbrev pub pass_on : Table → Given → List Answer → Pass
 pass_on t given answers = record { table = t; layout = given.layout; policy = given.policy; answers = answers }
 
--- the changes of types, and the new type of one more id, if it has one
-abbrev pub kept_changes : List (ℕ × BtfType) → ℕ → Option BtfType → List (ℕ × BtfType)
-kept_changes cs id (Some new) = cs ++ (id, new) ∷ []
-kept_changes cs id None = cs
+-- what a rule makes of a type that puts another in its place, if one
+abbrev pub outcome_of : Option BtfType → Outcome
+outcome_of (Some new) = Other new
+outcome_of None = Same
+
+-- what a type becomes
+abbrev pub made_of : Outcome → BtfType → BtfType
+made_of Same b = b
+made_of Denied b = denied_type b
+made_of (Other new) b = new
+
+-- the type in its place, before types are denied
+abbrev pub placed_of : Outcome → BtfType → BtfType
+placed_of (Other new) b = new
+placed_of o b = b
+
+-- the types that take the place of others, and that of one more id, if it has one
+abbrev pub kept_changes : List (ℕ × BtfType) → ℕ → Outcome → List (ℕ × BtfType)
+kept_changes cs id (Other new) = cs ++ (id, new) ∷ []
+kept_changes cs id o = cs
+
+-- the ids of types that are denied, and one more, if its type is
+abbrev pub kept_ids : List ℕ → ℕ → Outcome → List ℕ
+kept_ids ids id Denied = ids ++ id ∷ []
+kept_ids ids id o = ids
 
 -- the table has this type at an id
 pub record IsType (t : Table) (id : ℕ) (b : BtfType) : Type 0 where
@@ -101,26 +126,32 @@ abbrev pub Steps : Pass → ℕ → List FeatureAnswer → BtfType → Made → 
 Steps p id answers old before after result =
     AsksUpTo p id (answers_of answers) [] × Rules (record p { answers = answers_of answers }) id old before after result
 
--- What a pass has made when it comes to an id.
-pub record IsMade (p : Pass) (id : ℕ) (m : Made) : Type 0 where
+-- the records of the ids below one, with the types that take the place of others, before any is denied
+abbrev pub placed_below : Pass → ℕ → Made → List Record
+placed_below p id m = put_all (each record_of m.changes.types.items) (take id p.table.records)
+
+-- What a pass has made when it comes to an id, where the types of these lower ids are to be denied.
+pub record IsMade (p : Pass) (id : ℕ) (m : Made) (ids : List ℕ) : Type 0 where
   pub has_made : HasMade p id m.changes.new_strings.items (map record_of m.changes.new_types.items)
-      (put_all (each record_of m.changes.types.items) (take id p.table.records)) m.changes.type_len
+      (deny_all ids (placed_below p id m)) m.changes.type_len
   pub fallbacks : put_all (each fallback_of m.changes.types.items) (take id p.table.fallbacks) ≡ map (falls_back p)
       (range_with_len 0 id)
   pub new_fallbacks : map fallback_of m.changes.new_types.items ≡ no_fallbacks (map record_of m.changes.new_types.items)
   pub names : m.names.items ≡ map (λ (r : Record). r.name) (ruled_below p id)
   pub inside : AreInside id m.changes.types.items
-  pub kinds : (j : ℕ) (r : Record) → slice_get (ruled_below p id) j ≡ Some r → (k : Kind) × (kind_of r.info ≡ Some k)
-  pub len : sum_by record_len (ruled_below p id) ≡ sum_by record_len (take id p.table.records) + growth_below p id
+  pub denied : AreIds id ids
+  pub kinds : (j : ℕ) (r : Record) → slice_get (placed_below p id m) j ≡ Some r → (k : Kind) × (kind_of r.info ≡ Some k)
+  pub len : sum_by record_len (placed_below p id m) ≡ sum_by record_len (take id p.table.records) + growth_below p id
   pub placeholder : MadeBelow (wants_placeholder p) (free_id p) id m.placeholder
   pub filler : MadeBelow (gets_filler p) (λ k. free_id p k + 1) id m.filler
   pub room : HasRoom p.table m.changes
 
--- A whole pass: with the changes the table is the rewritten one; or it is refused at an id, and all that this and lower
--- ids ask for is answered.
-abbrev pub Passes : Pass → Result Changes Refusal → Type 0
-Passes p (Ok changes) =
-    IsAt p (length p.table.records) × AreOf p.table changes × (changed p.table changes ≡ rewritten p)
+-- A whole pass: with the changes, and then with the types of these ids denied, the table is the rewritten one; or it is
+-- refused at an id, and all that this and lower ids ask for is answered.
+abbrev pub Passes : Pass → Result PassChanges Refusal → Type 0
+Passes p (Ok c) =
+    IsAt p (length p.table.records) × AreOf p.table c.changes × AreIds (length p.table.records) c.denied.items
+    × (with_denied c.denied.items (changed p.table c.changes) ≡ rewritten p)
 Passes p (Err refusal) =
     (id : ℕ) × (id < length p.table.records) × AreRuled p id × (fault p id ≡ Some refusal)
     × AreAnswersTo (asks_below p (suc id)) p.answers

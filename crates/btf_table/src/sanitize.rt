@@ -6,6 +6,7 @@ mod func;
 mod func_proto;
 mod ksyms;
 mod made;
+mod outcome;
 mod pass;
 mod single;
 
@@ -95,9 +96,10 @@ impl Btf {
         ensures answers { IfOk result (λ a. a.items ≡ resolver.new.1) }
         ensures err { OnErr result (self.new ≡ self.old) }
     {
-        let changes = pass_changes(self, sections, symbols, policy, resolver)?;
+        let passed = pass_changes(self, sections, symbols, policy, resolver)?;
         let answers = copied_answers(resolver)?;
-        self.apply(changes)?;
+        self.apply(passed.changes)?;
+        self.deny_types(&passed.denied);
         Ok(answers)
     }
 

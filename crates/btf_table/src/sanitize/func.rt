@@ -1,7 +1,6 @@
 //! The rule of a FUNC.
 
 ghost use Rattle.std.specs.Prelude.{◌≡◌, ℕ, Bool, List, IfOk, IsTrue, Ok};
-ghost use Rattle.std.specs.Option.{unwrap_or};
 ghost use Rattle.btf_rewrite_model.specs.Feature.{Feature};
 ghost use Rattle.btf_rewrite_model.specs.Made.{with_linkage};
 ghost use Rattle.btf_rewrite_model.specs.Pass as model;
@@ -9,18 +8,19 @@ ghost use Rattle.btf_rewrite_model.specs.Pass.{asks_below};
 ghost use Rattle.btf_rewrite_model.specs.Passing.{AreAnswersTo};
 ghost use Rattle.btf_words.specs.Error.{MeetsOrNoMemory};
 ghost use Rattle.btf_rules.specs.Features.{Called, IsFurther, answers_of};
-ghost use Rattle.btf_table.specs.PassStep.{Given, pass_on, IsType, IsHere, AsksUpTo, Steps};
+ghost use Rattle.btf_table.specs.PassStep.{Given, pass_on, IsType, IsHere, AsksUpTo, Steps, made_of};
 ghost use Rattle.btf_table.specs.Readable.{IsReadableEnd};
 ghost use Rattle.btf_table.specs.declared.sanitize.made.Made as made;
 
+use crate::sanitize::outcome::Outcome;
 use crate::table::Btf;
-use btf_plain::{BtfError, Func, FuncLinkage, Typedef};
+use btf_plain::{BtfError, Func, FuncLinkage};
 use btf_records::BtfType;
 use btf_rules::{BtfFeature, BtfFeatureResolver, is_builtin, made_static};
 use std::alloc::AllocError;
 
-/// What a FUNC becomes; None where it stays. A kernel that has no functions gets a TYPEDEF of the prototype; one that
-/// has no Global ones, or knows a Global one as its own, a Static one.
+/// What a FUNC becomes. For a kernel that has no functions it changes in place, to a TYPEDEF of the prototype; for one
+/// that has no Global ones, or knows a Global one as its own, it becomes Static.
 ///
 /// `InvalidStringOffset` where its name can't be read, which is where its offset isn't below `readable_end`. The name
 /// itself is not read, however long it is.
@@ -29,7 +29,7 @@ pub fn rewrite_func<F: FnMut(BtfFeature) -> bool>(
     func: &Func,
     readable_end: usize,
     resolver: &mut BtfFeatureResolver<F>,
-) -> Result<Option<BtfType>, BtfError>
+) -> Result<Outcome, BtfError>
     requires callable { F.IsAlwaysCallable resolver.old.0 }
     requires readable { IsReadableEnd btf.now.strings readable_end }
     ensures callable { F.IsAlwaysCallable resolver.new.0 }
@@ -47,7 +47,7 @@ pub fn rewrite_func<F: FnMut(BtfFeature) -> bool>(
         → AreAnswersTo (asks_below (pass_on btf.now given (answers_of resolver.old.1)) id)
         (answers_of resolver.old.1)
         → IsHere (pass_on btf.now given (answers_of resolver.new.1)) id made
-        → MeetsOrNoMemory (λ new. unwrap_or new (BtfType.Func func.now)) result
+        → MeetsOrNoMemory (λ o. made_of o (BtfType.Func func.now)) result
         (Steps (pass_on btf.now given (answers_of resolver.old.1)) id resolver.new.1
         (BtfType.Func func.now) made made) }
 {
@@ -56,17 +56,16 @@ pub fn rewrite_func<F: FnMut(BtfFeature) -> bool>(
     let name_offset = func.name_offset();
     btf.check_name(name_offset, readable_end)?;
     if !resolver.is_supported(BtfFeature::Func) {
-        let typedef = Typedef::new(name_offset, func.btf_type());
-        return Ok(Some(BtfType::Typedef(typedef)));
+        return Ok(Outcome::Denied);
     }
     let FuncLinkage::Global = func.linkage() else {
-        return Ok(None);
+        return Ok(Outcome::Same);
     };
     if is_builtin(btf.strings_from(name_offset)) {
-        return Ok(Some(BtfType::Func(made_static(func)?)));
+        return Ok(Outcome::Other(BtfType::Func(made_static(func)?)));
     }
     if resolver.is_supported(BtfFeature::FuncGlobal) {
-        return Ok(None);
+        return Ok(Outcome::Same);
     }
-    Ok(Some(BtfType::Func(made_static(func)?)))
+    Ok(Outcome::Other(BtfType::Func(made_static(func)?)))
 }

@@ -1,7 +1,6 @@
 //! What a pass has made so far.
 
 ghost use Rattle.std.specs.Prelude.{◌≡◌, ◌+◌, ◌++◌, ◌<◌, [], ◌∷◌, length, None, Some, IfOk, OnOk, Ok};
-ghost use Rattle.std.specs.Option.{unwrap_or};
 ghost use Rattle.btf_rewrite_model.specs.Made.{byte_int, static_var};
 ghost use Rattle.btf_rewrite_model.specs.Checks.{first_fault, have_room, has_room, fits, record_len};
 ghost use Rattle.btf_rewrite_model.specs.Fault.{all_fit};
@@ -14,9 +13,11 @@ ghost use Rattle.btf_rules.specs.Checked.{checked};
 
 use crate::sanitize::data_sec::filler::append_filler;
 use crate::sanitize::enumeration64::append_placeholder;
+use crate::sanitize::outcome::Outcome;
 use crate::table::{Btf, Changes};
 use btf_plain::BtfError;
 use btf_records::BtfType;
+use btf_rules::denied_name_offset;
 use std::alloc::AllocError;
 
 /// What a pass has made of the ids below the one that it comes to.
@@ -33,8 +34,9 @@ pub struct Made {
 
 impl Made {
     ghost use Rattle.std.specs.Prelude.{map};
-    ghost use Rattle.btf_model.specs.Record.{Kind, kind_of};
-    ghost use Rattle.btf_table.specs.PassStep.{kept_changes};
+    ghost use Rattle.btf_model.specs.Record.{kind_of};
+    ghost use Rattle.btf_records.specs.BtfType.{type_kind};
+    ghost use Rattle.btf_table.specs.PassStep.{kept_changes, kept_ids, made_of, placed_of};
 
     /// What a pass has made when it begins: nothing, and the type of id 0 stays.
     pub fn new(btf: &Btf) -> Result<Made, AllocError>
@@ -115,34 +117,44 @@ impl Made {
         Ok(id)
     }
 
-    /// Keeps what a type becomes; None where it stays.
+    /// Keeps what a type becomes: the type that takes its place, or its id, where it is to change in place.
     pub fn keep(
         &mut self,
+        denied: &mut Vec<u32>,
         id: u32,
         btf_type: &BtfType,
-        new_type: Option<BtfType>,
+        outcome: Outcome,
     ) -> Result<(), AllocError>
         ensures types { OnOk result (self.new.changes.types.items
-            ≡ kept_changes self.old.changes.types.items id new_type) }
+            ≡ kept_changes self.old.changes.types.items id outcome) }
+        ensures denied { OnOk result (denied.new.items ≡ kept_ids denied.old.items id outcome) }
         ensures names { OnOk result (self.new.names.items ≡ self.old.names.items
-            ++ (record_of (unwrap_or new_type btf_type.now)).name ∷ []) }
+            ++ (record_of (made_of outcome btf_type.now)).name ∷ []) }
         ensures strings { self.new.changes.new_strings ≡ self.old.changes.new_strings }
         ensures new_types { self.new.changes.new_types ≡ self.old.changes.new_types }
         ensures type_len { self.new.changes.type_len ≡ self.old.changes.type_len }
         ensures placeholder { self.new.placeholder ≡ self.old.placeholder }
         ensures filler { self.new.filler ≡ self.old.filler }
-        ensures kind { OnOk result ((k : Kind)
-            × (kind_of (record_of (unwrap_or new_type btf_type.now)).info ≡ Some k)) }
+        ensures known { kind_of (record_of btf_type.now).info ≡ Some (type_kind btf_type.now) }
+        ensures kind { OnOk result (kind_of (record_of (placed_of outcome btf_type.now)).info
+            ≡ Some (type_kind (placed_of outcome btf_type.now))) }
+        ensures len { OnOk result (length (record_of (made_of outcome btf_type.now)).tail
+            ≡ length (record_of (placed_of outcome btf_type.now)).tail) }
     {
         // The contract speaks of the kind in the info word, which a use of it shows.
         let _ = btf_type.info();
-        let Some(new_type) = new_type else {
-            self.names.push(btf_type.name_offset())?;
-            return Ok(());
-        };
-        let _ = new_type.info();
-        self.names.push(new_type.name_offset())?;
-        self.changes.types.push((id, new_type))?;
+        match outcome {
+            Outcome::Same => self.names.push(btf_type.name_offset())?,
+            Outcome::Denied => {
+                self.names.push(denied_name_offset(btf_type))?;
+                denied.push(id)?;
+            }
+            Outcome::Other(new_type) => {
+                let _ = new_type.info();
+                self.names.push(new_type.name_offset())?;
+                self.changes.types.push((id, new_type))?;
+            }
+        }
         Ok(())
     }
 }

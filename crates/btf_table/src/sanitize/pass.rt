@@ -1,7 +1,6 @@
 //! The pass of a rewrite over all types of a table.
 
 ghost use Rattle.std.specs.Prelude.{◌≡◌, ℕ, List, [], Some, true};
-ghost use Rattle.std.specs.Option.{unwrap_or};
 ghost use Rattle.btf_model.specs.Record.{kind_of};
 ghost use Rattle.btf_rewrite_model.specs.Feature.{Feature};
 ghost use Rattle.btf_rewrite_model.specs.Pass.{asks_below};
@@ -13,12 +12,13 @@ ghost use Rattle.btf_table.specs.Adding.{HasRoom};
 ghost use Rattle.btf_rules.specs.Features.{Called, IsFurther, answers_of, policy_of};
 ghost use Rattle.btf_rules.specs.Layout.{sizes_of, offsets_of, layout_of};
 ghost use Rattle.btf_rules.specs.SoleFeature as step;
-ghost use Rattle.btf_table.specs.PassStep.{Given, pass_on, under, IsType, IsHere, AsksUpTo, Steps, Passes, BeginsAsked};
+ghost use Rattle.btf_table.specs.PassStep.{Given, pass_on, under, IsType, IsHere, AsksUpTo, Steps, Passes, BeginsAsked, made_of};
 ghost use Rattle.btf_rules.specs.SoleFeature.{asks_one, IsGranted};
 ghost use Rattle.btf_table.specs.Readable.{IsReadableEnd};
 
 use crate::sanitize::func::rewrite_func;
 use crate::sanitize::made::Made;
+use crate::sanitize::outcome::{Outcome, placed};
 use crate::table::{Btf, Changes};
 use btf_plain::{BtfError, SectionIndex};
 use btf_records::BtfType;
@@ -55,7 +55,7 @@ fn has_sole_feature<F: FnMut(BtfFeature) -> bool>(
 }
 
 impl Made {
-    /// The rule of a type, by its kind; None where it stays. Names can be read at the offsets below `readable_end`.
+    /// The rule of a type, by its kind. Names can be read at the offsets below `readable_end`.
     ///
     /// `InvalidStringOffset` where the name of a FUNC or a DATASEC can't be read, or strings have no room for what is
     /// appended; `InvalidTypeInfo` where types have no room for it; and of a DATASEC, `UnknownBtfType`,
@@ -69,7 +69,7 @@ impl Made {
         policy: FillPolicy,
         readable_end: usize,
         resolver: &mut BtfFeatureResolver<F>,
-    ) -> Result<Option<BtfType>, BtfError>
+    ) -> Result<Outcome, BtfError>
         requires room { HasRoom btf.now self.old.changes }
         requires readable { IsReadableEnd btf.now.strings readable_end }
         requires callable { F.IsAlwaysCallable resolver.old.0 }
@@ -91,7 +91,7 @@ impl Made {
             → AreAnswersTo (asks_below (pass_on btf.now given (answers_of resolver.old.1)) id)
             (answers_of resolver.old.1)
             → IsHere (pass_on btf.now given (answers_of resolver.new.1)) id self.old
-            → MeetsOrNoMemory (λ new. unwrap_or new btf_type.now) result
+            → MeetsOrNoMemory (λ o. made_of o btf_type.now) result
             (Steps (pass_on btf.now given (answers_of resolver.old.1)) id resolver.new.1
             btf_type.now self.old self.new) }
     {
@@ -100,7 +100,7 @@ impl Made {
         match btf_type {
             BtfType::Func(func) => rewrite_func(btf, func, readable_end, resolver),
             BtfType::DataSec(data_sec) => {
-                self.rewrite_section(btf, sections, symbols, data_sec, policy, resolver)
+                placed(self.rewrite_section(btf, sections, symbols, data_sec, policy, resolver))
             }
             _ => {
                 let granted = has_sole_feature(btf_type, resolver);
@@ -110,6 +110,15 @@ impl Made {
     }
 }
 
+/// What a pass changes in a table.
+#[derive(Drop)]
+pub struct PassChanges {
+    /// What is appended, and the types that take the place of others.
+    pub changes: Changes,
+    /// The ids of the types that `deny` changes in place, once these are in the table.
+    pub denied: Vec<u32>,
+}
+
 /// What a pass changes in a table, for a kernel that has what the resolver says, or why it is refused.
 pub fn pass_changes<F: FnMut(BtfFeature) -> bool>(
     btf: &Btf,
@@ -117,7 +126,7 @@ pub fn pass_changes<F: FnMut(BtfFeature) -> bool>(
     symbols: &HashMap<String, u64>,
     policy: FillPolicy,
     resolver: &mut BtfFeatureResolver<F>,
-) -> Result<Changes, BtfError>
+) -> Result<PassChanges, BtfError>
     requires callable { F.IsAlwaysCallable resolver.old.0 }
     requires unasked { resolver.old.1 ≡ [] }
     ensures callable { F.IsAlwaysCallable resolver.new.0 }
@@ -130,10 +139,11 @@ pub fn pass_changes<F: FnMut(BtfFeature) -> bool>(
 {
     let types = btf.as_slice();
     let mut made = Made::new(btf)?;
+    let mut denied = Vec::new(btf.allocator());
     let readable_end = btf.readable_end();
     for id in 1..types.len() {
         let btf_type = &types[id];
-        let new_type = made.rewrite(
+        let outcome = made.rewrite(
             btf,
             sections,
             symbols,
@@ -142,7 +152,10 @@ pub fn pass_changes<F: FnMut(BtfFeature) -> bool>(
             readable_end,
             resolver,
         )?;
-        made.keep(id as u32, btf_type, new_type)?;
+        made.keep(&mut denied, id as u32, btf_type, outcome)?;
     }
-    Ok(made.changes)
+    Ok(PassChanges {
+        changes: made.changes,
+        denied,
+    })
 }

@@ -12,15 +12,16 @@ ghost use Rattle.btf_records.specs.BtfType.{record_of, fallback_of};
 ghost use Rattle.btf_rules.specs.Features.{feature_of};
 ghost use Rattle.btf_table.specs.Adding.{HasRoom};
 ghost use Rattle.btf_rules.specs.SoleFeature as step;
-ghost use Rattle.btf_table.specs.PassStep.{Given, IsHere, Rules};
+ghost use Rattle.btf_table.specs.PassStep.{Given, IsHere, Rules, made_of};
 ghost use Rattle.btf_rules.specs.SoleFeature.{IsGranted};
 
 use crate::sanitize::func_proto::{has_unnamed, with_param_names};
 use crate::sanitize::made::Made;
+use crate::sanitize::outcome::{Outcome, placed};
 use crate::table::Btf;
 use btf_plain::{BtfError, Const, Int, IntEncoding, Ptr};
 use btf_records::{BtfType, Enum64, FuncProto, Struct};
-use btf_rules::{as_enum, as_union, replaced};
+use btf_rules::{as_enum, as_union, changes_in_place};
 use std::alloc::{AllocError, Global};
 
 impl Made {
@@ -81,13 +82,13 @@ impl Made {
     }
 
     /// The rule of a type that is neither a FUNC nor a DATASEC, where the kernel has the feature that it asks for, or
-    /// where it has not; None where it stays.
+    /// where it has not.
     pub fn rewrite_by(
         &mut self,
         btf: &Btf,
         btf_type: &BtfType,
         granted: bool,
-    ) -> Result<Option<BtfType>, BtfError>
+    ) -> Result<Outcome, BtfError>
         requires { HasRoom btf.now self.old.changes }
         ensures { (given : Given) (answers : List Answer) (id : ℕ) → IsType btf.now id btf_type.now
             → IsHere (pass_on btf.now given answers) id self.old
@@ -95,16 +96,19 @@ impl Made {
             → IsGranted (pass_on btf.now given answers)
             (step.sole_feature (kind_of (record_of btf_type.now).info) (record_of btf_type.now))
             granted
-            → MeetsOrNoMemory (λ new. unwrap_or new btf_type.now) result
+            → MeetsOrNoMemory (λ o. made_of o btf_type.now) result
             (Rules (pass_on btf.now given answers) id btf_type.now self.old self.new) }
     {
         // The contract speaks of the kind in the info word, which a use of it shows.
         let _ = btf_type.info();
         match btf_type {
-            BtfType::FuncProto(proto) => self.rewrite_proto(btf, proto, granted),
-            BtfType::Enum64(enum64) if !granted => Ok(Some(self.rewrite_enum64(btf, enum64)?)),
-            BtfType::Enum64(_) => Ok(None),
-            _ => replaced(btf.allocator(), btf_type, granted),
+            BtfType::FuncProto(proto) => placed(self.rewrite_proto(btf, proto, granted)),
+            BtfType::Enum64(enum64) if !granted => {
+                Ok(Outcome::Other(self.rewrite_enum64(btf, enum64)?))
+            }
+            BtfType::Enum64(_) => Ok(Outcome::Same),
+            _ if changes_in_place(btf_type, granted) => Ok(Outcome::Denied),
+            _ => Ok(Outcome::Same),
         }
     }
 }

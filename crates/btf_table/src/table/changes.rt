@@ -2,13 +2,15 @@
 
 ghost use Rattle.std.specs.Prelude.{◌≡◌, length, OnOk, OnErr, IfOk, IfErr};
 ghost use Rattle.btf_model.specs.Table.{Table};
+ghost use Rattle.btf_table.specs.Denied.{AreDenied, AreIds, with_denied};
 ghost use Rattle.btf_table.specs.Changes.{put_all, put_back, replaced, changed, AreInside, AreOf, Undoes};
 
 use crate::table::Btf;
 use crate::table::limits::{record_fits, text_fits};
 use btf_plain::BtfError;
 use btf_records::BtfType;
-use std::alloc::AllocError;
+use btf_rules::deny;
+use std::alloc::{AllocError, Global};
 use std::mem;
 
 /// New types in the place of others, and what is appended.
@@ -149,6 +151,17 @@ fn put_back_types(types: &mut [BtfType], old: &mut [(u32, BtfType)])
     }
 }
 
+/// Changes the types of these ids in place, as `deny` does.
+fn deny_each(alloc: Global, types: &mut [BtfType], ids: &[u32])
+    requires { AreIds (length types.old) ids.now }
+    ensures { AreDenied ids.now types.old types.new }
+{
+    for at in 0..ids.len() {
+        let id = ids[at] as usize;
+        deny(alloc, &mut types[id]);
+    }
+}
+
 impl Btf {
     /// Puts changes of this table into it, and returns what takes them out again. `OutOfMemory` is the only error, and
     /// leaves the table as it was.
@@ -185,5 +198,14 @@ impl Btf {
         self.types.truncate(undo.count);
         self.strings.truncate(undo.string_len);
         self.type_len = undo.type_len;
+    }
+
+    /// Changes the types of these ids in place, as `deny` does, which takes no memory.
+    pub(crate) fn deny_types(&mut self, ids: &[u32])
+        requires { AreIds (length self.old.records) ids.now }
+        ensures { self.new ≡ with_denied ids.now self.old }
+    {
+        let alloc = self.allocator();
+        deny_each(alloc, &mut self.types, ids);
     }
 }

@@ -1,4 +1,4 @@
-use Rattle.std.proofs.Common.{ℕ, Bool, not, ◌||◌, [], Err, refl, sym, ap, subst, ◌∙◌}
+use Rattle.std.proofs.Common.{Bool, not, ◌||◌, [], Err, refl, sym, ap, subst, ◌∙◌}
 use Rattle.btf_model.specs.Record.{kind_of, vlen}
 use Rattle.btf_rewrite_model.specs.Feature.{is_global}
 use Rattle.btf_rewrite_model.specs.Made.{typedef}
@@ -6,10 +6,9 @@ use Rattle.btf_rewrite_model.specs.Pass.{Pass, has, is_builtin}
 use Rattle.btf_rewrite_model.specs.Feature as features
 use Rattle.btf_rewrite_model.proofs.Passing.{NextAnswers}
 use Rattle.btf_rules.specs.Features.{answers_of}
-use Rattle.btf_table.specs.PassStep.{pass_on, Steps}
+use Rattle.btf_table.specs.PassStep.{pass_on, made_of, Steps}
 use Rattle.btf_records.specs.declared.btf_type.BtfType.TheVariants.{Func, Typedef}
 use Rattle.btf_rules.specs.declared.features.BtfFeature.TheVariants as asked
-use Rattle.std.specs.Option.{unwrap_or}
 use Rattle.std.proofs.lemmas.Option.{IfSome_then}
 use Rattle.btf_words.proofs.Refused.{handed_on}
 use Rattle.btf_records.specs.declared.btf_type.BtfType.{BtfType}
@@ -113,7 +112,7 @@ returns-then-not-is_supported-clause-steps g c = λ given id made there below he
     let n = read_name c.args.btf.now.strings c.name_offset-name_offset.result c.args.func.now.name c.in_ok-check_name.ensures c.name_offset-name_offset.ensures in (
       one_asked c.args.btf.now given id (Func c.args.func.now) there (ap kind_of (sym c.info.ensures.value) ∙ c.info.ensures.kind) n.0 n.1 (answers_of c.args.resolver.now.1) below (answers_of c.is_supported.new.self.1) c.is_supported.result (asks_next (words g.row.F g.F.FnMut).step asked.Func c.args.resolver.now c.is_supported.new.self c.is_supported.result c.is_supported.ensures.asks)
           (and_first c.is_supported.result (is_global c.args.func.now) (not (is_builtin n.0)) c.if-not-is_supported.true),
-      func_denied (pass_on c.args.btf.now given (answers_of c.is_supported.new.self.1)) id (Func c.args.func.now) there (ap kind_of (sym c.info.ensures.value) ∙ c.info.ensures.kind) made here n.0 n.1 refl (Typedef c.new-typedef.result) refl (one_granted c.args.btf.now given id (Func c.args.func.now) there (ap kind_of (sym c.info.ensures.value) ∙ c.info.ensures.kind) n.0 n.1 (answers_of c.args.resolver.now.1) below (answers_of c.is_supported.new.self.1) c.is_supported.result (asks_next (words g.row.F g.F.FnMut).step asked.Func c.args.resolver.now c.is_supported.new.self c.is_supported.result c.is_supported.ensures.asks) ∙ c.if-not-is_supported.true) (c.new-typedef.ensures ∙ ap (λ (n : ℕ). typedef n c.btf_type.result) c.name_offset-name_offset.ensures ∙ ap (typedef c.args.func.now.name) c.btf_type.ensures) c.info.ensures.no_tail,
+      func_denied (pass_on c.args.btf.now given (answers_of c.is_supported.new.self.1)) id (Func c.args.func.now) there (ap kind_of (sym c.info.ensures.value) ∙ c.info.ensures.kind) made here n.0 n.1 refl (Typedef (typedef c.args.func.now.name c.args.func.now.third)) refl (one_granted c.args.btf.now given id (Func c.args.func.now) there (ap kind_of (sym c.info.ensures.value) ∙ c.info.ensures.kind) n.0 n.1 (answers_of c.args.resolver.now.1) below (answers_of c.is_supported.new.self.1) c.is_supported.result (asks_next (words g.row.F g.F.FnMut).step asked.Func c.args.resolver.now c.is_supported.new.self c.is_supported.result c.is_supported.ensures.asks) ∙ c.if-not-is_supported.true) refl c.info.ensures.no_tail,
     )
 
 pub returns-in_default-clause-steps : goal.returns-in_default-clause-steps
@@ -181,7 +180,7 @@ pub returns-in_err-check_name-clause-steps : goal.returns-in_err-check_name-clau
 returns-in_err-check_name-clause-steps g c = λ given id made there below here.
     let b : BtfType = Func c.args.func.now in
     let p : Pass = pass_on c.args.btf.now given (answers_of c.args.resolver.now.1) in
-    handed_on (λ new. unwrap_or new b) c.in_err-check_name.field-0.0 c.from_residual.result (Steps p id c.args.resolver.now.1 b made made) c.from_residual.ensures.1
+    handed_on (λ o. made_of o b) c.in_err-check_name.field-0.0 c.from_residual.result (Steps p id c.args.resolver.now.1 b made made) c.from_residual.ensures.1
     (IfSome_then _ c.in_err-check_name.ensures (λ refusal is.
     let unread = func_unread p id b there (ap kind_of (sym c.info.ensures.value) ∙ c.info.ensures.kind) refusal (unread_name c.args.btf.now.strings c.name_offset-name_offset.result c.args.func.now.name refusal is c.name_offset-name_offset.ensures) in
     let refuses : Steps p id c.args.resolver.now.1 b made made (Err refusal) = (([], asked_none p id below, unread.0), unread.1) in

@@ -1,5 +1,4 @@
-use Rattle.std.proofs.Common.{◌≡◌, ℕ, suc, ◌+◌, ◌<◌, get_or, List, [], length, Option, refl, sym, ap, subst, arith}
-use Rattle.std.specs.Option.{unwrap_or}
+use Rattle.std.proofs.Common.{◌≡◌, ℕ, suc, ◌+◌, ◌<◌, get_or, List, [], length, refl, sym, ap, subst, arith}
 use Rattle.std.proofs.lemmas.List.{length-map, get_or_default}
 use Rattle.std.proofs.lemmas.Option.{IfSome_then}
 use Rattle.btf_model.specs.Table.{Table}
@@ -10,6 +9,7 @@ use Rattle.btf_records.specs.declared.btf_type.BtfType.{BtfType}
 use Rattle.btf_rules.specs.Features.{answers_of, Called}
 use Rattle.btf_rules.specs.Layout.{layout_of}
 use Rattle.btf_table.specs.PassStep.{Given, pass_on, under, IsType, IsHere, IsMade, Passes, BeginsAsked}
+use Rattle.btf_table.specs.declared.sanitize.outcome.Outcome.{Outcome}
 use Rattle.btf_records.specs.declared.btf_type.BtfType.TheVariants.{Unknown}
 use Rattle.btf_words.proofs.Refused.{handed_on}
 use Rattle.btf_table.proofs.PassAsking.{begins_at, begins_all, begins_none, further_answers}
@@ -43,7 +43,7 @@ loop-id-init g c =
       placeholder = c.in_ok-made.ensures.placeholder;
       filler = c.in_ok-made.ensures.filler;
     }) in
-    (c.requires.callable, subst (λ answers. Called (words g.row.F g.F.FnMut).step c.args.resolver.now.0 answers c.args.resolver.now.0) (sym none) refl, start.0, start.1)
+    (c.requires.callable, subst (λ answers. Called (words g.row.F g.F.FnMut).step c.args.resolver.now.0 answers c.args.resolver.now.0) (sym none) refl, start.0, subst (IsMade p 1 c.in_ok-made.made) (sym c.new-denied.ensures.items) start.1)
 
 -- ---- an id, once it is asked what its type becomes
 
@@ -65,7 +65,7 @@ module _ (g : Over) (c : After-rewrite g) where
   here_is : IsHere after c.loop-id.id c.loop-id.made
   here_is =
       let further = c.rewrite.ensures.further in
-      here_of_made before c.loop-id.id c.loop-id.made after.answers (answers_of further.0) (further_answers c.loop-id.resolver.1 c.rewrite.new.resolver.1 further) c.loop-id.invariant.2 c.loop-id.invariant.3
+      here_of_made before c.loop-id.id c.loop-id.made c.loop-id.denied.items after.answers (answers_of further.0) (further_answers c.loop-id.resolver.1 c.rewrite.new.resolver.1 further) c.loop-id.invariant.2 c.loop-id.invariant.3
 
   -- the id is one of the table
   is_below : c.loop-id.id < length c.args.btf.now.records
@@ -77,19 +77,19 @@ module _ (g : Over) (c : After-rewrite g) where
       let asks = c.rewrite.ensures.asks given c.loop-id.id refl refl type_is here_is c.loop-id.invariant.2.asked in
       begins_at before c.loop-id.id after.answers asks.0 c.loop-id.invariant.2 is_below asks.1
 
-pub returns-in_err-new_type-clause-called : goal.returns-in_err-new_type-clause-called
-returns-in_err-new_type-clause-called g c = c.rewrite.ensures.called c.args.resolver.now.0 c.loop-id.invariant.1
+pub returns-in_err-outcome-clause-called : goal.returns-in_err-outcome-clause-called
+returns-in_err-outcome-clause-called g c = c.rewrite.ensures.called c.args.resolver.now.0 c.loop-id.invariant.1
 
-pub returns-in_err-new_type-clause-asks : goal.returns-in_err-new_type-clause-asks
-returns-in_err-new_type-clause-asks g c = begins g (goal.at.returns-in_err-new_type-clause-asks g c).After-rewrite
+pub returns-in_err-outcome-clause-asks : goal.returns-in_err-outcome-clause-asks
+returns-in_err-outcome-clause-asks g c = begins g (goal.at.returns-in_err-outcome-clause-asks g c).After-rewrite
 
-pub returns-in_err-new_type-clause-passes : goal.returns-in_err-new_type-clause-passes
-returns-in_err-new_type-clause-passes g c =
-    let s = (goal.at.returns-in_err-new_type-clause-passes g c).After-rewrite in
+pub returns-in_err-outcome-clause-passes : goal.returns-in_err-outcome-clause-passes
+returns-in_err-outcome-clause-passes g c =
+    let s = (goal.at.returns-in_err-outcome-clause-passes g c).After-rewrite in
     let id : ℕ = c.loop-id.id in
     let at : IsAt (before g s) id = c.loop-id.invariant.2 in
-    handed_on (λ c. c) c.in_err-new_type.field-0.0 c.from_residual-in_err-new_type.result (Passes (after g s)) c.from_residual-in_err-new_type.ensures.1
-    (IfSome_then _ (c.in_err-new_type.ensures.steps (given g s) id refl refl refl (type_is g s) at.asked (here_is g s)) (λ refusal h. refused_at (before g s) id (answers_of c.rewrite.new.resolver.1) refusal (is_below g s) at h.0 h.1))
+    handed_on (λ c. c) c.in_err-outcome.field-0.0 c.from_residual-in_err-outcome.result (Passes (after g s)) c.from_residual-in_err-outcome.ensures.1
+    (IfSome_then _ (c.in_err-outcome.ensures.steps (given g s) id refl refl refl (type_is g s) at.asked (here_is g s)) (λ refusal h. refused_at (before g s) id (answers_of c.rewrite.new.resolver.1) refusal (is_below g s) at h.0 h.1))
 
 pub returns-in_err-keep-clause-called : goal.returns-in_err-keep-clause-called
 returns-in_err-keep-clause-called g c = c.rewrite.ensures.called c.args.resolver.now.0 c.loop-id.invariant.1
@@ -104,20 +104,24 @@ loop-id-preserved g c =
     let at : IsAt (before g s) id = c.loop-id.invariant.2 in
     let b : BtfType = c.index-types-id.result in
     let low : 0 < id = omega (arith, c.loop-id.auto.id) in
-    let o : Option BtfType = c.in_ok-new_type.new_type in
-    let next = steps_on (before g s) id c.rewrite.new.resolver.1 b (unwrap_or o b) o c.loop-id.made c.rewrite.new.self c.keep.new.self low at c.loop-id.invariant.3 (type_is g s) refl
-    (c.in_ok-new_type.ensures.steps (given g s) id refl refl refl (type_is g s) at.asked (here_is g s))
+    let o : Outcome = c.in_ok-outcome.outcome in
+    let next = steps_on (before g s) id c.rewrite.new.resolver.1 b o c.loop-id.made c.rewrite.new.self c.keep.new.self c.loop-id.denied.items c.keep.new.denied.items low at c.loop-id.invariant.3 (type_is g s)
+    (c.in_ok-outcome.ensures.steps (given g s) id refl refl refl (type_is g s) at.asked (here_is g s))
     (record {
       types = c.in_ok-keep.ensures.types;
+      denied = c.in_ok-keep.ensures.denied;
       names = c.in_ok-keep.ensures.names;
+      known = c.keep.ensures.known;
+      kind = c.in_ok-keep.ensures.kind;
+      len = c.in_ok-keep.ensures.len;
       strings = c.keep.ensures.strings;
       new_types = c.keep.ensures.new_types;
       type_len = c.keep.ensures.type_len;
       placeholder = c.keep.ensures.placeholder;
       filler = c.keep.ensures.filler;
-    }) c.in_ok-keep.ensures.kind in
+    }) in
     let one_on : suc id ≡ id + 1 = omega arith in
-    (c.rewrite.ensures.callable, c.rewrite.ensures.called c.args.resolver.now.0 c.loop-id.invariant.1, subst (IsAt (after g s)) one_on next.0, subst (λ n. IsMade (after g s) n c.keep.new.self) one_on next.1)
+    (c.rewrite.ensures.callable, c.rewrite.ensures.called c.args.resolver.now.0 c.loop-id.invariant.1, subst (IsAt (after g s)) one_on next.0, subst (λ n. IsMade (after g s) n c.keep.new.self c.keep.new.denied.items) one_on next.1)
 
 pub returns-clause-asks : goal.returns-clause-asks
 returns-clause-asks g c =
@@ -136,7 +140,7 @@ returns-clause-passes g c =
     let p : Pass = pass_on t (under c.args.policy (layout_of c.args.sections.now c.args.symbols.now)) (answers_of c.loop-id.resolver.1) in
     let id : ℕ = c.loop-id.id in
     let at : IsAt p id = c.loop-id.invariant.2 in
-    let made : IsMade p id c.loop-id.made = c.loop-id.invariant.3 in
+    let made : IsMade p id c.loop-id.made c.loop-id.denied.items = c.loop-id.invariant.3 in
     let end : id ≡ length t.records = omega (arith, c.loop-id-test.false, c.loop-id.auto.id-end, ap length c.as_slice-types.ensures.first.1, ap length c.as_slice-types.ensures.records, length-map ts record_of) in
     let many : length t.fallbacks ≡ length t.records = omega (arith, ap length c.as_slice-types.ensures.records, ap length c.as_slice-types.ensures.fallbacks, length-map ts record_of, length-map ts fallback_of) in
-    passes_whole p id c.loop-id.made c.as_slice-types.ensures.first.0 end many c.as_slice-types.ensures.first.1 at made
+    passes_whole p id c.loop-id.made c.loop-id.denied c.as_slice-types.ensures.first.0 end many c.as_slice-types.ensures.first.1 at made

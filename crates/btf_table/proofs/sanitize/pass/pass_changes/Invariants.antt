@@ -10,4 +10,4 @@ invariant-loop-id g l =
     goal.F-IsAlwaysCallable g l.resolver.0
     × Called (words g.row.F g.F.FnMut).step l.fn.resolver.0 l.resolver.1 l.resolver.0
     × IsAt (pass_on l.btf (under l.policy (layout_of l.sections l.symbols)) (answers_of l.resolver.1)) l.id
-    × IsMade (pass_on l.btf (under l.policy (layout_of l.sections l.symbols)) (answers_of l.resolver.1)) l.id l.made
+    × IsMade (pass_on l.btf (under l.policy (layout_of l.sections l.symbols)) (answers_of l.resolver.1)) l.id l.made l.denied.items

@@ -6,7 +6,8 @@ use Rattle.btf_model.specs.Record.{Record, unknown}
 use Rattle.btf_model.specs.Spelling.{spell}
 use Rattle.btf_records.specs.BtfType.{record_of}
 use Rattle.btf_records.specs.declared.btf_type.BtfType.{BtfType}
-use Rattle.btf_table.proofs.KnownKinds.{AllHaveKinds, only_unknown}
+use Rattle.btf_table.specs.Denied.{AllHaveKinds}
+use Rattle.btf_table.proofs.KnownKinds.{only_unknown}
 use Rattle.btf_table.proofs.table.Btf.new.Goals as goal
 
 pub invariant_of-result : goal.invariant_of-result

@@ -1,14 +1,15 @@
-use Rattle.std.proofs.Common.{◌≡◌, Some, Option, true, sym, ap, subst, ◌∙◌}
+use Rattle.std.proofs.Common.{◌≡◌, Some, Option, Bool, true, sym, ap, subst, ◌∙◌}
+use Rattle.std.specs.Prelude.{if◌then◌else◌}
 use Rattle.btf_model.specs.Record as kinds
 use Rattle.btf_model.specs.Record.{Kind, kind_of}
 use Rattle.btf_rewrite_model.specs.Pass.{Pass}
-use Rattle.btf_rewrite_model.specs.Rule.{ruled_below, becomes_by}
-use Rattle.btf_rewrite_model.specs.Passing.{is_quiet}
+use Rattle.btf_rewrite_model.specs.Rule.{ruled_below}
 use Rattle.btf_records.specs.BtfType.{record_of, type_kind}
 use Rattle.btf_records.specs.declared.btf_type.BtfType.{BtfType}
-use Rattle.btf_table.specs.PassStep.{pass_on}
-use Rattle.btf_rules.specs.SoleFeature.{asks_one, sole_feature, IsGranted}
-use Rattle.btf_table.proofs.PassRules.{quiet_ruled, enum64_stays, quiet_type, quiet_answer}
+use Rattle.btf_rules.specs.InPlace.{denied_type}
+use Rattle.btf_table.specs.PassStep.{pass_on, IsRuled}
+use Rattle.btf_rules.specs.SoleFeature.{sole_feature, IsGranted}
+use Rattle.btf_table.proofs.PassRules.{quiet_outcome, enum64_stays}
 use Rattle.btf_table.proofs.sanitize.made.Made.rewrite_by.Goals as goal
 
 pub returns-in_default : goal.returns-in_default
@@ -16,9 +17,16 @@ returns-in_default c = λ given answers id there here one granted.
     let p : Pass = pass_on c.args.btf.now given answers in
     let b : BtfType = c.args.btf_type.now in
     let kind : kind_of (record_of b).info ≡ Some (type_kind b) = ap kind_of (sym c.info.ensures.value) ∙ c.info.ensures.kind in
-    let quiet : is_quiet (kind_of (record_of b).info) ≡ true = ap is_quiet kind ∙ quiet_type b (ap asks_one (sym kind) ∙ one) c.in_default.not-FuncProto c.in_default.not-Enum64 in
-    quiet_answer p id b c.args.self.now (becomes_by p (ruled_below p id) id (kind_of (record_of b).info) (record_of b)) c.replaced.result (c.replaced.ensures.words p (ruled_below p id) id granted quiet) c.replaced.ensures.len c.replaced.ensures.fallback
-    (λ new words len fallback. quiet_ruled p id b new c.args.self.now there quiet here words len fallback)
+    subst (λ (changes : Bool). IsRuled p id b c.args.self.now c.args.self.now (if changes then denied_type b else b)) c.if-changes_in_place.true
+    (quiet_outcome p id b c.args.self.now c.changes_in_place.result there here one kind c.in_default.not-FuncProto c.in_default.not-Enum64 (c.changes_in_place.ensures.words p (ruled_below p id) id granted) c.changes_in_place.ensures.len c.changes_in_place.ensures.fallback)
+
+pub returns-in_default-2 : goal.returns-in_default-2
+returns-in_default-2 c = λ given answers id there here one granted.
+    let p : Pass = pass_on c.args.btf.now given answers in
+    let b : BtfType = c.args.btf_type.now in
+    let kind : kind_of (record_of b).info ≡ Some (type_kind b) = ap kind_of (sym c.info.ensures.value) ∙ c.info.ensures.kind in
+    subst (λ (changes : Bool). IsRuled p id b c.args.self.now c.args.self.now (if changes then denied_type b else b)) c.if-changes_in_place.false
+    (quiet_outcome p id b c.args.self.now c.changes_in_place.result there here one kind c.in_default.not-FuncProto c.in_default.not-Enum64 (c.changes_in_place.ensures.words p (ruled_below p id) id granted) c.changes_in_place.ensures.len c.changes_in_place.ensures.fallback)
 
 pub returns-in-Enum64-2 : goal.returns-in-Enum64-2
 returns-in-Enum64-2 c = λ given answers id there here one granted.

@@ -1,0 +1,33 @@
+-- Types of a table that change in place.
+use Rattle.std.specs.Prelude.{◌≡◌, ℕ, ◌<◌, List, [], ◌∷◌, set, get_or, map, slice_get, Some}
+use Rattle.std.specs.List.{AllByRecursion, sum_by}
+use Rattle.btf_model.specs.Record.{Kind, Record, unknown, kind_of}
+use Rattle.btf_model.specs.Table.{Table}
+use Rattle.btf_rewrite_model.specs.Checks.{record_len}
+use Rattle.btf_records.specs.BtfType.{record_of, fallback_of}
+use Rattle.btf_records.specs.declared.btf_type.BtfType.{BtfType}
+use Rattle.btf_rules.specs.InPlace.{denied}
+
+-- each of these records has a kind
+abbrev pub AllHaveKinds : List Record → Type 0
+AllHaveKinds rs = (id : ℕ) (r : Record) → slice_get rs id ≡ Some r → (k : Kind) × (kind_of r.info ≡ Some k)
+
+-- ids of a table of so many types, and none is 0
+abbrev pub AreIds : ℕ → List ℕ → Type 0
+AreIds count ids = AllByRecursion (λ (id : ℕ). (0 < id) × (id < count)) ids
+
+-- the records, those of these ids denied, in turn
+abbrev pub deny_all : List ℕ → List Record → List Record
+deny_all [] rs = rs
+deny_all (id ∷ ids) rs = deny_all ids (set rs id (denied (get_or rs id unknown)))
+
+-- the table, its types of these ids denied
+abbrev pub with_denied : List ℕ → Table → Table
+with_denied ids t = record t { records = deny_all ids t.records }
+
+-- The types with those of these ids denied: their records and fallbacks; they are as long, and have kinds.
+pub record AreDenied (ids : List ℕ) (old new : List BtfType) : Type 0 where
+  pub records : map record_of new ≡ deny_all ids (map record_of old)
+  pub fallbacks : map fallback_of new ≡ map fallback_of old
+  pub len : sum_by record_len (map record_of new) ≡ sum_by record_len (map record_of old)
+  pub kinds : AllHaveKinds (map record_of old) → AllHaveKinds (map record_of new)

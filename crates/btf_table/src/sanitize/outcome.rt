@@ -1,0 +1,30 @@
+//! What the rule of a type makes of it.
+
+ghost use Rattle.std.specs.Prelude.{◌≡◌};
+ghost use Rattle.std.specs.Result.{result_map_both};
+ghost use Rattle.btf_table.specs.PassStep.{outcome_of};
+
+use btf_plain::BtfError;
+use btf_records::BtfType;
+
+/// What a type becomes.
+#[derive(Drop)]
+pub enum Outcome {
+    /// It stays.
+    Same,
+    /// It changes in place, as `deny` changes it.
+    Denied,
+    /// Another type takes its place.
+    Other(BtfType),
+}
+
+/// The outcome of a rule that puts another type in its place, or None, where it stays.
+pub fn placed(made: Result<Option<BtfType>, BtfError>) -> Result<Outcome, BtfError>
+    ensures { result ≡ result_map_both outcome_of (λ e. e) made }
+{
+    match made {
+        Ok(Some(new_type)) => Ok(Outcome::Other(new_type)),
+        Ok(None) => Ok(Outcome::Same),
+        Err(error) => Err(error),
+    }
+}
