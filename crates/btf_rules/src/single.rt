@@ -46,8 +46,8 @@ fn byte_int(name_offset: u32) -> BtfType
     BtfType::Int(Int::new(name_offset, 1, IntEncoding::None, 0))
 }
 
-/// Whether a type changes in place, as `deny` changes it: a PTR that has a name does, and so does a type that asks for a
-/// feature which is not granted. Not for a FUNC, whose rule asks for more.
+/// Whether a type changes in place, as `deny` changes it: a PTR that has a name does, and so does a type that asks for
+/// a feature which is not granted. Not for a FUNC, whose rule asks for more.
 pub fn changes_in_place(btf_type: &BtfType, granted: bool) -> bool
     ensures words { (p : Pass) (lower : List Record) (id : ℕ)
         → IsGranted p (sole.sole_feature (kind_of (record_of btf_type.now).info)
@@ -118,8 +118,8 @@ pub fn denied_name_offset(btf_type: &BtfType) -> u32
     }
 }
 
-/// Changes a type in place, for a kernel that lacks its feature: a PTR loses its name, a VAR and a DECL_TAG become an INT
-/// of one byte, a FLOAT a STRUCT without members, a TYPE_TAG a CONST, a FUNC a TYPEDEF, and an ENUM loses its sign.
+/// Changes a type in place, for a kernel that lacks its feature: a PTR loses its name, a VAR and a DECL_TAG become an
+/// INT of one byte, a FLOAT a STRUCT without members, a TYPE_TAG a CONST, a FUNC a TYPEDEF, and an ENUM loses its sign.
 /// Others stay.
 pub fn deny(alloc: Global, btf_type: &mut BtfType)
     ensures words { record_of btf_type.new ≡ denied (record_of btf_type.old) }
