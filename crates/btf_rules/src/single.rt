@@ -46,45 +46,6 @@ fn byte_int(name_offset: u32) -> BtfType
     BtfType::Int(Int::new(name_offset, 1, IntEncoding::None, 0))
 }
 
-/// Whether a type changes in place, as `deny` changes it: a PTR that has a name does, and so does a type that asks for
-/// a feature which is not granted. Not for a FUNC, whose rule asks for more.
-pub fn changes_in_place(btf_type: &BtfType, granted: bool) -> bool
-    ensures words { (p : Pass) (lower : List Record) (id : ℕ)
-        → IsGranted p (sole.sole_feature (kind_of (record_of btf_type.now).info)
-        (record_of btf_type.now)) granted → is_quiet (kind_of (record_of btf_type.now).info) ≡ true
-        → record_of (if result then denied_type btf_type.now else btf_type.now)
-        ≡ becomes_by p lower id (kind_of (record_of btf_type.now).info) (record_of btf_type.now) }
-    ensures len { length (record_of (if result then denied_type btf_type.now
-        else btf_type.now)).tail ≡ length (record_of btf_type.now).tail }
-    ensures fallback { fallback_of (if result then denied_type btf_type.now else btf_type.now)
-        ≡ fallback_of btf_type.now }
-{
-    // The contract speaks of the kind in the info word, which a use of it shows.
-    let _ = btf_type.info();
-    match btf_type {
-        BtfType::Ptr(ptr) => ptr.name_offset() != 0,
-        // The contract speaks of the lengths of records, which a use of their words shows, here and below.
-        BtfType::Var(var) if !granted => {
-            let _ = var.linkage();
-            true
-        }
-        BtfType::DeclTag(tag) if !granted => {
-            let _ = tag.component_index();
-            true
-        }
-        BtfType::Float(float) if !granted => {
-            let _ = float.info();
-            true
-        }
-        BtfType::TypeTag(tag) if !granted => {
-            let _ = tag.info();
-            true
-        }
-        BtfType::Enum(_) => !granted,
-        _ => false,
-    }
-}
-
 /// The string offset of the name that a type has after `deny`.
 pub fn denied_name_offset(btf_type: &BtfType) -> u32
     ensures name { result ≡ (record_of (denied_type btf_type.now)).name }
@@ -118,6 +79,33 @@ pub fn denied_name_offset(btf_type: &BtfType) -> u32
     }
 }
 
+/// Whether a type changes in place, as `deny` changes it: a PTR that has a name does, and so does a type that asks for
+/// a feature which is not granted. Not for a FUNC, whose rule asks for more.
+pub fn changes_in_place(btf_type: &BtfType, granted: bool) -> bool
+    ensures words { (p : Pass) (lower : List Record) (id : ℕ)
+        → IsGranted p (sole.sole_feature (kind_of (record_of btf_type.now).info)
+        (record_of btf_type.now)) granted → is_quiet (kind_of (record_of btf_type.now).info) ≡ true
+        → record_of (if result then denied_type btf_type.now else btf_type.now)
+        ≡ becomes_by p lower id (kind_of (record_of btf_type.now).info) (record_of btf_type.now) }
+    ensures len { length (record_of (if result then denied_type btf_type.now
+        else btf_type.now)).tail ≡ length (record_of btf_type.now).tail }
+    ensures fallback { fallback_of (if result then denied_type btf_type.now else btf_type.now)
+        ≡ fallback_of btf_type.now }
+{
+    // The contract speaks of the kind in the info word, and of the length, which uses of these show.
+    let _ = btf_type.info();
+    let _ = denied_name_offset(btf_type);
+    match btf_type {
+        BtfType::Ptr(ptr) => ptr.name_offset() != 0,
+        BtfType::Var(_)
+        | BtfType::Float(_)
+        | BtfType::DeclTag(_)
+        | BtfType::TypeTag(_)
+        | BtfType::Enum(_) => !granted,
+        _ => false,
+    }
+}
+
 /// Changes a type in place, for a kernel that lacks its feature: a PTR loses its name, a VAR and a DECL_TAG become an
 /// INT of one byte, a FLOAT a STRUCT without members, a TYPE_TAG a CONST, a FUNC a TYPEDEF, and an ENUM loses its sign.
 /// Others stay.
@@ -127,8 +115,9 @@ pub fn deny(alloc: Global, btf_type: &mut BtfType)
     ensures len { length (record_of btf_type.new).tail ≡ length (record_of btf_type.old).tail }
     ensures kind { kind_of (record_of btf_type.new).info ≡ Some (type_kind btf_type.new) }
 {
-    // The contract speaks of kinds and of lengths, which a use of the words shows, here and below.
+    // The contract speaks of kinds in info words, and of the length, which uses of these show, here and below.
     let _ = btf_type.info();
+    let _ = denied_name_offset(btf_type);
     let new_type = match btf_type {
         BtfType::Ptr(ptr) => {
             ptr.set_name_offset(0);
@@ -140,24 +129,11 @@ pub fn deny(alloc: Global, btf_type: &mut BtfType)
             let _ = enumeration.info();
             return;
         }
-        BtfType::Var(var) => {
-            let _ = var.linkage();
-            byte_int(var.name_offset())
-        }
-        BtfType::DeclTag(tag) => {
-            let _ = tag.component_index();
-            byte_int(tag.name_offset())
-        }
-        BtfType::Float(float) => {
-            let _ = float.info();
-            BtfType::Struct(Struct::new(0, Vec::new(alloc), float.size()))
-        }
-        BtfType::TypeTag(tag) => {
-            let _ = tag.info();
-            BtfType::Const(Const::new(tag.btf_type()))
-        }
+        BtfType::Var(var) => byte_int(var.name_offset()),
+        BtfType::DeclTag(tag) => byte_int(tag.name_offset()),
+        BtfType::Float(float) => BtfType::Struct(Struct::new(0, Vec::new(alloc), float.size())),
+        BtfType::TypeTag(tag) => BtfType::Const(Const::new(tag.btf_type())),
         BtfType::Func(func) => {
-            let _ = func.info();
             BtfType::Typedef(Typedef::new(func.name_offset(), func.btf_type()))
         }
         _ => return,
