@@ -1,5 +1,6 @@
-//! Tests of the `.BTF.ext` section, and of sections that a compiler wrote. Their expected values are worked by hand
-//! from the format; what the compiler's sections hold is listed by other tools.
+//! Tests of the `.BTF.ext` section, of sections that a compiler wrote, and of the look-ups by name: the relocations of a
+//! section, and the values of variants. Their expected values are worked by hand from the format; what the compiler's
+//! sections hold is listed by other tools.
 #![tactic(auto)]
 
 #[cfg(test)]
@@ -11,6 +12,10 @@ mod ranges;
 #[cfg(test)]
 mod records;
 #[cfg(test)]
+mod relocations;
+#[cfg(test)]
 mod sections;
 #[cfg(test)]
 mod spelled;
+#[cfg(test)]
+mod values;

@@ -3,30 +3,36 @@
 use btf_plain::{BtfError, Endianness};
 use btf_samples::spelled::{ORDERS, spelled_decimals};
 use btf_types::{SecInfo, SecInfoIter};
-use std::alloc::{AllocError, Global};
+use std::alloc::Global;
+use std::fmt::Write;
 use std::test::Fail;
 
-/// What an iterator gives next: the name of a section, its number of records and of bytes, or the text of an error.
-fn next_text(alloc: Global, next: &Result<SecInfo<'_>, BtfError>) -> Result<String, AllocError> {
+/// Adds a section: the offset of its name, and its number of records and of bytes.
+fn push_section(text: &mut String, section: &SecInfo<'_>) -> Result<(), Fail> {
+    let len = section.bytes.len();
+    write!(text, "{} {} {len}; ", section.name_offset, section.num_info)?;
+    Ok(())
+}
+
+/// Adds what an iterator gives next: a section, or the text of an error.
+fn push_next(text: &mut String, next: &Result<SecInfo<'_>, BtfError>) -> Result<(), Fail> {
     match next {
-        Ok(section) => {
-            let name_offset = section.name_offset;
-            let num_info = section.num_info;
-            let len = section.bytes.len();
-            format!(in alloc; "{name_offset} {num_info} {len}; ")
-        }
-        Err(e) => format!(in alloc; "{e}; "),
+        Ok(section) => push_section(text, section),
+        Err(e) => Ok(write!(text, "{e}; ")?),
     }
 }
 
-/// Adds what an iterator gives next.
-fn push_next(
+/// Adds all that an iterator gives.
+fn push_sections(
     text: &mut String,
-    alloc: Global,
-    next: &Result<SecInfo<'_>, BtfError>,
-) -> Result<(), AllocError> {
-    let shown = next_text(alloc, next)?;
-    text.push_str(shown.as_str())
+    data: &[u8],
+    rec_size: usize,
+    order: Endianness,
+) -> Result<(), Fail> {
+    for next in SecInfoIter::new(data, rec_size, order) {
+        push_next(text, &next)?;
+    }
+    Ok(())
 }
 
 /// All that an iterator gives, and then a dot.
@@ -35,11 +41,9 @@ fn sections_text(
     data: &[u8],
     rec_size: usize,
     order: Endianness,
-) -> Result<String, AllocError> {
+) -> Result<String, Fail> {
     let mut text = String::new(alloc);
-    for next in SecInfoIter::new(data, rec_size, order) {
-        push_next(&mut text, alloc, &next)?;
-    }
+    push_sections(&mut text, data, rec_size, order)?;
     text.push_str(".")?;
     Ok(text)
 }
@@ -195,15 +199,16 @@ fn is_cut_after_section(
     are_cut_after(alloc, &bytes, len, order, text)
 }
 
+/// Whether both have sections of this text.
+fn is_cut(alloc: Global, len: u32, order: Endianness, text: &str) -> Result<bool, Fail> {
+    Ok(are_cut(alloc, len, order, text)? && is_cut_after_section(alloc, len, order, text)?)
+}
+
 #[test]
 fn cut_words_end_the_sections(rt: HostRuntime) -> Result<(), Fail> {
     for (len, text) in (1u32..).zip(CUTS.iter()) {
         for order in ORDERS {
-            assert!(rt; are_cut(rt.alloc(), len, order, text)?, "{len}");
-            assert!(rt;
-                is_cut_after_section(rt.alloc(), len, order, text)?,
-                "{len}"
-            );
+            assert!(rt; is_cut(rt.alloc(), len, order, text)?, "{len}");
         }
     }
     Ok(())

@@ -1,6 +1,7 @@
 //! Runs of `rewrite`: what is written of a table, and why it is refused.
 
-use crate::runs::{RECORDS, STRINGS, blob_of, outcome, written};
+use crate::runs::{RECORDS, STRINGS, blob_of, comes_to_over, writes, writes_over, written};
+use std::alloc::Global;
 use std::test::Fail;
 
 /// The records of the program where the kernel has no feature.
@@ -32,120 +33,125 @@ const SYMBOL_STRINGS: &str = "\0f\0ph\0.ksyms\0int\0";
 const COMPLETED: &str =
     "little rewrite Func FuncGlobal DataSec section:license=4 symbol:_license=0";
 
+/// Lines that give the DATASEC of the program a size, and that size.
+const SIZES: [(&str, u8); 4] = [
+    (COMPLETED, 4),
+    (
+        "little rewrite symbol:_license=0 DataSec Func section:license=9 Func section:license=4 FuncGlobal",
+        4,
+    ),
+    (
+        "little rewrite Func FuncGlobal DataSec section:license=4 symbol:_license=0 section:license=9",
+        9,
+    ),
+    (
+        "little rewrite Func FuncGlobal DataSec section:license=4 section:license==9 symbol:_license=0",
+        4,
+    ),
+];
+
+/// The blob of the program whose DATASEC has this size.
+fn sized_program(alloc: Global, size: u8) -> Result<Vec<u8>, Fail> {
+    let mut blob = blob_of(alloc, RECORDS, STRINGS)?;
+    *blob.get_mut(276).ok_or("short")? = size;
+    Ok(blob)
+}
+
+/// Whether a line gives it that size.
+fn gives_size(alloc: Global, line: &str, size: u8) -> Result<bool, Fail> {
+    let blob = blob_of(alloc, RECORDS, STRINGS)?;
+    let expected = sized_program(alloc, size)?;
+    writes(alloc, line, &blob, &expected)
+}
+
 #[test]
 fn sections_get_their_sizes(rt: HostRuntime) -> Result<(), Fail> {
-    let alloc = rt.alloc();
-    let rows = [
-        (COMPLETED, 4),
-        (
-            "little rewrite symbol:_license=0 DataSec Func section:license=9 Func section:license=4 FuncGlobal",
-            4,
-        ),
-        (
-            "little rewrite Func FuncGlobal DataSec section:license=4 symbol:_license=0 section:license=9",
-            9,
-        ),
-        (
-            "little rewrite Func FuncGlobal DataSec section:license=4 section:license==9 symbol:_license=0",
-            4,
-        ),
-    ];
-    for (line, size) in rows {
-        let blob = blob_of(alloc, RECORDS, STRINGS)?;
-        let mut expected = blob_of(alloc, RECORDS, STRINGS)?;
-        *expected.get_mut(276).ok_or("short")? = size;
-        let (status, out) = written(alloc, line, &blob)?;
-        assert!(rt; status == 0 && out == expected, "{line}");
+    for (line, size) in &SIZES {
+        assert!(rt; gives_size(rt.alloc(), line, *size)?, "{line}");
     }
     Ok(())
 }
 
 #[test]
 fn variables_get_their_offsets(rt: HostRuntime) -> Result<(), Fail> {
-    let alloc = rt.alloc();
     let line = "little rewrite DataSec section:s=4294967295 symbol:v=1 symbol:s=3 symbol:v=2";
-    let blob = blob_of(alloc, "1 0e000000 0 1  3 0f000001 0 1 0 4", "\0v\0s\0")?;
-    let expected = blob_of(
-        alloc,
-        "1 0e000000 0 1  3 0f000001 ffffffff 1 2 4",
-        "\0v\0s\0",
-    )?;
-    let (status, out) = written(alloc, line, &blob)?;
-    assert!(rt; status == 0 && out == expected);
+    let table = ("1 0e000000 0 1  3 0f000001 0 1 0 4", "\0v\0s\0");
+    let expected = ("1 0e000000 0 1  3 0f000001 ffffffff 1 2 4", "\0v\0s\0");
+    assert!(rt; writes_over(rt.alloc(), line, table, expected)?);
     Ok(())
 }
 
 #[test]
 fn features_are_denied_unless_they_are_named(rt: HostRuntime) -> Result<(), Fail> {
-    let alloc = rt.alloc();
-    let blob = blob_of(alloc, RECORDS, STRINGS)?;
-    let (status, out) = written(alloc, "little rewrite", &blob)?;
-    assert!(rt; status == 0 && out.len() == 517);
-    assert!(rt; out == blob_of(alloc, DENIED, STRINGS)?);
+    let (table, denied) = ((RECORDS, STRINGS), (DENIED, STRINGS));
+    assert!(rt; writes_over(rt.alloc(), "little rewrite", table, denied)?);
     Ok(())
 }
 
+/// Lines that place the symbols of the kernel.
+const PLACING: &str = "\
+little rewrite Func FuncGlobal DataSec ksyms:5 placeholder:4
+little rewrite placeholder:0004 DataSec Func ksyms:05 FuncGlobal
+little rewrite Func ksyms:5 FuncGlobal fill-sized placeholder:4 DataSec";
+
 #[test]
 fn symbols_of_the_kernel_are_placed(rt: HostRuntime) -> Result<(), Fail> {
-    let alloc = rt.alloc();
-    let blob = blob_of(alloc, SYMBOLS, SYMBOL_STRINGS)?;
-    let lines = [
-        "little rewrite Func FuncGlobal DataSec ksyms:5 placeholder:4",
-        "little rewrite placeholder:0004 DataSec Func ksyms:05 FuncGlobal",
-        "little rewrite Func ksyms:5 FuncGlobal fill-sized placeholder:4 DataSec",
-    ];
-    for line in lines {
-        let (status, out) = written(alloc, line, &blob)?;
-        assert!(rt; status == 0, "{line}");
-        assert!(rt; out == blob_of(alloc, PLACED, SYMBOL_STRINGS)?, "{line}");
+    let (table, placed) = ((SYMBOLS, SYMBOL_STRINGS), (PLACED, SYMBOL_STRINGS));
+    for line in PLACING.split('\n') {
+        assert!(rt; writes_over(rt.alloc(), line, table, placed)?, "{line}");
     }
     Ok(())
 }
 
-#[test]
-fn a_second_rewrite_changes_nothing(rt: HostRuntime) -> Result<(), Fail> {
-    let alloc = rt.alloc();
-    let blob = blob_of(alloc, RECORDS, STRINGS)?;
-    let (_, first) = written(alloc, COMPLETED, &blob)?;
-    let (status, second) = written(alloc, COMPLETED, &first)?;
-    assert!(rt; status == 0 && second == first);
-    Ok(())
+/// Whether a line writes what it wrote over a blob again, where that is its input.
+fn changes_nothing_again(alloc: Global, line: &str, blob: &[u8]) -> Result<bool, Fail> {
+    let (_, first) = written(alloc, line, blob)?;
+    writes(alloc, line, &first, &first)
 }
 
 #[test]
+fn a_second_rewrite_changes_nothing(rt: HostRuntime) -> Result<(), Fail> {
+    let blob = blob_of(rt.alloc(), RECORDS, STRINGS)?;
+    assert!(rt; changes_nothing_again(rt.alloc(), COMPLETED, &blob)?);
+    Ok(())
+}
+
+/// Lines that are refused, and what is reported.
+const REFUSED: [(&str, &str); 7] = [
+    (
+        "little rewrite Func FuncGlobal DataSec symbol:_license=0 symbol:license=4",
+        "1 Unable to determine the size of section `license`\n",
+    ),
+    (
+        "little rewrite Func FuncGlobal DataSec section:license=4294967296 symbol:_license=0",
+        "1 Unable to determine the size of section `license`\n",
+    ),
+    (
+        "little rewrite Func FuncGlobal DataSec section:license=4 section:_license=0",
+        "1 Offset not found for symbol `_license`\n",
+    ),
+    (
+        "little rewrite ksyms:4294967295",
+        "1 unknown BTF type id `4294967295`\n",
+    ),
+    (
+        "little rewrite placeholder:13 ksyms:14",
+        "1 unknown BTF type id `13`\n",
+    ),
+    (
+        "little rewrite ksyms:1",
+        "1 BTF type that is not VAR was found in DATASEC\n",
+    ),
+    ("big rewrite", "1 error parsing BTF header\n"),
+];
+
+#[test]
 fn refused_rewrites_have_the_fault_s_text(rt: HostRuntime) -> Result<(), Fail> {
-    let alloc = rt.alloc();
-    let blob = blob_of(alloc, RECORDS, STRINGS)?;
-    let rows = [
-        (
-            "little rewrite Func FuncGlobal DataSec symbol:_license=0 symbol:license=4",
-            "1 Unable to determine the size of section `license`\n",
-        ),
-        (
-            "little rewrite Func FuncGlobal DataSec section:license=4294967296 symbol:_license=0",
-            "1 Unable to determine the size of section `license`\n",
-        ),
-        (
-            "little rewrite Func FuncGlobal DataSec section:license=4 section:_license=0",
-            "1 Offset not found for symbol `_license`\n",
-        ),
-        (
-            "little rewrite ksyms:4294967295",
-            "1 unknown BTF type id `4294967295`\n",
-        ),
-        (
-            "little rewrite placeholder:13 ksyms:14",
-            "1 unknown BTF type id `13`\n",
-        ),
-        (
-            "little rewrite ksyms:1",
-            "1 BTF type that is not VAR was found in DATASEC\n",
-        ),
-        ("big rewrite", "1 error parsing BTF header\n"),
-    ];
-    for (line, told) in rows {
-        let answer = outcome(alloc, line, &blob)?;
-        assert!(rt; answer.as_str() == told, "{line}");
+    for (line, told) in &REFUSED {
+        assert!(rt;
+            comes_to_over(rt.alloc(), line, RECORDS, STRINGS, told)?,
+            "{line}"
+        );
     }
     Ok(())
 }

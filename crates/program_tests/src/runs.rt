@@ -1,5 +1,6 @@
 //! Runs of the program: statuses, what is written, and the texts.
 
+use crate::filling::{FILLED, FILLED_STRINGS};
 use btf_cli::run;
 use std::alloc::{AllocError, Global};
 use std::io;
@@ -51,55 +52,69 @@ pub(crate) fn written(alloc: Global, line: &str, blob: &[u8]) -> Result<(u8, Vec
     Ok((status, out))
 }
 
-/// What a line over a blob writes on standard error.
-fn messages(alloc: Global, line: &str, blob: &[u8]) -> Result<Vec<u8>, Fail> {
+fn are_equal(a: &[u8], b: &[u8]) -> bool {
+    a == b
+}
+
+/// Whether a line over a blob ends with status 0, and writes these bytes on standard output.
+pub(crate) fn writes(
+    alloc: Global,
+    line: &str,
+    blob: &[u8],
+    expected: &[u8],
+) -> Result<bool, Fail> {
+    let (status, out) = written(alloc, line, blob)?;
+    Ok(status == 0 && are_equal(&out, expected))
+}
+
+/// Whether words whose input and output fail end with this status, and with this message on standard error.
+fn fail_with(alloc: Global, words: &[String], status: u8, message: &str) -> bool {
+    let mut err = Vec::new(alloc);
+    let ended = run(alloc, words, &mut Failing, &mut Failing, &mut err);
+    ended == status && are_equal(&err, message.as_bytes())
+}
+
+/// The same of a line.
+fn fails_with(alloc: Global, line: &str, status: u8, message: &str) -> Result<bool, Fail> {
+    let words = words(alloc, line)?;
+    Ok(fail_with(alloc, &words, status, message))
+}
+
+/// Whether a line has the usage as its message, and status 2. It is looked at before the input, which would fail.
+pub(crate) fn has_usage(alloc: Global, line: &str) -> Result<bool, Fail> {
+    fails_with(alloc, line, 2, USAGE)
+}
+
+/// The same table with another magic number, version and flags.
+const OTHER: [u8; 25] = [
+    0, 0, 7, 9, 0x18, 0, 0, 0, 0, 0, 0, 0, 0, 0, 0, 0, 0, 0, 0, 0, 1, 0, 0, 0, 0,
+];
+
+/// A table of one type in big-endian order.
+const BIG: [u8; 37] = [
+    0xeb, 0x9f, 1, 0, 0, 0, 0, 0x18, 0, 0, 0, 0, 0, 0, 0, 0xc, 0, 0, 0, 0xc, 0, 0, 0, 1, 0, 0, 0,
+    0, 2, 0, 0, 0, 0, 0, 0, 6, 0,
+];
+
+/// Whether a line copies a blob, and writes nothing on standard error.
+fn copies(alloc: Global, line: &str, blob: &[u8]) -> Result<bool, Fail> {
+    Ok(writes(alloc, line, blob, blob)? && writes_no_message(alloc, line, blob)?)
+}
+
+/// Whether a line over a blob writes nothing on standard error.
+fn writes_no_message(alloc: Global, line: &str, blob: &[u8]) -> Result<bool, Fail> {
     let mut input = blob;
     let mut out = Vec::new(alloc);
     let mut err = Vec::new(alloc);
     run(alloc, &words(alloc, line)?, &mut input, &mut out, &mut err);
-    Ok(err)
-}
-
-/// The status of words whose input and output fail, and what is written on standard error.
-fn unread(alloc: Global, words: &[String]) -> (u8, Vec<u8>) {
-    let mut err = Vec::new(alloc);
-    let status = run(alloc, words, &mut Failing, &mut Failing, &mut err);
-    (status, err)
-}
-
-/// Whether words have the usage as their message, and status 2. They are looked at before the input, which would fail.
-fn have_usage(alloc: Global, words: &[String]) -> bool {
-    let (status, err) = unread(alloc, words);
-    status == 2 && err.as_slice() == USAGE.as_bytes()
-}
-
-/// Whether a line has the usage as its message.
-pub(crate) fn has_usage(alloc: Global, line: &str) -> Result<bool, Fail> {
-    Ok(have_usage(alloc, &words(alloc, line)?))
+    Ok(err.is_empty())
 }
 
 #[test]
 fn copies_over_memory(rt: HostRuntime) -> Result<(), Fail> {
-    let mut other = EMPTY;
-    other[0] = 0;
-    other[1] = 0;
-    other[2] = 7;
-    other[3] = 9;
-    let big = [
-        0xeb, 0x9f, 1, 0, 0, 0, 0, 0x18, 0, 0, 0, 0, 0, 0, 0, 0xc, 0, 0, 0, 0xc, 0, 0, 0, 1, 0, 0,
-        0, 0, 2, 0, 0, 0, 0, 0, 0, 6, 0,
-    ];
-    let rows: [(&str, &[u8]); 3] = [
-        ("little copy", &EMPTY),
-        ("little copy", &other),
-        ("big copy", &big),
-    ];
-    for (line, blob) in rows {
-        let (status, out) = written(rt.alloc(), line, blob)?;
-        assert!(rt; status == 0, "{line}");
-        assert!(rt; out.as_slice() == blob, "{line}");
-        assert!(rt; messages(rt.alloc(), line, blob)?.is_empty(), "{line}");
-    }
+    assert!(rt; copies(rt.alloc(), "little copy", &EMPTY)?);
+    assert!(rt; copies(rt.alloc(), "little copy", &OTHER)?);
+    assert!(rt; copies(rt.alloc(), "big copy", &BIG)?);
     Ok(())
 }
 
@@ -125,7 +140,7 @@ rx_queue_index\0egress_ifindex\0__u32\0unsigned int\0ctx\0int\0xdp_pass\0xdp/pas
 /home/dave/dev/bpfd/bpf/xdp_pass.bpf.c\0    return XDP_PASS;\0char\0\
 __ARRAY_SIZE_TYPE__\0_license\0license\0";
 
-const LISTING: &str = "1 [PTR]
+const LISTING: &str = "0 1 [PTR]
 2 [STRUCT] xdp_md
 3 [TYPEDEF] __u32
 4 [INT] unsigned int
@@ -139,173 +154,248 @@ const LISTING: &str = "1 [PTR]
 12 [DATASEC] license
 ";
 
-/// The blob of records in words and of strings, in little-endian order.
-pub(crate) fn blob_of(alloc: Global, records: &str, strings: &str) -> Result<Vec<u8>, Fail> {
+/// Adds a word in little-endian order.
+fn push_word(bytes: &mut Vec<u8>, word: u32) -> Result<(), Fail> {
+    Ok(bytes.extend_from_slice(&word.to_le_bytes())?)
+}
+
+/// Adds a header, for types and strings of these lengths in bytes.
+fn push_header(blob: &mut Vec<u8>, type_len: u32, string_len: u32) -> Result<(), Fail> {
+    blob.extend_from_slice(b"\x9f\xeb\x01\x00\x18\0\0\0\0\0\0\0")?;
+    push_word(blob, type_len)?;
+    push_word(blob, type_len)?;
+    push_word(blob, string_len)
+}
+
+/// Adds a word that is spelled in hexadecimal.
+fn push_spelled(bytes: &mut Vec<u8>, word: &str) -> Result<(), Fail> {
+    push_word(bytes, u32::from_str_radix(word, 16)?)
+}
+
+/// The bytes of words that are spelled.
+fn types_of(alloc: Global, records: &str) -> Result<Vec<u8>, Fail> {
     let mut types = Vec::new(alloc);
     for word in records.split_whitespace() {
-        types.extend_from_slice(&u32::from_str_radix(word, 16)?.to_le_bytes())?;
+        push_spelled(&mut types, word)?;
     }
-    let len = u32::try_from(types.len())?;
-    let mut blob = b"\x9f\xeb\x01\x00".to_vec(alloc)?;
-    for word in [0x18, 0, len, len, u32::try_from(strings.len())?] {
-        blob.extend_from_slice(&word.to_le_bytes())?;
-    }
-    blob.extend_from_slice(&types)?;
-    blob.extend_from_slice(strings.as_bytes())?;
+    Ok(types)
+}
+
+fn push_parts(blob: &mut Vec<u8>, types: &[u8], strings: &str) -> Result<(), Fail> {
+    push_header(
+        blob,
+        u32::try_from(types.len())?,
+        u32::try_from(strings.len())?,
+    )?;
+    blob.extend_from_slice(types)?;
+    Ok(blob.extend_from_slice(strings.as_bytes())?)
+}
+
+/// The blob of records in words and of strings, in little-endian order.
+pub(crate) fn blob_of(alloc: Global, records: &str, strings: &str) -> Result<Vec<u8>, Fail> {
+    let types = types_of(alloc, records)?;
+    let mut blob = Vec::new(alloc);
+    push_parts(&mut blob, &types, strings)?;
     Ok(blob)
 }
 
-/// The status of a line over a blob, with all that was written after it.
-pub(crate) fn outcome(alloc: Global, line: &str, blob: &[u8]) -> Result<String, Fail> {
+/// The status of a line over a blob, with all that was written after it, as bytes.
+fn outcome(alloc: Global, line: &str, blob: &[u8]) -> Result<Vec<u8>, Fail> {
     let mut input = blob;
     let mut out = Vec::new(alloc);
     let mut err = Vec::new(alloc);
     let status = run(alloc, &words(alloc, line)?, &mut input, &mut out, &mut err);
-    let out = String::from_utf8_lossy(alloc, &out)?;
-    let err = String::from_utf8_lossy(alloc, &err)?;
-    Ok(format!(in alloc; "{status} {out}{err}")?)
+    joined(alloc, status, &out, &err)
+}
+
+/// A status in one digit, and bytes after it.
+fn joined(alloc: Global, status: u8, out: &[u8], err: &[u8]) -> Result<Vec<u8>, Fail> {
+    let mut bytes = Vec::from_slice(alloc, &[b'0'.wrapping_add(status), b' '])?;
+    push_both(&mut bytes, out, err)?;
+    Ok(bytes)
+}
+
+fn push_both(bytes: &mut Vec<u8>, out: &[u8], err: &[u8]) -> Result<(), Fail> {
+    bytes.extend_from_slice(out)?;
+    Ok(bytes.extend_from_slice(err)?)
+}
+
+/// Whether a line over a blob comes to this: its status, and all that it writes.
+pub(crate) fn comes_to(alloc: Global, line: &str, blob: &[u8], told: &str) -> Result<bool, Fail> {
+    let answer = outcome(alloc, line, blob)?;
+    Ok(are_equal(&answer, told.as_bytes()))
+}
+
+/// The same over the blob of these records and strings.
+pub(crate) fn comes_to_over(
+    alloc: Global,
+    line: &str,
+    records: &str,
+    strings: &str,
+    told: &str,
+) -> Result<bool, Fail> {
+    let blob = blob_of(alloc, records, strings)?;
+    comes_to(alloc, line, &blob, told)
+}
+
+/// Whether a line over the blob of these records and strings ends with status 0, and writes the blob of those.
+pub(crate) fn writes_over(
+    alloc: Global,
+    line: &str,
+    (records, strings): (&str, &str),
+    expected: (&str, &str),
+) -> Result<bool, Fail> {
+    let blob = blob_of(alloc, records, strings)?;
+    let expected = blob_of(alloc, expected.0, expected.1)?;
+    writes(alloc, line, &blob, &expected)
+}
+
+/// Whether the blob of these records and strings is so long.
+fn has_length(alloc: Global, (records, strings): (&str, &str), len: usize) -> Result<bool, Fail> {
+    Ok(blob_of(alloc, records, strings)?.len() == len)
+}
+
+#[test]
+fn blobs_are_as_long_as_their_parts(rt: HostRuntime) -> Result<(), Fail> {
+    assert!(rt; has_length(rt.alloc(), (RECORDS, STRINGS), 517)?);
+    assert!(rt; has_length(rt.alloc(), (FILLED, FILLED_STRINGS), 131)?);
+    Ok(())
 }
 
 #[test]
 fn types_are_listed(rt: HostRuntime) -> Result<(), Fail> {
-    let alloc = rt.alloc();
-    let blob = blob_of(alloc, RECORDS, STRINGS)?;
-    assert!(rt; blob.len() == 517);
-    let listed = outcome(alloc, "little types", &blob)?;
-    assert!(rt; listed.strip_prefix("0 ") == Some(LISTING));
+    assert!(rt; comes_to_over(rt.alloc(), "little types", RECORDS, STRINGS, LISTING)?);
     Ok(())
 }
 
 #[test]
 fn names_are_listed_where_they_are_read(rt: HostRuntime) -> Result<(), Fail> {
     let alloc = rt.alloc();
+    let line = "little types";
+    assert!(rt; comes_to_over(alloc, line, "", "\0", "0 ")?);
     // A name that cannot be read, and a record of kind 0 where the first text is not empty.
-    let rows = [
-        ("", "\0", "0 "),
-        ("9 02000000 0", "\0", "0 1 [PTR]\n"),
-        ("7 0 9", "text\0", "0 1 [UNKNOWN] text\n"),
-        ("0 0 0", "text", "0 1 [UNKNOWN]\n"),
-    ];
-    for (records, strings, listed) in rows {
-        let blob = blob_of(alloc, records, strings)?;
-        let answer = outcome(alloc, "little types", &blob)?;
-        assert!(rt; answer.as_str() == listed, "{listed}");
-    }
+    assert!(rt; comes_to_over(alloc, line, "9 02000000 0", "\0", "0 1 [PTR]\n")?);
+    assert!(rt; comes_to_over(alloc, line, "7 0 9", "text\0", "0 1 [UNKNOWN] text\n")?);
+    assert!(rt; comes_to_over(alloc, line, "0 0 0", "text", "0 1 [UNKNOWN]\n")?);
     Ok(())
 }
+
+const SIZES: [(&str, &str); 8] = [
+    ("little size 1", "0 8\n"),
+    ("little size 2", "0 24\n"),
+    ("little size 5", "0 4\n"),
+    ("little size 9", "0 4\n"),
+    ("little size 0000000000011", "0 4\n"),
+    ("little size 12", "0 0\n"),
+    ("little size 7", "1 unexpected BTF type id `7`\n"),
+    ("little size 13", "1 unknown BTF type id `13`\n"),
+];
 
 #[test]
 fn sizes_are_told(rt: HostRuntime) -> Result<(), Fail> {
-    let alloc = rt.alloc();
-    let blob = blob_of(alloc, RECORDS, STRINGS)?;
-    let rows = [
-        ("little size 1", "0 8\n"),
-        ("little size 2", "0 24\n"),
-        ("little size 5", "0 4\n"),
-        ("little size 9", "0 4\n"),
-        ("little size 0000000000011", "0 4\n"),
-        ("little size 12", "0 0\n"),
-        ("little size 7", "1 unexpected BTF type id `7`\n"),
-        ("little size 13", "1 unknown BTF type id `13`\n"),
-    ];
-    for (line, told) in rows {
-        let answer = outcome(alloc, line, &blob)?;
-        assert!(rt; answer.as_str() == told, "{line}");
+    for (line, told) in &SIZES {
+        assert!(rt;
+            comes_to_over(rt.alloc(), line, RECORDS, STRINGS, told)?,
+            "{line}"
+        );
     }
     Ok(())
 }
+
+const COMPARISONS: [(&str, &str); 5] = [
+    ("little compat 3 4", "0 false\nstarts 1\n"),
+    ("little compat 5 5", "0 true\nstarts 2\n"),
+    ("little compat 7 7", "1 unexpected BTF type id `7`\n"),
+    ("little compat 13 1", "1 unknown BTF type id `13`\n"),
+    ("little compat 1 14", "1 unknown BTF type id `14`\n"),
+];
 
 #[test]
 fn comparisons_are_told(rt: HostRuntime) -> Result<(), Fail> {
-    let alloc = rt.alloc();
-    let blob = blob_of(alloc, RECORDS, STRINGS)?;
-    let rows = [
-        ("little compat 3 4", "0 false\nstarts 1\n"),
-        ("little compat 5 5", "0 true\nstarts 2\n"),
-        ("little compat 7 7", "1 unexpected BTF type id `7`\n"),
-        ("little compat 13 1", "1 unknown BTF type id `13`\n"),
-        ("little compat 1 14", "1 unknown BTF type id `14`\n"),
-    ];
-    for (line, told) in rows {
-        let answer = outcome(alloc, line, &blob)?;
-        assert!(rt; answer.as_str() == told, "{line}");
+    for (line, told) in &COMPARISONS {
+        assert!(rt;
+            comes_to_over(rt.alloc(), line, RECORDS, STRINGS, told)?,
+            "{line}"
+        );
     }
     Ok(())
 }
+
+/// The table without types, whose header says that four bytes of types are there.
+const CUT_TYPES: [u8; 25] = [
+    0x9f, 0xeb, 1, 0, 0x18, 0, 0, 0, 0, 0, 0, 0, 4, 0, 0, 0, 0, 0, 0, 0, 1, 0, 0, 0, 0,
+];
 
 #[test]
 fn refused_input_has_the_fault_s_text(rt: HostRuntime) -> Result<(), Fail> {
-    let mut cut_types = EMPTY;
-    cut_types[12] = 4;
-    let rows: [(&[u8], &str); 2] = [
-        (&EMPTY[..23], "1 error parsing BTF header\n"),
-        (&cut_types, "1 invalid BTF type info segment\n"),
-    ];
-    for (blob, told) in rows {
-        let answer = outcome(rt.alloc(), "little copy", blob)?;
-        assert!(rt; answer.as_str() == told, "{told}");
-    }
+    let alloc = rt.alloc();
+    let line = "little copy";
+    assert!(rt; comes_to(alloc, line, &EMPTY[..23], "1 error parsing BTF header\n")?);
+    assert!(rt; comes_to(alloc, line, &CUT_TYPES, "1 invalid BTF type info segment\n")?);
     Ok(())
 }
 
+/// Lines that can't be read, each after a line break.
+const UNREADABLE: &str = "
+little
+copy
+middle copy
+Little copy
+little copy copy
+little types 1
+little size
+little size 1 2
+little size +1
+little size -1
+little size 4294967296
+little size 1x
+little size\x20
+little compat 1
+little compat 1 2 3
+little compat 1 +1
+little compat 1 4294967296
+little rewritten";
+
 #[test]
 fn unreadable_lines_have_the_usage(rt: HostRuntime) -> Result<(), Fail> {
-    let lines = [
-        "",
-        "little",
-        "copy",
-        "middle copy",
-        "Little copy",
-        "little copy copy",
-        "little types 1",
-        "little size",
-        "little size 1 2",
-        "little size +1",
-        "little size -1",
-        "little size 4294967296",
-        "little size 1x",
-        "little size ",
-        "little compat 1",
-        "little compat 1 2 3",
-        "little compat 1 +1",
-        "little compat 1 4294967296",
-        "little rewritten",
-    ];
-    assert!(rt; have_usage(rt.alloc(), &[]));
-    for line in lines {
+    for line in UNREADABLE.split('\n') {
         assert!(rt; has_usage(rt.alloc(), line)?, "{line}");
     }
     Ok(())
 }
 
-/// The status of a copy whose output fails, and what is written on standard error.
-fn unwritten(alloc: Global) -> Result<(u8, Vec<u8>), Fail> {
+#[test]
+fn no_words_have_the_usage(rt: HostRuntime) -> Result<(), Fail> {
+    assert!(rt; fail_with(rt.alloc(), &[], 2, USAGE));
+    Ok(())
+}
+
+/// Whether a copy whose output fails ends with status 1, and with this message.
+fn is_unwritten(alloc: Global, message: &str) -> Result<bool, Fail> {
     let mut input = EMPTY.as_slice();
     let mut err = Vec::new(alloc);
     let words = words(alloc, "little copy")?;
     let status = run(alloc, &words, &mut input, &mut Failing, &mut err);
-    Ok((status, err))
+    Ok(status == 1 && are_equal(&err, message.as_bytes()))
+}
+
+/// The status of a line whose input, output and messages fail.
+fn unsaid(alloc: Global, line: &str) -> Result<u8, Fail> {
+    let words = words(alloc, line)?;
+    Ok(run(alloc, &words, &mut Failing, &mut Failing, &mut Failing))
 }
 
 #[test]
 fn an_input_that_fails_is_told(rt: HostRuntime) -> Result<(), Fail> {
-    let alloc = rt.alloc();
-    let words = words(alloc, "little copy")?;
-    let (status, err) = unread(alloc, &words);
-    assert!(rt; status == 1);
-    assert!(rt; err.as_slice() == b"cannot read standard input\n".as_slice());
+    let message = "cannot read standard input\n";
+    assert!(rt; fails_with(rt.alloc(), "little copy", 1, message)?);
     // A message that cannot be written changes nothing.
-    assert_eq!(rt;
-        run(alloc, &words, &mut Failing, &mut Failing, &mut Failing),
-        1
-    );
+    assert!(rt; unsaid(rt.alloc(), "little copy")? == 1);
     Ok(())
 }
 
 #[test]
 fn an_output_that_fails_is_told(rt: HostRuntime) -> Result<(), Fail> {
-    let (status, err) = unwritten(rt.alloc())?;
-    assert!(rt; status == 1);
-    assert!(rt; err.as_slice() == b"cannot write standard output\n".as_slice());
+    assert!(rt; is_unwritten(rt.alloc(), "cannot write standard output\n")?);
     Ok(())
 }

@@ -12,14 +12,17 @@ use std::test::Fail;
 /// A `.BTF.ext` section of two relocation sections, whose names stand at 1.
 const RELOCATIONS: &str = "32 0 0 0 0 0 52  16  1 1 1 2 3 4  1 1 5 6 7 8";
 
+fn value_twice(probe: &Probe, btf: &Btf, report: &mut Report) -> Result<(), Fail> {
+    probe.begin(report)?;
+    let first = variant_value(btf, 1, "B");
+    probe.end(&first, report)?;
+    report.result("again", &variant_value(btf, 1, "B"))
+}
+
 /// The value of the variant "B" of the last type.
 pub fn value(probe: &Probe, blob: &[u8], report: &mut Report) -> Result<(), Fail> {
     let btf = Btf::parse(probe.alloc, blob, probe.order)?;
-    probe.begin(report)?;
-    let first = variant_value(&btf, 1, "B");
-    probe.end(report)?;
-    report.result("first", &first)?;
-    report.result("again", &variant_value(&btf, 1, "B"))
+    value_twice(probe, &btf, report)
 }
 
 /// The number of relocations of the sections named "\u{fffd}A".
@@ -28,14 +31,27 @@ fn count(probe: &Probe, ext: &BtfExt, btf: &Btf) -> Result<u64, BtfError> {
     Ok(found.len() as u64)
 }
 
-pub fn relocations(probe: &Probe, blob: &[u8], report: &mut Report) -> Result<(), Fail> {
-    let btf = Btf::parse(probe.alloc, blob, probe.order)?;
+fn count_twice(probe: &Probe, ext: &BtfExt, btf: &Btf, report: &mut Report) -> Result<(), Fail> {
+    probe.begin(report)?;
+    let first = count(probe, ext, btf);
+    probe.end(&first, report)?;
+    report.result("again", &count(probe, ext, btf))
+}
+
+/// The `.BTF.ext` section as bytes.
+fn section(probe: &Probe) -> Result<Vec<u8>, Fail> {
     let mut data = Vec::from_slice(probe.alloc, &front(probe.order))?;
     data.extend_from_slice(&spelled_decimals(probe.alloc, RELOCATIONS, probe.order)?)?;
-    let ext = BtfExt::parse(&data, probe.order, &btf)?;
-    probe.begin(report)?;
-    let first = count(probe, &ext, &btf);
-    probe.end(report)?;
-    report.result("first", &first)?;
-    report.result("again", &count(probe, &ext, &btf))
+    Ok(data)
+}
+
+fn read(probe: &Probe, btf: &Btf) -> Result<BtfExt, Fail> {
+    let data = section(probe)?;
+    Ok(BtfExt::parse(&data, probe.order, btf)?)
+}
+
+pub fn relocations(probe: &Probe, blob: &[u8], report: &mut Report) -> Result<(), Fail> {
+    let btf = Btf::parse(probe.alloc, blob, probe.order)?;
+    let ext = read(probe, &btf)?;
+    count_twice(probe, &ext, &btf, report)
 }

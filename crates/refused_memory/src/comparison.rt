@@ -15,15 +15,22 @@ fn compare(work: &str, btf: &Btf, starts: &mut Vec<(u32, u32)>) -> Result<bool, 
     }
 }
 
-pub fn compared(work: &str, probe: &Probe, blob: &[u8], report: &mut Report) -> Result<(), Fail> {
-    let btf = Btf::parse(probe.alloc, blob, probe.order)?;
+fn compare_first(work: &str, probe: &Probe, btf: &Btf, report: &mut Report) -> Result<(), Fail> {
     let mut starts = Vec::new(probe.alloc);
     probe.begin(report)?;
-    let first = compare(work, &btf, &mut starts);
-    probe.end(report)?;
-    report.result("first", &first)?;
-    report.pairs("starts", &starts)?;
+    let first = compare(work, btf, &mut starts);
+    probe.end(&first, report)?;
+    report.pairs("starts", &starts)
+}
+
+fn compare_again(work: &str, probe: &Probe, btf: &Btf, report: &mut Report) -> Result<(), Fail> {
     let mut all = Vec::new(probe.alloc);
-    report.result("again", &compare(work, &btf, &mut all))?;
+    report.result("again", &compare(work, btf, &mut all))?;
     report.pairs("all", &all)
+}
+
+pub fn compared(work: &str, probe: &Probe, blob: &[u8], report: &mut Report) -> Result<(), Fail> {
+    let btf = Btf::parse(probe.alloc, blob, probe.order)?;
+    compare_first(work, probe, &btf, report)?;
+    compare_again(work, probe, &btf, report)
 }

@@ -30,13 +30,34 @@ fn make(
     }
 }
 
+fn made_twice(
+    work: &str,
+    probe: &Probe,
+    data: &[u8],
+    ext: &BtfExt,
+    btf: &Btf,
+    report: &mut Report,
+) -> Result<(), Fail> {
+    probe.begin(report)?;
+    let first = make(work, probe, data, ext, btf);
+    probe.end(&first, report)?;
+    report.result("again", &make(work, probe, data, ext, btf))
+}
+
+/// Does the work on a section that was parsed.
+fn done_on(
+    work: &str,
+    probe: &Probe,
+    data: &[u8],
+    btf: &Btf,
+    report: &mut Report,
+) -> Result<(), Fail> {
+    let ext = BtfExt::parse(data, probe.order, btf)?;
+    made_twice(work, probe, data, &ext, btf, report)
+}
+
 pub fn done(work: &str, probe: &Probe, blob: &[u8], report: &mut Report) -> Result<(), Fail> {
     let btf = Btf::parse(probe.alloc, blob, probe.order)?;
     let data = program_ext(probe.alloc, probe.order)?;
-    let ext = BtfExt::parse(&data, probe.order, &btf)?;
-    probe.begin(report)?;
-    let first = make(work, probe, &data, &ext, &btf);
-    probe.end(report)?;
-    report.result("first", &first)?;
-    report.result("again", &make(work, probe, &data, &ext, &btf))
+    done_on(work, probe, &data, &btf, report)
 }

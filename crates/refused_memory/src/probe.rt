@@ -1,7 +1,8 @@
 //! Requests for memory before a call and after it.
 
-use crate::report::Report;
-use btf_plain::Endianness;
+use crate::report::{Report, Show};
+use btf_plain::{BtfError, Endianness};
+use btf_types::Btf;
 use std::alloc::Global;
 use std::test::Fail;
 
@@ -40,9 +41,32 @@ impl Probe {
         report.count("before", granted)
     }
 
-    /// Makes the requests that come after the call.
-    pub fn end(&self, report: &mut Report) -> Result<(), Fail> {
+    /// The same, after the table that the call changes is written down.
+    pub fn begin_on(&self, btf: &Btf, report: &mut Report) -> Result<(), Fail> {
+        report.value("table", btf)?;
+        self.begin(report)
+    }
+
+    /// Makes the requests that come after the call, and writes down what it returned.
+    pub fn end<T: Show>(
+        &self,
+        first: &Result<T, BtfError>,
+        report: &mut Report,
+    ) -> Result<(), Fail> {
         let granted = granted(self.alloc, self.after);
-        report.count("after", granted)
+        report.count("after", granted)?;
+        report.result("first", first)
+    }
+
+    /// The same, with what the table is then. Whether the call is to be made again, since it was refused.
+    pub fn end_on<T: Show>(
+        &self,
+        first: &Result<T, BtfError>,
+        btf: &Btf,
+        report: &mut Report,
+    ) -> Result<bool, Fail> {
+        self.end(first, report)?;
+        report.value("then", btf)?;
+        Ok(first.is_err())
     }
 }

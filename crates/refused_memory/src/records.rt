@@ -15,14 +15,16 @@ fn bytes_of(work: &str, probe: &Probe, record: &BtfType) -> Result<Vec<u8>, BtfE
     }
 }
 
+/// The bytes of the first record of a table, read.
+fn read(probe: &Probe, blob: &[u8]) -> Result<Vec<u8>, BtfError> {
+    // It stands after the header.
+    let data = blob.get(24..).unwrap_or(&[]);
+    let record = BtfType::read(probe.alloc, data, probe.order)?;
+    record.to_bytes(probe.alloc, probe.order)
+}
+
 /// The bytes of all records of a table, as the work makes them.
-fn make(work: &str, probe: &Probe, blob: &[u8], btf: &Btf) -> Result<Vec<u8>, BtfError> {
-    if work == "read_type" {
-        // The first record stands after the header.
-        let data = blob.get(24..).unwrap_or(&[]);
-        let record = BtfType::read(probe.alloc, data, probe.order)?;
-        return record.to_bytes(probe.alloc, probe.order);
-    }
+fn all_bytes(work: &str, probe: &Probe, btf: &Btf) -> Result<Vec<u8>, BtfError> {
     let mut all = Vec::new(probe.alloc);
     for record in btf.types() {
         all.extend_from_slice(&bytes_of(work, probe, record)?)?;
@@ -30,11 +32,27 @@ fn make(work: &str, probe: &Probe, blob: &[u8], btf: &Btf) -> Result<Vec<u8>, Bt
     Ok(all)
 }
 
+fn make(work: &str, probe: &Probe, blob: &[u8], btf: &Btf) -> Result<Vec<u8>, BtfError> {
+    match work {
+        "read_type" => read(probe, blob),
+        _ => all_bytes(work, probe, btf),
+    }
+}
+
+fn made_twice(
+    work: &str,
+    probe: &Probe,
+    blob: &[u8],
+    btf: &Btf,
+    report: &mut Report,
+) -> Result<(), Fail> {
+    probe.begin(report)?;
+    let first = make(work, probe, blob, btf);
+    probe.end(&first, report)?;
+    report.result("again", &make(work, probe, blob, btf))
+}
+
 pub fn all(work: &str, probe: &Probe, blob: &[u8], report: &mut Report) -> Result<(), Fail> {
     let btf = Btf::parse(probe.alloc, blob, probe.order)?;
-    probe.begin(report)?;
-    let first = make(work, probe, blob, &btf);
-    probe.end(report)?;
-    report.result("first", &first)?;
-    report.result("again", &make(work, probe, blob, &btf))
+    made_twice(work, probe, blob, &btf, report)
 }

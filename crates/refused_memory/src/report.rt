@@ -159,6 +159,12 @@ impl Report {
         }
     }
 
+    /// Lines of what a call returned that was made again, and of what the table is then.
+    pub fn last<T: Show>(&mut self, outcome: &Result<T, BtfError>, btf: &Btf) -> Result<(), Fail> {
+        self.result("again", outcome)?;
+        self.value("last", btf)
+    }
+
     /// A line of pairs of ids.
     pub fn pairs(&mut self, name: &str, pairs: &[(u32, u32)]) -> Result<(), Fail> {
         write!(self.text, "{name}:")?;

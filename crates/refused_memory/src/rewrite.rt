@@ -53,14 +53,13 @@ fn ksyms_of(work: &str, btf: &Btf) -> Option<KsymsIds> {
     })
 }
 
-/// Rewrites a table, and returns how often the predicate was called.
-fn rewrite(work: &str, program: &Program, btf: &mut Btf) -> (Result<(), BtfError>, u32) {
+/// Rewrites a table, and counts in `asked` how often the predicate is called.
+fn rewrite(work: &str, program: &Program, btf: &mut Btf, asked: &mut u32) -> Result<(), BtfError> {
     let ksyms = ksyms_of(work, btf);
     let has_all = work == "rewrite_granted";
     let has_sections = work == "rewrite_sections";
-    let mut calls = 0u32;
     let mut resolver = BtfFeatureResolver::new(|feature| {
-        calls = calls.wrapping_add(1);
+        *asked = asked.wrapping_add(1);
         has_all || has_sections && feature == BtfFeature::DataSec
     });
     let answers = btf.fixup_and_sanitize_with(
@@ -70,36 +69,41 @@ fn rewrite(work: &str, program: &Program, btf: &mut Btf) -> (Result<(), BtfError
         FillPolicy::FillSized,
         &mut resolver,
     );
-    (answers.map(|_| ()), calls)
+    answers.map(|_| ())
 }
 
 /// Rewrites a table for a kernel that has none of the features.
 pub fn deny_all(alloc: Global, btf: &mut Btf) -> Result<(), Fail> {
     let program = known(alloc)?;
-    rewrite("rewrite", &program, btf).0?;
+    rewrite("rewrite", &program, btf, &mut 0)?;
     Ok(())
+}
+
+fn rewritten_twice(
+    work: &str,
+    probe: &Probe,
+    program: &Program,
+    btf: &mut Btf,
+    report: &mut Report,
+) -> Result<(), Fail> {
+    let mut asked = 0;
+    probe.begin_on(btf, report)?;
+    let first = rewrite(work, program, btf, &mut asked);
+    if probe.end_on(&first, btf, report)? {
+        let mut asked = 0;
+        report.last(&rewrite(work, program, btf, &mut asked), btf)?;
+        report.value("asked again", &asked)?;
+    }
+    report.value("asked", &asked)
 }
 
 pub fn whole(work: &str, probe: &Probe, blob: &[u8], report: &mut Report) -> Result<(), Fail> {
     let program = known(probe.alloc)?;
     let mut btf = Btf::parse(probe.alloc, blob, probe.order)?;
     if work == "rewrite_again" {
-        rewrite(work, &program, &mut btf).0?;
+        rewrite(work, &program, &mut btf, &mut 0)?;
     }
-    report.value("table", &btf)?;
-    probe.begin(report)?;
-    let (first, asked) = rewrite(work, &program, &mut btf);
-    probe.end(report)?;
-    report.value("asked", &asked)?;
-    report.result("first", &first)?;
-    report.value("then", &btf)?;
-    if first.is_err() {
-        let (again, asked) = rewrite(work, &program, &mut btf);
-        report.value("asked again", &asked)?;
-        report.result("again", &again)?;
-        report.value("last", &btf)?;
-    }
-    Ok(())
+    rewritten_twice(work, probe, &program, &mut btf, report)
 }
 
 /// The step of the kernel's symbols alone, with a placeholder of functions or without.
@@ -109,19 +113,23 @@ fn fixup(work: &str, btf: &mut Btf) -> Result<(), BtfError> {
     btf.fixup_ksyms_datasec(last, placeholder_id)
 }
 
-pub fn step(work: &str, probe: &Probe, blob: &[u8], report: &mut Report) -> Result<(), Fail> {
-    let mut btf = Btf::parse(probe.alloc, blob, probe.order)?;
-    report.value("table", &btf)?;
-    probe.begin(report)?;
-    let first = fixup(work, &mut btf);
-    probe.end(report)?;
-    report.result("first", &first)?;
-    report.value("then", &btf)?;
-    if first.is_err() {
-        report.result("again", &fixup(work, &mut btf))?;
-        report.value("last", &btf)?;
+fn fixed_up_twice(
+    work: &str,
+    probe: &Probe,
+    btf: &mut Btf,
+    report: &mut Report,
+) -> Result<(), Fail> {
+    probe.begin_on(btf, report)?;
+    let first = fixup(work, btf);
+    if probe.end_on(&first, btf, report)? {
+        report.last(&fixup(work, btf), btf)?;
     }
     Ok(())
+}
+
+pub fn step(work: &str, probe: &Probe, blob: &[u8], report: &mut Report) -> Result<(), Fail> {
+    let mut btf = Btf::parse(probe.alloc, blob, probe.order)?;
+    fixed_up_twice(work, probe, &mut btf, report)
 }
 
 /// The bytes of the rewritten table.
@@ -140,11 +148,19 @@ fn rewritten(probe: &Probe, program: &Program, blob: &[u8]) -> Result<Vec<u8>, B
     Ok(bytes)
 }
 
+fn bytes_twice(
+    probe: &Probe,
+    program: &Program,
+    blob: &[u8],
+    report: &mut Report,
+) -> Result<(), Fail> {
+    probe.begin(report)?;
+    let first = rewritten(probe, program, blob);
+    probe.end(&first, report)?;
+    report.result("again", &rewritten(probe, program, blob))
+}
+
 pub fn bytes(probe: &Probe, blob: &[u8], report: &mut Report) -> Result<(), Fail> {
     let program = known(probe.alloc)?;
-    probe.begin(report)?;
-    let first = rewritten(probe, &program, blob);
-    probe.end(report)?;
-    report.result("first", &first)?;
-    report.result("again", &rewritten(probe, &program, blob))
+    bytes_twice(probe, &program, blob, report)
 }

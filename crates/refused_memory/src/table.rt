@@ -25,20 +25,29 @@ pub fn made(work: &str, probe: &Probe, blob: &[u8], report: &mut Report) -> Resu
         deny_all(probe.alloc, &mut btf)?;
     }
     if work == "to_bytes" {
-        return written(probe, &btf, report);
+        written(probe, &btf, report)
+    } else {
+        made_twice(work, probe, blob, &btf, report)
     }
+}
+
+fn made_twice(
+    work: &str,
+    probe: &Probe,
+    blob: &[u8],
+    btf: &Btf,
+    report: &mut Report,
+) -> Result<(), Fail> {
     probe.begin(report)?;
-    let first = make(work, probe, blob, &btf);
-    probe.end(report)?;
-    report.result("first", &first)?;
-    report.result("again", &make(work, probe, blob, &btf))
+    let first = make(work, probe, blob, btf);
+    probe.end(&first, report)?;
+    report.result("again", &make(work, probe, blob, btf))
 }
 
 fn written(probe: &Probe, btf: &Btf, report: &mut Report) -> Result<(), Fail> {
     probe.begin(report)?;
     let first = btf.to_bytes();
-    probe.end(report)?;
-    report.result("first", &first)?;
+    probe.end(&first, report)?;
     report.result("again", &btf.to_bytes())
 }
 
@@ -53,17 +62,22 @@ fn add(work: &str, btf: &mut Btf) -> Result<u32, BtfError> {
 
 pub fn added(work: &str, probe: &Probe, blob: &[u8], report: &mut Report) -> Result<(), Fail> {
     let mut btf = Btf::parse(probe.alloc, blob, probe.order)?;
-    report.value("table", &btf)?;
-    probe.begin(report)?;
-    let first = add(work, &mut btf);
-    probe.end(report)?;
-    report.result("first", &first)?;
-    report.value("then", &btf)?;
-    if first.is_err() {
-        report.result("again", &add(work, &mut btf))?;
-        report.value("last", &btf)?;
+    added_twice(work, probe, &mut btf, report)
+}
+
+fn added_twice(work: &str, probe: &Probe, btf: &mut Btf, report: &mut Report) -> Result<(), Fail> {
+    probe.begin_on(btf, report)?;
+    let first = add(work, btf);
+    if probe.end_on(&first, btf, report)? {
+        report.last(&add(work, btf), btf)?;
     }
     Ok(())
+}
+
+/// The first text of the strings.
+fn first_text(probe: &Probe, btf: &Btf) -> Result<String, BtfError> {
+    let text = btf.string_at(1)?;
+    Ok(String::from_str(probe.alloc, text.as_str())?)
 }
 
 /// The text of the last type's name.
@@ -82,27 +96,30 @@ fn last_name_if_any(probe: &Probe, btf: &Btf) -> Result<String, BtfError> {
     )
 }
 
+/// The id of the INT "foo", in decimal.
+fn id_of_foo(probe: &Probe, btf: &Btf) -> Result<String, BtfError> {
+    let id = btf.id_by_type_name_kind("foo", BtfKind::Int)?;
+    Ok(format!(in probe.alloc; "{id}")?)
+}
+
 /// What a look-up finds, as a text.
 fn find(work: &str, probe: &Probe, btf: &Btf) -> Result<String, BtfError> {
     match work {
-        "string_at" => {
-            let text = btf.string_at(1)?;
-            Ok(String::from_str(probe.alloc, text.as_str())?)
-        }
+        "string_at" => first_text(probe, btf),
         "type_name" => last_name(probe, btf),
         "err_type_name" => last_name_if_any(probe, btf),
-        _ => {
-            let id = btf.id_by_type_name_kind("foo", BtfKind::Int)?;
-            Ok(format!(in probe.alloc; "{id}")?)
-        }
+        _ => id_of_foo(probe, btf),
     }
+}
+
+fn named_twice(work: &str, probe: &Probe, btf: &Btf, report: &mut Report) -> Result<(), Fail> {
+    probe.begin(report)?;
+    let first = find(work, probe, btf);
+    probe.end(&first, report)?;
+    report.result("again", &find(work, probe, btf))
 }
 
 pub fn named(work: &str, probe: &Probe, blob: &[u8], report: &mut Report) -> Result<(), Fail> {
     let btf = Btf::parse(probe.alloc, blob, probe.order)?;
-    probe.begin(report)?;
-    let first = find(work, probe, &btf);
-    probe.end(report)?;
-    report.result("first", &first)?;
-    report.result("again", &find(work, probe, &btf))
+    named_twice(work, probe, &btf, report)
 }

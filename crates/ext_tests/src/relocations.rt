@@ -1,9 +1,9 @@
 //! The relocations of a section of a program.
 
+use crate::spelled::{ext_bytes, parsed_under};
 use btf_above::relocations_of;
 use btf_plain::{BtfError, Endianness};
-use btf_samples::blobs::{front, table_of};
-use btf_samples::spelled::spelled_decimals;
+use btf_samples::blobs::table_of;
 use btf_types::{Btf, BtfExt};
 use std::alloc::Global;
 use std::test::Fail;
@@ -16,9 +16,8 @@ const UNREADABLE: &str = "32 0 0 0 0 0 52  16  1 1 1 2 3 4  9 1 5 6 7 8";
 
 /// The `.BTF.ext` section of a header's first four bytes and these words, parsed under a table.
 fn ext_of(alloc: Global, words: &str, table: &Btf) -> Result<BtfExt, Fail> {
-    let mut bytes = Vec::from_slice(alloc, &front(Endianness::Little))?;
-    bytes.extend_from_slice(&spelled_decimals(alloc, words, Endianness::Little)?)?;
-    Ok(BtfExt::parse(&bytes, Endianness::Little, table)?)
+    let bytes = ext_bytes(alloc, words, Endianness::Little)?;
+    parsed_under(&bytes, Endianness::Little, table)
 }
 
 /// The table of one INT, and of the name "xdp" at 1.
