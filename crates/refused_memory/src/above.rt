@@ -12,30 +12,16 @@ use std::test::Fail;
 /// A `.BTF.ext` section of two relocation sections, whose names stand at 1.
 const RELOCATIONS: &str = "32 0 0 0 0 0 52  16  1 1 1 2 3 4  1 1 5 6 7 8";
 
-fn value_twice(probe: &Probe, btf: &Btf, report: &mut Report) -> Result<(), Fail> {
-    probe.begin(report)?;
-    let first = variant_value(btf, 1, "B");
-    probe.end(&first, report)?;
-    report.result("again", &variant_value(btf, 1, "B"))
-}
-
 /// The value of the variant "B" of the last type.
 pub fn value(probe: &Probe, blob: &[u8], report: &mut Report) -> Result<(), Fail> {
     let btf = Btf::parse(probe.alloc, blob, probe.order)?;
-    value_twice(probe, &btf, report)
+    probe.twice(report, || variant_value(&btf, 1, "B"))
 }
 
 /// The number of relocations of the sections named "\u{fffd}A".
 fn count(probe: &Probe, ext: &BtfExt, btf: &Btf) -> Result<u64, BtfError> {
     let found = relocations_of(probe.alloc, ext, btf, "\u{fffd}A")?;
     Ok(found.len() as u64)
-}
-
-fn count_twice(probe: &Probe, ext: &BtfExt, btf: &Btf, report: &mut Report) -> Result<(), Fail> {
-    probe.begin(report)?;
-    let first = count(probe, ext, btf);
-    probe.end(&first, report)?;
-    report.result("again", &count(probe, ext, btf))
 }
 
 /// The `.BTF.ext` section as bytes.
@@ -53,5 +39,5 @@ fn read(probe: &Probe, btf: &Btf) -> Result<BtfExt, Fail> {
 pub fn relocations(probe: &Probe, blob: &[u8], report: &mut Report) -> Result<(), Fail> {
     let btf = Btf::parse(probe.alloc, blob, probe.order)?;
     let ext = read(probe, &btf)?;
-    count_twice(probe, &ext, &btf, report)
+    probe.twice(report, || count(probe, &ext, &btf))
 }

@@ -30,20 +30,6 @@ fn make(
     }
 }
 
-fn made_twice(
-    work: &str,
-    probe: &Probe,
-    data: &[u8],
-    ext: &BtfExt,
-    btf: &Btf,
-    report: &mut Report,
-) -> Result<(), Fail> {
-    probe.begin(report)?;
-    let first = make(work, probe, data, ext, btf);
-    probe.end(&first, report)?;
-    report.result("again", &make(work, probe, data, ext, btf))
-}
-
 /// Does the work on a section that was parsed.
 fn done_on(
     work: &str,
@@ -53,7 +39,7 @@ fn done_on(
     report: &mut Report,
 ) -> Result<(), Fail> {
     let ext = BtfExt::parse(data, probe.order, btf)?;
-    made_twice(work, probe, data, &ext, btf, report)
+    probe.twice(report, || make(work, probe, data, &ext, btf))
 }
 
 pub fn done(work: &str, probe: &Probe, blob: &[u8], report: &mut Report) -> Result<(), Fail> {

@@ -35,6 +35,38 @@ impl Probe {
         }
     }
 
+    /// Makes a call, which changes nothing, and makes it again; writes down what it returns.
+    pub fn twice<T: Show + Drop, F: Fn() -> Result<T, BtfError>>(
+        &self,
+        report: &mut Report,
+        call: F,
+    ) -> Result<(), Fail>
+        requires { F.IsAlwaysCallable call }
+    {
+        self.begin(report)?;
+        let first = call();
+        self.end(&first, report)?;
+        report.result("again", &call())
+    }
+
+    /// Makes a call that changes a table, and makes it again if it is refused; writes down what it returns, and what the
+    /// table is before it and after it.
+    pub fn twice_on<T: Show + Drop, F: Fn(&mut Btf) -> Result<T, BtfError>>(
+        &self,
+        btf: &mut Btf,
+        report: &mut Report,
+        call: F,
+    ) -> Result<(), Fail>
+        requires { F.IsAlwaysCallable call }
+    {
+        self.begin_on(btf, report)?;
+        let first = call(btf);
+        if self.end_on(&first, btf, report)? {
+            report.last(&call(btf), btf)?;
+        }
+        Ok(())
+    }
+
     /// Makes the requests that come before the call.
     pub fn begin(&self, report: &mut Report) -> Result<(), Fail> {
         let granted = granted(self.alloc, self.before);

@@ -39,20 +39,7 @@ fn make(work: &str, probe: &Probe, blob: &[u8], btf: &Btf) -> Result<Vec<u8>, Bt
     }
 }
 
-fn made_twice(
-    work: &str,
-    probe: &Probe,
-    blob: &[u8],
-    btf: &Btf,
-    report: &mut Report,
-) -> Result<(), Fail> {
-    probe.begin(report)?;
-    let first = make(work, probe, blob, btf);
-    probe.end(&first, report)?;
-    report.result("again", &make(work, probe, blob, btf))
-}
-
 pub fn all(work: &str, probe: &Probe, blob: &[u8], report: &mut Report) -> Result<(), Fail> {
     let btf = Btf::parse(probe.alloc, blob, probe.order)?;
-    made_twice(work, probe, blob, &btf, report)
+    probe.twice(report, || make(work, probe, blob, &btf))
 }

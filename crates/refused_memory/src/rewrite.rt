@@ -113,23 +113,9 @@ fn fixup(work: &str, btf: &mut Btf) -> Result<(), BtfError> {
     btf.fixup_ksyms_datasec(last, placeholder_id)
 }
 
-fn fixed_up_twice(
-    work: &str,
-    probe: &Probe,
-    btf: &mut Btf,
-    report: &mut Report,
-) -> Result<(), Fail> {
-    probe.begin_on(btf, report)?;
-    let first = fixup(work, btf);
-    if probe.end_on(&first, btf, report)? {
-        report.last(&fixup(work, btf), btf)?;
-    }
-    Ok(())
-}
-
 pub fn step(work: &str, probe: &Probe, blob: &[u8], report: &mut Report) -> Result<(), Fail> {
     let mut btf = Btf::parse(probe.alloc, blob, probe.order)?;
-    fixed_up_twice(work, probe, &mut btf, report)
+    probe.twice_on(&mut btf, report, |btf| fixup(work, btf))
 }
 
 /// The bytes of the rewritten table.
@@ -148,19 +134,7 @@ fn rewritten(probe: &Probe, program: &Program, blob: &[u8]) -> Result<Vec<u8>, B
     Ok(bytes)
 }
 
-fn bytes_twice(
-    probe: &Probe,
-    program: &Program,
-    blob: &[u8],
-    report: &mut Report,
-) -> Result<(), Fail> {
-    probe.begin(report)?;
-    let first = rewritten(probe, program, blob);
-    probe.end(&first, report)?;
-    report.result("again", &rewritten(probe, program, blob))
-}
-
 pub fn bytes(probe: &Probe, blob: &[u8], report: &mut Report) -> Result<(), Fail> {
     let program = known(probe.alloc)?;
-    bytes_twice(probe, &program, blob, report)
+    probe.twice(report, || rewritten(probe, &program, blob))
 }

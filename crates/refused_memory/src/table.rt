@@ -25,30 +25,10 @@ pub fn made(work: &str, probe: &Probe, blob: &[u8], report: &mut Report) -> Resu
         deny_all(probe.alloc, &mut btf)?;
     }
     if work == "to_bytes" {
-        written(probe, &btf, report)
+        probe.twice(report, || btf.to_bytes())
     } else {
-        made_twice(work, probe, blob, &btf, report)
+        probe.twice(report, || make(work, probe, blob, &btf))
     }
-}
-
-fn made_twice(
-    work: &str,
-    probe: &Probe,
-    blob: &[u8],
-    btf: &Btf,
-    report: &mut Report,
-) -> Result<(), Fail> {
-    probe.begin(report)?;
-    let first = make(work, probe, blob, btf);
-    probe.end(&first, report)?;
-    report.result("again", &make(work, probe, blob, btf))
-}
-
-fn written(probe: &Probe, btf: &Btf, report: &mut Report) -> Result<(), Fail> {
-    probe.begin(report)?;
-    let first = btf.to_bytes();
-    probe.end(&first, report)?;
-    report.result("again", &btf.to_bytes())
 }
 
 /// Adds a string or a type.
@@ -62,16 +42,7 @@ fn add(work: &str, btf: &mut Btf) -> Result<u32, BtfError> {
 
 pub fn added(work: &str, probe: &Probe, blob: &[u8], report: &mut Report) -> Result<(), Fail> {
     let mut btf = Btf::parse(probe.alloc, blob, probe.order)?;
-    added_twice(work, probe, &mut btf, report)
-}
-
-fn added_twice(work: &str, probe: &Probe, btf: &mut Btf, report: &mut Report) -> Result<(), Fail> {
-    probe.begin_on(btf, report)?;
-    let first = add(work, btf);
-    if probe.end_on(&first, btf, report)? {
-        report.last(&add(work, btf), btf)?;
-    }
-    Ok(())
+    probe.twice_on(&mut btf, report, |btf| add(work, btf))
 }
 
 /// The first text of the strings.
@@ -112,14 +83,7 @@ fn find(work: &str, probe: &Probe, btf: &Btf) -> Result<String, BtfError> {
     }
 }
 
-fn named_twice(work: &str, probe: &Probe, btf: &Btf, report: &mut Report) -> Result<(), Fail> {
-    probe.begin(report)?;
-    let first = find(work, probe, btf);
-    probe.end(&first, report)?;
-    report.result("again", &find(work, probe, btf))
-}
-
 pub fn named(work: &str, probe: &Probe, blob: &[u8], report: &mut Report) -> Result<(), Fail> {
     let btf = Btf::parse(probe.alloc, blob, probe.order)?;
-    named_twice(work, probe, &btf, report)
+    probe.twice(report, || find(work, probe, &btf))
 }
