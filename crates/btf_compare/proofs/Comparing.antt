@@ -93,12 +93,12 @@ pub record IsRunning (local target : Table) (root : Pair) (opened settled : Pair
   pub has_all : (q : Pair) → Among (top.pair ∷ open_pairs below) q → IsIn opened q
 
 -- what is in a set after a change
-behind_cond : (b : Bool) (x : Bool) → cond b true x ≡ true → (b ≡ true) ⊎ (x ≡ true)
-behind_cond true x is = inl refl
-behind_cond false x is = inr is
+set_or_cond : (b : Bool) (x : Bool) → cond b true x ≡ true → (b ≡ true) ⊎ (x ≡ true)
+set_or_cond true x is = inl refl
+set_or_cond false x is = inr is
 
 pub now_in : (old new : PairSet) (p : Pair) → Changes old new p true → (q : Pair) → IsIn new q → IsIn old q ⊎ (p ≡ q)
-now_in old new p changes q h = elim (behind_cond (pair_eq p q) (old q) (sym (changes q) ∙ h)) [ inl is ↦ inr (eq_same p q is) | inr was ↦ inl was ]
+now_in old new p changes q h = elim (set_or_cond (pair_eq p q) (old q) (sym (changes q) ∙ h)) [ inl is ↦ inr (eq_same p q is) | inr was ↦ inl was ]
 
 in_cond : (b x : Bool) → x ≡ true → cond b true x ≡ true
 in_cond true x is = refl

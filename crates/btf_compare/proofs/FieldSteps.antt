@@ -26,7 +26,7 @@ step_weaker (steps.Ends answer) P Q more h = answers_weaker answer (λ a. P (End
 step_weaker (steps.GoesOn l t) P Q more h = more _ h
 
 -- what is found at two resolved ids is found at the ids
-pub found_behind : (local target : Table) (l t id other : ℕ) (k q : Kind) (r s : Record) (step : FieldStep) → Resolves local.records l (Ok id) → IsAt local id k r → Resolves target.records t (Ok other) → IsAt target other q s
+pub found_at_ends : (local target : Table) (l t id other : ℕ) (k q : Kind) (r s : Record) (step : FieldStep) → Resolves local.records l (Ok id) → IsAt local id k r → Resolves target.records t (Ok other) → IsAt target other q s
     → StepIs step (FieldsFound local target id k q r s) → StepIs step (FieldsFind local target (pair l t))
-found_behind local target l t id other k q r s step p at-id v at-other h =
+found_at_ends local target l t id other k q r s step p at-id v at-other h =
     step_weaker step (FieldsFound local target id k q r s) (FieldsFind local target (pair l t)) (λ f found. inr (inr (id, other, k, q, r, s, p, v, at-id, at-other, found))) h

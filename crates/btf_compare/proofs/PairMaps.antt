@@ -108,13 +108,13 @@ module _ {V : Type 0} (ids : ℕ × ℕ) where
 
   -- ---- the array, and the map after it
 
-  set_behind : (p : Bool) (v : V) (o more : Option V) → option_or (cond p (Some v) o) more ≡ cond p (Some v) (option_or o more)
-  set_behind true v o more = refl
-  set_behind false v o more = refl
+  set_then_more : (p : Bool) (v : V) (o more : Option V) → option_or (cond p (Some v) o) more ≡ cond p (Some v) (option_or o more)
+  set_then_more true v o more = refl
+  set_then_more false v o more = refl
 
   pub array_set : (es : List ((ℕ × ℕ) × V)) (i : ℕ) (v : V) (more : ℕ × ℕ → Option V) → IsPlaceOf ids es i
       → (other : ℕ × ℕ) → option_or (lookup (is_ids other) (slice_set es i (ids, v))) (more other) ≡ cond (is_ids ids other) (Some v) (option_or (lookup (is_ids other) es) (more other))
-  array_set es i v more place other = ap (λ (o : Option V). option_or o (more other)) (place_set es i v other place) ∙ set_behind (is_ids ids other) v (lookup (is_ids other) es) (more other)
+  array_set es i v more place other = ap (λ (o : Option V). option_or o (more other)) (place_set es i v other place) ∙ set_then_more (is_ids ids other) v (lookup (is_ids other) es) (more other)
 
   pub array_push : (es : List ((ℕ × ℕ) × V)) (v : V) (more : ℕ × ℕ → Option V) → IsNoPair ids es
       → (other : ℕ × ℕ) → option_or (lookup (is_ids other) (es ++ (ids, v) ∷ [])) (more other) ≡ cond (is_ids ids other) (Some v) (option_or (lookup (is_ids other) es) (more other))

@@ -35,8 +35,8 @@ position_more (positions.Told answer) P Q more h = told_more answer P Q more h
 position_more (positions.On next) P Q more h = more _ h
 position_more (positions.Owes params others next) P Q more h = more _ h
 
-pub found_behind : (local target : Table) (at : Pair) (found other : ℕ × Kind × Record) (x : Position) → IsResolved local at.local (Ok found) → IsResolved target at.target (Ok other) → PositionIs x (PositionFound found.0 found.1 other.1 found.2 other.2) → PositionIs x (Finds local target at)
-found_behind local target at found other x h g is =
+pub found_at_ends : (local target : Table) (at : Pair) (found other : ℕ × Kind × Record) (x : Position) → IsResolved local at.local (Ok found) → IsResolved target at.target (Ok other) → PositionIs x (PositionFound found.0 found.1 other.1 found.2 other.2) → PositionIs x (Finds local target at)
+found_at_ends local target at found other x h g is =
     position_more x (PositionFound found.0 found.1 other.1 found.2 other.2) (Finds local target at)
     (λ y is. inr (record { local = found.0; target = other.0 }, found.1, other.1, found.2, other.2, (h.0, g.0), h.1, g.1, is)) is
 

@@ -1,5 +1,5 @@
 use Rattle.btf_compare.proofs.Positions.{no_local_type, no_target_type}
-use Rattle.btf_reference.proofs.PlainComparison.{found_behind}
+use Rattle.btf_reference.proofs.PlainComparison.{found_at_ends}
 use Rattle.btf_reference.proofs.plain_comparison.found_at.Goals as goal
 use Rattle.btf_types.specs.Pairs.{pair_of}
 
@@ -10,4 +10,4 @@ pub returns-in-Err-resolved : goal.returns-in-Err-resolved
 returns-in-Err-resolved c = let e = c.in-Err-resolved.ensures in (e.0, e.1, no_target_type c.args.local.now c.args.target.now (pair_of c.args.at) _ e.0 c.in-Ok.ensures e.2)
 
 pub returns-in-Ok-resolved : goal.returns-in-Ok-resolved
-returns-in-Ok-resolved c = found_behind c.args.local.now c.args.target.now (pair_of c.args.at) _ _ c.found_in.result c.in-Ok.ensures c.in-Ok-resolved.ensures c.found_in.ensures
+returns-in-Ok-resolved c = found_at_ends c.args.local.now c.args.target.now (pair_of c.args.at) _ _ c.found_in.result c.in-Ok.ensures c.in-Ok-resolved.ensures c.found_in.ensures
