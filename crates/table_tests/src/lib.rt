@@ -1,13 +1,10 @@
-//! Tests of tables: read, written and looked up. Their expected values are worked by hand from the format.
+//! Tests of what is read and written: records, tables, and the `.BTF.ext` section. Their expected values are worked by
+//! hand from the format; what the sections of a compiler hold is listed by other tools.
 #![tactic(auto)]
 
 #[cfg(test)]
-mod names;
+mod ext;
 #[cfg(test)]
-mod program;
-#[cfg(test)]
-mod refusals;
+mod records;
 #[cfg(test)]
 mod tables;
-#[cfg(test)]
-mod walks;

@@ -1,6 +1,6 @@
 //! The comparison of types in long and nested tables, and in each small one.
 
-use crate::answers::{Answer, Pairs, gives, is_plain, table_of_words};
+use crate::comparison::answers::{Answer, Pairs, gives, is_plain, table_of_words};
 use btf_types::Btf;
 use std::alloc::{AllocError, Global};
 use std::test::Fail;

@@ -1,6 +1,6 @@
 //! Rewrites from bytes to bytes.
 
-use crate::kernel::{Program, are_answers, known, unknown};
+use crate::rewrite::kernel::{Program, are_answers, known, unknown};
 use btf_plain::{BtfError, Endianness};
 use btf_samples::blobs::table_bytes;
 use btf_samples::program::{STRINGS, TYPE_LEN, program};

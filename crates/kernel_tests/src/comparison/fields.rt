@@ -1,6 +1,6 @@
 //! The comparison of the types of two fields.
 
-use crate::answers::{Answer, answer_of};
+use crate::comparison::answers::{Answer, answer_of};
 use btf_samples::blobs::table_of;
 use btf_types::{Btf, fields_are_compatible};
 use std::alloc::Global;

@@ -1,6 +1,6 @@
 //! The comparison of types in small tables.
 
-use crate::answers::{Answer, gives, is_plain};
+use crate::comparison::answers::{Answer, gives, is_plain};
 use btf_plain::Endianness;
 use btf_samples::blobs::table_of;
 use btf_samples::program::program_table;

@@ -1,6 +1,6 @@
 //! Rewrites of types that look at others: functions, sections, ENUM64, and the kernel's symbols.
 
-use crate::kernel::{Case, Program, is_new, is_rewritten, new_bytes, unknown};
+use crate::rewrite::kernel::{Case, Program, is_new, is_rewritten, new_bytes, unknown};
 use btf_plain::Endianness;
 use btf_records::{BtfType, Enum64Fallback};
 use btf_samples::blobs::{parsed_blob, table_of};

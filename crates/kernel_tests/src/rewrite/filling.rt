@@ -1,6 +1,6 @@
 //! DATASECs that have a size and no entries, under both policies.
 
-use crate::kernel::{Case, Program, are_answers, is_new, new_bytes, unknown};
+use crate::rewrite::kernel::{Case, Program, are_answers, is_new, new_bytes, unknown};
 use btf_plain::{Endianness, SectionIndex};
 use btf_samples::blobs::{table_bytes, table_of};
 use btf_types::{Btf, BtfFeature, BtfFeatureResolver, FillPolicy, rewrite_bytes_with};

@@ -1,6 +1,6 @@
 //! What a resolver asks of its predicate, in rewrites and alone.
 
-use crate::kernel::{Program, are_answers, unknown};
+use crate::rewrite::kernel::{Program, are_answers, unknown};
 use btf_samples::blobs::table_of;
 use btf_samples::written::is_table;
 use btf_types::{Btf, BtfFeature, BtfFeatureResolver, FeatureAnswer};

@@ -1,6 +1,6 @@
 //! Rewrites of types that stand alone.
 
-use crate::kernel::{Case, is_rewritten};
+use crate::rewrite::kernel::{Case, is_rewritten};
 use btf_types::BtfFeature;
 use std::test::Fail;
 

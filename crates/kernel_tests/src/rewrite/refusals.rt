@@ -1,6 +1,6 @@
 //! Rewrites that are refused.
 
-use crate::kernel::{Program, are_answers, known};
+use crate::rewrite::kernel::{Program, are_answers, known};
 use btf_plain::BtfError;
 use btf_samples::blobs::table_of;
 use btf_samples::written::is_table;
