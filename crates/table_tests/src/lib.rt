@@ -1,10 +1,13 @@
-//! Tests of what is read and written: records, tables, and the `.BTF.ext` section. Their expected values are worked by
-//! hand from the format; what the sections of a compiler hold is listed by other tools.
+//! Tests of tables: read, written and looked up. Their expected values are worked by hand from the format.
 #![tactic(auto)]
 
 #[cfg(test)]
-mod ext;
+mod names;
 #[cfg(test)]
-mod records;
+mod program;
+#[cfg(test)]
+mod refusals;
 #[cfg(test)]
 mod tables;
+#[cfg(test)]
+mod walks;

@@ -1,6 +1,6 @@
 //! Members of records, and the kinds that have none.
 
-use crate::records::built_records::member;
+use crate::built_records::member;
 use btf_plain::{BtfKind, Endianness, Ptr};
 use btf_records::{BtfMember, BtfType, Struct, Union};
 use btf_samples::spelled::{read, spelled};

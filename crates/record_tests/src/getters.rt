@@ -1,6 +1,6 @@
 //! The getters and setters of records.
 
-use crate::records::built_records::{entry, param};
+use crate::built_records::{entry, param};
 use btf_plain::{
     Array, BtfKind, Const, DeclTag, Float, Func, FuncLinkage, Fwd, Int, IntEncoding, Ptr, Restrict,
     TypeTag, Typedef, Var, VarLinkage, Volatile,

@@ -1,6 +1,6 @@
 //! Records, read from bytes and written.
 
-use crate::records::errors::has_text;
+use crate::errors::has_text;
 use btf_plain::{BtfError, Endianness, Int, IntEncoding, Ptr};
 use btf_records::BtfType;
 use btf_samples::spelled::{bytes, read, record};

@@ -1,6 +1,6 @@
 //! Clones of records and of tables, and the fallbacks of UNIONs.
 
-use crate::records::built_records::{fallback, member};
+use crate::built_records::{fallback, member};
 use btf_plain::Endianness;
 use btf_records::{BtfType, Enum64Fallback, Union};
 use btf_samples::written::is_written_as;
