@@ -21,7 +21,7 @@ use crate::timing::Timing;
 use crate::work::{Bench, NAMES};
 use btf_plain::Endianness;
 use btf_types::Btf;
-use std::alloc::Global;
+use std::alloc::{AllocError, Global};
 use std::test::Fail;
 use std::{env, fs};
 
@@ -34,32 +34,42 @@ struct Request {
     form: Form,
 }
 
-/// The request of the words, by place, with what stands for those that are not there.
-fn asked_for(rt: &HostRuntime, alloc: Global) -> Result<Request, Fail> {
-    let mut request = Request {
-        file: String::new(alloc),
-        what: String::from_str(alloc, "all")?,
-        reps: 15,
-        form: Form::Table,
-    };
-    for (place, word) in env::args(rt)?.enumerate() {
+impl Request {
+    /// What stands for the words that are not there.
+    fn new(alloc: Global) -> Result<Self, AllocError> {
+        Ok(Request {
+            file: String::new(alloc),
+            what: String::from_str(alloc, "all")?,
+            reps: 15,
+            form: Form::Table,
+        })
+    }
+
+    /// Takes the word of a place.
+    fn take(&mut self, place: usize, word: String) -> Result<(), Fail> {
         match place {
-            1 => request.file = word,
-            2 => request.what = word,
-            3 => request.reps = word.parse()?,
-            4 => request.form = Form::from(word.as_str()),
+            1 => self.file = word,
+            2 => self.what = word,
+            3 => self.reps = word.parse()?,
+            4 => self.form = Form::from(word.as_str()),
             _ => {}
         }
+        Ok(())
+    }
+}
+
+/// The request of the words.
+fn asked_for(rt: &HostRuntime, alloc: Global) -> Result<Request, Fail> {
+    let mut request = Request::new(alloc)?;
+    for (place, word) in env::args(rt)?.enumerate() {
+        request.take(place, word)?;
     }
     Ok(request)
 }
 
 /// Times one work, and prints its line.
 fn time(rt: &HostRuntime, name: &str, request: &Request, bench: &Bench) -> Result<(), Fail> {
-    let mut timing = Timing::new(rt.alloc());
-    for _ in 0..request.reps {
-        timing.add(bench.nanoseconds(rt, name)?)?;
-    }
+    let timing = bench.timing(rt, name, request.reps)?;
     let (units, unit) = (bench.records(), "record");
     Row { name, units, unit }.print(rt, &timing, request.form)
 }
@@ -69,8 +79,8 @@ fn time_works(rt: &HostRuntime, request: &Request) -> Result<(), Fail> {
     let blob = fs::read(rt, request.file.as_str())?;
     let btf = Btf::parse(rt.alloc(), &blob, Endianness::Little)?;
     let bench = Bench::new(rt.alloc(), &blob, &btf)?;
-    for name in NAMES {
-        if request.what.as_str() == "all" || request.what.as_str() == name {
+    for name in &NAMES {
+        if request.what.as_str() == "all" || request.what.as_str() == *name {
             time(rt, name, request, &bench)?;
         }
     }
@@ -85,13 +95,21 @@ fn time_hostile(
     request: &Request,
 ) -> Result<(), Fail> {
     let hostile = Hostile::new(rt.alloc(), family, size)?;
-    let mut timing = Timing::new(rt.alloc());
-    for _ in 0..request.reps {
-        timing.add(hostile.nanoseconds(rt)?)?;
-    }
+    let timing = hostile.timing(rt, request.reps)?;
+    print_hostile(rt, family, size, request, &timing)
+}
+
+/// Prints the line of a family and a size.
+fn print_hostile(
+    rt: &HostRuntime,
+    family: Family,
+    size: u32,
+    request: &Request,
+    timing: &Timing,
+) -> Result<(), Fail> {
     let name = format!(in rt.alloc(); "{} {size}", request.file)?;
     let (name, units, unit) = (name.as_str(), family.units(size), "unit");
-    Row { name, units, unit }.print(rt, &timing, request.form)
+    Row { name, units, unit }.print(rt, timing, request.form)
 }
 
 fn main(rt: HostRuntime) -> Result<(), Fail> {

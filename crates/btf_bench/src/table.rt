@@ -36,17 +36,20 @@ pub struct Row<'a> {
 impl Row<'_> {
     /// Prints the least and the median time, and the least by unit.
     pub fn print(self, rt: &HostRuntime, timing: &Timing, form: Form) -> Result<(), Fail> {
-        let (least, median) = (timing.least(), timing.median());
+        let (name, least, median) = (self.name, timing.least(), timing.median());
         let each = least / self.units.max(1);
-        let (name, unit) = (self.name, self.unit);
         match form {
             Form::Names => println!(rt; "{name}")?,
             Form::Csv => println!(rt; "{name},{least},{median},{each}")?,
-            Form::Table => {
-                let (least, median) = (least / 1000, median / 1000);
-                println!(rt; "{name:<16} {least:>9} us {median:>9} us {each:>6} ns a {unit}")?
-            }
+            Form::Table => self.print_table(rt, least / 1000, median / 1000, each)?,
         }
+        Ok(())
+    }
+
+    /// Prints both times in microseconds, and the least by unit in nanoseconds.
+    fn print_table(self, rt: &HostRuntime, least: u64, median: u64, each: u64) -> Result<(), Fail> {
+        let (name, unit) = (self.name, self.unit);
+        println!(rt; "{name:<16} {least:>9} us {median:>9} us {each:>6} ns a {unit}")?;
         Ok(())
     }
 }

@@ -1,5 +1,6 @@
 //! The works that are timed.
 
+use crate::timing::Timing;
 use btf_plain::{BtfError, BtfKind, Endianness};
 use btf_types::{Btf, BtfFeatureResolver, FillPolicy, rewrite_bytes_with, types_are_compatible};
 use std::alloc::Global;
@@ -8,7 +9,7 @@ use std::test::Fail;
 use std::time::Instant;
 
 /// The names of the works, in the order in which they are timed.
-pub const NAMES: [&str; 12] = [
+pub static NAMES: [&str; 12] = [
     "parse",
     "to_bytes",
     "clone",
@@ -87,8 +88,17 @@ impl<'a> Bench<'a> {
         self.btf.types().len() as u64
     }
 
+    /// The times of so many runs of a work.
+    pub fn timing(&self, rt: &HostRuntime, name: &str, reps: usize) -> Result<Timing, Fail> {
+        let mut timing = Timing::new(rt.alloc());
+        for _ in 0..reps {
+            timing.add(self.nanoseconds(rt, name)?)?;
+        }
+        Ok(timing)
+    }
+
     /// The nanoseconds that one run of a work takes.
-    pub fn nanoseconds(&self, rt: &HostRuntime, name: &str) -> Result<u64, Fail> {
+    fn nanoseconds(&self, rt: &HostRuntime, name: &str) -> Result<u64, Fail> {
         match name {
             "parse" => self.parse(rt),
             "to_bytes" => self.to_bytes(rt),

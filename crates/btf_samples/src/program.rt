@@ -33,7 +33,7 @@ rx_queue_index\0egress_ifindex\0__u32\0unsigned int\0ctx\0int\0xdp_pass\0xdp/pas
 __ARRAY_SIZE_TYPE__\0_license\0license\0";
 
 /// The kinds of its types, from id 0 on.
-pub const KINDS: [BtfKind; 13] = [
+pub static KINDS: [BtfKind; 13] = [
     BtfKind::Unknown,
     BtfKind::Ptr,
     BtfKind::Struct,

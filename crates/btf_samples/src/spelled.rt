@@ -6,7 +6,7 @@ use std::alloc::{AllocError, Global};
 use std::test::Fail;
 
 /// Both orders.
-pub const ORDERS: [Endianness; 2] = [Endianness::Little, Endianness::Big];
+pub static ORDERS: [Endianness; 2] = [Endianness::Little, Endianness::Big];
 
 /// The words of a text: hexadecimal numbers with white space between them.
 pub fn words(alloc: Global, text: &str) -> Result<Vec<u32>, Fail> {

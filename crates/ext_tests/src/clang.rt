@@ -66,7 +66,7 @@ const BIG: &str = "
     3a 20 30 3b 00 2e 6d 61 70 73 00
 ";
 
-const KINDS: [BtfKind; 12] = [
+static KINDS: [BtfKind; 12] = [
     BtfKind::Unknown,
     BtfKind::Var,
     BtfKind::Ptr,

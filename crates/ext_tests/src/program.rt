@@ -74,7 +74,7 @@ fn is_whole(alloc: Global, order: Endianness) -> Result<bool, Fail> {
 
 #[test]
 fn section_of_program_is_read(rt: HostRuntime) -> Result<(), Fail> {
-    for order in ORDERS {
+    for &order in &ORDERS {
         assert!(rt; is_whole(rt.alloc(), order)?);
     }
     Ok(())
@@ -128,7 +128,7 @@ fn refuses_beginnings(alloc: Global, order: Endianness) -> Result<bool, Fail> {
 
 #[test]
 fn each_beginning_of_the_section_is_refused(rt: HostRuntime) -> Result<(), Fail> {
-    for order in ORDERS {
+    for &order in &ORDERS {
         assert!(rt; refuses_beginnings(rt.alloc(), order)?);
     }
     Ok(())
@@ -156,7 +156,7 @@ fn gives(alloc: Global, len: u32, order: Endianness, text: &str) -> Result<bool,
 
 #[test]
 fn short_header_names_no_range(rt: HostRuntime) -> Result<(), Fail> {
-    for order in ORDERS {
+    for &order in &ORDERS {
         for len in 0u32..13 {
             assert!(rt; gives(rt.alloc(), len, order, "0 0 0")?, "{len}");
         }
@@ -168,7 +168,7 @@ fn short_header_names_no_range(rt: HostRuntime) -> Result<(), Fail> {
 fn the_header_s_length_says_where_the_ranges_begin(rt: HostRuntime) -> Result<(), Fail> {
     let moved = "invalid BTF info, offset: 40 len: 20 section_len: 80";
     let cut = "error parsing BTF header";
-    for order in ORDERS {
+    for &order in &ORDERS {
         assert!(rt; gives(rt.alloc(), 40, order, moved)?);
         assert!(rt; gives(rt.alloc(), 81, order, cut)?);
     }

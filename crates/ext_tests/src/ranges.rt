@@ -17,7 +17,7 @@ struct Row {
 }
 
 /// Headers that are cut or filled up with zeros.
-const HEADERS: [Row; 4] = [
+static HEADERS: [Row; 4] = [
     Row {
         words: "4",
         zeros: 0,
@@ -42,7 +42,7 @@ const HEADERS: [Row; 4] = [
 ];
 
 /// Ranges that are broken, and names that no table has.
-const BROKEN: [Row; 11] = [
+static BROKEN: [Row; 11] = [
     Row {
         words: "32 0 20 20 0 20 0  8 1 1 0 0",
         zeros: 0,
@@ -105,7 +105,7 @@ const BROKEN: [Row; 11] = [
 ];
 
 /// One record below the least size, in the range of functions, of lines or of relocations.
-const NARROW: [Row; 13] = [
+static NARROW: [Row; 13] = [
     Row {
         words: "32 0 12 0 0 0 0  0 0 1",
         zeros: 0,
@@ -191,7 +191,7 @@ fn is_row(alloc: Global, row: &Row, order: Endianness) -> Result<bool, Fail> {
 #[test]
 fn headers_are_cut_and_filled_up(rt: HostRuntime) -> Result<(), Fail> {
     for row in &HEADERS {
-        for order in ORDERS {
+        for &order in &ORDERS {
             assert!(rt; is_row(rt.alloc(), row, order)?, "{}", row.words);
         }
     }
@@ -209,7 +209,7 @@ fn the_other_order_reads_another_length(rt: HostRuntime) -> Result<(), Fail> {
 #[test]
 fn broken_ranges_and_names_are_refused(rt: HostRuntime) -> Result<(), Fail> {
     for row in &BROKEN {
-        for order in ORDERS {
+        for &order in &ORDERS {
             assert!(rt; is_row(rt.alloc(), row, order)?, "{}", row.words);
         }
     }
@@ -219,7 +219,7 @@ fn broken_ranges_and_names_are_refused(rt: HostRuntime) -> Result<(), Fail> {
 #[test]
 fn records_below_the_least_size_are_refused(rt: HostRuntime) -> Result<(), Fail> {
     for row in &NARROW {
-        for order in ORDERS {
+        for &order in &ORDERS {
             assert!(rt; is_row(rt.alloc(), row, order)?, "{}", row.words);
         }
     }

@@ -114,7 +114,7 @@ pub fn has_lines(
 }
 
 /// Relocations of four words, and of five.
-const RELOCATIONS: [&str; 2] = [
+static RELOCATIONS: [&str; 2] = [
     "32 0 0 0 0 0 28  16 5 1 1 2 3 4",
     "32 0 0 0 0 0 32  20 5 1 1 2 3 4 9",
 ];
@@ -148,8 +148,8 @@ fn keeps_relocation(alloc: Global, words: &str, order: Endianness) -> Result<boo
 
 #[test]
 fn relocations_keep_four_words(rt: HostRuntime) -> Result<(), Fail> {
-    for words in RELOCATIONS {
-        for order in ORDERS {
+    for words in &RELOCATIONS {
+        for &order in &ORDERS {
             assert!(rt; keeps_relocation(rt.alloc(), words, order)?, "{words}");
         }
     }
@@ -173,14 +173,14 @@ fn keeps_last(alloc: Global, order: Endianness) -> Result<bool, Fail> {
 
 #[test]
 fn the_last_section_of_a_name_counts(rt: HostRuntime) -> Result<(), Fail> {
-    for order in ORDERS {
+    for &order in &ORDERS {
         assert!(rt; keeps_last(rt.alloc(), order)?);
     }
     Ok(())
 }
 
 /// A record of a function and one of a line, of the least size, and of one word more.
-const WIDER: [&str; 2] = [
+static WIDER: [&str; 2] = [
     "32 0 20 20 28 48 0  8 0 1 16 42  16 0 1 24 1 2 3",
     "32 0 24 24 32 56 0  12 0 1 16 42 0  20 0 1 24 1 2 3 0",
 ];
@@ -220,8 +220,8 @@ fn keeps_first_words(alloc: Global, words: &str, order: Endianness) -> Result<bo
 
 #[test]
 fn wider_records_give_their_first_words(rt: HostRuntime) -> Result<(), Fail> {
-    for words in WIDER {
-        for order in ORDERS {
+    for words in &WIDER {
+        for &order in &ORDERS {
             assert!(rt; keeps_first_words(rt.alloc(), words, order)?, "{words}");
         }
     }

@@ -72,7 +72,7 @@ struct Row {
     text: &'static str,
 }
 
-const ROWS: [Row; 8] = [
+static ROWS: [Row; 8] = [
     Row {
         words: "",
         rec_size: 8,
@@ -124,7 +124,7 @@ fn is_row(alloc: Global, row: &Row, order: Endianness) -> Result<bool, Fail> {
 #[test]
 fn sections_come_one_by_one(rt: HostRuntime) -> Result<(), Fail> {
     for row in &ROWS {
-        for order in ORDERS {
+        for &order in &ORDERS {
             assert!(rt; is_row(rt.alloc(), row, order)?, "{}", row.words);
         }
     }
@@ -147,14 +147,14 @@ fn lends_two_records(alloc: Global, order: Endianness) -> Result<bool, Fail> {
 
 #[test]
 fn section_holds_the_bytes_of_its_records(rt: HostRuntime) -> Result<(), Fail> {
-    for order in ORDERS {
+    for &order in &ORDERS {
         assert!(rt; lends_two_records(rt.alloc(), order)?);
     }
     Ok(())
 }
 
 /// What is reported of 1 to 7 bytes.
-const CUTS: [&str; 7] = [
+static CUTS: [&str; 7] = [
     "invalid BTF info, offset: 0 len: 8 section_len: 1; .",
     "invalid BTF info, offset: 0 len: 8 section_len: 2; .",
     "invalid BTF info, offset: 0 len: 8 section_len: 3; .",
@@ -207,7 +207,7 @@ fn is_cut(alloc: Global, len: u32, order: Endianness, text: &str) -> Result<bool
 #[test]
 fn cut_words_end_the_sections(rt: HostRuntime) -> Result<(), Fail> {
     for (len, text) in (1u32..).zip(CUTS.iter()) {
-        for order in ORDERS {
+        for &order in &ORDERS {
             assert!(rt; is_cut(rt.alloc(), len, order, text)?, "{len}");
         }
     }

@@ -34,7 +34,7 @@ const COMPLETED: &str =
     "little rewrite Func FuncGlobal DataSec section:license=4 symbol:_license=0";
 
 /// Lines that give the DATASEC of the program a size, and that size.
-const SIZES: [(&str, u8); 4] = [
+static SIZES: [(&str, u8); 4] = [
     (COMPLETED, 4),
     (
         "little rewrite symbol:_license=0 DataSec Func section:license=9 Func section:license=4 FuncGlobal",
@@ -117,7 +117,7 @@ fn a_second_rewrite_changes_nothing(rt: HostRuntime) -> Result<(), Fail> {
 }
 
 /// Lines that are refused, and what is reported.
-const REFUSED: [(&str, &str); 7] = [
+static REFUSED: [(&str, &str); 7] = [
     (
         "little rewrite Func FuncGlobal DataSec symbol:_license=0 symbol:license=4",
         "1 Unable to determine the size of section `license`\n",

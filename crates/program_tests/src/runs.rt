@@ -7,7 +7,7 @@ use std::io;
 use std::io::{ErrorKind, Read, Write};
 use std::test::Fail;
 
-pub(crate) const EMPTY: [u8; 25] = [
+pub(crate) static EMPTY: [u8; 25] = [
     0x9f, 0xeb, 1, 0, 0x18, 0, 0, 0, 0, 0, 0, 0, 0, 0, 0, 0, 0, 0, 0, 0, 1, 0, 0, 0, 0,
 ];
 
@@ -86,12 +86,12 @@ pub(crate) fn has_usage(alloc: Global, line: &str) -> Result<bool, Fail> {
 }
 
 /// The same table with another magic number, version and flags.
-const OTHER: [u8; 25] = [
+static OTHER: [u8; 25] = [
     0, 0, 7, 9, 0x18, 0, 0, 0, 0, 0, 0, 0, 0, 0, 0, 0, 0, 0, 0, 0, 1, 0, 0, 0, 0,
 ];
 
 /// A table of one type in big-endian order.
-const BIG: [u8; 37] = [
+static BIG: [u8; 37] = [
     0xeb, 0x9f, 1, 0, 0, 0, 0, 0x18, 0, 0, 0, 0, 0, 0, 0, 0xc, 0, 0, 0, 0xc, 0, 0, 0, 1, 0, 0, 0,
     0, 2, 0, 0, 0, 0, 0, 0, 6, 0,
 ];
@@ -280,7 +280,7 @@ fn names_are_listed_where_they_are_read(rt: HostRuntime) -> Result<(), Fail> {
     Ok(())
 }
 
-const SIZES: [(&str, &str); 8] = [
+static SIZES: [(&str, &str); 8] = [
     ("little size 1", "0 8\n"),
     ("little size 2", "0 24\n"),
     ("little size 5", "0 4\n"),
@@ -302,7 +302,7 @@ fn sizes_are_told(rt: HostRuntime) -> Result<(), Fail> {
     Ok(())
 }
 
-const COMPARISONS: [(&str, &str); 5] = [
+static COMPARISONS: [(&str, &str); 5] = [
     ("little compat 3 4", "0 false\nstarts 1\n"),
     ("little compat 5 5", "0 true\nstarts 2\n"),
     ("little compat 7 7", "1 unexpected BTF type id `7`\n"),
@@ -322,7 +322,7 @@ fn comparisons_are_told(rt: HostRuntime) -> Result<(), Fail> {
 }
 
 /// The table without types, whose header says that four bytes of types are there.
-const CUT_TYPES: [u8; 25] = [
+static CUT_TYPES: [u8; 25] = [
     0x9f, 0xeb, 1, 0, 0x18, 0, 0, 0, 0, 0, 0, 0, 4, 0, 0, 0, 0, 0, 0, 0, 1, 0, 0, 0, 0,
 ];
 

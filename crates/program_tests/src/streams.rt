@@ -109,7 +109,7 @@ fn int(alloc: Global) -> Result<Vec<u8>, Fail> {
     blob_of(alloc, "1 1000000 4 1000020", "\0int\0")
 }
 
-const LINES: [(&str, &str); 5] = [
+static LINES: [(&str, &str); 5] = [
     ("little types", "1 [INT] int\n"),
     ("little size 1", "4\n"),
     ("little compat 1 1", "true\nstarts 1\n"),
@@ -144,7 +144,7 @@ fn failing_reads(
 
 #[test]
 fn each_read_fails_in_turn(rt: HostRuntime) -> Result<(), Fail> {
-    for (line, wanted) in LINES {
+    for &(line, wanted) in &LINES {
         let fault = "1 cannot read standard input\n";
         let failing = failing_reads(rt.alloc(), line, wanted, ErrorKind::Other, fault)?;
         assert!(rt; failing >= 4, "{line}");
@@ -154,7 +154,7 @@ fn each_read_fails_in_turn(rt: HostRuntime) -> Result<(), Fail> {
 
 #[test]
 fn memory_refused_while_the_input_is_read(rt: HostRuntime) -> Result<(), Fail> {
-    for (line, wanted) in LINES {
+    for &(line, wanted) in &LINES {
         let fault = "1 out of memory\n";
         let failing = failing_reads(rt.alloc(), line, wanted, ErrorKind::OutOfMemory, fault)?;
         assert!(rt; failing >= 4, "{line}");
@@ -190,7 +190,7 @@ fn failing_writes(alloc: Global, line: &str, wanted: &str) -> Result<usize, Fail
 
 #[test]
 fn each_write_fails_in_turn(rt: HostRuntime) -> Result<(), Fail> {
-    for (line, wanted) in LINES {
+    for &(line, wanted) in &LINES {
         assert!(rt; failing_writes(rt.alloc(), line, wanted)? > 0, "{line}");
     }
     Ok(())
@@ -207,7 +207,7 @@ fn is_moved(alloc: Global, line: &str, wanted: &str, way: Way) -> Result<bool, F
 
 #[test]
 fn a_byte_at_a_time_will_do(rt: HostRuntime) -> Result<(), Fail> {
-    for (line, wanted) in LINES {
+    for &(line, wanted) in &LINES {
         let way = Way(1, None, ErrorKind::Other);
         assert!(rt; is_moved(rt.alloc(), line, wanted, way)?, "{line}");
     }
@@ -216,7 +216,7 @@ fn a_byte_at_a_time_will_do(rt: HostRuntime) -> Result<(), Fail> {
 
 #[test]
 fn interrupted_calls_are_made_again(rt: HostRuntime) -> Result<(), Fail> {
-    for (line, wanted) in LINES {
+    for &(line, wanted) in &LINES {
         let way = Way(16, Some(1), ErrorKind::Interrupted);
         assert!(rt; is_moved(rt.alloc(), line, wanted, way)?, "{line}");
     }

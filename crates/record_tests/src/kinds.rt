@@ -6,7 +6,7 @@ use btf_samples::spelled::record;
 use std::alloc::{AllocError, Global};
 use std::test::Fail;
 
-const TEXTS: [(u32, &str); 20] = [
+static TEXTS: [(u32, &str); 20] = [
     (0, "[UNKNOWN]"),
     (1, "[INT]"),
     (2, "[PTR]"),
@@ -47,7 +47,7 @@ fn number_has_text(alloc: Global, number: u32, text: &str) -> Result<bool, Fail>
 
 #[test]
 fn each_kind_has_its_text(rt: HostRuntime) -> Result<(), Fail> {
-    for (number, text) in TEXTS {
+    for &(number, text) in &TEXTS {
         assert!(rt; number_has_text(rt.alloc(), number, text)?, "{text}");
     }
     Ok(())
@@ -60,7 +60,7 @@ fn there_is_no_other_kind(rt: HostRuntime) {
 }
 
 /// The words of two records, and whether they are compatible.
-const PAIRS: [(&str, &str, bool); 12] = [
+static PAIRS: [(&str, &str, bool); 12] = [
     ("0 06000000 4", "0 93000000 8", true),
     ("0 93000000 8", "0 06000000 4", true),
     ("0 06000000 4", "0 06000000 4", true),
@@ -89,7 +89,7 @@ fn are_compatible(alloc: Global, first: &str, second: &str) -> Result<bool, Fail
 
 #[test]
 fn kinds_are_compared(rt: HostRuntime) -> Result<(), Fail> {
-    for (first, second, compatible) in PAIRS {
+    for &(first, second, compatible) in &PAIRS {
         let given = are_compatible(rt.alloc(), first, second)?;
         assert!(rt; given == compatible, "{first}; {second}");
     }

@@ -12,7 +12,7 @@ use std::test::Fail;
 /// A record: its kind, its words, its size, and the one type that it leads to.
 type Row = (BtfKind, &'static str, Option<u32>, Option<u32>);
 
-const ROWS: [Row; 22] = [
+static ROWS: [Row; 22] = [
     (BtfKind::Unknown, "0 0 0", None, None),
     (BtfKind::Int, "1 01000000 8 40", Some(8), None),
     (BtfKind::Ptr, "0 02000000 6", Some(8), Some(6)),
@@ -111,7 +111,7 @@ fn is_read_alone(alloc: Global, row: &Row, endianness: Endianness) -> Result<boo
 fn record_of_each_kind_is_read_and_written_again(rt: HostRuntime) -> Result<(), Fail> {
     let alloc = rt.alloc();
     for row in &ROWS {
-        for endianness in ORDERS {
+        for &endianness in &ORDERS {
             assert!(rt; is_read(alloc, row, endianness)?, "{}", row.1);
             assert!(rt; is_read_alone(alloc, row, endianness)?, "{}", row.1);
         }
@@ -119,7 +119,7 @@ fn record_of_each_kind_is_read_and_written_again(rt: HostRuntime) -> Result<(), 
     Ok(())
 }
 
-const TO_BE_CUT: [&str; 12] = [
+static TO_BE_CUT: [&str; 12] = [
     "0 0 0",
     "1 01000000 8 40",
     "0 03000000 0 1 12 2",
@@ -163,7 +163,7 @@ fn is_whole(alloc: Global, text: &str, endianness: Endianness) -> Result<bool, F
 #[test]
 fn cut_record_of_each_kind_is_refused(rt: HostRuntime) -> Result<(), Fail> {
     for text in &TO_BE_CUT {
-        for endianness in ORDERS {
+        for &endianness in &ORDERS {
             assert!(rt; is_whole(rt.alloc(), text, endianness)?, "{text}");
         }
     }
@@ -171,7 +171,7 @@ fn cut_record_of_each_kind_is_refused(rt: HostRuntime) -> Result<(), Fail> {
 }
 
 /// Words that are read, and what is written of them.
-const KEPT: [(&str, &str); 12] = [
+static KEPT: [(&str, &str); 12] = [
     // The third word of FWD and of ARRAY is dropped.
     ("550b 07000000 9", "550b 07000000 0"),
     ("0 03000000 7 1 12 2", "0 03000000 0 1 12 2"),
@@ -212,7 +212,7 @@ fn is_kept(alloc: Global, text: &str, kept: &str, endianness: Endianness) -> Res
 #[test]
 fn words_that_have_no_meaning_are_dropped_or_kept(rt: HostRuntime) -> Result<(), Fail> {
     for (text, kept) in &KEPT {
-        for endianness in ORDERS {
+        for &endianness in &ORDERS {
             assert!(rt; is_kept(rt.alloc(), text, kept, endianness)?, "{text}");
         }
     }
@@ -248,7 +248,7 @@ fn are_of_no_kind(alloc: Global, bytes: &[u8], number: u32, endianness: Endianne
 }
 
 /// Spare bits of the info word.
-const SPARE: [u32; 3] = [0, 0xe000_0000, 0x00ff_ffff];
+static SPARE: [u32; 3] = [0, 0xe000_0000, 0x00ff_ffff];
 
 /// Whether a record of this kind is refused for its kind, under these other bits of info.
 fn has_no_kind(
@@ -264,7 +264,7 @@ fn has_no_kind(
 #[test]
 fn kinds_without_a_name_are_refused(rt: HostRuntime) -> Result<(), Fail> {
     for number in 0x14..0x20 {
-        for spare in SPARE {
+        for &spare in &SPARE {
             assert!(rt;
                 has_no_kind(rt.alloc(), number, spare, Endianness::Little)?,
                 "{number}"
@@ -339,7 +339,7 @@ fn are_kept(alloc: Global, types: &[u8], endianness: Endianness) -> Result<bool,
 
 #[test]
 fn longest_list_is_read_and_written_again(rt: HostRuntime) -> Result<(), Fail> {
-    for endianness in ORDERS {
+    for &endianness in &ORDERS {
         assert!(rt; keeps_longest_list(rt.alloc(), endianness)?);
     }
     Ok(())
@@ -370,7 +370,7 @@ fn refuses_short_list(alloc: Global, endianness: Endianness) -> Result<bool, Fai
 
 #[test]
 fn longest_list_that_is_a_byte_short_is_refused(rt: HostRuntime) -> Result<(), Fail> {
-    for endianness in ORDERS {
+    for &endianness in &ORDERS {
         assert!(rt; refuses_short_list(rt.alloc(), endianness)?);
     }
     Ok(())

@@ -8,7 +8,7 @@ use std::alloc::Global;
 use std::test::Fail;
 
 /// Info words of a composite record, and the offset of the member whose word is 0x03040005, with its number of bits.
-const FIELDS: [(u32, usize, usize); 4] = [
+static FIELDS: [(u32, usize, usize); 4] = [
     (0x0400_0002, 0x0304_0005, 0),
     (0x8400_0002, 0x0004_0005, 3),
     (0x0500_0002, 0x0304_0005, 0),
@@ -119,7 +119,7 @@ fn clone_answers(alloc: Global, info: u32, offset: usize, bits: usize) -> Result
 
 #[test]
 fn members_are_bit_fields_under_the_kind_flag(rt: HostRuntime) -> Result<(), Fail> {
-    for (info, offset, bits) in FIELDS {
+    for &(info, offset, bits) in &FIELDS {
         assert!(rt; field_answers(rt.alloc(), info, offset, bits)?, "{info:x}");
         assert!(rt; clone_answers(rt.alloc(), info, offset, bits)?, "{info:x}");
     }

@@ -9,7 +9,7 @@ use std::alloc::Global;
 use std::test::Fail;
 
 /// The bytes of an INT of 64 bits and of a PTR, in each order.
-const WHOLE: [(Endianness, &str); 4] = [
+static WHOLE: [(Endianness, &str); 4] = [
     (
         Endianness::Little,
         "01 00 00 00  00 00 00 01  08 00 00 00  40 00 00 00",
@@ -58,7 +58,7 @@ fn is_read(alloc: Global, text: &str, endianness: Endianness) -> Result<bool, Fa
 
 #[test]
 fn records_are_read_and_written_again(rt: HostRuntime) -> Result<(), Fail> {
-    for (endianness, text) in WHOLE {
+    for &(endianness, text) in &WHOLE {
         assert!(rt; is_read(rt.alloc(), text, endianness)?, "{text}");
     }
     Ok(())
@@ -87,7 +87,7 @@ fn built_ints_have_their_encoding_and_bits(rt: HostRuntime) {
 }
 
 /// Bytes that begin with no record, and the text of their fault.
-const BROKEN: [(&str, &str); 4] = [
+static BROKEN: [(&str, &str); 4] = [
     (
         "00 00 00 00  00 00 00 14  00 00 00 00  00",
         "invalid BTF type kind `20`",

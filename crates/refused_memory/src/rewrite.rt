@@ -9,9 +9,9 @@ use std::alloc::{AllocError, Global};
 use std::collections::HashMap;
 use std::test::Fail;
 
-const SECTIONS: [(&str, u64); 4] = [(".a", 0), (".b", 5), (".data/foo", 32), ("license", 4)];
+static SECTIONS: [(&str, u64); 4] = [(".a", 0), (".b", 5), (".data/foo", 32), ("license", 4)];
 
-const SYMBOLS: [(&str, u64); 2] = [("foo", 64), ("_license", 0)];
+static SYMBOLS: [(&str, u64); 2] = [("foo", 64), ("_license", 0)];
 
 /// The sizes of sections and the offsets of symbols, by name.
 #[derive(Drop)]

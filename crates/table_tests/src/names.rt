@@ -251,7 +251,7 @@ fn id_zero_has_the_empty_name(rt: HostRuntime) -> Result<(), Fail> {
 }
 
 /// Names and kinds, and what of the small program has them.
-const PROGRAM: [(&str, BtfKind, Found); 3] = [
+static PROGRAM: [(&str, BtfKind, Found); 3] = [
     ("__u32", BtfKind::Typedef, Found::Id(3)),
     ("xdp_pass", BtfKind::Func, Found::Id(7)),
     ("xdp_pass", BtfKind::Var, Found::Nothing),
@@ -265,7 +265,7 @@ fn searched_program(alloc: Global, name: &str, kind: BtfKind) -> Result<Found, F
 
 #[test]
 fn types_of_program_are_found_by_name(rt: HostRuntime) -> Result<(), Fail> {
-    for (name, kind, wanted) in PROGRAM {
+    for &(name, kind, wanted) in &PROGRAM {
         assert!(rt;
             searched_program(rt.alloc(), name, kind)? == wanted,
             "{name}"

@@ -40,7 +40,7 @@ fn told_order_and_length(table: &Btf) -> Result<(Endianness, usize), Fail> {
 
 #[test]
 fn program_has_its_order_and_length(rt: HostRuntime) -> Result<(), Fail> {
-    for order in ORDERS {
+    for &order in &ORDERS {
         assert!(rt; order_and_length(rt.alloc(), order)? == (order, 517));
     }
     Ok(())
@@ -48,7 +48,7 @@ fn program_has_its_order_and_length(rt: HostRuntime) -> Result<(), Fail> {
 
 #[test]
 fn program_is_parsed_and_written_again(rt: HostRuntime) -> Result<(), Fail> {
-    for order in ORDERS {
+    for &order in &ORDERS {
         assert!(rt; is_kept(rt.alloc(), order)?);
     }
     Ok(())
@@ -127,7 +127,7 @@ fn first_kept_of_program(alloc: Global, order: Endianness) -> Result<usize, Fail
 
 #[test]
 fn each_beginning_of_program_is_refused(rt: HostRuntime) -> Result<(), Fail> {
-    for order in ORDERS {
+    for &order in &ORDERS {
         let len = first_kept_of_program(rt.alloc(), order)?;
         assert!(rt; len == 517, "{len} bytes");
     }
@@ -135,7 +135,7 @@ fn each_beginning_of_program_is_refused(rt: HostRuntime) -> Result<(), Fail> {
 }
 
 /// The ends of the twelve records, and the beginning of the first.
-const ENDS: [u32; 13] = [0, 12, 96, 108, 124, 144, 160, 172, 188, 212, 228, 244, 268];
+static ENDS: [u32; 13] = [0, 12, 96, 108, 124, 144, 160, 172, 188, 212, 228, 244, 268];
 
 /// Whether bytes are those of a table up to the end of this length of its types, and all strings.
 fn are_records(written: &[u8], blob: &[u8], len: usize) -> bool {

@@ -69,7 +69,7 @@ struct Row {
     written: &'static str,
 }
 
-const ROWS: [Row; 3] = [
+static ROWS: [Row; 3] = [
     Row {
         read: "07 00 00 00  00 00 00 00  09 00 00 00",
         kind: BtfKind::Unknown,

@@ -92,7 +92,7 @@ fn first_wrong_of(alloc: Global, words: &str, walks: &[Walk]) -> Result<Option<u
 }
 
 /// What the last CONSTs lead to.
-const CONSTS: [Walk; 2] = [
+static CONSTS: [Walk; 2] = [
     Walk {
         id: 32,
         resolved: Given::Is(1),
@@ -122,7 +122,7 @@ fn a_walk_looks_at_32_types(rt: HostRuntime) -> Result<(), Fail> {
 const LOOPS: &str = "0 08000000 1  0 03000000 0 2 1 1  0 03000000 0 3 1 2  0 02000000 4";
 
 /// Walks from types that lead to themselves, and from ids without a size or a type.
-const LOOP_WALKS: [Walk; 6] = [
+static LOOP_WALKS: [Walk; 6] = [
     Walk {
         id: 0,
         resolved: Given::Is(0),
@@ -166,7 +166,7 @@ fn types_that_lead_to_themselves_are_walked(rt: HostRuntime) -> Result<(), Fail>
 const INTS: &str = "9 01000000 4 01000020  1 01000000 4 01000020";
 
 /// Walks from ids without a size or a type.
-const INT_WALKS: [Walk; 3] = [
+static INT_WALKS: [Walk; 3] = [
     Walk {
         id: 0,
         resolved: Given::Is(0),
@@ -192,7 +192,7 @@ fn ids_without_a_size_are_refused(rt: HostRuntime) -> Result<(), Fail> {
 }
 
 /// Walks from the types of the small program.
-const PROGRAM_WALKS: [Walk; 8] = [
+static PROGRAM_WALKS: [Walk; 8] = [
     Walk {
         id: 1,
         resolved: Given::Is(1),
@@ -249,7 +249,7 @@ fn types_of_program_have_sizes(rt: HostRuntime) -> Result<(), Fail> {
 }
 
 /// The words of three ARRAYs of one another, the first of an INT of 4 bytes, and the size of the last.
-const ARRAYS: [(&str, Given); 4] = [
+static ARRAYS: [(&str, Given); 4] = [
     (
         "0 01000000 4 20  0 03000000 0 1 1 0  0 03000000 0 2 1 10000  0 03000000 0 3 1 10000",
         Given::Invalid,

@@ -57,7 +57,7 @@ const LOOPS: Table = Table {
 };
 
 /// Names are compared without their flavors.
-const NAMES: [Row; 3] = [
+static NAMES: [Row; 3] = [
     Row {
         local: ENUM_A,
         target: WIDE_B,
@@ -79,7 +79,7 @@ const NAMES: [Row; 3] = [
 ];
 
 /// Pairs of one table.
-const KINDS: [(Table, (u32, u32), Answer); 7] = [
+static KINDS: [(Table, (u32, u32), Answer); 7] = [
     (COMPOSITES, (1, 2), Answer::Is(true)),
     (COMPOSITES, (0, 0), Answer::Unexpected(0)),
     (COMPOSITES, (1, 0), Answer::Is(false)),
@@ -132,7 +132,7 @@ fn names_are_compared_without_their_flavors(rt: HostRuntime) -> Result<(), Fail>
 
 #[test]
 fn kinds_of_fields_decide(rt: HostRuntime) -> Result<(), Fail> {
-    for (table, pair, wanted) in KINDS {
+    for &(table, pair, wanted) in &KINDS {
         let given = compared_in(rt.alloc(), table, table, pair)?;
         assert!(rt; given == wanted, "{table:?}, {pair:?}: {given:?}");
     }

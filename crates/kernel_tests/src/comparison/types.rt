@@ -56,7 +56,7 @@ const CONST: &str = "0 01000000 4 20  0 02000000 1  0 0a000000 1";
 /// An INT that begins at bit 1, and one that begins at bit 0.
 const BITS: &str = "0 01000000 4 00010020  0 01000000 4 20";
 
-const OF_SIZES: [Row; 8] = [
+static OF_SIZES: [Row; 8] = [
     Row(SIZES, (1, 1), Answer::Is(true), "1 1"),
     Row(SIZES, (1, 2), Answer::Is(true), "1 2"),
     Row(SIZES, (3, 3), Answer::Is(true), "3 3"),
@@ -75,7 +75,7 @@ fn sizes_are_not_compared(rt: HostRuntime) -> Result<(), Fail> {
     Ok(())
 }
 
-const OF_MODIFIERS: [Row; 3] = [
+static OF_MODIFIERS: [Row; 3] = [
     Row(CONST, (3, 1), Answer::Is(false), "3 1"),
     Row(CONST, (3, 3), Answer::Is(true), "3 3"),
     Row(CONST, (2, 2), Answer::Is(true), "2 2"),
@@ -95,7 +95,7 @@ const KINDS: &str = "
     0 0e000000 1 0  0 0c000000 1  0 0f000000 0  0 11000000 1 0
 ";
 
-const OF_KINDS: [Row; 11] = [
+static OF_KINDS: [Row; 11] = [
     Row(KINDS, (0, 0), Answer::Is(true), "0 0"),
     Row(KINDS, (1, 1), Answer::Is(true), "1 1"),
     Row(KINDS, (1, 2), Answer::Is(false), "1 2"),
@@ -123,7 +123,7 @@ const SAME: &str = "0 0d000002 2  0 2 0 2  0 01000000 4 20";
 /// FUNC_PROTO 1 with parameters of types 2 and 9, which are an INT that begins at bit 1 and unknown.
 const UNKNOWN: &str = "0 0d000002 0  0 2 0 9  0 01000000 4 00010020";
 
-const OF_PROTOTYPES: [Row; 7] = [
+static OF_PROTOTYPES: [Row; 7] = [
     // No pair is started twice.
     Row(SAME, (1, 1), Answer::Is(true), "1 1  2 2"),
     Row(SAME, (1, 7), Answer::Unknown(7), ""),
@@ -149,7 +149,7 @@ fn parameters_are_compared_in_order(rt: HostRuntime) -> Result<(), Fail> {
     Ok(())
 }
 
-const OPEN: [Row; 3] = [
+static OPEN: [Row; 3] = [
     // PTR 1 to FUNC_PROTO 2, which takes it.
     Row(
         "0 02000000 2  0 0d000001 0  0 1",
@@ -181,7 +181,7 @@ fn open_pair_is_refused(rt: HostRuntime) -> Result<(), Fail> {
     Ok(())
 }
 
-const CLOSED: [Row; 3] = [
+static CLOSED: [Row; 3] = [
     // FUNC_PROTO 1 takes INT 2, and returns PTR 3 to it.
     Row(
         "0 0d000001 3  0 2  0 01000000 4 20  0 02000000 1",
@@ -202,7 +202,7 @@ fn walks_that_come_to_their_beginning_go_on(rt: HostRuntime) -> Result<(), Fail>
 }
 
 /// Pairs of types of the small program. A TYPEDEF and the INT that it names are of two kinds.
-const OF_PROGRAM: [Row; 2] = [
+static OF_PROGRAM: [Row; 2] = [
     Row("", (3, 4), Answer::Is(false), "3 4"),
     Row("", (5, 5), Answer::Is(true), "5 5  1 1"),
 ];
@@ -225,7 +225,7 @@ fn types_of_program_are_compared(rt: HostRuntime) -> Result<(), Fail> {
 const LOCAL: &str = "0 0d000001 0  0 2  0 01000000 4 20";
 
 /// The words of a target table, INT 1, and FUNC_PROTO 2 takes it, and pairs of types of both.
-const OF_TWO_TABLES: [Row; 3] = [
+static OF_TWO_TABLES: [Row; 3] = [
     Row(
         "0 01000000 4 20  0 0d000001 0  0 1",
         (1, 2),

@@ -14,7 +14,7 @@ fn are_equal(bytes: &[u8], wanted: &[u8]) -> bool {
 }
 
 /// What is asked for the table of a small program, and granted by a kernel that has it all.
-const ALL: [(BtfFeature, bool); 3] = [
+static ALL: [(BtfFeature, bool); 3] = [
     (BtfFeature::Func, true),
     (BtfFeature::FuncGlobal, true),
     (BtfFeature::DataSec, true),
@@ -107,7 +107,7 @@ const PLAIN_RECORDS: &str = "
 ";
 
 /// What is asked for the program's table, and denied by a kernel that has no feature.
-const NONE: [(BtfFeature, bool); 2] = [(BtfFeature::Func, false), (BtfFeature::DataSec, false)];
+static NONE: [(BtfFeature, bool); 2] = [(BtfFeature::Func, false), (BtfFeature::DataSec, false)];
 
 /// Bytes rewritten for a kernel that has no feature, and whether the answers are `NONE`.
 fn denied_all(alloc: Global, program: &Program, data: &[u8]) -> Result<(Vec<u8>, bool), Fail> {
@@ -187,7 +187,7 @@ fn is_symbol_new(alloc: Global, unknown: &Program, order: Endianness) -> Result<
 #[test]
 fn symbols_are_rewritten_in_the_order_of_the_bytes(rt: HostRuntime) -> Result<(), Fail> {
     let unknown = unknown(rt.alloc());
-    for order in ORDERS {
+    for &order in &ORDERS {
         assert!(rt; is_symbol_new(rt.alloc(), &unknown, order)?);
     }
     Ok(())

@@ -11,7 +11,7 @@ use std::test::Fail;
 const FILLER: &str = "__aya_datasec_filler_type\0__aya_datasec_filler\0";
 
 /// A DATASEC of 9 bytes without entries, whose section is not known.
-const FILLED: [Case; 4] = [
+static FILLED: [Case; 4] = [
     Case {
         words: "1 f000000 9",
         strings: "\0.a\0",
@@ -51,7 +51,7 @@ const FILLED: [Case; 4] = [
 ];
 
 /// It stays, and is not asked about.
-const KEPT: Case = Case {
+static KEPT: Case = Case {
     words: "1 f000000 9",
     strings: "\0.a\0",
     granted: &[BtfFeature::DataSec],
@@ -61,7 +61,7 @@ const KEPT: Case = Case {
 };
 
 /// A DATASEC of 9 bytes and one of size 0, whose section has size 0: both get the filler that the first one makes.
-const BESIDE: Case = Case {
+static BESIDE: Case = Case {
     words: "1 f000000 9  4 f000000 0",
     strings: "\0.a\0.b\0",
     granted: &[BtfFeature::DataSec],

@@ -9,7 +9,7 @@ use std::collections::HashMap;
 use std::test::Fail;
 
 /// The sizes of all sections that the tests know.
-const SECTIONS: [(&str, u64); 7] = [
+static SECTIONS: [(&str, u64); 7] = [
     (".a", 0),
     (".b", 5),
     (".d", 8),
@@ -20,7 +20,7 @@ const SECTIONS: [(&str, u64); 7] = [
 ];
 
 /// The offsets of all symbols that the tests know.
-const SYMBOLS: [(&str, u64); 3] = [("foo", 64), ("wide", 0x1_0000_0000), ("_license", 0)];
+static SYMBOLS: [(&str, u64); 3] = [("foo", 64), ("wide", 0x1_0000_0000), ("_license", 0)];
 
 /// What a rewrite takes besides the table: the sizes of sections and the offsets of symbols, by name.
 #[derive(Drop)]

@@ -18,7 +18,7 @@ struct Step {
     new_strings: &'static str,
 }
 
-const STEPS: [Step; 2] = [
+static STEPS: [Step; 2] = [
     // An extern variable that a DATASEC names becomes an INT.
     Step {
         words: VARIABLE,
@@ -90,7 +90,7 @@ struct Refusal {
     why: Why,
 }
 
-const REFUSALS: [Refusal; 5] = [
+static REFUSALS: [Refusal; 5] = [
     Refusal {
         words: VARIABLE,
         strings: VARIABLE_STRINGS,

@@ -9,7 +9,7 @@ use std::alloc::Global;
 use std::test::Fail;
 
 /// One FUNC each.
-const FUNCTIONS: [Case; 6] = [
+static FUNCTIONS: [Case; 6] = [
     Case {
         words: "1 c000000 0",
         strings: "\0static\0",
@@ -69,7 +69,7 @@ fn functions_are_rewritten(rt: HostRuntime) -> Result<(), Fail> {
 }
 
 /// FUNC_PROTOs, and FUNCs of them.
-const PROTOTYPES: [Case; 4] = [
+static PROTOTYPES: [Case; 4] = [
     // Two parameters without a name.
     Case {
         words: "1 1000000 4 1000020  0 d000002 0 0 1 0 1",
@@ -115,7 +115,7 @@ fn prototypes_are_rewritten(rt: HostRuntime) -> Result<(), Fail> {
 }
 
 /// DATASECs, for a kernel that has them.
-const SECTIONS: [Case; 5] = [
+static SECTIONS: [Case; 5] = [
     // An INT, a Global VAR of it, and a DATASEC that names the VAR.
     Case {
         words: "1 1000000 4 1000020  5 e000000 1 1  9 f000001 0 2 0 4",
@@ -175,7 +175,7 @@ fn sections_are_rewritten(rt: HostRuntime) -> Result<(), Fail> {
 }
 
 /// DATASECs, for a kernel that has none.
-const DENIED_SECTIONS: [Case; 5] = [
+static DENIED_SECTIONS: [Case; 5] = [
     Case {
         words: "1 f000000 5",
         strings: "\0.x\0",
@@ -231,7 +231,7 @@ fn sections_become_structs(rt: HostRuntime) -> Result<(), Fail> {
 }
 
 /// An ENUM64 with the values 1 and 4294967301, for a kernel that has none.
-const WIDE_ENUM: Case = Case {
+static WIDE_ENUM: Case = Case {
     words: "0 13000002 8 0 1 0 0 5 1",
     strings: "\0",
     granted: &[],
@@ -241,7 +241,7 @@ const WIDE_ENUM: Case = Case {
 };
 
 /// An ENUM64 without values, and a DATASEC that needs the filler.
-const WIDE_ENUM_AND_SECTION: Case = Case {
+static WIDE_ENUM_AND_SECTION: Case = Case {
     words: "0 13000000 8  1 f000000 0",
     strings: "\0.a\0",
     granted: &[BtfFeature::DataSec],
@@ -343,7 +343,7 @@ fn values_of_wide_enums_are_held(rt: HostRuntime) -> Result<(), Fail> {
 }
 
 /// Symbols of the kernel, and the ids that the program gives of them.
-const SYMBOLS: [(Case, KsymsIds); 3] = [
+static SYMBOLS: [(Case, KsymsIds); 3] = [
     // An extern variable that a DATASEC names.
     (
         Case {

@@ -24,7 +24,7 @@ struct Case {
     answers: &'static [(BtfFeature, bool)],
 }
 
-const CASES: [Case; 11] = [
+static CASES: [Case; 11] = [
     // A section whose size is not known, after a type that is already rewritten.
     Case {
         words: "0 1000000 4 20  0 d000001 0 0 1  1 f000000 0",

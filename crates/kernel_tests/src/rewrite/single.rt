@@ -5,7 +5,7 @@ use btf_types::BtfFeature;
 use std::test::Fail;
 
 /// Types that are rewritten without a look at others.
-const SINGLE: [Case; 7] = [
+static SINGLE: [Case; 7] = [
     Case {
         words: "1 10000000 4  1 10000000 8",
         strings: "\0f\0",
