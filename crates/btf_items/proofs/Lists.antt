@@ -1,8 +1,8 @@
 -- Items, read one after another.
-use Rattle.std.proofs.Common.{◌≡◌, ℕ, zero, suc, ◌+◌, ◌*◌, ◌<◌, ◌≤◌, List, [], ◌∷◌, ◌++◌, length, take, drop, set, ◌^◌, Some, Result, Err, refl, sym, ap, subst, ◌∙◌, arith, zero-add, Vec, Global}
+use Rattle.std.proofs.Common.{◌≡◌, ℕ, zero, suc, ◌+◌, ◌*◌, ◌<◌, ◌≤◌, List, [], ◌∷◌, ◌++◌, length, take, drop, set, ◌^◌, Some, Result, Err, refl, sym, ap, subst, ◌∙◌, arith, zero-add}
 use Rattle.std.specs.Prelude.{IsErrAnd}
-use Rattle.std.specs.List.{flat_map, AllByRecursion}
-use Rattle.std.proofs.lemmas.List.{append-nil, append_assoc, drop-drop, length-drop, length_push, length-append, take-append-drop, length-take-le, take_at, drop_at, set_split}
+use Rattle.std.specs.List.{flat_map, AllByRecursion, refill}
+use Rattle.std.proofs.lemmas.List.{append-nil, append_assoc, drop-drop, length-drop, length_push, length-append, take-append-drop, length-take-le, length-set, take_at, drop_at, set_split}
 use Rattle.std.proofs.Math.Nat.{mul-le-mul_left}
 use Rattle.std.proofs.lemmas.List.Concat.{flat_map-append}
 use Rattle.std.proofs.lemmas.Result.{err_from_is_err_and}
@@ -54,12 +54,12 @@ more_items width item_words order bytes n items more rest next x h le words next
     }
 
 -- an item that is cut
-pub items_cut : {X : Type 0} (width : ℕ) (item_words : X → List ℕ) (order : Order) (bytes : List ℕ) (n count : ℕ) (items : List X) (rest : List ℕ) (e : BtfError) (r : Result (Vec X Global) BtfError) → ItemsSoFar width item_words order bytes n items rest → n < count → length rest < 4 * width → e ≡ InvalidTypeInfo → IsErrAnd r (λ y. y ≡ e) → MeetsOrNoMemory (λ v. v.items) r (ReadsItems width item_words order bytes count)
-items_cut {X} width item_words order bytes n count items rest e r h lt short is err =
+pub items_cut : {X : Type 0} {Y : Type 0} (items_of : Y → List X) (width : ℕ) (item_words : X → List ℕ) (order : Order) (bytes : List ℕ) (n count : ℕ) (items : List X) (rest : List ℕ) (e : BtfError) (r : Result Y BtfError) → ItemsSoFar width item_words order bytes n items rest → n < count → length rest < 4 * width → e ≡ InvalidTypeInfo → IsErrAnd r (λ y. y ≡ e) → MeetsOrNoMemory items_of r (ReadsItems width item_words order bytes count)
+items_cut {X} {Y} items_of width item_words order bytes n count items rest e r h lt short is err =
     let p = err_from_is_err_and r err in
     let le : width * (n + 1) ≤ width * count = mul-le-mul_left width (omega arith) in
     let cut : length bytes < 4 * (width * count) = omega (arith, h.within, short, le, ap length h.behind, length-drop (4 * (width * n)) bytes) in
-    subst (λ (x : Result (Vec X Global) BtfError). MeetsOrNoMemory (λ v. v.items) x (ReadsItems width item_words order bytes count)) (sym (p.1 ∙ ap (λ (x : BtfError). Err x) (p.2 ∙ is))) (cut, refl)
+    subst (λ (x : Result Y BtfError). MeetsOrNoMemory items_of x (ReadsItems width item_words order bytes count)) (sym (p.1 ∙ ap (λ (x : BtfError). Err x) (p.2 ∙ is))) (cut, refl)
 
 -- ---- lists as the tail of a record
 
@@ -93,3 +93,8 @@ words_of_set k f each xs i y lt =
     ∙ ap (λ (ws : List ℕ). ws ++ (f y ++ flat_map f (drop (suc i) xs))) (sym (words_before k f each xs i (omega arith)))
     ∙ ap (λ (ws : List ℕ). take (k * i) (flat_map f xs) ++ (f y ++ ws)) (sym (words_after k f each xs (suc i) (omega arith)))
     ∙ sym (append_assoc (take (k * i) (flat_map f xs)) (f y) (drop (k * suc i) (flat_map f xs)))
+
+-- an item put in the place of another by a loan of all items
+pub refill_set : {X : Type 0} (xs ys : List X) (i : ℕ) (y : X) → ys ≡ xs → refill (length xs) xs (set ys i y) ≡ set xs i y
+refill_set xs ys i y same =
+    take_at (set ys i y) (drop (length (set ys i y)) xs) (length xs) (length-set ys i y ∙ ap length same) ∙ ap (λ zs. set zs i y) same

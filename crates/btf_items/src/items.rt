@@ -9,7 +9,7 @@ use btf_words::{BtfError, Endianness};
 use std::alloc::AllocError;
 
 /// A variant of an ENUM (the kernel's documentation, "BTF_KIND_ENUM").
-#[derive(Clone, Debug, Drop)]
+#[derive(Clone, Debug, Default, Drop)]
 pub struct BtfEnum {
     /// The string offset of the name.
     pub name_offset: u32,
@@ -27,7 +27,7 @@ impl BtfEnum {
 }
 
 /// A variant of an ENUM64 (the kernel's documentation, "BTF_KIND_ENUM64").
-#[derive(Copy, Clone, Debug)]
+#[derive(Copy, Clone, Debug, Default)]
 pub struct BtfEnum64 {
     /// The string offset of the name.
     pub name_offset: u32,
@@ -55,7 +55,7 @@ impl BtfEnum64 {
 }
 
 /// A member of a STRUCT or a UNION (the kernel's documentation, "BTF_KIND_STRUCT").
-#[derive(Clone, Debug, Drop)]
+#[derive(Clone, Debug, Default, Drop)]
 pub struct BtfMember {
     /// The string offset of the name.
     pub name_offset: u32,
@@ -66,7 +66,7 @@ pub struct BtfMember {
 }
 
 /// A parameter of a FUNC_PROTO (the kernel's documentation, "BTF_KIND_FUNC_PROTO").
-#[derive(Clone, Debug, Drop)]
+#[derive(Clone, Debug, Default, Drop)]
 pub struct BtfParam {
     /// The string offset of the name.
     pub name_offset: u32,
@@ -75,7 +75,7 @@ pub struct BtfParam {
 }
 
 /// An entry of a DATASEC (the kernel's documentation, "BTF_KIND_DATASEC").
-#[derive(Clone, Debug, Drop)]
+#[derive(Clone, Debug, Default, Drop)]
 pub struct DataSecEntry {
     /// The id of the VAR.
     pub btf_type: u32,

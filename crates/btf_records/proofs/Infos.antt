@@ -15,6 +15,9 @@ new_info k n sign s small few is =
     let both : bit_or (k * 2 ^ 24) n ≡ k * 2 ^ 24 + n = or_shifted k 24 n low in
     rw (is, both) (flag_above (k * 2 ^ 24 + n) s (omega arith))
 
+pub plain_info : (k n : ℕ) → k < 2 ^ 5 → n < 2 ^ 16 → bit_or (k * 2 ^ 24) n ≡ k * 2 ^ 24 + n + flag_bit false
+plain_info k n small few = or_shifted k 24 n (omega arith) ∙ omega arith
+
 pub new_kind : (k n : ℕ) (s : Bool) → k < 2 ^ 5 → n < 2 ^ 16 → kind_number (k * 2 ^ 24 + n + flag_bit s) ≡ k
 new_kind k n true small few = omega arith
 new_kind k n false small few = omega arith

@@ -1,5 +1,6 @@
 pub mod BtfType
 pub mod Head
+pub mod Members
 pub use Rattle.btf_model.specs.Word
 pub use Rattle.btf_model.specs.Record
 pub use Rattle.btf_model.specs.Spelling

@@ -12,7 +12,7 @@ ghost use Rattle.btf_records.specs.Head.{IsHead, ReadsTail};
 
 use crate::btf_type::BtfType;
 use crate::records::{WithList, append_with_list};
-use btf_items::{push, read_items, split_word};
+use btf_items::{push, split_word};
 use btf_plain::{
     Array, BtfError, BtfKind, Const, DeclTag, Endianness, Float, Func, FuncLinkage, Fwd, Int,
     IntEncoding, Ptr, Restrict, TypeTag, Typedef, Var, VarLinkage, Volatile,
@@ -110,7 +110,7 @@ fn read_with_list<R: WithList>(
         (ReadsTail (order_of endianness) head R.kind rest.now) }
     ensures alone { IfOk result R.words_alone }
 {
-    let items = read_items(alloc, rest, endianness, head.vlen())?;
+    let items = R::read_list(alloc, rest, endianness, head.vlen())?;
     Ok(R::from_parts(head.name, head.info, head.third, items))
 }
 

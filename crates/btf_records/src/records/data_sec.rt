@@ -10,9 +10,11 @@ ghost use Rattle.btf_words.specs.Endianness.{order_of};
 ghost use Rattle.btf_words.specs.Error.{IsOrNoMemory};
 ghost use Rattle.btf_items.specs.Items.{entry_words};
 
-use crate::records::with_list::{WithList, clone_with_list};
-use btf_items::DataSecEntry;
-use btf_plain::{BtfError, BtfKind, MAX_VLEN};
+use crate::records::with_list::WithList;
+use btf_items::{DataSecEntry, clone_items, read_items};
+use btf_plain::{BtfError, BtfKind, Endianness, MAX_VLEN};
+use smallvec::SmallVec;
+use std::alloc::Global;
 use std::marker::Model;
 
 /// A data section, the variables of which are its entries (the kernel's documentation, "BTF_KIND_DATASEC"). Contracts
@@ -22,7 +24,7 @@ pub struct DataSec {
     name_offset: u32,
     info: u32,
     size: u32,
-    entries: Vec<DataSecEntry>,
+    entries: SmallVec<DataSecEntry, 4>,
 }
 
 impl Model for DataSec {
@@ -60,7 +62,7 @@ impl DataSec {
             name_offset,
             info,
             size,
-            entries,
+            entries: SmallVec::from_vec(entries),
         }
     }
 
@@ -137,7 +139,12 @@ impl DataSec {
     pub fn try_clone(&self) -> Result<Self, BtfError>
         ensures { IsOrNoMemory (λ r. r) result (Ok self.now) }
     {
-        clone_with_list(self)
+        Ok(Self {
+            name_offset: self.name_offset,
+            info: self.info,
+            size: self.size,
+            entries: clone_items(&self.entries)?,
+        })
     }
 }
 
@@ -149,15 +156,33 @@ impl WithList for DataSec {
 
     type Element = DataSecEntry;
 
+    type Items = SmallVec<DataSecEntry, 4>;
+
+    ghost listed = { λ v. v.items };
+
     ghost kind = { DataSecKind };
 
     ghost words = { λ r. r };
 
     ghost words_alone = { λ r. ⊤ };
 
-    fn from_parts(name_offset: u32, info: u32, size: u32, entries: Vec<DataSecEntry>) -> Self
+    fn read_list(
+        alloc: Global,
+        bytes: &[u8],
+        endianness: Endianness,
+        count: usize,
+    ) -> Result<SmallVec<DataSecEntry, 4>, BtfError> {
+        read_items(alloc, bytes, endianness, count)
+    }
+
+    fn from_parts(
+        name_offset: u32,
+        info: u32,
+        size: u32,
+        entries: SmallVec<DataSecEntry, 4>,
+    ) -> Self
         requires kind { kind_of info ≡ Some DataSecKind }
-        requires count { vlen info ≡ vec_len entries }
+        requires count { vlen info ≡ length entries.items }
         ensures words { result ≡ record {
           name = name_offset;
           info = info;
@@ -178,8 +203,8 @@ impl WithList for DataSec {
         [self.name_offset, self.info, self.size]
     }
 
-    fn items(&self) -> &Vec<DataSecEntry> {
-        &self.entries
+    fn items(&self) -> &[DataSecEntry] {
+        self.entries.as_slice()
     }
 
     ghost item_width = { λ x. refl };

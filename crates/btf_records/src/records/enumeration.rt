@@ -12,9 +12,11 @@ ghost use Rattle.btf_model.specs.Info.{flag_bit, with_flag};
 ghost use Rattle.btf_items.specs.Items.{enum_words};
 
 use crate::records::flag::sign_bit;
-use crate::records::with_list::{WithList, clone_with_list};
-use btf_items::BtfEnum;
-use btf_plain::{BtfError, BtfKind, MAX_VLEN};
+use crate::records::with_list::WithList;
+use btf_items::{BtfEnum, clone_items, read_items};
+use btf_plain::{BtfError, BtfKind, Endianness, MAX_VLEN};
+use smallvec::SmallVec;
+use std::alloc::Global;
 use std::marker::Model;
 
 /// An enumeration of 32-bit values (the kernel's documentation, "BTF_KIND_ENUM"). Contracts see it as the record of its
@@ -24,7 +26,7 @@ pub struct Enum {
     name_offset: u32,
     info: u32,
     size: u32,
-    variants: Vec<BtfEnum>,
+    variants: SmallVec<BtfEnum, 6>,
 }
 
 impl Model for Enum {
@@ -62,7 +64,7 @@ impl Enum {
             name_offset,
             info,
             size: 4,
-            variants,
+            variants: SmallVec::from_vec(variants),
         }
     }
 
@@ -128,7 +130,12 @@ impl Enum {
     pub fn try_clone(&self) -> Result<Self, BtfError>
         ensures { IsOrNoMemory (λ r. r) result (Ok self.now) }
     {
-        clone_with_list(self)
+        Ok(Self {
+            name_offset: self.name_offset,
+            info: self.info,
+            size: self.size,
+            variants: clone_items(&self.variants)?,
+        })
     }
 }
 
@@ -140,15 +147,28 @@ impl WithList for Enum {
 
     type Element = BtfEnum;
 
+    type Items = SmallVec<BtfEnum, 6>;
+
+    ghost listed = { λ v. v.items };
+
     ghost kind = { EnumKind };
 
     ghost words = { λ r. r };
 
     ghost words_alone = { λ r. ⊤ };
 
-    fn from_parts(name_offset: u32, info: u32, size: u32, variants: Vec<BtfEnum>) -> Self
+    fn read_list(
+        alloc: Global,
+        bytes: &[u8],
+        endianness: Endianness,
+        count: usize,
+    ) -> Result<SmallVec<BtfEnum, 6>, BtfError> {
+        read_items(alloc, bytes, endianness, count)
+    }
+
+    fn from_parts(name_offset: u32, info: u32, size: u32, variants: SmallVec<BtfEnum, 6>) -> Self
         requires kind { kind_of info ≡ Some EnumKind }
-        requires count { vlen info ≡ vec_len variants }
+        requires count { vlen info ≡ length variants.items }
         ensures words { result ≡ record {
           name = name_offset;
           info = info;
@@ -169,8 +189,8 @@ impl WithList for Enum {
         [self.name_offset, self.info, self.size]
     }
 
-    fn items(&self) -> &Vec<BtfEnum> {
-        &self.variants
+    fn items(&self) -> &[BtfEnum] {
+        self.variants.as_slice()
     }
 
     ghost item_width = { λ x. refl };

@@ -12,9 +12,11 @@ ghost use Rattle.btf_model.specs.Info.{flag_bit, with_flag};
 ghost use Rattle.btf_items.specs.Items.{enum64_words};
 
 use crate::records::flag::sign_bit;
-use crate::records::with_list::{WithList, clone_with_list};
-use btf_items::BtfEnum64;
-use btf_plain::{BtfError, BtfKind, MAX_VLEN};
+use crate::records::with_list::WithList;
+use btf_items::{BtfEnum64, clone_items, read_items};
+use btf_plain::{BtfError, BtfKind, Endianness, MAX_VLEN};
+use smallvec::SmallVec;
+use std::alloc::Global;
 use std::marker::Model;
 
 /// An enumeration of 64-bit values (the kernel's documentation, "BTF_KIND_ENUM64"). Contracts see it as the record of
@@ -24,7 +26,7 @@ pub struct Enum64 {
     name_offset: u32,
     info: u32,
     size: u32,
-    variants: Vec<BtfEnum64>,
+    variants: SmallVec<BtfEnum64, 4>,
 }
 
 impl Model for Enum64 {
@@ -62,7 +64,7 @@ impl Enum64 {
             name_offset,
             info,
             size: 8,
-            variants,
+            variants: SmallVec::from_vec(variants),
         }
     }
 
@@ -121,7 +123,12 @@ impl Enum64 {
     pub fn try_clone(&self) -> Result<Self, BtfError>
         ensures { IsOrNoMemory (λ r. r) result (Ok self.now) }
     {
-        clone_with_list(self)
+        Ok(Self {
+            name_offset: self.name_offset,
+            info: self.info,
+            size: self.size,
+            variants: clone_items(&self.variants)?,
+        })
     }
 }
 
@@ -133,15 +140,28 @@ impl WithList for Enum64 {
 
     type Element = BtfEnum64;
 
+    type Items = SmallVec<BtfEnum64, 4>;
+
+    ghost listed = { λ v. v.items };
+
     ghost kind = { Enum64Kind };
 
     ghost words = { λ r. r };
 
     ghost words_alone = { λ r. ⊤ };
 
-    fn from_parts(name_offset: u32, info: u32, size: u32, variants: Vec<BtfEnum64>) -> Self
+    fn read_list(
+        alloc: Global,
+        bytes: &[u8],
+        endianness: Endianness,
+        count: usize,
+    ) -> Result<SmallVec<BtfEnum64, 4>, BtfError> {
+        read_items(alloc, bytes, endianness, count)
+    }
+
+    fn from_parts(name_offset: u32, info: u32, size: u32, variants: SmallVec<BtfEnum64, 4>) -> Self
         requires kind { kind_of info ≡ Some Enum64Kind }
-        requires count { vlen info ≡ vec_len variants }
+        requires count { vlen info ≡ length variants.items }
         ensures words { result ≡ record {
           name = name_offset;
           info = info;
@@ -162,8 +182,8 @@ impl WithList for Enum64 {
         [self.name_offset, self.info, self.size]
     }
 
-    fn items(&self) -> &Vec<BtfEnum64> {
-        &self.variants
+    fn items(&self) -> &[BtfEnum64] {
+        self.variants.as_slice()
     }
 
     ghost item_width = { λ x. refl };

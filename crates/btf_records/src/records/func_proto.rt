@@ -10,9 +10,11 @@ ghost use Rattle.btf_words.specs.Endianness.{order_of};
 ghost use Rattle.btf_words.specs.Error.{IsOrNoMemory};
 ghost use Rattle.btf_items.specs.Items.{param_words};
 
-use crate::records::with_list::{WithList, clone_with_list};
-use btf_items::BtfParam;
-use btf_plain::{BtfError, BtfKind, MAX_VLEN};
+use crate::records::with_list::WithList;
+use btf_items::{BtfParam, clone_items, read_items};
+use btf_plain::{BtfError, BtfKind, Endianness, MAX_VLEN};
+use smallvec::SmallVec;
+use std::alloc::Global;
 use std::marker::Model;
 
 /// A function prototype (the kernel's documentation, "BTF_KIND_FUNC_PROTO"). Contracts see it as the record of its
@@ -22,7 +24,7 @@ pub struct FuncProto {
     name_offset: u32,
     info: u32,
     return_type: u32,
-    params: Vec<BtfParam>,
+    params: SmallVec<BtfParam, 6>,
 }
 
 impl Model for FuncProto {
@@ -60,7 +62,7 @@ impl FuncProto {
             name_offset: 0,
             info,
             return_type,
-            params,
+            params: SmallVec::from_vec(params),
         }
     }
 
@@ -122,7 +124,12 @@ impl FuncProto {
     pub fn try_clone(&self) -> Result<Self, BtfError>
         ensures { IsOrNoMemory (λ r. r) result (Ok self.now) }
     {
-        clone_with_list(self)
+        Ok(Self {
+            name_offset: self.name_offset,
+            info: self.info,
+            return_type: self.return_type,
+            params: clone_items(&self.params)?,
+        })
     }
 }
 
@@ -134,15 +141,33 @@ impl WithList for FuncProto {
 
     type Element = BtfParam;
 
+    type Items = SmallVec<BtfParam, 6>;
+
+    ghost listed = { λ v. v.items };
+
     ghost kind = { FuncProtoKind };
 
     ghost words = { λ r. r };
 
     ghost words_alone = { λ r. ⊤ };
 
-    fn from_parts(name_offset: u32, info: u32, return_type: u32, params: Vec<BtfParam>) -> Self
+    fn read_list(
+        alloc: Global,
+        bytes: &[u8],
+        endianness: Endianness,
+        count: usize,
+    ) -> Result<SmallVec<BtfParam, 6>, BtfError> {
+        read_items(alloc, bytes, endianness, count)
+    }
+
+    fn from_parts(
+        name_offset: u32,
+        info: u32,
+        return_type: u32,
+        params: SmallVec<BtfParam, 6>,
+    ) -> Self
         requires kind { kind_of info ≡ Some FuncProtoKind }
-        requires count { vlen info ≡ vec_len params }
+        requires count { vlen info ≡ length params.items }
         ensures words { result ≡ record {
           name = name_offset;
           info = info;
@@ -163,8 +188,8 @@ impl WithList for FuncProto {
         [self.name_offset, self.info, self.return_type]
     }
 
-    fn items(&self) -> &Vec<BtfParam> {
-        &self.params
+    fn items(&self) -> &[BtfParam] {
+        self.params.as_slice()
     }
 
     ghost item_width = { λ x. refl };

@@ -10,9 +10,11 @@ ghost use Rattle.btf_words.specs.Endianness.{order_of};
 ghost use Rattle.btf_words.specs.Error.{IsOrNoMemory};
 ghost use Rattle.btf_items.specs.Items.{member_words};
 
-use crate::records::with_list::{WithList, clone_with_list};
-use btf_items::BtfMember;
-use btf_plain::{BtfError, BtfKind, MAX_VLEN};
+use crate::records::with_list::WithList;
+use btf_items::{BtfMember, clone_items, read_items};
+use btf_plain::{BtfError, BtfKind, Endianness, MAX_VLEN};
+use smallvec::SmallVec;
+use std::alloc::Global;
 use std::marker::Model;
 
 /// A structure (the kernel's documentation, "BTF_KIND_STRUCT"). Contracts see it as the record of its words.
@@ -21,7 +23,7 @@ pub struct Struct {
     name_offset: u32,
     info: u32,
     size: u32,
-    members: Vec<BtfMember>,
+    members: SmallVec<BtfMember, 4>,
 }
 
 impl Model for Struct {
@@ -59,7 +61,7 @@ impl Struct {
             name_offset,
             info,
             size,
-            members,
+            members: SmallVec::from_vec(members),
         }
     }
 
@@ -133,7 +135,12 @@ impl Struct {
     pub fn try_clone(&self) -> Result<Self, BtfError>
         ensures { IsOrNoMemory (λ r. r) result (Ok self.now) }
     {
-        clone_with_list(self)
+        Ok(Self {
+            name_offset: self.name_offset,
+            info: self.info,
+            size: self.size,
+            members: clone_items(&self.members)?,
+        })
     }
 }
 
@@ -145,15 +152,28 @@ impl WithList for Struct {
 
     type Element = BtfMember;
 
+    type Items = SmallVec<BtfMember, 4>;
+
+    ghost listed = { λ v. v.items };
+
     ghost kind = { StructKind };
 
     ghost words = { λ r. r };
 
     ghost words_alone = { λ r. ⊤ };
 
-    fn from_parts(name_offset: u32, info: u32, size: u32, members: Vec<BtfMember>) -> Self
+    fn read_list(
+        alloc: Global,
+        bytes: &[u8],
+        endianness: Endianness,
+        count: usize,
+    ) -> Result<SmallVec<BtfMember, 4>, BtfError> {
+        read_items(alloc, bytes, endianness, count)
+    }
+
+    fn from_parts(name_offset: u32, info: u32, size: u32, members: SmallVec<BtfMember, 4>) -> Self
         requires kind { kind_of info ≡ Some StructKind }
-        requires count { vlen info ≡ vec_len members }
+        requires count { vlen info ≡ length members.items }
         ensures words { result ≡ record {
           name = name_offset;
           info = info;
@@ -174,8 +194,8 @@ impl WithList for Struct {
         [self.name_offset, self.info, self.size]
     }
 
-    fn items(&self) -> &Vec<BtfMember> {
-        &self.members
+    fn items(&self) -> &[BtfMember] {
+        self.members.as_slice()
     }
 
     ghost item_width = { λ x. refl };

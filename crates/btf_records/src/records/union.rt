@@ -13,19 +13,71 @@ ghost use Rattle.btf_items.specs.Fallback.{fallback_of_option};
 ghost use Rattle.btf_items.specs.Items.{member_words};
 
 use crate::records::with_list::WithList;
-use btf_items::{BtfMember, Enum64Fallback, clone_fallback, clone_items};
-use btf_plain::{BtfError, BtfKind, MAX_VLEN};
+use btf_items::{BtfMember, Enum64Fallback, clone_items, read_items};
+use btf_plain::{BtfError, BtfKind, Endianness, MAX_VLEN};
+use smallvec::SmallVec;
+use std::alloc::Global;
+use std::fmt;
 use std::marker::Model;
+
+/// The members of a union, and the ENUM64 that it stands in for, if it does. Most unions stand in for none, so the room
+/// that a fallback would take holds a few members.
+#[derive(Drop)]
+enum Members {
+    Alone(SmallVec<BtfMember, 3>),
+    InsteadOf(Enum64Fallback, Vec<BtfMember>),
+}
 
 /// A union (the kernel's documentation, "BTF_KIND_UNION"). Contracts see it as the record of its words, and its
 /// fallback.
-#[derive(Debug, Drop)]
+#[derive(Drop)]
 pub struct Union {
     name_offset: u32,
     info: u32,
     size: u32,
-    members: Vec<BtfMember>,
-    fallback: Option<Enum64Fallback>,
+    members: Members,
+}
+
+impl Members {
+    ghost use Rattle.std.specs.Prelude.{◌≡◌, Ok};
+    ghost use Rattle.btf_records.specs.Members.{members_of, kept_of};
+
+    /// These members, and this fallback.
+    fn new(members: Vec<BtfMember>, fallback: Option<Enum64Fallback>) -> Self
+        ensures members { members_of result ≡ members.items }
+        ensures fallback { kept_of result ≡ fallback_of_option fallback }
+    {
+        match fallback {
+            Some(fallback) => Members::InsteadOf(fallback, members),
+            None => Members::Alone(SmallVec::from_vec(members)),
+        }
+    }
+
+    /// The members, in order.
+    fn as_slice(&self) -> &[BtfMember]
+        ensures { result.now ≡ members_of self.now }
+    {
+        match self {
+            Members::Alone(members) => members.as_slice(),
+            Members::InsteadOf(_, members) => members.as_slice(),
+        }
+    }
+
+    /// Equal members, and an equal fallback.
+    fn try_clone(&self) -> Result<Self, BtfError>
+        ensures members { IsOrNoMemory (λ m. flat_map member_words (members_of m)) result
+            (Ok (flat_map member_words (members_of self.now))) }
+        ensures count { IsOrNoMemory (λ m. length (members_of m)) result
+            (Ok (length (members_of self.now))) }
+        ensures fallback { IsOrNoMemory kept_of result (Ok (kept_of self.now)) }
+    {
+        match self {
+            Members::Alone(members) => Ok(Members::Alone(clone_items(members)?)),
+            Members::InsteadOf(fallback, members) => {
+                Ok(Members::InsteadOf(fallback.try_clone()?, members.clone()?))
+            }
+        }
+    }
 }
 
 impl Model for Union {
@@ -34,7 +86,7 @@ impl Model for Union {
     ghost use Rattle.btf_model.specs.Record.{Record, kind_of, vlen, Union as UnionKind};
     ghost use Rattle.btf_model.specs.Table.{UnionRecord};
     ghost use Rattle.btf_items.specs.Items.{member_words};
-    ghost use Rattle.btf_items.specs.Fallback.{fallback_of_option};
+    ghost use Rattle.btf_records.specs.Members.{members_of, kept_of};
 
     ghost Value = { UnionRecord };
 
@@ -43,13 +95,13 @@ impl Model for Union {
         name = a.name_offset;
         info = a.info;
         third = a.size;
-        tail = flat_map member_words a.members.items;
+        tail = flat_map member_words (members_of a.members);
       };
-      fallback = fallback_of_option a.fallback;
+      fallback = kept_of a.members;
     } };
 
     ghost invariant = { λ a. (kind_of a.info ≡ Some UnionKind)
-        × (vlen a.info ≡ length a.members.items) };
+        × (vlen a.info ≡ length (members_of a.members)) };
 }
 
 impl Union {
@@ -77,8 +129,7 @@ impl Union {
             name_offset,
             info,
             size,
-            members,
-            fallback,
+            members: Members::new(members, fallback),
         }
     }
 
@@ -145,14 +196,17 @@ impl Union {
     pub fn enum64_fallback(&self) -> Option<&Enum64Fallback>
         ensures { self.now.fallback ≡ fallback_of_option (option_copied result) }
     {
-        self.fallback.as_ref()
+        match &self.members {
+            Members::Alone(_) => None,
+            Members::InsteadOf(fallback, _) => Some(fallback),
+        }
     }
 
     /// The length of the record in bytes.
     pub fn type_info_size(&self) -> usize
         ensures { result ≡ 12 + 4 * length self.now.words.tail }
     {
-        12 + 12 * self.members.len()
+        12 + 12 * self.items().len()
     }
 
     /// An equal record. `OutOfMemory` is the only error.
@@ -163,8 +217,7 @@ impl Union {
             name_offset: self.name_offset,
             info: self.info,
             size: self.size,
-            members: clone_items(&self.members)?,
-            fallback: clone_fallback(&self.fallback)?,
+            members: self.members.try_clone()?,
         })
     }
 }
@@ -177,15 +230,28 @@ impl WithList for Union {
 
     type Element = BtfMember;
 
+    type Items = SmallVec<BtfMember, 3>;
+
+    ghost listed = { λ v. v.items };
+
     ghost kind = { UnionKind };
 
     ghost words = { λ u. u.words };
 
     ghost words_alone = { λ u. u.fallback ≡ None };
 
-    fn from_parts(name_offset: u32, info: u32, size: u32, members: Vec<BtfMember>) -> Self
+    fn read_list(
+        alloc: Global,
+        bytes: &[u8],
+        endianness: Endianness,
+        count: usize,
+    ) -> Result<SmallVec<BtfMember, 3>, BtfError> {
+        read_items(alloc, bytes, endianness, count)
+    }
+
+    fn from_parts(name_offset: u32, info: u32, size: u32, members: SmallVec<BtfMember, 3>) -> Self
         requires kind { kind_of info ≡ Some UnionKind }
-        requires count { vlen info ≡ vec_len members }
+        requires count { vlen info ≡ length members.items }
         ensures words { result.words ≡ record {
           name = name_offset;
           info = info;
@@ -198,8 +264,7 @@ impl WithList for Union {
             name_offset,
             info,
             size,
-            members,
-            fallback: None,
+            members: Members::Alone(members),
         }
     }
 
@@ -207,8 +272,8 @@ impl WithList for Union {
         [self.name_offset, self.info, self.size]
     }
 
-    fn items(&self) -> &Vec<BtfMember> {
-        &self.members
+    fn items(&self) -> &[BtfMember] {
+        self.members.as_slice()
     }
 
     ghost item_width = { λ x. refl };
@@ -216,4 +281,16 @@ impl WithList for Union {
     ghost tail_width = { λ n. refl };
 
     ghost is_kept = { λ r. refl };
+}
+
+impl fmt::Debug for Union {
+    fn fmt<W: fmt::Write>(&self, f: &mut fmt::Formatter<W>) -> fmt::Result {
+        f.debug_struct("Union")
+            .field("name_offset", &self.name_offset)
+            .field("info", &self.info)
+            .field("size", &self.size)
+            .field("members", &self.members())
+            .field("fallback", &self.enum64_fallback())
+            .finish()
+    }
 }

@@ -1,20 +1,27 @@
 //! What the records with a list have in common: three words, and as many items as vlen says.
 
-ghost use Rattle.std.specs.Prelude.{◌≡◌, ℕ, ◌*◌, ◌++◌, [], ◌∷◌, length, vec_len, Some, Ok, OnOk};
+ghost use Rattle.std.specs.Prelude.{◌≡◌, ℕ, ◌*◌, ◌++◌, [], ◌∷◌, List, length, Some, OnOk};
 ghost use Rattle.std.specs.List.{flat_map};
 ghost use Rattle.btf_model.specs.Record.{Kind, Record, kind_of, vlen, tail_words};
 ghost use Rattle.btf_model.specs.Spelling.{spell, kept, IsWhole};
 ghost use Rattle.btf_words.specs.Endianness.{order_of};
-ghost use Rattle.btf_words.specs.Error.{IsOrNoMemory};
+ghost use Rattle.btf_words.specs.Error.{MeetsOrNoMemory};
+ghost use Rattle.btf_items.specs.ReadItems.{ReadsItems};
 
-use btf_items::{Item, clone_items, push, push_items};
+use btf_items::{Item, push, push_items};
 use btf_plain::{BtfError, Endianness};
-use std::alloc::AllocError;
+use std::alloc::{AllocError, Global};
 
 /// A record with a list.
 pub trait WithList: Sized {
     /// An item of the list.
     type Element: Item;
+
+    /// The list, a few items of which lie in the record itself.
+    type Items;
+
+    /// The items of a list, in order.
+    ghost listed: { Self.Items → List Self.Element };
 
     /// The kind of the record.
     ghost kind: { Kind };
@@ -25,15 +32,26 @@ pub trait WithList: Sized {
     /// Nothing is kept beside the words.
     ghost words_alone: { Self → Type 0 };
 
+    /// So many items from the front of bytes. `InvalidTypeInfo` where the bytes end before them.
+    fn read_list(
+        alloc: Global,
+        bytes: &[u8],
+        endianness: Endianness,
+        count: usize,
+    ) -> Result<Self::Items, BtfError>
+        ensures { MeetsOrNoMemory listed result
+            (ReadsItems Self.Element.width Self.Element.item_words (order_of endianness)
+            bytes.now count) };
+
     /// The record of these words, for what is read.
-    fn from_parts(name_offset: u32, info: u32, third: u32, items: Vec<Self::Element>) -> Self
+    fn from_parts(name_offset: u32, info: u32, third: u32, items: Self::Items) -> Self
         requires kind { kind_of info ≡ Some kind }
-        requires count { vlen info ≡ vec_len items }
+        requires count { vlen info ≡ length (listed items) }
         ensures words { words result ≡ record {
           name = name_offset;
           info = info;
           third = third;
-          tail = flat_map Self.Element.item_words items.items;
+          tail = flat_map Self.Element.item_words (listed items);
         } }
         ensures alone { words_alone result };
 
@@ -44,10 +62,10 @@ pub trait WithList: Sized {
         ensures kind { kind_of (words self.now).info ≡ Some kind };
 
     /// The items, in order.
-    fn items(&self) -> &Vec<Self::Element>
+    fn items(&self) -> &[Self::Element]
         ensures words { (words self.now).tail
-            ≡ flat_map Self.Element.item_words result.now.items }
-        ensures count { vlen (words self.now).info ≡ length result.now.items };
+            ≡ flat_map Self.Element.item_words result.now }
+        ensures count { vlen (words self.now).info ≡ length result.now };
 
     /// Each item has the same number of words.
     ghost item_width: { (x : Self.Element)
@@ -72,13 +90,4 @@ pub fn append_with_list<R: WithList>(
 {
     push(out, endianness, &list.front())?;
     push_items(out, endianness, list.items())
-}
-
-/// An equal record, as far as its words go. `OutOfMemory` is the only error.
-pub fn clone_with_list<R: WithList>(list: &R) -> Result<R, BtfError>
-    ensures { IsOrNoMemory R.words result (Ok (R.words list.now)) }
-{
-    let [name_offset, info, third] = list.front();
-    let items = clone_items(list.items())?;
-    Ok(R::from_parts(name_offset, info, third, items))
 }

@@ -1,6 +1,8 @@
-use Rattle.std.proofs.Common.{◌≡◌, List, rules, [], ◌∷◌, ◌++◌, refl, ap, sym, ◌∙◌}
+use Rattle.std.proofs.Common.{◌≡◌, List, [], ◌∷◌, ◌++◌, refl, ap, sym, ◌∙◌}
 use Rattle.std.specs.List.{flat_map, AllZip}
 use Rattle.std.proofs.lemmas.List.Concat.{flat_map-cons}
+use Rattle.std.proofs.lemmas.Result.{MatchResult-weaker}
+use Rattle.std.proofs.lemmas.Slice.Zip.{AllZip-long}
 use Rattle.btf_items.proofs.list.clone_items.Goals as goal
 
 -- clones have the words of what they are clones of
@@ -12,4 +14,8 @@ same_words IsClone words same (x ∷ xs) (y ∷ ys) h =
     flat_map-cons words y ys ∙ ap (λ w. w ++ flat_map words ys) (same x y h.0) ∙ ap (λ w. words x ++ w) (same_words IsClone words same xs ys h.1) ∙ sym (flat_map-cons words x xs)
 
 pub returns : goal.returns
-returns g c = search (rules, same_words g.T.Clone.is_clone g.T.Item.item_words g.met.T.Item.cloned_words c.args.items.now.items)
+returns g c =
+    let xs = c.args.items.now.items in
+    MatchResult-weaker c.clone.result c.clone.ensures.cases
+    (λ v h. (same_words g.T.Clone.is_clone g.T.Item.item_words g.met.T.Item.cloned_words xs v.items h, AllZip-long g.T.Clone.is_clone xs v.items h))
+    (λ _ _. tt)

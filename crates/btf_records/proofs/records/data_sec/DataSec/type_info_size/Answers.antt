@@ -5,4 +5,4 @@ use Rattle.btf_items.proofs.Lists.{length-items}
 use Rattle.btf_records.proofs.records.data_sec.DataSec.type_info_size.Goals as goal
 
 pub returns : goal.returns
-returns c = omega (arith, c.len.ensures, c.self.inside.entries.ok.0, length-items 3 entry_words (λ _. refl) c.self.inside.entries.items, ap (λ (r : Record). length r.tail) c.self.view_is)
+returns c = omega (arith, c.len.ensures, length-items 3 entry_words (λ _. refl) c.self.inside.entries.items, ap (λ (r : Record). length r.tail) c.self.view_is)

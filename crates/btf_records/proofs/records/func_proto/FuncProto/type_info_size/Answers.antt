@@ -5,4 +5,4 @@ use Rattle.btf_items.proofs.Lists.{length-items}
 use Rattle.btf_records.proofs.records.func_proto.FuncProto.type_info_size.Goals as goal
 
 pub returns : goal.returns
-returns c = omega (arith, c.len.ensures, c.self.inside.params.ok.0, length-items 2 param_words (λ _. refl) c.self.inside.params.items, ap (λ (r : Record). length r.tail) c.self.view_is)
+returns c = omega (arith, c.len.ensures, length-items 2 param_words (λ _. refl) c.self.inside.params.items, ap (λ (r : Record). length r.tail) c.self.view_is)

@@ -5,4 +5,4 @@ use Rattle.btf_items.proofs.Lists.{length-items}
 use Rattle.btf_records.proofs.records.union.Union.type_info_size.Goals as goal
 
 pub returns : goal.returns
-returns c = omega (arith, c.len.ensures, c.self.inside.members.ok.0, length-items 3 member_words (λ _. refl) c.self.inside.members.items, ap (λ (u : UnionRecord). length u.words.tail) c.self.view_is)
+returns c = omega (arith, length-items 3 member_words (λ _. refl) c.items.result.now, ap length c.items.ensures.words)
