@@ -1,12 +1,13 @@
 -- Items, read one after another.
-use Rattle.std.proofs.Common.{◌≡◌, ℕ, zero, suc, ◌+◌, ◌*◌, ◌<◌, ◌≤◌, List, [], ◌∷◌, ◌++◌, length, take, drop, set, ◌^◌, Some, Result, Err, refl, sym, ap, subst, ◌∙◌, arith, zero-add}
+use Rattle.std.proofs.Common.{◌≡◌, ℕ, zero, suc, ◌+◌, ◌*◌, ◌<◌, ◌≤◌, List, [], ◌∷◌, ◌++◌, length, take, drop, set, ◌-◌, ◌^◌, Some, Result, Ok, Err, refl, sym, ap, subst, ◌∙◌, arith, zero-add}
 use Rattle.std.specs.Prelude.{IsErrAnd}
-use Rattle.std.specs.List.{flat_map, AllByRecursion, refill}
-use Rattle.std.proofs.lemmas.List.{append-nil, append_assoc, drop-drop, length-drop, length_push, length-append, take-append-drop, length-take-le, length-set, take_at, drop_at, set_split}
+use Rattle.std.specs.List.{flat_map, AllByRecursion, AllZip}
+use Rattle.std.proofs.lemmas.List.{append-nil, append_assoc, drop-drop, length-drop, length_push, length-append, take-append-drop, length-take-le, take-append-le, take_at, drop_at, set_split}
 use Rattle.std.proofs.Math.Nat.{mul-le-mul_left}
-use Rattle.std.proofs.lemmas.List.Concat.{flat_map-append}
+use Rattle.std.proofs.lemmas.List.Concat.{flat_map-append, flat_map-cons}
 use Rattle.std.proofs.lemmas.Result.{err_from_is_err_and}
 use Rattle.btf_model.specs.Word.{Order, word_of, words_at}
+use Rattle.btf_model.proofs.Words.{length-words_at}
 use Rattle.btf_model.specs.Record.{Kind, Record, kind_of, vlen, tail_words}
 use Rattle.btf_model.specs.Spelling.{kept, IsWhole}
 use Rattle.btf_words.specs.declared.error.BtfError.{BtfError}
@@ -94,7 +95,32 @@ words_of_set k f each xs i y lt =
     ∙ ap (λ (ws : List ℕ). take (k * i) (flat_map f xs) ++ (f y ++ ws)) (sym (words_after k f each xs (suc i) (omega arith)))
     ∙ sym (append_assoc (take (k * i) (flat_map f xs)) (f y) (drop (k * suc i) (flat_map f xs)))
 
--- an item put in the place of another by a loan of all items
-pub refill_set : {X : Type 0} (xs ys : List X) (i : ℕ) (y : X) → ys ≡ xs → refill (length xs) xs (set ys i y) ≡ set xs i y
-refill_set xs ys i y same =
-    take_at (set ys i y) (drop (length (set ys i y)) xs) (length xs) (length-set ys i y ∙ ap length same) ∙ ap (λ zs. set zs i y) same
+-- the first of more items that were read
+pub first_items : {X : Type 0} (width : ℕ) (f : X → List ℕ) → ((x : X) → length (f x) ≡ width) → (order : Order) (bytes : List ℕ) (n more : ℕ) (xs : List X) → n ≤ more → ReadsItems width f order bytes more (Ok (take more xs)) → ReadsItems width f order bytes n (Ok (take n xs))
+first_items width f each order bytes n more xs le h =
+    let fewer : width * n ≤ width * more = mul-le-mul_left width le in
+    let both : take n (take more xs) ≡ take n xs = sym (take-append-le n (take more xs) (drop more xs) (omega (arith, h.1, le))) ∙ ap (take n) (take-append-drop more xs) in
+    let ws = words_at order (width * more) bytes in
+    let split : ws ≡ words_at order (width * n) bytes ++ words_at order (width * more - width * n) (drop (4 * (width * n)) bytes) =
+    ap (λ k. words_at order k bytes) (omega (arith, fewer)) ∙ words_at-add order (width * n) (width * more - width * n) bytes in (
+      omega (arith, h.0, fewer),
+      ap length (sym both) ∙ length-take-le n (take more xs) (omega (arith, h.1, le)),
+      ap (flat_map f) (sym both) ∙ sym (words_before width f each (take more xs) n (omega (arith, h.1, le))) ∙ ap (take (width * n)) (h.2 ∙ split)
+          ∙ take_at (words_at order (width * n) bytes) (words_at order (width * more - width * n) (drop (4 * (width * n)) bytes)) (width * n) (length-words_at order (width * n) bytes),
+    )
+
+-- clones of the first items
+pub first_clones : {X : Type 0} (R : X → X → Type 0) (n : ℕ) (xs ys : List X) → AllZip R xs ys → AllZip R (take n xs) (take n ys)
+first_clones R zero xs ys h = tt
+first_clones R (suc n) [] [] h = tt
+first_clones R (suc n) [] (y ∷ ys) h = absurd h
+first_clones R (suc n) (x ∷ xs) [] h = absurd h
+first_clones R (suc n) (x ∷ xs) (y ∷ ys) h = (h.0, first_clones R n xs ys h.1)
+
+-- clones have the words of what they are clones of
+pub same_words : {X A : Type 0} (IsClone : X → X → Type 0) (words : X → List A) → ((x y : X) → IsClone x y → words y ≡ words x) → (xs ys : List X) → AllZip IsClone xs ys → flat_map words ys ≡ flat_map words xs
+same_words IsClone words same [] [] h = refl
+same_words IsClone words same [] (y ∷ ys) h = absurd h
+same_words IsClone words same (x ∷ xs) [] h = absurd h
+same_words IsClone words same (x ∷ xs) (y ∷ ys) h =
+    flat_map-cons words y ys ∙ ap (λ w. w ++ flat_map words ys) (same x y h.0) ∙ ap (λ w. words x ++ w) (same_words IsClone words same xs ys h.1) ∙ sym (flat_map-cons words x xs)

@@ -1,3 +1,4 @@
 pub mod Items
 pub mod Fallback
 pub mod ReadItems
+pub mod ItemList

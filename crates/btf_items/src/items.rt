@@ -1,6 +1,6 @@
 //! The items of the records that have a list.
 
-ghost use Rattle.std.specs.Prelude.{◌≡◌, ◌/◌, ◌%◌, ◌^◌, [], ◌∷◌};
+ghost use Rattle.std.specs.Prelude.{◌≡◌, ◌/◌, ◌%◌, ◌^◌, [], ◌∷◌, refl};
 ghost use Rattle.btf_items.specs.Items.{enum_words, enum64_words, member_words, param_words, entry_words};
 
 use crate::list::Item;
@@ -100,6 +100,8 @@ impl Item for BtfEnum {
         push(out, endianness, &[self.name_offset, self.value])
     }
 
+    ghost item_width = { λ x. refl };
+
     ghost cloned_words = { λ x y h i. h.0 i ∷ h.1 i ∷ [] };
 }
 
@@ -129,6 +131,8 @@ impl Item for BtfEnum64 {
             &[self.name_offset, self.value_low, self.value_high],
         )
     }
+
+    ghost item_width = { λ x. refl };
 
     ghost cloned_words = { λ x y h i. enum64_words (h i) };
 }
@@ -160,6 +164,8 @@ impl Item for BtfMember {
         )
     }
 
+    ghost item_width = { λ x. refl };
+
     ghost cloned_words = { λ x y h i. h.0 i ∷ h.1.0 i ∷ h.1.1 i ∷ [] };
 }
 
@@ -183,6 +189,8 @@ impl Item for BtfParam {
     fn append_to(&self, out: &mut Vec<u8>, endianness: Endianness) -> Result<(), AllocError> {
         push(out, endianness, &[self.name_offset, self.btf_type])
     }
+
+    ghost item_width = { λ x. refl };
 
     ghost cloned_words = { λ x y h i. h.0 i ∷ h.1 i ∷ [] };
 }
@@ -209,6 +217,8 @@ impl Item for DataSecEntry {
     fn append_to(&self, out: &mut Vec<u8>, endianness: Endianness) -> Result<(), AllocError> {
         push(out, endianness, &[self.btf_type, self.offset, self.size])
     }
+
+    ghost item_width = { λ x. refl };
 
     ghost cloned_words = { λ x y h i. h.0 i ∷ h.1.0 i ∷ h.1.1 i ∷ [] };
 }

@@ -2,11 +2,13 @@
 #![tactic(auto)]
 
 mod fallback;
+mod item_list;
 mod items;
 mod list;
 mod words;
 
 pub use fallback::{Enum64Fallback, Enum64VariantFallback, clone_fallback};
+pub use item_list::ItemList;
 pub use items::{BtfEnum, BtfEnum64, BtfMember, BtfParam, DataSecEntry};
 pub use list::{Item, clone_items, push_items, read_items};
 pub use words::{push, split_word};

@@ -9,7 +9,6 @@ ghost use Rattle.btf_items.specs.ReadItems.{ReadsItems};
 
 use crate::words::{push, split_word};
 use btf_words::{BtfError, Endianness};
-use smallvec::SmallVec;
 use std::alloc::{AllocError, Global};
 
 /// An item of a list: so many words.
@@ -34,6 +33,9 @@ pub trait Item: Sized + Clone + Default + Drop {
             ++ flat_map (word (order_of endianness)) (item_words self.now)) }
         ensures words_fit { AllByRecursion (λ w. w < 2 ^ 32) (item_words self.now) };
 
+    /// Each item has so many words.
+    ghost item_width: { (x : Self) → length (item_words x) ≡ width };
+
     /// A clone has the same words.
     ghost cloned_words: { (x y : Self) → Self.is_clone x y → item_words y ≡ item_words x };
 }
@@ -55,42 +57,17 @@ pub fn push_items<T: Item>(
     Ok(())
 }
 
-/// Equal items, in a list with room for just their number.
-pub fn clone_items<T: Item, const N: usize>(
-    items: &SmallVec<T, N>,
-) -> Result<SmallVec<T, N>, AllocError>
+/// Equal items, in a vector of just their number.
+pub fn clone_items<T: Item>(items: &Vec<T>) -> Result<Vec<T>, AllocError>
     ensures { IfOk result (λ v. (flat_map T.item_words v.items
         ≡ flat_map T.item_words items.now.items) × (length v.items ≡ length items.now.items)) }
 {
     items.clone()
 }
 
-/// So many items from the front of bytes, in a list with room for just their number. `InvalidTypeInfo` where the bytes
+/// So many items from the front of bytes, in a vector of just their number. `InvalidTypeInfo` where the bytes
 /// end before them.
-pub fn read_items<T: Item, const N: usize>(
-    alloc: Global,
-    bytes: &[u8],
-    endianness: Endianness,
-    count: usize,
-) -> Result<SmallVec<T, N>, BtfError>
-    ensures { MeetsOrNoMemory (λ v. v.items) result
-        (ReadsItems T.width T.item_words (order_of endianness) bytes.now count) }
-{
-    if count > N {
-        return Ok(SmallVec::from_vec(read_many(alloc, bytes, endianness, count)?));
-    }
-    let mut items = SmallVec::new(alloc);
-    let mut rest = bytes;
-    for _ in 0..count {
-        let (item, behind) = T::read(rest, endianness)?;
-        items.push(item)?;
-        rest = behind;
-    }
-    Ok(items)
-}
-
-/// The same in a vector, which takes memory.
-fn read_many<T: Item>(
+pub fn read_items<T: Item>(
     alloc: Global,
     bytes: &[u8],
     endianness: Endianness,

@@ -3,11 +3,12 @@ use Rattle.std.specs.Prelude.{List, Option, Some, None}
 use Rattle.btf_model.specs.Table.{Fallback}
 use Rattle.btf_items.specs.declared.items.BtfMember.{BtfMember}
 use Rattle.btf_items.specs.Fallback.{fallback_value}
+use Rattle.btf_items.specs.ItemList.{items_of}
 use Rattle.btf_records.specs.declared.records.union.Members.{Members}
 use Rattle.btf_records.specs.declared.records.union.Members.TheVariants.{Alone, InsteadOf}
 
 abbrev pub members_of : Members → List BtfMember
-members_of (Alone members) = members.items
+members_of (Alone members) = items_of members
 members_of (InsteadOf fallback members) = members.items
 
 abbrev pub kept_of : Members → Option Fallback

@@ -11,9 +11,8 @@ ghost use Rattle.btf_words.specs.Error.{IsOrNoMemory};
 ghost use Rattle.btf_items.specs.Items.{entry_words};
 
 use crate::records::with_list::WithList;
-use btf_items::{DataSecEntry, clone_items, read_items};
+use btf_items::{DataSecEntry, ItemList};
 use btf_plain::{BtfError, BtfKind, Endianness, MAX_VLEN};
-use smallvec::SmallVec;
 use std::alloc::Global;
 use std::marker::Model;
 
@@ -24,7 +23,7 @@ pub struct DataSec {
     name_offset: u32,
     info: u32,
     size: u32,
-    entries: SmallVec<DataSecEntry, 4>,
+    entries: ItemList<DataSecEntry, 4>,
 }
 
 impl Model for DataSec {
@@ -32,6 +31,7 @@ impl Model for DataSec {
     ghost use Rattle.std.specs.List.{flat_map};
     ghost use Rattle.btf_model.specs.Record.{Record, kind_of, vlen, DataSec as DataSecKind};
     ghost use Rattle.btf_items.specs.Items.{entry_words};
+    ghost use Rattle.btf_items.specs.ItemList.{items_of};
 
     ghost Value = { Record };
 
@@ -39,11 +39,11 @@ impl Model for DataSec {
       name = a.name_offset;
       info = a.info;
       third = a.size;
-      tail = flat_map entry_words a.entries.items;
+      tail = flat_map entry_words (items_of a.entries);
     } };
 
     ghost invariant = { λ a. (kind_of a.info ≡ Some DataSecKind)
-        × (vlen a.info ≡ length a.entries.items) };
+        × (vlen a.info ≡ length (items_of a.entries)) };
 }
 
 impl DataSec {
@@ -62,7 +62,7 @@ impl DataSec {
             name_offset,
             info,
             size,
-            entries: SmallVec::from_vec(entries),
+            entries: ItemList::Many(entries),
         }
     }
 
@@ -125,14 +125,14 @@ impl DataSec {
               ++ drop (3 * index + 3) self.old.tail;
         } }
     {
-        self.entries[index] = entry;
+        self.entries.set(index, entry);
     }
 
     /// The length of the record in bytes.
     pub fn type_info_size(&self) -> usize
         ensures { result ≡ 12 + 4 * length self.now.tail }
     {
-        12 + 12 * self.entries.len()
+        12 + 12 * self.items().len()
     }
 
     /// An equal record. `OutOfMemory` is the only error.
@@ -143,7 +143,7 @@ impl DataSec {
             name_offset: self.name_offset,
             info: self.info,
             size: self.size,
-            entries: clone_items(&self.entries)?,
+            entries: self.entries.try_clone()?,
         })
     }
 }
@@ -153,12 +153,13 @@ impl WithList for DataSec {
     ghost use Rattle.std.specs.List.{flat_map};
     ghost use Rattle.btf_model.specs.Record.{kind_of, vlen, DataSec as DataSecKind};
     ghost use Rattle.btf_items.specs.Items.{entry_words};
+    ghost use Rattle.btf_items.specs.ItemList.{items_of};
 
     type Element = DataSecEntry;
 
-    type Items = SmallVec<DataSecEntry, 4>;
+    type Items = ItemList<DataSecEntry, 4>;
 
-    ghost listed = { λ v. v.items };
+    ghost listed = { items_of };
 
     ghost kind = { DataSecKind };
 
@@ -171,23 +172,23 @@ impl WithList for DataSec {
         bytes: &[u8],
         endianness: Endianness,
         count: usize,
-    ) -> Result<SmallVec<DataSecEntry, 4>, BtfError> {
-        read_items(alloc, bytes, endianness, count)
+    ) -> Result<ItemList<DataSecEntry, 4>, BtfError> {
+        ItemList::read(alloc, bytes, endianness, count)
     }
 
     fn from_parts(
         name_offset: u32,
         info: u32,
         size: u32,
-        entries: SmallVec<DataSecEntry, 4>,
+        entries: ItemList<DataSecEntry, 4>,
     ) -> Self
         requires kind { kind_of info ≡ Some DataSecKind }
-        requires count { vlen info ≡ length entries.items }
+        requires count { vlen info ≡ length (items_of entries) }
         ensures words { result ≡ record {
           name = name_offset;
           info = info;
           third = size;
-          tail = flat_map entry_words entries.items;
+          tail = flat_map entry_words (items_of entries);
         } }
         ensures alone { ⊤ }
     {
@@ -206,8 +207,6 @@ impl WithList for DataSec {
     fn items(&self) -> &[DataSecEntry] {
         self.entries.as_slice()
     }
-
-    ghost item_width = { λ x. refl };
 
     ghost tail_width = { λ n. refl };
 

@@ -13,9 +13,8 @@ ghost use Rattle.btf_items.specs.Items.{enum_words};
 
 use crate::records::flag::sign_bit;
 use crate::records::with_list::WithList;
-use btf_items::{BtfEnum, clone_items, read_items};
+use btf_items::{BtfEnum, ItemList};
 use btf_plain::{BtfError, BtfKind, Endianness, MAX_VLEN};
-use smallvec::SmallVec;
 use std::alloc::Global;
 use std::marker::Model;
 
@@ -26,7 +25,7 @@ pub struct Enum {
     name_offset: u32,
     info: u32,
     size: u32,
-    variants: SmallVec<BtfEnum, 6>,
+    variants: ItemList<BtfEnum, 6>,
 }
 
 impl Model for Enum {
@@ -34,6 +33,7 @@ impl Model for Enum {
     ghost use Rattle.std.specs.List.{flat_map};
     ghost use Rattle.btf_model.specs.Record.{Record, kind_of, vlen, Enum as EnumKind};
     ghost use Rattle.btf_items.specs.Items.{enum_words};
+    ghost use Rattle.btf_items.specs.ItemList.{items_of};
 
     ghost Value = { Record };
 
@@ -41,11 +41,11 @@ impl Model for Enum {
       name = a.name_offset;
       info = a.info;
       third = a.size;
-      tail = flat_map enum_words a.variants.items;
+      tail = flat_map enum_words (items_of a.variants);
     } };
 
     ghost invariant = { λ a. (kind_of a.info ≡ Some EnumKind)
-        × (vlen a.info ≡ length a.variants.items) };
+        × (vlen a.info ≡ length (items_of a.variants)) };
 }
 
 impl Enum {
@@ -64,7 +64,7 @@ impl Enum {
             name_offset,
             info,
             size: 4,
-            variants: SmallVec::from_vec(variants),
+            variants: ItemList::Many(variants),
         }
     }
 
@@ -123,7 +123,7 @@ impl Enum {
     pub fn type_info_size(&self) -> usize
         ensures { result ≡ 12 + 4 * length self.now.tail }
     {
-        12 + 8 * self.variants.len()
+        12 + 8 * self.items().len()
     }
 
     /// An equal record. `OutOfMemory` is the only error.
@@ -134,7 +134,7 @@ impl Enum {
             name_offset: self.name_offset,
             info: self.info,
             size: self.size,
-            variants: clone_items(&self.variants)?,
+            variants: self.variants.try_clone()?,
         })
     }
 }
@@ -144,12 +144,13 @@ impl WithList for Enum {
     ghost use Rattle.std.specs.List.{flat_map};
     ghost use Rattle.btf_model.specs.Record.{kind_of, vlen, Enum as EnumKind};
     ghost use Rattle.btf_items.specs.Items.{enum_words};
+    ghost use Rattle.btf_items.specs.ItemList.{items_of};
 
     type Element = BtfEnum;
 
-    type Items = SmallVec<BtfEnum, 6>;
+    type Items = ItemList<BtfEnum, 6>;
 
-    ghost listed = { λ v. v.items };
+    ghost listed = { items_of };
 
     ghost kind = { EnumKind };
 
@@ -162,18 +163,18 @@ impl WithList for Enum {
         bytes: &[u8],
         endianness: Endianness,
         count: usize,
-    ) -> Result<SmallVec<BtfEnum, 6>, BtfError> {
-        read_items(alloc, bytes, endianness, count)
+    ) -> Result<ItemList<BtfEnum, 6>, BtfError> {
+        ItemList::read(alloc, bytes, endianness, count)
     }
 
-    fn from_parts(name_offset: u32, info: u32, size: u32, variants: SmallVec<BtfEnum, 6>) -> Self
+    fn from_parts(name_offset: u32, info: u32, size: u32, variants: ItemList<BtfEnum, 6>) -> Self
         requires kind { kind_of info ≡ Some EnumKind }
-        requires count { vlen info ≡ length variants.items }
+        requires count { vlen info ≡ length (items_of variants) }
         ensures words { result ≡ record {
           name = name_offset;
           info = info;
           third = size;
-          tail = flat_map enum_words variants.items;
+          tail = flat_map enum_words (items_of variants);
         } }
         ensures alone { ⊤ }
     {
@@ -192,8 +193,6 @@ impl WithList for Enum {
     fn items(&self) -> &[BtfEnum] {
         self.variants.as_slice()
     }
-
-    ghost item_width = { λ x. refl };
 
     ghost tail_width = { λ n. refl };
 

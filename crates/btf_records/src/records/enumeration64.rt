@@ -13,9 +13,8 @@ ghost use Rattle.btf_items.specs.Items.{enum64_words};
 
 use crate::records::flag::sign_bit;
 use crate::records::with_list::WithList;
-use btf_items::{BtfEnum64, clone_items, read_items};
+use btf_items::{BtfEnum64, ItemList};
 use btf_plain::{BtfError, BtfKind, Endianness, MAX_VLEN};
-use smallvec::SmallVec;
 use std::alloc::Global;
 use std::marker::Model;
 
@@ -26,7 +25,7 @@ pub struct Enum64 {
     name_offset: u32,
     info: u32,
     size: u32,
-    variants: SmallVec<BtfEnum64, 4>,
+    variants: ItemList<BtfEnum64, 4>,
 }
 
 impl Model for Enum64 {
@@ -34,6 +33,7 @@ impl Model for Enum64 {
     ghost use Rattle.std.specs.List.{flat_map};
     ghost use Rattle.btf_model.specs.Record.{Record, kind_of, vlen, Enum64 as Enum64Kind};
     ghost use Rattle.btf_items.specs.Items.{enum64_words};
+    ghost use Rattle.btf_items.specs.ItemList.{items_of};
 
     ghost Value = { Record };
 
@@ -41,11 +41,11 @@ impl Model for Enum64 {
       name = a.name_offset;
       info = a.info;
       third = a.size;
-      tail = flat_map enum64_words a.variants.items;
+      tail = flat_map enum64_words (items_of a.variants);
     } };
 
     ghost invariant = { λ a. (kind_of a.info ≡ Some Enum64Kind)
-        × (vlen a.info ≡ length a.variants.items) };
+        × (vlen a.info ≡ length (items_of a.variants)) };
 }
 
 impl Enum64 {
@@ -64,7 +64,7 @@ impl Enum64 {
             name_offset,
             info,
             size: 8,
-            variants: SmallVec::from_vec(variants),
+            variants: ItemList::Many(variants),
         }
     }
 
@@ -116,7 +116,7 @@ impl Enum64 {
     pub fn type_info_size(&self) -> usize
         ensures { result ≡ 12 + 4 * length self.now.tail }
     {
-        12 + 12 * self.variants.len()
+        12 + 12 * self.items().len()
     }
 
     /// An equal record. `OutOfMemory` is the only error.
@@ -127,7 +127,7 @@ impl Enum64 {
             name_offset: self.name_offset,
             info: self.info,
             size: self.size,
-            variants: clone_items(&self.variants)?,
+            variants: self.variants.try_clone()?,
         })
     }
 }
@@ -137,12 +137,13 @@ impl WithList for Enum64 {
     ghost use Rattle.std.specs.List.{flat_map};
     ghost use Rattle.btf_model.specs.Record.{kind_of, vlen, Enum64 as Enum64Kind};
     ghost use Rattle.btf_items.specs.Items.{enum64_words};
+    ghost use Rattle.btf_items.specs.ItemList.{items_of};
 
     type Element = BtfEnum64;
 
-    type Items = SmallVec<BtfEnum64, 4>;
+    type Items = ItemList<BtfEnum64, 4>;
 
-    ghost listed = { λ v. v.items };
+    ghost listed = { items_of };
 
     ghost kind = { Enum64Kind };
 
@@ -155,18 +156,18 @@ impl WithList for Enum64 {
         bytes: &[u8],
         endianness: Endianness,
         count: usize,
-    ) -> Result<SmallVec<BtfEnum64, 4>, BtfError> {
-        read_items(alloc, bytes, endianness, count)
+    ) -> Result<ItemList<BtfEnum64, 4>, BtfError> {
+        ItemList::read(alloc, bytes, endianness, count)
     }
 
-    fn from_parts(name_offset: u32, info: u32, size: u32, variants: SmallVec<BtfEnum64, 4>) -> Self
+    fn from_parts(name_offset: u32, info: u32, size: u32, variants: ItemList<BtfEnum64, 4>) -> Self
         requires kind { kind_of info ≡ Some Enum64Kind }
-        requires count { vlen info ≡ length variants.items }
+        requires count { vlen info ≡ length (items_of variants) }
         ensures words { result ≡ record {
           name = name_offset;
           info = info;
           third = size;
-          tail = flat_map enum64_words variants.items;
+          tail = flat_map enum64_words (items_of variants);
         } }
         ensures alone { ⊤ }
     {
@@ -185,8 +186,6 @@ impl WithList for Enum64 {
     fn items(&self) -> &[BtfEnum64] {
         self.variants.as_slice()
     }
-
-    ghost item_width = { λ x. refl };
 
     ghost tail_width = { λ n. refl };
 

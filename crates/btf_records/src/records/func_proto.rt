@@ -11,9 +11,8 @@ ghost use Rattle.btf_words.specs.Error.{IsOrNoMemory};
 ghost use Rattle.btf_items.specs.Items.{param_words};
 
 use crate::records::with_list::WithList;
-use btf_items::{BtfParam, clone_items, read_items};
+use btf_items::{BtfParam, ItemList};
 use btf_plain::{BtfError, BtfKind, Endianness, MAX_VLEN};
-use smallvec::SmallVec;
 use std::alloc::Global;
 use std::marker::Model;
 
@@ -24,7 +23,7 @@ pub struct FuncProto {
     name_offset: u32,
     info: u32,
     return_type: u32,
-    params: SmallVec<BtfParam, 6>,
+    params: ItemList<BtfParam, 6>,
 }
 
 impl Model for FuncProto {
@@ -32,6 +31,7 @@ impl Model for FuncProto {
     ghost use Rattle.std.specs.List.{flat_map};
     ghost use Rattle.btf_model.specs.Record.{Record, kind_of, vlen, FuncProto as FuncProtoKind};
     ghost use Rattle.btf_items.specs.Items.{param_words};
+    ghost use Rattle.btf_items.specs.ItemList.{items_of};
 
     ghost Value = { Record };
 
@@ -39,11 +39,11 @@ impl Model for FuncProto {
       name = a.name_offset;
       info = a.info;
       third = a.return_type;
-      tail = flat_map param_words a.params.items;
+      tail = flat_map param_words (items_of a.params);
     } };
 
     ghost invariant = { λ a. (kind_of a.info ≡ Some FuncProtoKind)
-        × (vlen a.info ≡ length a.params.items) };
+        × (vlen a.info ≡ length (items_of a.params)) };
 }
 
 impl FuncProto {
@@ -62,7 +62,7 @@ impl FuncProto {
             name_offset: 0,
             info,
             return_type,
-            params: SmallVec::from_vec(params),
+            params: ItemList::Many(params),
         }
     }
 
@@ -110,14 +110,19 @@ impl FuncProto {
           tail = take (2 * index) self.old.tail ++ name_offset ∷ drop (2 * index + 1) self.old.tail;
         } }
     {
-        self.params[index].name_offset = name_offset;
+        let btf_type = self.params.as_slice()[index].btf_type;
+        let named = BtfParam {
+            name_offset,
+            btf_type,
+        };
+        self.params.set(index, named);
     }
 
     /// The length of the record in bytes.
     pub fn type_info_size(&self) -> usize
         ensures { result ≡ 12 + 4 * length self.now.tail }
     {
-        12 + 8 * self.params.len()
+        12 + 8 * self.items().len()
     }
 
     /// An equal record. `OutOfMemory` is the only error.
@@ -128,7 +133,7 @@ impl FuncProto {
             name_offset: self.name_offset,
             info: self.info,
             return_type: self.return_type,
-            params: clone_items(&self.params)?,
+            params: self.params.try_clone()?,
         })
     }
 }
@@ -138,12 +143,13 @@ impl WithList for FuncProto {
     ghost use Rattle.std.specs.List.{flat_map};
     ghost use Rattle.btf_model.specs.Record.{kind_of, vlen, FuncProto as FuncProtoKind};
     ghost use Rattle.btf_items.specs.Items.{param_words};
+    ghost use Rattle.btf_items.specs.ItemList.{items_of};
 
     type Element = BtfParam;
 
-    type Items = SmallVec<BtfParam, 6>;
+    type Items = ItemList<BtfParam, 6>;
 
-    ghost listed = { λ v. v.items };
+    ghost listed = { items_of };
 
     ghost kind = { FuncProtoKind };
 
@@ -156,23 +162,23 @@ impl WithList for FuncProto {
         bytes: &[u8],
         endianness: Endianness,
         count: usize,
-    ) -> Result<SmallVec<BtfParam, 6>, BtfError> {
-        read_items(alloc, bytes, endianness, count)
+    ) -> Result<ItemList<BtfParam, 6>, BtfError> {
+        ItemList::read(alloc, bytes, endianness, count)
     }
 
     fn from_parts(
         name_offset: u32,
         info: u32,
         return_type: u32,
-        params: SmallVec<BtfParam, 6>,
+        params: ItemList<BtfParam, 6>,
     ) -> Self
         requires kind { kind_of info ≡ Some FuncProtoKind }
-        requires count { vlen info ≡ length params.items }
+        requires count { vlen info ≡ length (items_of params) }
         ensures words { result ≡ record {
           name = name_offset;
           info = info;
           third = return_type;
-          tail = flat_map param_words params.items;
+          tail = flat_map param_words (items_of params);
         } }
         ensures alone { ⊤ }
     {
@@ -191,8 +197,6 @@ impl WithList for FuncProto {
     fn items(&self) -> &[BtfParam] {
         self.params.as_slice()
     }
-
-    ghost item_width = { λ x. refl };
 
     ghost tail_width = { λ n. refl };
 

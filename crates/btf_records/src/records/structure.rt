@@ -11,9 +11,8 @@ ghost use Rattle.btf_words.specs.Error.{IsOrNoMemory};
 ghost use Rattle.btf_items.specs.Items.{member_words};
 
 use crate::records::with_list::WithList;
-use btf_items::{BtfMember, clone_items, read_items};
+use btf_items::{BtfMember, ItemList};
 use btf_plain::{BtfError, BtfKind, Endianness, MAX_VLEN};
-use smallvec::SmallVec;
 use std::alloc::Global;
 use std::marker::Model;
 
@@ -23,7 +22,7 @@ pub struct Struct {
     name_offset: u32,
     info: u32,
     size: u32,
-    members: SmallVec<BtfMember, 4>,
+    members: ItemList<BtfMember, 4>,
 }
 
 impl Model for Struct {
@@ -31,6 +30,7 @@ impl Model for Struct {
     ghost use Rattle.std.specs.List.{flat_map};
     ghost use Rattle.btf_model.specs.Record.{Record, kind_of, vlen, Struct as StructKind};
     ghost use Rattle.btf_items.specs.Items.{member_words};
+    ghost use Rattle.btf_items.specs.ItemList.{items_of};
 
     ghost Value = { Record };
 
@@ -38,11 +38,11 @@ impl Model for Struct {
       name = a.name_offset;
       info = a.info;
       third = a.size;
-      tail = flat_map member_words a.members.items;
+      tail = flat_map member_words (items_of a.members);
     } };
 
     ghost invariant = { λ a. (kind_of a.info ≡ Some StructKind)
-        × (vlen a.info ≡ length a.members.items) };
+        × (vlen a.info ≡ length (items_of a.members)) };
 }
 
 impl Struct {
@@ -61,7 +61,7 @@ impl Struct {
             name_offset,
             info,
             size,
-            members: SmallVec::from_vec(members),
+            members: ItemList::Many(members),
         }
     }
 
@@ -128,7 +128,7 @@ impl Struct {
     pub fn type_info_size(&self) -> usize
         ensures { result ≡ 12 + 4 * length self.now.tail }
     {
-        12 + 12 * self.members.len()
+        12 + 12 * self.items().len()
     }
 
     /// An equal record. `OutOfMemory` is the only error.
@@ -139,7 +139,7 @@ impl Struct {
             name_offset: self.name_offset,
             info: self.info,
             size: self.size,
-            members: clone_items(&self.members)?,
+            members: self.members.try_clone()?,
         })
     }
 }
@@ -149,12 +149,13 @@ impl WithList for Struct {
     ghost use Rattle.std.specs.List.{flat_map};
     ghost use Rattle.btf_model.specs.Record.{kind_of, vlen, Struct as StructKind};
     ghost use Rattle.btf_items.specs.Items.{member_words};
+    ghost use Rattle.btf_items.specs.ItemList.{items_of};
 
     type Element = BtfMember;
 
-    type Items = SmallVec<BtfMember, 4>;
+    type Items = ItemList<BtfMember, 4>;
 
-    ghost listed = { λ v. v.items };
+    ghost listed = { items_of };
 
     ghost kind = { StructKind };
 
@@ -167,18 +168,18 @@ impl WithList for Struct {
         bytes: &[u8],
         endianness: Endianness,
         count: usize,
-    ) -> Result<SmallVec<BtfMember, 4>, BtfError> {
-        read_items(alloc, bytes, endianness, count)
+    ) -> Result<ItemList<BtfMember, 4>, BtfError> {
+        ItemList::read(alloc, bytes, endianness, count)
     }
 
-    fn from_parts(name_offset: u32, info: u32, size: u32, members: SmallVec<BtfMember, 4>) -> Self
+    fn from_parts(name_offset: u32, info: u32, size: u32, members: ItemList<BtfMember, 4>) -> Self
         requires kind { kind_of info ≡ Some StructKind }
-        requires count { vlen info ≡ length members.items }
+        requires count { vlen info ≡ length (items_of members) }
         ensures words { result ≡ record {
           name = name_offset;
           info = info;
           third = size;
-          tail = flat_map member_words members.items;
+          tail = flat_map member_words (items_of members);
         } }
         ensures alone { ⊤ }
     {
@@ -197,8 +198,6 @@ impl WithList for Struct {
     fn items(&self) -> &[BtfMember] {
         self.members.as_slice()
     }
-
-    ghost item_width = { λ x. refl };
 
     ghost tail_width = { λ n. refl };
 

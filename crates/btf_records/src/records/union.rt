@@ -13,9 +13,8 @@ ghost use Rattle.btf_items.specs.Fallback.{fallback_of_option};
 ghost use Rattle.btf_items.specs.Items.{member_words};
 
 use crate::records::with_list::WithList;
-use btf_items::{BtfMember, Enum64Fallback, clone_items, read_items};
+use btf_items::{BtfMember, Enum64Fallback, ItemList};
 use btf_plain::{BtfError, BtfKind, Endianness, MAX_VLEN};
-use smallvec::SmallVec;
 use std::alloc::Global;
 use std::fmt;
 use std::marker::Model;
@@ -24,7 +23,7 @@ use std::marker::Model;
 /// that a fallback would take holds a few members.
 #[derive(Drop)]
 enum Members {
-    Alone(SmallVec<BtfMember, 3>),
+    Alone(ItemList<BtfMember, 3>),
     InsteadOf(Enum64Fallback, Vec<BtfMember>),
 }
 
@@ -49,7 +48,7 @@ impl Members {
     {
         match fallback {
             Some(fallback) => Members::InsteadOf(fallback, members),
-            None => Members::Alone(SmallVec::from_vec(members)),
+            None => Members::Alone(ItemList::Many(members)),
         }
     }
 
@@ -72,7 +71,7 @@ impl Members {
         ensures fallback { IsOrNoMemory kept_of result (Ok (kept_of self.now)) }
     {
         match self {
-            Members::Alone(members) => Ok(Members::Alone(clone_items(members)?)),
+            Members::Alone(members) => Ok(Members::Alone(members.try_clone()?)),
             Members::InsteadOf(fallback, members) => {
                 Ok(Members::InsteadOf(fallback.try_clone()?, members.clone()?))
             }
@@ -86,6 +85,7 @@ impl Model for Union {
     ghost use Rattle.btf_model.specs.Record.{Record, kind_of, vlen, Union as UnionKind};
     ghost use Rattle.btf_model.specs.Table.{UnionRecord};
     ghost use Rattle.btf_items.specs.Items.{member_words};
+    ghost use Rattle.btf_items.specs.ItemList.{items_of};
     ghost use Rattle.btf_records.specs.Members.{members_of, kept_of};
 
     ghost Value = { UnionRecord };
@@ -227,12 +227,13 @@ impl WithList for Union {
     ghost use Rattle.std.specs.List.{flat_map};
     ghost use Rattle.btf_model.specs.Record.{kind_of, vlen, Union as UnionKind};
     ghost use Rattle.btf_items.specs.Items.{member_words};
+    ghost use Rattle.btf_items.specs.ItemList.{items_of};
 
     type Element = BtfMember;
 
-    type Items = SmallVec<BtfMember, 3>;
+    type Items = ItemList<BtfMember, 3>;
 
-    ghost listed = { λ v. v.items };
+    ghost listed = { items_of };
 
     ghost kind = { UnionKind };
 
@@ -245,18 +246,18 @@ impl WithList for Union {
         bytes: &[u8],
         endianness: Endianness,
         count: usize,
-    ) -> Result<SmallVec<BtfMember, 3>, BtfError> {
-        read_items(alloc, bytes, endianness, count)
+    ) -> Result<ItemList<BtfMember, 3>, BtfError> {
+        ItemList::read(alloc, bytes, endianness, count)
     }
 
-    fn from_parts(name_offset: u32, info: u32, size: u32, members: SmallVec<BtfMember, 3>) -> Self
+    fn from_parts(name_offset: u32, info: u32, size: u32, members: ItemList<BtfMember, 3>) -> Self
         requires kind { kind_of info ≡ Some UnionKind }
-        requires count { vlen info ≡ length members.items }
+        requires count { vlen info ≡ length (items_of members) }
         ensures words { result.words ≡ record {
           name = name_offset;
           info = info;
           third = size;
-          tail = flat_map member_words members.items;
+          tail = flat_map member_words (items_of members);
         } }
         ensures alone { result.fallback ≡ None }
     {
@@ -275,8 +276,6 @@ impl WithList for Union {
     fn items(&self) -> &[BtfMember] {
         self.members.as_slice()
     }
-
-    ghost item_width = { λ x. refl };
 
     ghost tail_width = { λ n. refl };
 

@@ -8,4 +8,4 @@ returns-in_err-item g c =
 
 pub loop-preserved : goal.loop-preserved
 loop-preserved g c =
-    more_items g.T.Item.width g.T.Item.item_words (order_of c.args.endianness) c.args.bytes.now c.loop.counter c.loop.items.items c.push.new.self.items c.loop.rest.now c.in_ok-item.behind.now c.in_ok-item.item c.loop.invariant c.in_ok-item.ensures.0 c.in_ok-item.ensures.1 c.in_ok-item.ensures.2 c.in_ok-push.ensures.ok
+    more_items g.T.Item.width g.T.Item.item_words (order_of c.args.endianness) c.args.bytes.now c.loop.counter c.loop.items.items c.push.new.self.items c.loop.rest.now c.in_ok-item.behind.now c.in_ok-item.item c.loop.invariant c.in_ok-item.ensures.0 c.in_ok-item.ensures.1 c.in_ok-item.ensures.2 c.in_ok-push.ensures.items

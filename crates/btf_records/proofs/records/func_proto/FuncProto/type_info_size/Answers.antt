@@ -1,8 +1,7 @@
 use Rattle.std.proofs.Common.{length, ap, arith, refl}
-use Rattle.btf_model.specs.Record.{Record}
 use Rattle.btf_items.specs.Items.{param_words}
 use Rattle.btf_items.proofs.Lists.{length-items}
 use Rattle.btf_records.proofs.records.func_proto.FuncProto.type_info_size.Goals as goal
 
 pub returns : goal.returns
-returns c = omega (arith, c.len.ensures, length-items 2 param_words (λ _. refl) c.self.inside.params.items, ap (λ (r : Record). length r.tail) c.self.view_is)
+returns c = omega (arith, length-items 2 param_words (λ _. refl) c.items.result.now, ap length c.items.ensures.words)

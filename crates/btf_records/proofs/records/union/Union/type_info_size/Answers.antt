@@ -1,5 +1,4 @@
 use Rattle.std.proofs.Common.{length, ap, arith, refl}
-use Rattle.btf_model.specs.Table.{UnionRecord}
 use Rattle.btf_items.specs.Items.{member_words}
 use Rattle.btf_items.proofs.Lists.{length-items}
 use Rattle.btf_records.proofs.records.union.Union.type_info_size.Goals as goal
