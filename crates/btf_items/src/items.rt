@@ -4,7 +4,7 @@ ghost use Rattle.std.specs.Prelude.{◌≡◌, ◌/◌, ◌%◌, ◌^◌, [], �
 ghost use Rattle.btf_items.specs.Items.{enum_words, enum64_words, member_words, param_words, entry_words};
 
 use crate::list::Item;
-use crate::words::{push, split_word};
+use crate::words::{push_array, split_word};
 use btf_words::{BtfError, Endianness};
 use std::alloc::AllocError;
 
@@ -97,7 +97,7 @@ impl Item for BtfEnum {
     }
 
     fn append_to(&self, out: &mut Vec<u8>, endianness: Endianness) -> Result<(), AllocError> {
-        push(out, endianness, &[self.name_offset, self.value])
+        push_array(out, endianness, &[self.name_offset, self.value])
     }
 
     ghost item_width = { λ x. refl };
@@ -125,7 +125,7 @@ impl Item for BtfEnum64 {
     }
 
     fn append_to(&self, out: &mut Vec<u8>, endianness: Endianness) -> Result<(), AllocError> {
-        push(
+        push_array(
             out,
             endianness,
             &[self.name_offset, self.value_low, self.value_high],
@@ -157,7 +157,7 @@ impl Item for BtfMember {
     }
 
     fn append_to(&self, out: &mut Vec<u8>, endianness: Endianness) -> Result<(), AllocError> {
-        push(
+        push_array(
             out,
             endianness,
             &[self.name_offset, self.btf_type, self.offset],
@@ -187,7 +187,7 @@ impl Item for BtfParam {
     }
 
     fn append_to(&self, out: &mut Vec<u8>, endianness: Endianness) -> Result<(), AllocError> {
-        push(out, endianness, &[self.name_offset, self.btf_type])
+        push_array(out, endianness, &[self.name_offset, self.btf_type])
     }
 
     ghost item_width = { λ x. refl };
@@ -215,7 +215,7 @@ impl Item for DataSecEntry {
     }
 
     fn append_to(&self, out: &mut Vec<u8>, endianness: Endianness) -> Result<(), AllocError> {
-        push(out, endianness, &[self.btf_type, self.offset, self.size])
+        push_array(out, endianness, &[self.btf_type, self.offset, self.size])
     }
 
     ghost item_width = { λ x. refl };

@@ -11,4 +11,4 @@ pub use fallback::{Enum64Fallback, Enum64VariantFallback, clone_fallback};
 pub use item_list::ItemList;
 pub use items::{BtfEnum, BtfEnum64, BtfMember, BtfParam, DataSecEntry};
 pub use list::{Item, clone_items, push_items, read_items};
-pub use words::{push, split_word};
+pub use words::{push, push_array, split_word};

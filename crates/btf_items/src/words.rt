@@ -21,6 +21,24 @@ pub fn split_word(bytes: &[u8], endianness: Endianness) -> Result<(u32, &[u8]), 
     Ok((endianness.read_u32(*word), rest))
 }
 
+/// Writes words at the end of bytes, all at once.
+pub fn push_array<const N: usize>(
+    out: &mut Vec<u8>,
+    endianness: Endianness,
+    words: &[u32; N],
+) -> Result<(), AllocError>
+    ensures written { OnOk result (out.new.items ≡ out.old.items
+        ++ flat_map (word (order_of endianness)) words.now) }
+    ensures words_fit { AllByRecursion (λ w. w < 2 ^ 32) words.now }
+{
+    let values = words.as_slice();
+    let mut bytes = [[0; 4]; N];
+    for index in 0..N {
+        bytes[index] = endianness.write_u32(values[index]);
+    }
+    out.extend_from_slice(bytes.as_flattened())
+}
+
 /// Writes words at the end of bytes.
 pub fn push(out: &mut Vec<u8>, endianness: Endianness, words: &[u32]) -> Result<(), AllocError>
     ensures written { OnOk result (out.new.items ≡ out.old.items

@@ -12,7 +12,7 @@ ghost use Rattle.btf_records.specs.Head.{IsHead, ReadsTail};
 
 use crate::btf_type::BtfType;
 use crate::records::{WithList, append_with_list};
-use btf_items::{push, split_word};
+use btf_items::{push_array, split_word};
 use btf_plain::{
     Array, BtfError, BtfKind, Const, DeclTag, Endianness, Float, Func, FuncLinkage, Fwd, Int,
     IntEncoding, Ptr, Restrict, TypeTag, Typedef, Var, VarLinkage, Volatile,
@@ -175,22 +175,38 @@ impl BtfType {
         ensures whole { OnOk result (IsWhole (record_of self.now)) }
     {
         match self {
-            BtfType::Unknown => push(out, order, &[0, 0, 0]),
-            BtfType::Fwd(t) => push(out, order, &[t.name_offset(), t.info(), 0]),
-            BtfType::Ptr(t) => push(out, order, &[t.name_offset(), t.info(), t.btf_type()]),
-            BtfType::Typedef(t) => push(out, order, &[t.name_offset(), t.info(), t.btf_type()]),
-            BtfType::Volatile(t) => push(out, order, &[t.name_offset(), t.info(), t.btf_type()]),
-            BtfType::Const(t) => push(out, order, &[t.name_offset(), t.info(), t.btf_type()]),
-            BtfType::Restrict(t) => push(out, order, &[t.name_offset(), t.info(), t.btf_type()]),
-            BtfType::Func(t) => push(out, order, &[t.name_offset(), t.info(), t.btf_type()]),
-            BtfType::Float(t) => push(out, order, &[t.name_offset(), t.info(), t.size()]),
-            BtfType::TypeTag(t) => push(out, order, &[t.name_offset(), t.info(), t.btf_type()]),
+            BtfType::Unknown => push_array(out, order, &[0, 0, 0]),
+            BtfType::Fwd(t) => push_array(out, order, &[t.name_offset(), t.info(), 0]),
+            BtfType::Ptr(t) => push_array(out, order, &[t.name_offset(), t.info(), t.btf_type()]),
+            BtfType::Typedef(t) => push_array(
+                out,
+                order,
+                &[t.name_offset(), t.info(), t.btf_type()],
+            ),
+            BtfType::Volatile(t) => push_array(
+                out,
+                order,
+                &[t.name_offset(), t.info(), t.btf_type()],
+            ),
+            BtfType::Const(t) => push_array(out, order, &[t.name_offset(), t.info(), t.btf_type()]),
+            BtfType::Restrict(t) => push_array(
+                out,
+                order,
+                &[t.name_offset(), t.info(), t.btf_type()],
+            ),
+            BtfType::Func(t) => push_array(out, order, &[t.name_offset(), t.info(), t.btf_type()]),
+            BtfType::Float(t) => push_array(out, order, &[t.name_offset(), t.info(), t.size()]),
+            BtfType::TypeTag(t) => push_array(
+                out,
+                order,
+                &[t.name_offset(), t.info(), t.btf_type()],
+            ),
             BtfType::Int(t) => {
-                push(out, order, &[t.name_offset(), t.info(), t.size(), t.word()])
+                push_array(out, order, &[t.name_offset(), t.info(), t.size(), t.word()])
             }
             BtfType::Var(t) => {
                 let linkage = t.linkage() as u32;
-                push(
+                push_array(
                     out,
                     order,
                     &[t.name_offset(), t.info(), t.btf_type(), linkage],
@@ -198,7 +214,7 @@ impl BtfType {
             }
             BtfType::DeclTag(t) => {
                 let index = t.component_index().cast_unsigned();
-                push(
+                push_array(
                     out,
                     order,
                     &[t.name_offset(), t.info(), t.btf_type(), index],
@@ -243,5 +259,5 @@ fn append_array(t: &Array, out: &mut Vec<u8>, endianness: Endianness) -> Result<
         array.index_type,
         array.len,
     ];
-    push(out, endianness, &words)
+    push_array(out, endianness, &words)
 }

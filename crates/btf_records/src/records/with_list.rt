@@ -8,7 +8,7 @@ ghost use Rattle.btf_words.specs.Endianness.{order_of};
 ghost use Rattle.btf_words.specs.Error.{MeetsOrNoMemory};
 ghost use Rattle.btf_items.specs.ReadItems.{ReadsItems};
 
-use btf_items::{Item, push, push_items};
+use btf_items::{Item, push_array, push_items};
 use btf_plain::{BtfError, Endianness};
 use std::alloc::{AllocError, Global};
 
@@ -84,6 +84,6 @@ pub fn append_with_list<R: WithList>(
         ++ spell (order_of endianness) (R.words list.now)) }
     ensures whole { OnOk result (IsWhole (R.words list.now)) }
 {
-    push(out, endianness, &list.front())?;
+    push_array(out, endianness, &list.front())?;
     push_items(out, endianness, list.items())
 }
