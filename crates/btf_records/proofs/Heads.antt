@@ -1,6 +1,6 @@
 -- Reading a record whose head is read, and writing one.
 use Rattle.std.proofs.Common.{◌≡◌, ℕ, ◌+◌, ◌^◌, ◌<◌, List, [], ◌∷◌, drop, length, Some, None, Result, Ok, Err, refl, sym, ap, subst, ◌∙◌, arith}
-use Rattle.std.specs.Prelude.{IsErrAnd, IfSome, OnOk, slice_get, map, min}
+use Rattle.std.specs.Prelude.{IsErrAnd, OnOk, slice_get, map, min}
 use Rattle.std.specs.List.{AllByRecursion}
 use Rattle.std.proofs.lemmas.List.{length-drop}
 use Rattle.std.proofs.lemmas.Option.{IfSome_then}
@@ -14,16 +14,15 @@ use Rattle.btf_model.proofs.Words.{IsBytes}
 use Rattle.btf_model.proofs.Reading.{reads, reads_other_kind, reads_cut, record_at}
 use Rattle.btf_words.specs.declared.error.BtfError.{BtfError}
 use Rattle.btf_words.specs.declared.error.BtfError.TheVariants.{InvalidTypeKind}
-use Rattle.btf_words.specs.declared.kind.BtfKind.{BtfKind}
 use Rattle.btf_words.specs.Kind.{kind}
 use Rattle.btf_plain.specs.declared.linkage.VarLinkage.{VarLinkage}
 use Rattle.btf_plain.specs.declared.linkage.VarLinkage.TheVariants as linkages
 use Rattle.btf_plain.specs.Linkage.{var_linkage_number}
-use Rattle.btf_words.specs.Error.{MeetsOrNoMemory, refusal_of}
+use Rattle.btf_words.specs.Error.{refusal_of}
 use Rattle.btf_records.specs.declared.btf_type.BtfType.{BtfType}
-use Rattle.btf_records.specs.BtfType.{record_of}
 use Rattle.btf_records.specs.declared.codec.Head.{Head}
 use Rattle.btf_records.specs.Head.{IsHead, record_behind, ReadsTail}
+use Rattle.btf_records.specs.Place.{Puts}
 
 behind_is : (order : Order) (bytes : List ℕ) (head : Head) (rest : List ℕ) (n : ℕ) → IsHead order bytes head rest → record_at order n bytes ≡ record_behind order head n rest
 behind_is order bytes head rest n h = λ i. record { name = sym h.name i; info = sym h.info i; third = sym h.third i; tail = words_at order n (sym h.behind i) }
@@ -32,31 +31,27 @@ length-behind : (order : Order) (bytes : List ℕ) (head : Head) (rest : List �
 length-behind order bytes head rest h =
     omega (arith, h.long, ap length h.behind, length-drop 4 (drop 4 (drop 4 bytes)), length-drop 4 (drop 4 bytes), length-drop 4 bytes)
 
--- a tail that is read
-pub tail_read : (order : Order) (bytes : List ℕ) (head : Head) (rest : List ℕ) (k : Kind) (r : Record) → IsBytes bytes → IsHead order bytes head rest → kind_of head.info ≡ Some k → ReadsTail order head k rest (Ok r) → ReadsFront order bytes (Ok r)
-tail_read order bytes head rest k r fits h kind tail =
+-- a record whose tail is put is read from the front
+pub front_put : {P : Type 0} (HasPut : P → BtfType → P → Type 0) (old new : P) (order : Order) (bytes : List ℕ) (head : Head) (rest : List ℕ) (k : Kind) (r : Result ℕ BtfError) → IsBytes bytes → IsHead order bytes head rest → kind_of head.info ≡ Some k → Puts HasPut old new (ReadsTail order head k rest) r → Puts HasPut old new (ReadsFront order bytes) r
+front_put HasPut old new order bytes head rest k (Ok size) fits h kind given =
+    let t = given.0 in
     let n = tail_words k (vlen head.info) in
-    let found = reads order bytes k n fits (omega (arith, tail.0, length-behind order bytes head rest h)) (ap kind_of (sym h.info) ∙ kind) (ap (λ (i : ℕ). tail_words k (vlen i)) h.info) in
-    subst (λ (q : Record). ReadsFront order bytes (Ok q)) (ap (kept k) (behind_is order bytes head rest n h) ∙ sym tail.1) found
-
--- a tail that is cut
-pub tail_refused : (order : Order) (bytes : List ℕ) (head : Head) (rest : List ℕ) (k : Kind) (r : Result BtfType BtfError) (e : BtfError) → IsErrAnd r (λ y. y ≡ e) → IfSome (refusal_of e) (λ f. ReadsTail order head k rest (Err f)) → IsHead order bytes head rest → kind_of head.info ≡ Some k → MeetsOrNoMemory record_of r (ReadsFront order bytes)
-tail_refused order bytes head rest k r e err given h kind =
-    let p = err_from_is_err_and r err in
-    let cut : IfSome (refusal_of e) (λ f. ReadsFront order bytes (Err f)) = IfSome_then (refusal_of e) given (λ f q.
+    let found = reads order bytes k n fits (omega (arith, given.2.0, length-behind order bytes head rest h)) (ap kind_of (sym h.info) ∙ kind) (ap (λ (i : ℕ). tail_words k (vlen i)) h.info) in
+    (t, given.1, subst (λ (q : Record). ReadsFront order bytes (Ok q)) (ap (kept k) (behind_is order bytes head rest n h) ∙ sym given.2.1) found, given.3, given.4)
+front_put HasPut old new order bytes head rest k (Err e) fits h kind given =
+    IfSome_then (refusal_of e) given (λ f q.
     subst (λ (x : refusals.Refusal). ReadsFront order bytes (Err x)) (sym q.1)
-    (reads_cut order bytes k h.long (ap kind_of (sym h.info) ∙ kind) (omega (arith, q.0, length-behind order bytes head rest h, ap (λ (i : ℕ). tail_words k (vlen i)) h.info)))) in
-    subst (λ (x : Result BtfType BtfError). MeetsOrNoMemory record_of x (ReadsFront order bytes)) (sym (p.1 ∙ ap (λ (x : BtfError). Err x) p.2)) cut
+    (reads_cut order bytes k h.long (ap kind_of (sym h.info) ∙ kind) (omega (arith, q.0, length-behind order bytes head rest h, ap (λ (i : ℕ). tail_words k (vlen i)) h.info))))
 
 -- a kind that does not exist
-pub kind_refused : (order : Order) (bytes : List ℕ) (head : Head) (rest : List ℕ) (number : ℕ) (r : Result BtfType BtfError) (e : BtfError) → IsErrAnd r (λ y. y ≡ e) → slice_get kinds number ≡ None → e ≡ InvalidTypeKind number → number ≡ kind_number head.info → IsHead order bytes head rest → MeetsOrNoMemory record_of r (ReadsFront order bytes)
-kind_refused order bytes head rest number r e err none is number-is h =
+pub kind_refused : {P : Type 0} (HasPut : P → BtfType → P → Type 0) (old new : P) (order : Order) (bytes : List ℕ) (head : Head) (rest : List ℕ) (number : ℕ) (r : Result ℕ BtfError) (e : BtfError) → IsErrAnd r (λ y. y ≡ e) → slice_get kinds number ≡ None → e ≡ InvalidTypeKind number → number ≡ kind_number head.info → IsHead order bytes head rest → Puts HasPut old new (ReadsFront order bytes) r
+kind_refused HasPut old new order bytes head rest number r e err none is number-is h =
     let p = err_from_is_err_and r err in
     let no_kind : kind_of head.info ≡ None = ap (slice_get kinds) (sym number-is) ∙ none in
     let found = reads_other_kind order bytes h.long (ap kind_of (sym h.info) ∙ no_kind) in
     let same : InvalidTypeKind (kind_number head.info) ≡ e = ap (λ (n : ℕ). InvalidTypeKind n) (sym number-is) ∙ sym is in
     let told : ReadsFront order bytes (Err (refusals.InvalidTypeKind (kind_number head.info))) = subst (λ (i : ℕ). ReadsFront order bytes (Err (refusals.InvalidTypeKind (kind_number i)))) (sym h.info) found in
-    subst (λ (x : Result BtfType BtfError). MeetsOrNoMemory record_of x (ReadsFront order bytes)) (sym (p.1 ∙ ap (λ (x : BtfError). Err x) (p.2 ∙ sym same))) told
+    subst (λ (x : Result ℕ BtfError). Puts HasPut old new (ReadsFront order bytes) x) (sym (p.1 ∙ ap (λ (x : BtfError). Err x) (p.2 ∙ sym same))) told
 
 -- ---- what is written
 
@@ -66,10 +61,6 @@ whole k r kind tail fits stays = (k, record { kind = kind; tail = tail; words = 
 
 pub unknown_is_whole : IsWhole unknown
 unknown_is_whole = whole Unknown unknown refl refl (omega arith, (omega arith, (omega arith, tt))) refl
-
--- the kind of a head
-pub kind_at : (info n : ℕ) (b k : BtfKind) → slice_get kinds n ≡ Some (kind b) → b ≡ k → n ≡ kind_number info → kind_of info ≡ Some (kind k)
-kind_at info n b k found is number = ap (slice_get kinds) (sym number) ∙ found ∙ ap (λ (x : BtfKind). Some (kind x)) is
 
 -- a record without a tail
 pub plain_is_whole : (k : Kind) (r : Record) → kind_of r.info ≡ Some k → r.tail ≡ [] → tail_words k (vlen r.info) ≡ 0 → r.name < 2 ^ 32 → r.info < 2 ^ 32 → r.third < 2 ^ 32 → kept k r ≡ r → IsWhole r

@@ -1,6 +1,7 @@
 pub mod BtfType
 pub mod Head
 pub mod Members
+pub mod Place
 pub use Rattle.btf_model.specs.Word
 pub use Rattle.btf_model.specs.Record
 pub use Rattle.btf_model.specs.Spelling

@@ -193,6 +193,7 @@ impl BtfType {
     }
 
     /// The length of the record in bytes.
+    #[inline(always)]
     pub fn type_info_size(&self) -> usize
         ensures { result ≡ 12 + 4 * length (record_of self.now).tail }
     {

@@ -1,6 +1,6 @@
 //! Records read from bytes, and written.
 
-ghost use Rattle.std.specs.Prelude.{◌≡◌, ◌<◌, ◌≤◌, ◌++◌, length, Some, None, Ok, OnOk, IfOk, MatchResult};
+ghost use Rattle.std.specs.Prelude.{◌≡◌, ◌<◌, ◌≤◌, ◌++◌, [], ◌∷◌, length, Some, None, Ok, OnOk, IfOk, MatchResult};
 ghost use Rattle.btf_model.specs.Record as model;
 ghost use Rattle.btf_model.specs.Record.{kind_number, kind_of};
 ghost use Rattle.btf_model.specs.Spelling.{spell, IsRecord, IsWhole};
@@ -9,9 +9,12 @@ ghost use Rattle.btf_words.specs.Error.{MeetsOrNoMemory, IsOrNoMemory};
 ghost use Rattle.btf_words.specs.Endianness.{order_of};
 ghost use Rattle.btf_records.specs.BtfType.{record_of, fallback_of};
 ghost use Rattle.btf_records.specs.Head.{IsHead, ReadsTail};
+ghost use Rattle.btf_records.specs.Place.{Puts};
+ghost use Rattle.btf_words.specs.Kind as kinds;
 
 use crate::btf_type::BtfType;
-use crate::records::{WithList, append_with_list};
+use crate::place::{One, Place, put};
+use crate::records::{DataSec, Enum, Enum64, FuncProto, Struct, Union, WithList, append_with_list};
 use btf_items::{push_array, split_word};
 use btf_plain::{
     Array, BtfError, BtfKind, Const, DeclTag, Endianness, Float, Func, FuncLinkage, Fwd, Int,
@@ -125,45 +128,25 @@ impl BtfType {
             (ReadsFront (order_of endianness) «data».now) }
         ensures no_fallback { IfOk result (λ t. fallback_of t ≡ None) }
     {
-        let (head, rest) = Head::read(data, endianness)?;
-        let Head { name, info, third } = head;
-        match BtfKind::try_from(head.kind())? {
-            BtfKind::Unknown => Ok(BtfType::Unknown),
-            BtfKind::Int => Ok(BtfType::Int(read_int(head, rest, endianness)?)),
-            BtfKind::Ptr => Ok(BtfType::Ptr(Ptr::new(name, third).with_info(info))),
-            BtfKind::Array => Ok(BtfType::Array(read_array(head, rest, endianness)?)),
-            BtfKind::Struct => Ok(BtfType::Struct(read_with_list(alloc, head, rest, endianness)?)),
-            BtfKind::Union => Ok(BtfType::Union(read_with_list(alloc, head, rest, endianness)?)),
-            BtfKind::Enum => Ok(BtfType::Enum(read_with_list(alloc, head, rest, endianness)?)),
-            BtfKind::Fwd => Ok(BtfType::Fwd(Fwd::new(name, false).with_info(info))),
-            BtfKind::Typedef => Ok(BtfType::Typedef(Typedef::new(name, third).with_info(info))),
-            BtfKind::Volatile => {
-                let record = Volatile::new(third).with_name_offset(name);
-                Ok(BtfType::Volatile(record.with_info(info)))
-            }
-            BtfKind::Const => {
-                let record = Const::new(third).with_name_offset(name);
-                Ok(BtfType::Const(record.with_info(info)))
-            }
-            BtfKind::Restrict => {
-                let record = Restrict::new(third).with_name_offset(name);
-                Ok(BtfType::Restrict(record.with_info(info)))
-            }
-            BtfKind::Func => Ok(BtfType::Func(Func::new(name, third, FuncLinkage::Static).with_info(
-                info,
-            ))),
-            BtfKind::FuncProto => {
-                Ok(BtfType::FuncProto(read_with_list(alloc, head, rest, endianness)?))
-            }
-            BtfKind::Var => Ok(BtfType::Var(read_var(head, rest, endianness)?)),
-            BtfKind::DataSec => Ok(BtfType::DataSec(read_with_list(
-                alloc, head, rest, endianness,
-            )?)),
-            BtfKind::Float => Ok(BtfType::Float(Float::new(name, third).with_info(info))),
-            BtfKind::DeclTag => Ok(BtfType::DeclTag(read_decl_tag(head, rest, endianness)?)),
-            BtfKind::TypeTag => Ok(BtfType::TypeTag(TypeTag::new(name, third).with_info(info))),
-            BtfKind::Enum64 => Ok(BtfType::Enum64(read_with_list(alloc, head, rest, endianness)?)),
-        }
+        let mut one = One {
+            btf_type: BtfType::Unknown,
+        };
+        read_to(&mut one, alloc, data, endianness)?;
+        Ok(one.btf_type)
+    }
+
+    /// Reads the record at the front of the data as `read` does, and adds it to types. Returns its length in bytes.
+    pub fn read_onto(
+        types: &mut Vec<BtfType>,
+        data: &[u8],
+        endianness: Endianness,
+    ) -> Result<usize, BtfError>
+        ensures { Puts (λ old t new. new.items ≡ old.items ++ t ∷ []) types.old types.new
+            (ReadsFront (order_of endianness) data.now) result }
+    {
+        types.reserve(1)?;
+        let alloc = *types.allocator();
+        read_to(types, alloc, data, endianness)
     }
 
     /// Writes the record at the end of bytes, in this order. Only memory can be wanting, and then some of the
@@ -242,6 +225,104 @@ impl BtfType {
         self.append_to(&mut out, endianness)?;
         Ok(out)
     }
+}
+
+/// Puts the record at the front of the data in a place. Returns its length in bytes.
+#[inline(always)]
+fn read_to<P: Place>(
+    place: &mut P,
+    alloc: Global,
+    data: &[u8],
+    endianness: Endianness,
+) -> Result<usize, BtfError>
+    requires { P.is_ready place.old }
+    ensures { Puts P.has_put place.old place.new (ReadsFront (order_of endianness) data.now) result }
+{
+    let (head, rest) = Head::read(data, endianness)?;
+    let kind = BtfKind::try_from(head.kind())?;
+    put_tail(place, alloc, kind, head, rest, endianness)
+}
+
+/// Puts a record of this kind and head in a place. Returns its length in bytes.
+#[inline(always)]
+fn put_tail<P: Place>(
+    place: &mut P,
+    alloc: Global,
+    kind: BtfKind,
+    head: Head,
+    rest: &[u8],
+    endianness: Endianness,
+) -> Result<usize, BtfError>
+    requires ready { P.is_ready place.old }
+    requires kind { kind_of head.info ≡ Some (kinds.kind kind) }
+    ensures { Puts P.has_put place.old place.new
+        (ReadsTail (order_of endianness) head (kinds.kind kind) rest.now) result }
+{
+    let Head { name, info, third } = head;
+    match kind {
+        BtfKind::Unknown => Ok(put(place, BtfType::Unknown)),
+        BtfKind::Int => Ok(put(place, BtfType::Int(read_int(head, rest, endianness)?))),
+        BtfKind::Ptr => Ok(put(place, BtfType::Ptr(Ptr::new(name, third).with_info(info)))),
+        BtfKind::Array => Ok(put(place, BtfType::Array(read_array(head, rest, endianness)?))),
+        BtfKind::Struct => put_with_list::<P, Struct>(place, alloc, &head, rest, endianness),
+        BtfKind::Union => put_with_list::<P, Union>(place, alloc, &head, rest, endianness),
+        BtfKind::Enum => put_with_list::<P, Enum>(place, alloc, &head, rest, endianness),
+        BtfKind::Fwd => Ok(put(place, BtfType::Fwd(Fwd::new(name, false).with_info(info)))),
+        BtfKind::Typedef => {
+            let record = Typedef::new(name, third);
+            Ok(put(place, BtfType::Typedef(record.with_info(info))))
+        }
+        BtfKind::Volatile => {
+            let record = Volatile::new(third).with_name_offset(name);
+            Ok(put(place, BtfType::Volatile(record.with_info(info))))
+        }
+        BtfKind::Const => {
+            let record = Const::new(third).with_name_offset(name);
+            Ok(put(place, BtfType::Const(record.with_info(info))))
+        }
+        BtfKind::Restrict => {
+            let record = Restrict::new(third).with_name_offset(name);
+            Ok(put(place, BtfType::Restrict(record.with_info(info))))
+        }
+        BtfKind::Func => {
+            let record = Func::new(name, third, FuncLinkage::Static);
+            Ok(put(place, BtfType::Func(record.with_info(info))))
+        }
+        BtfKind::FuncProto => put_with_list::<P, FuncProto>(place, alloc, &head, rest, endianness),
+        BtfKind::Var => Ok(put(place, BtfType::Var(read_var(head, rest, endianness)?))),
+        BtfKind::DataSec => put_with_list::<P, DataSec>(place, alloc, &head, rest, endianness),
+        BtfKind::Float => Ok(put(
+            place,
+            BtfType::Float(Float::new(name, third).with_info(info)),
+        )),
+        BtfKind::DeclTag => Ok(put(
+            place,
+            BtfType::DeclTag(read_decl_tag(head, rest, endianness)?),
+        )),
+        BtfKind::TypeTag => Ok(put(
+            place,
+            BtfType::TypeTag(TypeTag::new(name, third).with_info(info)),
+        )),
+        BtfKind::Enum64 => put_with_list::<P, Enum64>(place, alloc, &head, rest, endianness),
+    }
+}
+
+/// Puts a record with a list, of this head, in a place. Returns its length in bytes. Its list is on the call stack until
+/// then, which takes a call of its own, as a function clears all that it has there when it is called.
+fn put_with_list<P: Place, R: WithList>(
+    place: &mut P,
+    alloc: Global,
+    head: &Head,
+    rest: &[u8],
+    endianness: Endianness,
+) -> Result<usize, BtfError>
+    requires ready { P.is_ready place.old }
+    requires kind { kind_of head.now.info ≡ Some R.kind }
+    ensures { Puts P.has_put place.old place.new
+        (ReadsTail (order_of endianness) head.now R.kind rest.now) result }
+{
+    let record: R = read_with_list(alloc, *head, rest, endianness)?;
+    Ok(put(place, record.into_type()))
 }
 
 /// Writes an ARRAY at the end of bytes, its third word as 0.

@@ -3,6 +3,7 @@
 
 mod btf_type;
 mod codec;
+mod place;
 mod records;
 
 pub use btf_items::{

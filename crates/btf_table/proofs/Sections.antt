@@ -61,7 +61,7 @@ cut_goes_on order bytes types more_types rest next t size h p f size-is next-is 
     }
 
 -- no record begins the rest
-pub cut_ends : (order : Order) (bytes : List ℕ) (types : List BtfType) (rest : List ℕ) (e : BtfError) (r : Result (Vec BtfType Global) BtfError) → CutInto order bytes types rest → MeetsOrNoMemory record_of (Err e) (ReadsFront order rest) → rest ≢ [] → IsErrAnd r (λ y. y ≡ e) → MeetsOrNoMemory (λ v. v.items) r (ReadsTypes order bytes)
+pub cut_ends : (order : Order) (bytes : List ℕ) (types : List BtfType) (rest : List ℕ) (e : BtfError) (r : Result (Vec BtfType Global) BtfError) → CutInto order bytes types rest → IfSome (refusal_of e) (λ f. ReadsFront order rest (Err f)) → rest ≢ [] → IsErrAnd r (λ y. y ≡ e) → MeetsOrNoMemory (λ v. v.items) r (ReadsTypes order bytes)
 cut_ends order bytes types rest e r h given not_done err =
     let p = err_from_is_err_and r err in
     let none : IfSome (refusal_of e) (λ f. ReadsTypes order bytes (Err f)) =

@@ -10,6 +10,7 @@ ghost use Rattle.btf_words.specs.Endianness.{order_of};
 ghost use Rattle.btf_words.specs.Error.{IsOrNoMemory};
 ghost use Rattle.btf_items.specs.Items.{entry_words};
 
+use crate::btf_type::BtfType;
 use crate::records::with_list::WithList;
 use btf_items::{DataSecEntry, ItemList};
 use btf_plain::{BtfError, BtfKind, Endianness, MAX_VLEN};
@@ -198,6 +199,10 @@ impl WithList for DataSec {
             size,
             entries,
         }
+    }
+
+    fn into_type(self) -> BtfType {
+        BtfType::DataSec(self)
     }
 
     fn front(&self) -> [u32; 3] {

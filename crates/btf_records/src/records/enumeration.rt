@@ -11,6 +11,7 @@ ghost use Rattle.btf_words.specs.Error.{IsOrNoMemory};
 ghost use Rattle.btf_model.specs.Info.{flag_bit, with_flag};
 ghost use Rattle.btf_items.specs.Items.{enum_words};
 
+use crate::btf_type::BtfType;
 use crate::records::flag::sign_bit;
 use crate::records::with_list::WithList;
 use btf_items::{BtfEnum, ItemList};
@@ -184,6 +185,10 @@ impl WithList for Enum {
             size,
             variants,
         }
+    }
+
+    fn into_type(self) -> BtfType {
+        BtfType::Enum(self)
     }
 
     fn front(&self) -> [u32; 3] {

@@ -11,6 +11,7 @@ ghost use Rattle.btf_words.specs.Error.{IsOrNoMemory};
 ghost use Rattle.btf_model.specs.Info.{flag_bit, with_flag};
 ghost use Rattle.btf_items.specs.Items.{enum64_words};
 
+use crate::btf_type::BtfType;
 use crate::records::flag::sign_bit;
 use crate::records::with_list::WithList;
 use btf_items::{BtfEnum64, ItemList};
@@ -177,6 +178,10 @@ impl WithList for Enum64 {
             size,
             variants,
         }
+    }
+
+    fn into_type(self) -> BtfType {
+        BtfType::Enum64(self)
     }
 
     fn front(&self) -> [u32; 3] {

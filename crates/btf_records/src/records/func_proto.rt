@@ -10,6 +10,7 @@ ghost use Rattle.btf_words.specs.Endianness.{order_of};
 ghost use Rattle.btf_words.specs.Error.{IsOrNoMemory};
 ghost use Rattle.btf_items.specs.Items.{param_words};
 
+use crate::btf_type::BtfType;
 use crate::records::with_list::WithList;
 use btf_items::{BtfParam, ItemList};
 use btf_plain::{BtfError, BtfKind, Endianness, MAX_VLEN};
@@ -188,6 +189,10 @@ impl WithList for FuncProto {
             return_type,
             params,
         }
+    }
+
+    fn into_type(self) -> BtfType {
+        BtfType::FuncProto(self)
     }
 
     fn front(&self) -> [u32; 3] {

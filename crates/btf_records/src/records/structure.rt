@@ -10,6 +10,7 @@ ghost use Rattle.btf_words.specs.Endianness.{order_of};
 ghost use Rattle.btf_words.specs.Error.{IsOrNoMemory};
 ghost use Rattle.btf_items.specs.Items.{member_words};
 
+use crate::btf_type::BtfType;
 use crate::records::with_list::WithList;
 use btf_items::{BtfMember, ItemList};
 use btf_plain::{BtfError, BtfKind, Endianness, MAX_VLEN};
@@ -189,6 +190,10 @@ impl WithList for Struct {
             size,
             members,
         }
+    }
+
+    fn into_type(self) -> BtfType {
+        BtfType::Struct(self)
     }
 
     fn front(&self) -> [u32; 3] {

@@ -12,6 +12,7 @@ ghost use Rattle.btf_words.specs.Error.{IsOrNoMemory};
 ghost use Rattle.btf_items.specs.Fallback.{fallback_of_option};
 ghost use Rattle.btf_items.specs.Items.{member_words};
 
+use crate::btf_type::BtfType;
 use crate::records::with_list::WithList;
 use btf_items::{BtfMember, Enum64Fallback, ItemList};
 use btf_plain::{BtfError, BtfKind, Endianness, MAX_VLEN};
@@ -267,6 +268,10 @@ impl WithList for Union {
             size,
             members: Members::Alone(members),
         }
+    }
+
+    fn into_type(self) -> BtfType {
+        BtfType::Union(self)
     }
 
     fn front(&self) -> [u32; 3] {

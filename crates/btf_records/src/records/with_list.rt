@@ -1,13 +1,15 @@
 //! What the records with a list have in common: three words, and as many items as vlen says.
 
-ghost use Rattle.std.specs.Prelude.{◌≡◌, ℕ, ◌*◌, ◌++◌, [], ◌∷◌, List, length, Some, OnOk};
+ghost use Rattle.std.specs.Prelude.{◌≡◌, ℕ, ◌*◌, ◌++◌, [], ◌∷◌, List, length, Some, None, OnOk};
 ghost use Rattle.std.specs.List.{flat_map};
 ghost use Rattle.btf_model.specs.Record.{Kind, Record, kind_of, vlen, tail_words};
 ghost use Rattle.btf_model.specs.Spelling.{spell, kept, IsWhole};
 ghost use Rattle.btf_words.specs.Endianness.{order_of};
 ghost use Rattle.btf_words.specs.Error.{MeetsOrNoMemory};
 ghost use Rattle.btf_items.specs.ReadItems.{ReadsItems};
+ghost use Rattle.btf_records.specs.BtfType.{record_of, fallback_of};
 
+use crate::btf_type::BtfType;
 use btf_items::{Item, push_array, push_items};
 use btf_plain::{BtfError, Endianness};
 use std::alloc::{AllocError, Global};
@@ -54,6 +56,11 @@ pub trait WithList: Sized {
           tail = flat_map Self.Element.item_words (listed items);
         } }
         ensures alone { words_alone result };
+
+    /// The record as one of any kind.
+    fn into_type(self) -> BtfType
+        ensures words { record_of result ≡ words self }
+        ensures alone { words_alone self → fallback_of result ≡ None };
 
     /// The three words in front of the items.
     fn front(&self) -> [u32; 3]

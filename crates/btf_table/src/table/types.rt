@@ -27,10 +27,9 @@ pub fn read_types(
     types.push(BtfType::Unknown)?;
     let mut rest = data;
     while !rest.is_empty() {
-        let record = BtfType::read(alloc, rest, endianness)?;
-        let (_, behind) = rest.split_at(record.type_info_size());
+        let size = BtfType::read_onto(&mut types, rest, endianness)?;
+        let (_, behind) = rest.split_at(size);
         rest = behind;
-        types.push(record)?;
     }
     Ok(types)
 }
