@@ -14,8 +14,23 @@ use btf_records::BtfType;
 /// The number of types, or of pairs of types, that a walk looks at.
 pub const WALK_LIMIT: usize = 32;
 
-/// The id of the first type that is no modifier, on the walk over modifiers from an id on.
+/// The id of the first type that is no modifier, on the walk over modifiers from an id on. Most types are none, which
+/// is seen without a call.
+#[inline(always)]
 pub fn resolve(types: &[BtfType], type_id: u32) -> Result<u32, BtfError>
+    ensures { Meets (λ id. id) result (Resolves (map record_of types.now) type_id) }
+{
+    let Some(btf_type) = types.get(type_id as usize) else {
+        return Err(BtfError::UnknownBtfType { type_id });
+    };
+    match modified(btf_type) {
+        Some(_) => resolve_on(types, type_id),
+        None => Ok(type_id),
+    }
+}
+
+/// The same, step by step.
+fn resolve_on(types: &[BtfType], type_id: u32) -> Result<u32, BtfError>
     ensures { Meets (λ id. id) result (Resolves (map record_of types.now) type_id) }
 {
     let mut id = type_id;
