@@ -38,20 +38,22 @@ front_put HasPut old new order bytes head rest k (Ok size) fits h kind given =
     let n = tail_words k (vlen head.info) in
     let found = reads order bytes k n fits (omega (arith, given.2.0, length-behind order bytes head rest h)) (ap kind_of (sym h.info) ∙ kind) (ap (λ (i : ℕ). tail_words k (vlen i)) h.info) in
     (t, given.1, subst (λ (q : Record). ReadsFront order bytes (Ok q)) (ap (kept k) (behind_is order bytes head rest n h) ∙ sym given.2.1) found, given.3, given.4)
-front_put HasPut old new order bytes head rest k (Err e) fits h kind given =
-    IfSome_then (refusal_of e) given (λ f q.
-    subst (λ (x : refusals.Refusal). ReadsFront order bytes (Err x)) (sym q.1)
-    (reads_cut order bytes k h.long (ap kind_of (sym h.info) ∙ kind) (omega (arith, q.0, length-behind order bytes head rest h, ap (λ (i : ℕ). tail_words k (vlen i)) h.info))))
+front_put HasPut old new order bytes head rest k (Err e) fits h kind given = (
+  given.0,
+  IfSome_then (refusal_of e) given.1 (λ f q.
+      subst (λ (x : refusals.Refusal). ReadsFront order bytes (Err x)) (sym q.1)
+      (reads_cut order bytes k h.long (ap kind_of (sym h.info) ∙ kind) (omega (arith, q.0, length-behind order bytes head rest h, ap (λ (i : ℕ). tail_words k (vlen i)) h.info)))),
+)
 
 -- a kind that does not exist
-pub kind_refused : {P : Type 0} (HasPut : P → BtfType → P → Type 0) (old new : P) (order : Order) (bytes : List ℕ) (head : Head) (rest : List ℕ) (number : ℕ) (r : Result ℕ BtfError) (e : BtfError) → IsErrAnd r (λ y. y ≡ e) → slice_get kinds number ≡ None → e ≡ InvalidTypeKind number → number ≡ kind_number head.info → IsHead order bytes head rest → Puts HasPut old new (ReadsFront order bytes) r
-kind_refused HasPut old new order bytes head rest number r e err none is number-is h =
+pub kind_refused : {P : Type 0} (HasPut : P → BtfType → P → Type 0) (place : P) (order : Order) (bytes : List ℕ) (head : Head) (rest : List ℕ) (number : ℕ) (r : Result ℕ BtfError) (e : BtfError) → IsErrAnd r (λ y. y ≡ e) → slice_get kinds number ≡ None → e ≡ InvalidTypeKind number → number ≡ kind_number head.info → IsHead order bytes head rest → Puts HasPut place place (ReadsFront order bytes) r
+kind_refused HasPut place order bytes head rest number r e err none is number-is h =
     let p = err_from_is_err_and r err in
     let no_kind : kind_of head.info ≡ None = ap (slice_get kinds) (sym number-is) ∙ none in
     let found = reads_other_kind order bytes h.long (ap kind_of (sym h.info) ∙ no_kind) in
     let same : InvalidTypeKind (kind_number head.info) ≡ e = ap (λ (n : ℕ). InvalidTypeKind n) (sym number-is) ∙ sym is in
     let told : ReadsFront order bytes (Err (refusals.InvalidTypeKind (kind_number head.info))) = subst (λ (i : ℕ). ReadsFront order bytes (Err (refusals.InvalidTypeKind (kind_number i)))) (sym h.info) found in
-    subst (λ (x : Result ℕ BtfError). Puts HasPut old new (ReadsFront order bytes) x) (sym (p.1 ∙ ap (λ (x : BtfError). Err x) (p.2 ∙ sym same))) told
+    subst (λ (x : Result ℕ BtfError). Puts HasPut place place (ReadsFront order bytes) x) (sym (p.1 ∙ ap (λ (x : BtfError). Err x) (p.2 ∙ sym same))) (refl, told)
 
 -- ---- what is written
 

@@ -8,9 +8,9 @@ use Rattle.btf_records.specs.BtfType.{record_of, fallback_of}
 use Rattle.btf_records.specs.declared.btf_type.BtfType.{BtfType}
 
 -- a record that meets Reads is put there, which keeps nothing of an ENUM64, and its length in bytes is returned; or
--- memory was refused, or the refusal meets Reads
+-- the place is as it was, and memory was refused, or the refusal meets Reads
 abbrev pub Puts : {P : Type 0} → (P → BtfType → P → Type 0) → P → P → (Result Record Refusal → Type 0) → Result ℕ BtfError → Type 0
 Puts HasPut old new Reads (Ok size) =
     (t : BtfType) × HasPut old t new × Reads (Ok (record_of t)) × (fallback_of t ≡ None)
     × (size ≡ 12 + 4 * length (record_of t).tail)
-Puts HasPut old new Reads (Err e) = IfSome (refusal_of e) (λ refusal. Reads (Err refusal))
+Puts HasPut old new Reads (Err e) = (new ≡ old) × IfSome (refusal_of e) (λ refusal. Reads (Err refusal))

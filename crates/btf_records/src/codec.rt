@@ -135,14 +135,15 @@ impl BtfType {
         Ok(one.btf_type)
     }
 
-    /// Reads the record at the front of the data as `read` does, and adds it to types. Returns its length in bytes.
+    /// Reads the record at the front of the data as `read` does, and adds it to types. Returns its length in bytes. An
+    /// error leaves the types as they were.
     pub fn read_onto(
         types: &mut Vec<BtfType>,
         data: &[u8],
         endianness: Endianness,
     ) -> Result<usize, BtfError>
-        ensures { Puts (λ old t new. new.items ≡ old.items ++ t ∷ []) types.old types.new
-            (ReadsFront (order_of endianness) data.now) result }
+        ensures { Puts (λ old t new. new ≡ old ++ t ∷ []) types.old.items types.new.items
+            (ReadsFront (order_of endianness) «data».now) result }
     {
         types.reserve(1)?;
         let alloc = *types.allocator();
@@ -236,7 +237,8 @@ fn read_to<P: Place>(
     endianness: Endianness,
 ) -> Result<usize, BtfError>
     requires { P.is_ready place.old }
-    ensures { Puts P.has_put place.old place.new (ReadsFront (order_of endianness) data.now) result }
+    ensures { Puts P.has_put place.old place.new
+        (ReadsFront (order_of endianness) «data».now) result }
 {
     let (head, rest) = Head::read(data, endianness)?;
     let kind = BtfKind::try_from(head.kind())?;

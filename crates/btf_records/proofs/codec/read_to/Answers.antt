@@ -8,7 +8,7 @@ use Rattle.btf_records.proofs.codec.read_to.Goals as goal
 
 pub returns-in_err-kind : goal.returns-in_err-kind
 returns-in_err-kind g c =
-    kind_refused g.P.Place.has_put c.args.place.now c.args.place.now (order_of c.args.endianness) c.args.data.now c.in_ok-head.head c.in_ok-head.rest.now c.kind.result c.from_residual-in_err-kind.result c.in_err-kind.field-0.0 c.from_residual-in_err-kind.ensures.1 c.in_err-kind.ensures.0 c.in_err-kind.ensures.1 c.kind.ensures c.in_ok-head.ensures
+    kind_refused g.P.Place.has_put c.args.place.now (order_of c.args.endianness) c.args.data.now c.in_ok-head.head c.in_ok-head.rest.now c.kind.result c.from_residual-in_err-kind.result c.in_err-kind.field-0.0 c.from_residual-in_err-kind.ensures.1 c.in_err-kind.ensures.0 c.in_err-kind.ensures.1 c.kind.ensures c.in_ok-head.ensures
 
 pub returns : goal.returns
 returns g c =

@@ -11,7 +11,7 @@ loop-rest-init c = cut_begins (order_of c.args.endianness) c.args.data.now c.pus
 pub returns-in_err-size : goal.returns-in_err-size
 returns-in_err-size c =
     let not_done : c.loop-rest.rest.now ≢ [] = λ e. (let done : nat_eq (length c.loop-rest.rest.now) 0 ≡ true = ap (λ (x : List ℕ). nat_eq (length x) 0) e in absurd cc) in
-    cut_ends (order_of c.args.endianness) c.args.data.now c.loop-rest.types.items c.loop-rest.rest.now c.in_err-size.field-0.0 c.from_residual-in_err-size.result c.loop-rest.invariant c.in_err-size.ensures not_done c.from_residual-in_err-size.ensures.1
+    cut_ends (order_of c.args.endianness) c.args.data.now c.loop-rest.types.items c.loop-rest.rest.now c.in_err-size.field-0.0 c.from_residual-in_err-size.result c.loop-rest.invariant c.in_err-size.ensures.1 not_done c.from_residual-in_err-size.ensures.1
 
 pub loop-rest-preserved : goal.loop-rest-preserved
 loop-rest-preserved c =
