@@ -3,6 +3,8 @@ pub mod Positions
 pub mod Passed
 pub mod Steps
 pub mod Walking
+pub mod Roots
+pub mod Inner
 pub mod PairMaps
 pub mod Comparing
 pub mod Progresses

@@ -18,7 +18,7 @@ use Rattle.btf_compare.specs.declared.pair_map.PairMap.{PairMap}
 use Rattle.btf_compare.specs.PairMap.{known, count, Learns}
 use Rattle.btf_compare.specs.Compared.{WalksTo, ComesTo, PaysNext, AreAt, GainsOnly, IsStarted, frame_of, owed_by, tells_open, tells_settled, opened_in, settled_in, passed_in}
 use Rattle.btf_compare.specs.Pairs.{pair_of, ids_of}
-use Rattle.btf_compare.proofs.Comparing.{PairSet, IsRunning, Compares, TellsOneMore, stack_of, stack_push, root_started, ends_refused, goes_on, starts, settles, still_in, less_by_start}
+use Rattle.btf_compare.proofs.Comparing.{PairSet, IsRunning, Compares, stack_of, stack_push, root_started, ends_refused, goes_on, starts, settles, still_in}
 use Rattle.btf_compare.proofs.Passed.{ArePassed, none_passed, nothing_in, still_passed, more_passed, skips, skips_less}
 use Rattle.btf_compare.proofs.Progresses.{learned, learned_nothing}
 use Rattle.btf_compare.proofs.Steps.{GoesTo, goes_past}
@@ -136,27 +136,3 @@ module _ (local target : Table) (root : Pair) (seen : PairMap Progress) (passed 
     returned_passed now gains =
         more_passed local target root (opened_in seen) (settled_in seen) (frame_of top) (frame_of g) (stack_of below) (count seen) IsTold state (pair_of found.ids)
         (goes_past local target top found here g goes) (passed_in passed) (passed_in now) le gains are
-
-  -- ---- another pair is started above it
-
-  module _ (ids : ℕ × ℕ) (g : Frame) (next : IsNext local target (frame_of top) (runs.Waits (pair_of ids) (frame_of g))) (unknown : known seen ids ≡ None) (more : PairMap Progress) (learns : Learns seen more ids Open) where
-    nothing : ◌≡◌ {A = Pair → Bool} (settled_in more) (settled_in seen)
-    nothing = learned_nothing seen more ids Open learns tells_settled (ap tells_settled unknown)
-
-    pub opened_passed : (now : BTreeSet (ℕ × ℕ)) → now ≡ passed → PassedIn local target more now
-    opened_passed now same = rw same (subst (λ (settled : Pair → Bool). ArePassed local target settled (passed_in passed)) (sym nothing) are)
-
-    module _ (f : Frame) (IsToldNow : List (ℕ × ℕ) → Type 0) (begins : IsStarted local target (pair_of ids) true) (new : frame_of f ≡ new_frame (pair_of ids)) (counts : count more ≡ count seen + 1) (tells : TellsOneMore IsTold IsToldNow ids) (above : List Frame) (is : above ≡ below ++ g ∷ []) where
-      is_opened : IsRunning local target root (opened_in more) (settled_in more) (frame_of f) (frame_of g ∷ stack_of below) (count more) IsToldNow
-      is_opened =
-          subst (λ (settled : Pair → Bool). IsRunning local target root (opened_in more) settled (frame_of f) (frame_of g ∷ stack_of below) (count more) IsToldNow) (sym nothing)
-          (starts local target root (opened_in seen) (settled_in seen) (frame_of top) (stack_of below) (count seen) IsTold state (pair_of ids) (frame_of g) next (ap tells_open unknown) (ap tells_settled unknown) f (opened_in more) (count more) IsToldNow
-          begins new (learned seen more ids Open learns tells_open) counts tells)
-
-      pub opened_above : Running local target root more above f IsToldNow
-      opened_above = subst (λ (s : List runs.Frame). IsRunning local target root (opened_in more) (settled_in more) (frame_of f) s (count more) IsToldNow) (sym (stack_push below above g is)) is_opened
-
-      pub opened_less : left local target more above f < left local target seen below top
-      opened_less =
-          rw (stack_push below above g is)
-          (less_by_start local target root (opened_in more) (settled_in more) (frame_of f) (frame_of top) (frame_of g) (pair_of ids) (stack_of below) (count seen) (count more) IsToldNow next new counts is_opened)

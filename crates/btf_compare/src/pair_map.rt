@@ -38,6 +38,7 @@ impl<V: Copy + Default + Drop> PairMap<V> {
     }
 
     /// Gives a pair that has no value its first.
+    #[inline(always)]
     pub fn insert(&mut self, pair: (u32, u32), value: V) -> Result<(), AllocError>
         requires { known self.old pair ≡ None }
         ensures learns { OnOk result (Learns self.old self.new pair value) }

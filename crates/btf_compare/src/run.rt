@@ -1,11 +1,12 @@
 //! The run of the comparison of types: open pairs on a stack of its own, and pairs that came out true.
 
-ghost use Rattle.std.specs.Prelude.{◌≡◌, ℕ, ◌+◌, None, IsSome, [], ◌∷◌, ◌++◌, List, Bool, Result, IfOk, OnOk, IfErr, OnErr, MatchOption};
+ghost use Rattle.std.specs.Prelude.{◌≡◌, ℕ, ◌+◌, None, IsSome, [], ◌∷◌, ◌++◌, List, Bool, Result, IfOk, OnOk, IfErr, OnErr, MatchOption, true, false};
 ghost use Rattle.std.specs.BTreeSet.{IsEmpty};
 ghost use Rattle.btf_model.specs.Fields.{Pair};
 ghost use Rattle.btf_model.specs.Refusal.{Refusal};
 ghost use Rattle.btf_model.specs.Compat.{Plain, firsts};
-ghost use Rattle.btf_compare.specs.Compared.{IsStarted, IsRefused, TracesBy, GainsOnly, settled_by};
+ghost use Rattle.btf_compare.specs.Compared.{IsStarted, IsRefused, TracesBy, GainsOnly, WalksTo, AreAt, ComparesFrom, frame_of, settled_by};
+ghost use Rattle.btf_model.specs.Run.{new_frame};
 ghost use Rattle.btf_compare.specs.PairMap.{known, count, Learns};
 ghost use Rattle.btf_compare.specs.Pairs.{pair_of};
 
@@ -43,36 +44,6 @@ impl Run {
             seen: PairMap::new(alloc),
             passed: BTreeSet::new(alloc),
         }
-    }
-
-    /// Starts a pair that this run has not listed: looks up both ids, opens the pair and lists it. Whether its walk
-    /// begins, which it does where the two types are of compatible kinds. An error leaves the list as it was.
-    #[inline(always)]
-    fn start<S: Starts>(
-        &mut self,
-        local: &Btf,
-        target: &Btf,
-        pair: (u32, u32),
-        starts: &mut S,
-    ) -> Result<bool, BtfError>
-        requires { known self.old.seen pair ≡ None }
-        ensures started { IfOk result (IsStarted local.now target.now (pair_of pair)) }
-        ensures opened { OnOk result (Learns self.old.seen self.new.seen pair Progress.Open) }
-        ensures counts { OnOk result (count self.new.seen ≡ count self.old.seen + 1) }
-        ensures listed { OnOk result ((first : S) → (ids : List (ℕ × ℕ))
-            → S.has_added first starts.old ids → S.has_added first starts.new (ids ++ pair ∷ [])) }
-        ensures refused { IfErr result (IsRefused local.now target.now (pair_of pair)) }
-        ensures not_listed { OnErr result
-            ((first : S) → (ids : List (ℕ × ℕ)) → S.has_added first starts.old ids
-            → S.has_added first starts.new ids) }
-        ensures below { self.new.below ≡ self.old.below }
-        ensures passed { self.new.passed ≡ self.old.passed }
-    {
-        let local_type = local.type_by_id(pair.0)?;
-        let target_type = target.type_by_id(pair.1)?;
-        self.seen.insert(pair, Progress::Open)?;
-        starts.add(pair)?;
-        Ok(local_type.is_compatible(target_type))
     }
 
     /// Whether a pair came out true before. One that is still open is refused.
@@ -113,7 +84,31 @@ impl Run {
     }
 }
 
-/// Whether the types of a pair of ids are compatible.
+/// Starts a pair: looks up both ids, the local one first, and reports the pair. Whether its walk begins, which it does
+/// where the two types are of compatible kinds. An error reports nothing.
+#[inline(always)]
+fn start<S: Starts>(
+    local: &Btf,
+    target: &Btf,
+    pair: (u32, u32),
+    starts: &mut S,
+) -> Result<bool, BtfError>
+    ensures started { IfOk result (IsStarted local.now target.now (pair_of pair)) }
+    ensures listed { OnOk result ((first : S) → (ids : List (ℕ × ℕ))
+        → S.has_added first starts.old ids → S.has_added first starts.new (ids ++ pair ∷ [])) }
+    ensures refused { IfErr result (IsRefused local.now target.now (pair_of pair)) }
+    ensures not_listed { OnErr result
+        ((first : S) → (ids : List (ℕ × ℕ)) → S.has_added first starts.old ids
+        → S.has_added first starts.new ids) }
+{
+    let local_type = local.type_by_id(pair.0)?;
+    let target_type = target.type_by_id(pair.1)?;
+    starts.add(pair)?;
+    Ok(local_type.is_compatible(target_type))
+}
+
+/// Whether the types of a pair of ids are compatible. Most pairs are settled by their own walk, for which nothing has to
+/// be remembered.
 pub fn compare<S: Starts>(
     local: &Btf,
     target: &Btf,
@@ -125,14 +120,43 @@ pub fn compare<S: Starts>(
         × Plain local.now target.now [] (pair_of root) answer listed
         × TracesBy (S.has_added starts.old starts.new) result answer (firsts listed) }
 {
-    let mut run = Run::new(allocator_of(local));
+    let alloc = allocator_of(local);
     // The contract speaks of an answer, which there is where each record has a kind, as a use of the tables shows.
     let _ = allocator_of(target);
-    if !run.start(local, target, root, starts)? {
+    if !start(local, target, root, starts)? {
         return Ok(false);
     }
     let mut top = Frame::new(root);
-    let mut place = top.walk(local, target, &run.passed)?;
+    match top.walk(local, target, &BTreeSet::new(alloc))? {
+        Place::Ends(answer) => Ok(answer),
+        Place::Owes(found) => compare_on(local, target, top, found, starts),
+    }
+}
+
+/// Whether the types of a pair of ids are compatible, where its walk has come to these prototypes. It is a call of its
+/// own, as a function clears all that it has on the call stack when it is called.
+#[inline(never)]
+fn compare_on<S: Starts>(
+    local: &Btf,
+    target: &Btf,
+    first: Frame,
+    prototypes: ProtoPair<'_>,
+    starts: &mut S,
+) -> Result<bool, BtfError>
+    requires begins { IsStarted local.now target.now (pair_of first.pair) true }
+    requires walked { WalksTo local.now target.now (λ _. false)
+        (new_frame (pair_of first.pair)) (frame_of first) }
+    requires here { AreAt local.now target.now first prototypes }
+    ensures { (before : S) → S.has_added before starts.old (first.pair ∷ [])
+        → ComparesFrom local.now target.now (pair_of first.pair)
+        (S.has_added before starts.new) result }
+{
+    let mut run = Run::new(allocator_of(local));
+    // The contract speaks of an answer, which there is where each record has a kind, as a use of the tables shows.
+    let _ = allocator_of(target);
+    run.seen.insert(first.pair, Progress::Open)?;
+    let mut top = first;
+    let mut place = Place::Owes(prototypes);
     'steps: loop {
         let found = match place {
             Place::Owes(found) => found,
@@ -155,14 +179,15 @@ pub fn compare<S: Starts>(
         if run.is_settled(pair)? {
             continue;
         }
-        if !run.start(local, target, pair, starts)? {
+        if !start(local, target, pair, starts)? {
             return Ok(false);
         }
         let mut inner = Frame::new(pair);
         match inner.walk(local, target, &run.passed)? {
             Place::Ends(false) => return Ok(false),
-            Place::Ends(true) => run.seen.update(pair, Progress::Compatible),
+            Place::Ends(true) => run.seen.insert(pair, Progress::Compatible)?,
             Place::Owes(inside) => {
+                run.seen.insert(pair, Progress::Open)?;
                 run.below.push(top)?;
                 top = inner;
                 place = Place::Owes(inside);

@@ -2,7 +2,7 @@ use Rattle.btf_records.specs.declared.btf_type.BtfType.{BtfType}
 use Rattle.btf_records.specs.BtfType.{record_of, type_kind}
 use Rattle.btf_compare.specs.Pairs.{pair_of}
 use Rattle.btf_compare.proofs.Comparing.{started}
-use Rattle.btf_compare.proofs.run.Run.start.Goals as goal
+use Rattle.btf_compare.proofs.run.start.Goals as goal
 
 pub returns-clause-started : goal.returns-clause-started
 returns-clause-started g c =

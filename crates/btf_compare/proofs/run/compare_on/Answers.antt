@@ -1,0 +1,294 @@
+use Rattle.std.proofs.Common.{◌≡◌, ◌∷◌, ◌≤◌, [], ℕ, Option, Bool, true, false, Result, Ok, Err, ◌∙◌, refl, sym, ap, subst, length, arith}
+use Rattle.btf_model.proofs.RunLengths.{less_paid}
+use Rattle.btf_model.proofs.Known.{known_pairs}
+use Rattle.btf_words.specs.declared.error.BtfError.{BtfError}
+use Rattle.btf_words.specs.declared.error.BtfError.TheVariants.{OutOfMemory}
+use Rattle.btf_compare.specs.declared.frame.Frame.{Frame}
+use Rattle.btf_compare.specs.declared.frame.Place.{Place}
+use Rattle.btf_compare.specs.PairMap.{known, count}
+use Rattle.btf_compare.specs.Compared.{ComesTo, PaysNext, IsStarted, frame_of, owed_by, tells_open, tells_settled, opened_in, settled_in}
+use Rattle.btf_compare.specs.Pairs.{pair_of}
+use Rattle.btf_compare.proofs.Comparing.{Compares, handed, stack_of, no_memory, ends_refused, ends_false, ends_true, pays, is_open, is_refused, differs, told_on}
+use Rattle.btf_compare.proofs.Progresses.{open_if, settled_if, unknown_if}
+use Rattle.btf_compare.proofs.Walking.{waits_for, still_owes, Running, PassedIn, shorter, begun, begun_passed, walks, walks_less, walk_fails, ends_by, settled_below, settled_less, settled_passed, returned, returned_less, returned_passed}
+use Rattle.btf_compare.proofs.Inner.{Above, inner_no_memory, inner_fails, inner_false, inner_settled, inner_settled_less, inner_settled_passed, inner_open, inner_open_less, inner_open_passed}
+use Rattle.btf_compare.proofs.Roots.{root_frame, root_no_memory, nothing_passed}
+use Rattle.btf_compare.proofs.run.compare_on.Invariants.{told}
+use Rattle.btf_model.specs.Table.{Table}
+use Rattle.btf_compare.proofs.run.compare_on.Given.{Over}
+use Rattle.btf_compare.proofs.run.compare_on.Goals as goal
+use Rattle.btf_compare.proofs.run.compare_on.Goals.{After-walk, After-walk-in_default-2, After-walk-in-steps}
+
+-- ---- the pair of the call
+
+-- what is reported for each list of those before is reported for this one
+first_told : (g : Over) (local target : Table) (root : ℕ × ℕ) (result : Result Bool BtfError) (begun now : g.row.S.Denot) → Compares local target (pair_of root) result (told g root begun now) → (before : g.row.S.Denot) → g.S.Starts.has_added before begun (root ∷ []) → Compares local target (pair_of root) result (g.S.Starts.has_added before now)
+first_told g local target root result begun now h before began = told_on local target (pair_of root) result (told g root begun now) (g.S.Starts.has_added before now) (λ ids is. is before began) h
+
+pub returns-in_err-insert : goal.returns-in_err-insert
+returns-in_err-insert g c =
+    first_told g c.args.local.now c.args.target.now c.args.first.pair c.from_residual.result c.args.starts.now c.args.starts.now
+    (root_no_memory c.args.local.now c.args.target.now c.args.first.pair (told g c.args.first.pair c.args.starts.now c.args.starts.now) c.requires.begins (λ before began. began) c.allocator_of.ensures c.allocator_of-2.ensures c.from_residual.result
+    (handed c.from_residual.result OutOfMemory c.from_residual.ensures.1))
+
+-- before its first step
+root_runs : (g : Over) (c : goal.In_ok-insert g) → Running c.args.local.now c.args.target.now (pair_of c.args.first.pair) c.insert.new.self c.new-run.result.below.items (root_frame c.args.first.pair) (told g c.args.first.pair c.args.starts.now c.args.starts.now)
+root_runs g c =
+    begun c.args.local.now c.args.target.now c.args.first.pair c.new-run.result.seen c.insert.new.self c.new-run.ensures.seen c.in_ok-insert.ensures.learns (root_frame c.args.first.pair) c.new-run.result.below.items (told g c.args.first.pair c.args.starts.now c.args.starts.now)
+    c.requires.begins refl c.new-run.ensures.below c.in_ok-insert.ensures.counts c.new-run.ensures.counts (λ before began. began)
+
+root_passed : (g : Over) (c : goal.In_ok-insert g) → PassedIn c.args.local.now c.args.target.now c.insert.new.self c.new-run.result.passed
+root_passed g c =
+    begun_passed c.args.local.now c.args.target.now c.args.first.pair c.new-run.result.seen c.insert.new.self c.new-run.ensures.seen c.in_ok-insert.ensures.learns c.new-run.result.passed c.new-run.result.passed c.new-run.ensures.passed refl
+
+pub steps-init : goal.steps-init
+steps-init g c = (
+  walks c.args.local.now c.args.target.now (pair_of c.args.first.pair) c.insert.new.self c.new-run.result.passed c.new-run.result.below.items (root_frame c.args.first.pair) (told g c.args.first.pair c.args.starts.now c.args.starts.now) (root_runs g c) (root_passed g c) c.args.first
+      (rw (nothing_passed c.new-run.result.passed c.new-run.ensures.passed) c.requires.walked),
+  root_passed g c,
+  c.requires.here,
+)
+
+-- ---- a walk that is at its end
+
+pub returns-in-Ends-false : goal.returns-in-Ends-false
+returns-in-Ends-false g c =
+    first_told g c.args.local.now c.args.target.now c.args.first.pair _ c.args.starts.now _
+    (
+    ends_false c.args.local.now c.args.target.now (pair_of c.args.first.pair) (opened_in c.steps.run.seen) (settled_in c.steps.run.seen) (frame_of c.steps.top) (stack_of c.steps.run.below.items) (count c.steps.run.seen) (told g c.args.first.pair c.args.starts.now c.steps.starts) c.steps.invariant.0
+    (ends_by c.args.local.now c.args.target.now c.steps.top c.steps.place c.in-Ends-false.field-0 false c.in-Ends-false.is c.in-Ends-false.field-0-test c.steps.invariant.2)
+    )
+
+pub returns-in_default : goal.returns-in_default
+returns-in_default g c =
+    first_told g c.args.local.now c.args.target.now c.args.first.pair _ c.args.starts.now _
+    (
+    ends_true c.args.local.now c.args.target.now (pair_of c.args.first.pair) (opened_in c.steps.run.seen) (settled_in c.steps.run.seen) (frame_of c.steps.top) (stack_of c.steps.run.below.items) (count c.steps.run.seen) (told g c.args.first.pair c.args.starts.now c.steps.starts) c.steps.invariant.0
+    (ends_by c.args.local.now c.args.target.now c.steps.top c.steps.place c.in-Ends-true.field-0 true c.in-Ends-true.is c.in-Ends-true.field-0-test c.steps.invariant.2) (ap stack_of c.in_default.ensures.next)
+    )
+
+next_runs : (g : Over) (c : After-walk g) → Running c.args.local.now c.args.target.now (pair_of c.args.first.pair) c.settle.new.self.seen c.settle.new.self.below.items c.in-Some.next (told g c.args.first.pair c.args.starts.now c.steps.starts)
+next_runs g c =
+    settled_below c.args.local.now c.args.target.now (pair_of c.args.first.pair) c.steps.run.seen c.steps.run.passed c.steps.run.below.items c.steps.top (told g c.args.first.pair c.args.starts.now c.steps.starts) c.steps.invariant.0 c.steps.invariant.1 c.settle.new.self.seen
+    c.settle.ensures.settled c.in-Some.next c.settle.new.self.below.items c.in-Some.ensures.next c.settle.ensures.counts
+    (ends_by c.args.local.now c.args.target.now c.steps.top c.steps.place c.in-Ends-true.field-0 true c.in-Ends-true.is c.in-Ends-true.field-0-test c.steps.invariant.2)
+
+next_passed : (g : Over) (c : After-walk g) → PassedIn c.args.local.now c.args.target.now c.settle.new.self.seen c.settle.new.self.passed
+next_passed g c =
+    settled_passed c.args.local.now c.args.target.now (pair_of c.args.first.pair) c.steps.run.seen c.steps.run.passed c.steps.run.below.items c.steps.top (told g c.args.first.pair c.args.starts.now c.steps.starts) c.steps.invariant.0 c.steps.invariant.1 c.settle.new.self.seen
+    c.settle.ensures.settled c.settle.new.self.passed c.settle.ensures.passed
+
+pub returns-in_err-place-in-Ends-true : goal.returns-in_err-place-in-Ends-true
+returns-in_err-place-in-Ends-true g c =
+    first_told g c.args.local.now c.args.target.now c.args.first.pair _ c.args.starts.now _
+    (
+    walk_fails c.args.local.now c.args.target.now (pair_of c.args.first.pair) c.settle.new.self.seen c.settle.new.self.passed c.settle.new.self.below.items c.in-Some.next (told g c.args.first.pair c.args.starts.now c.steps.starts) (next_runs g (goal.at.returns-in_err-place-in-Ends-true g c).After-walk) (next_passed g (goal.at.returns-in_err-place-in-Ends-true g c).After-walk) c.walk.new.self
+    c.walk.ensures.walks c.in_err-place-in-Ends-true.field-0.0 c.from_residual-in_err-place-in-Ends-true.result c.in_err-place-in-Ends-true.ensures.comes (handed c.from_residual-in_err-place-in-Ends-true.result c.in_err-place-in-Ends-true.field-0.0 c.from_residual-in_err-place-in-Ends-true.ensures.1)
+    )
+
+pub steps-smaller-in-Ends-true : goal.steps-smaller-in-Ends-true
+steps-smaller-in-Ends-true g c =
+    shorter _ _ _
+    (walks_less c.args.local.now c.args.target.now (pair_of c.args.first.pair) c.settle.new.self.seen c.settle.new.self.passed c.settle.new.self.below.items c.in-Some.next (told g c.args.first.pair c.args.starts.now c.steps.starts) (next_runs g (goal.at.steps-smaller-in-Ends-true g c).After-walk) (next_passed g (goal.at.steps-smaller-in-Ends-true g c).After-walk) c.walk.new.self
+    c.walk.ensures.walks)
+    (settled_less c.args.local.now c.args.target.now (pair_of c.args.first.pair) c.steps.run.seen c.steps.run.passed c.steps.run.below.items c.steps.top (told g c.args.first.pair c.args.starts.now c.steps.starts) c.steps.invariant.0 c.steps.invariant.1 c.settle.new.self.seen
+    c.settle.ensures.settled c.in-Some.next c.settle.new.self.below.items c.in-Some.ensures.next c.settle.ensures.counts)
+
+pub steps-preserved-in-Ends-true : goal.steps-preserved-in-Ends-true
+steps-preserved-in-Ends-true g c = (
+  walks c.args.local.now c.args.target.now (pair_of c.args.first.pair) c.settle.new.self.seen c.settle.new.self.passed c.settle.new.self.below.items c.in-Some.next (told g c.args.first.pair c.args.starts.now c.steps.starts) (next_runs g (goal.at.steps-preserved-in-Ends-true g c).After-walk) (next_passed g (goal.at.steps-preserved-in-Ends-true g c).After-walk) c.walk.new.self
+      c.walk.ensures.walks,
+  next_passed g (goal.at.steps-preserved-in-Ends-true g c).After-walk,
+  c.in_ok-place-in-Ends-true.ensures.comes,
+)
+
+-- ---- parameters
+
+pub returns-in_err-pair : goal.returns-in_err-pair
+returns-in_err-pair g c =
+    first_told g c.args.local.now c.args.target.now c.args.first.pair _ c.args.starts.now _
+    (
+    ends_refused c.args.local.now c.args.target.now (pair_of c.args.first.pair) (opened_in c.steps.run.seen) (settled_in c.steps.run.seen) (frame_of c.steps.top) (stack_of c.steps.run.below.items) (count c.steps.run.seen) (told g c.args.first.pair c.args.starts.now c.steps.starts) c.steps.invariant.0
+    (Err c.in_err-pair.field-0.0) c.from_residual-in_err-pair.result c.in_err-pair.field-0.0 refl (handed c.from_residual-in_err-pair.result c.in_err-pair.field-0.0 c.from_residual-in_err-pair.ensures.1) c.in_err-pair.ensures.next
+    )
+
+pub returns-in_err-pass : goal.returns-in_err-pass
+returns-in_err-pass g c =
+    first_told g c.args.local.now c.args.target.now c.args.first.pair _ c.args.starts.now _
+    (
+    no_memory c.args.local.now c.args.target.now (pair_of c.args.first.pair) (opened_in c.steps.run.seen) (settled_in c.steps.run.seen) (frame_of c.steps.top) (stack_of c.steps.run.below.items) (count c.steps.run.seen) (told g c.args.first.pair c.args.starts.now c.steps.starts) c.steps.invariant.0
+    c.allocator_of.ensures c.allocator_of-2.ensures c.from_residual-in_err-pass.result (handed c.from_residual-in_err-pass.result OutOfMemory c.from_residual-in_err-pass.ensures.1)
+    )
+
+-- no parameter is left
+none_left : (g : Over) (c : After-walk-in_default-2 g) → (length (owed_by c.in-Owes.found) ≤ c.steps.top.parameter) × (c.pay.new.self ≡ c.steps.top)
+none_left g c = subst (λ (o : Option (ℕ × ℕ)). PaysNext c.args.local.now c.args.target.now c.steps.top c.pay.new.self c.in-Owes.found (Ok o)) c.in_default-2.is c.in_ok-pair.ensures.next
+
+paid_runs : (g : Over) (c : After-walk-in_default-2 g) → Running c.args.local.now c.args.target.now (pair_of c.args.first.pair) c.pass.new.self.seen c.pass.new.self.below.items c.pay.new.self (told g c.args.first.pair c.args.starts.now c.steps.starts)
+paid_runs g c =
+    let IsTold = told g c.args.first.pair c.args.starts.now c.steps.starts in
+    rw (c.pass.ensures.seen, c.pass.ensures.below) (subst (λ (f : Frame). Running c.args.local.now c.args.target.now (pair_of c.args.first.pair) c.steps.run.seen c.steps.run.below.items f IsTold) (sym (none_left g c).1) c.steps.invariant.0)
+
+paid_passed : (g : Over) (c : After-walk-in_default-2 g) → PassedIn c.args.local.now c.args.target.now c.pass.new.self.seen c.steps.run.passed
+paid_passed g c = rw c.pass.ensures.seen c.steps.invariant.1
+
+all_paid : (g : Over) (c : After-walk-in_default-2 g) → length (owed_by c.in-Owes.found) ≤ c.pay.new.self.parameter
+all_paid g c = subst (λ (f : Frame). length (owed_by c.in-Owes.found) ≤ f.parameter) (sym (none_left g c).1) (none_left g c).0
+
+on_runs : (g : Over) (c : After-walk-in_default-2 g) → Running c.args.local.now c.args.target.now (pair_of c.args.first.pair) c.pass.new.self.seen c.pass.new.self.below.items c.go_on.new.self (told g c.args.first.pair c.args.starts.now c.steps.starts)
+on_runs g c =
+    returned c.args.local.now c.args.target.now (pair_of c.args.first.pair) c.pass.new.self.seen c.steps.run.passed c.pass.new.self.below.items c.pay.new.self (told g c.args.first.pair c.args.starts.now c.steps.starts) (paid_runs g c) (paid_passed g c) c.in-Owes.found c.pay.ensures.here (all_paid g c) c.go_on.new.self
+    c.go_on.ensures
+
+on_passed : (g : Over) (c : After-walk-in_default-2 g) → PassedIn c.args.local.now c.args.target.now c.pass.new.self.seen c.pass.new.self.passed
+on_passed g c =
+    returned_passed c.args.local.now c.args.target.now (pair_of c.args.first.pair) c.pass.new.self.seen c.steps.run.passed c.pass.new.self.below.items c.pay.new.self (told g c.args.first.pair c.args.starts.now c.steps.starts) (paid_runs g c) (paid_passed g c) c.in-Owes.found c.pay.ensures.here (all_paid g c)
+    c.go_on.new.self c.go_on.ensures c.pass.new.self.passed c.in_ok-pass.ensures.passed
+
+pub returns-in_err-place : goal.returns-in_err-place
+returns-in_err-place g c =
+    first_told g c.args.local.now c.args.target.now c.args.first.pair _ c.args.starts.now _
+    (
+    walk_fails c.args.local.now c.args.target.now (pair_of c.args.first.pair) c.pass.new.self.seen c.pass.new.self.passed c.pass.new.self.below.items c.go_on.new.self (told g c.args.first.pair c.args.starts.now c.steps.starts) (on_runs g (goal.at.returns-in_err-place g c).After-walk-in_default-2) (on_passed g (goal.at.returns-in_err-place g c).After-walk-in_default-2) c.walk-in_default-2.new.self
+    c.walk-in_default-2.ensures.walks c.in_err-place.field-0.0 c.from_residual-in_err-place.result c.in_err-place.ensures.comes (handed c.from_residual-in_err-place.result c.in_err-place.field-0.0 c.from_residual-in_err-place.ensures.1)
+    )
+
+pub steps-smaller-in_default-2 : goal.steps-smaller-in_default-2
+steps-smaller-in_default-2 g c =
+    let back = (none_left g (goal.at.steps-smaller-in_default-2 g c).After-walk-in_default-2).1 in
+    shorter _ _ _
+    (walks_less c.args.local.now c.args.target.now (pair_of c.args.first.pair) c.pass.new.self.seen c.pass.new.self.passed c.pass.new.self.below.items c.go_on.new.self (told g c.args.first.pair c.args.starts.now c.steps.starts) (on_runs g (goal.at.steps-smaller-in_default-2 g c).After-walk-in_default-2) (on_passed g (goal.at.steps-smaller-in_default-2 g c).After-walk-in_default-2) c.walk-in_default-2.new.self
+    c.walk-in_default-2.ensures.walks)
+    (rw (sym c.pass.ensures.seen, sym c.pass.ensures.below, sym back)
+    (returned_less c.args.local.now c.args.target.now (pair_of c.args.first.pair) c.pass.new.self.seen c.steps.run.passed c.pass.new.self.below.items c.pay.new.self (told g c.args.first.pair c.args.starts.now c.steps.starts) (paid_runs g (goal.at.steps-smaller-in_default-2 g c).After-walk-in_default-2) (paid_passed g (goal.at.steps-smaller-in_default-2 g c).After-walk-in_default-2) c.in-Owes.found c.pay.ensures.here (all_paid g (goal.at.steps-smaller-in_default-2 g c).After-walk-in_default-2)
+    c.go_on.new.self c.go_on.ensures))
+
+pub steps-preserved-in_default-2 : goal.steps-preserved-in_default-2
+steps-preserved-in_default-2 g c = (
+  walks c.args.local.now c.args.target.now (pair_of c.args.first.pair) c.pass.new.self.seen c.pass.new.self.passed c.pass.new.self.below.items c.go_on.new.self (told g c.args.first.pair c.args.starts.now c.steps.starts) (on_runs g (goal.at.steps-preserved-in_default-2 g c).After-walk-in_default-2) (on_passed g (goal.at.steps-preserved-in_default-2 g c).After-walk-in_default-2) c.walk-in_default-2.new.self
+      c.walk-in_default-2.ensures.walks,
+  on_passed g (goal.at.steps-preserved-in_default-2 g c).After-walk-in_default-2,
+  c.in_ok-place.ensures.comes,
+)
+
+-- ---- a pair that has to be compatible
+
+pub returns-in_err-is_settled : goal.returns-in_err-is_settled
+returns-in_err-is_settled g c =
+    first_told g c.args.local.now c.args.target.now c.args.first.pair _ c.args.starts.now _
+    (
+    let it = open_if c.in-Some-2.pair.0 (known c.steps.run.seen c.in-Some-2.pair) c.in_err-is_settled.field-0.0 (sym c.in_err-is_settled.ensures) in
+    subst (λ (r : Result Bool BtfError). Compares c.args.local.now c.args.target.now (pair_of c.args.first.pair) r (told g c.args.first.pair c.args.starts.now c.steps.starts))
+    (sym (handed c.from_residual-in_err-is_settled.result c.in_err-is_settled.field-0.0 c.from_residual-in_err-is_settled.ensures.1 ∙ ap (λ (e : BtfError). Err e) it.1))
+    (is_open c.args.local.now c.args.target.now (pair_of c.args.first.pair) (opened_in c.steps.run.seen) (settled_in c.steps.run.seen) (frame_of c.steps.top) (stack_of c.steps.run.below.items) (count c.steps.run.seen) (told g c.args.first.pair c.args.starts.now c.steps.starts) c.steps.invariant.0
+    (pair_of c.in-Some-2.pair) (frame_of c.pay.new.self) (waits_for c.args.local.now c.args.target.now c.steps.top c.pay.new.self c.in-Owes.found c.in_ok-pair.field-0 c.in-Some-2.pair c.in-Some-2.is c.in_ok-pair.ensures.next) it.0)
+    )
+
+pub steps-smaller-then-branch : goal.steps-smaller-then-branch
+steps-smaller-then-branch g c =
+    let local = c.args.local.now in
+    let target = c.args.target.now in
+    less_paid local target (length (known_pairs local target)) (count c.steps.run.seen) (frame_of c.steps.top) (frame_of c.pay.new.self) (pair_of c.in-Some-2.pair) (stack_of c.steps.run.below.items) (waits_for c.args.local.now c.args.target.now c.steps.top c.pay.new.self c.in-Owes.found c.in_ok-pair.field-0 c.in-Some-2.pair c.in-Some-2.is c.in_ok-pair.ensures.next)
+
+pub steps-preserved-then-branch : goal.steps-preserved-then-branch
+steps-preserved-then-branch g c = (
+  pays c.args.local.now c.args.target.now (pair_of c.args.first.pair) (opened_in c.steps.run.seen) (settled_in c.steps.run.seen) (frame_of c.steps.top) (stack_of c.steps.run.below.items) (count c.steps.run.seen) (told g c.args.first.pair c.args.starts.now c.steps.starts) c.steps.invariant.0
+      (pair_of c.in-Some-2.pair) (frame_of c.pay.new.self) (waits_for c.args.local.now c.args.target.now c.steps.top c.pay.new.self c.in-Owes.found c.in_ok-pair.field-0 c.in-Some-2.pair c.in-Some-2.is c.in_ok-pair.ensures.next) (settled_if c.in-Some-2.pair.0 (known c.steps.run.seen c.in-Some-2.pair) (sym c.in_ok-is_settled.ensures ∙ ap (λ (b : Bool). Ok b) c.if-branch.true)),
+  c.steps.invariant.1,
+  still_owes c.args.local.now c.args.target.now c.pay.new.self c.steps.place c.in-Owes.found c.in-Owes.is c.pay.ensures.here,
+)
+
+pub returns-in_err-start : goal.returns-in_err-start
+returns-in_err-start g c =
+    first_told g c.args.local.now c.args.target.now c.args.first.pair _ c.args.starts.now _
+    (
+    told_on c.args.local.now c.args.target.now (pair_of c.args.first.pair) c.from_residual-in_err-start.result (told g c.args.first.pair c.args.starts.now c.steps.starts) (told g c.args.first.pair c.args.starts.now c.start.new.starts) (λ ids h before began. c.in_err-start.ensures.not_listed before ids (h before began))
+    (is_refused c.args.local.now c.args.target.now (pair_of c.args.first.pair) (opened_in c.steps.run.seen) (settled_in c.steps.run.seen) (frame_of c.steps.top) (stack_of c.steps.run.below.items) (count c.steps.run.seen) (told g c.args.first.pair c.args.starts.now c.steps.starts) c.steps.invariant.0
+    (pair_of c.in-Some-2.pair) (frame_of c.pay.new.self) (waits_for c.args.local.now c.args.target.now c.steps.top c.pay.new.self c.in-Owes.found c.in_ok-pair.field-0 c.in-Some-2.pair c.in-Some-2.is c.in_ok-pair.ensures.next) (ap tells_open (unknown_if c.in-Some-2.pair.0 (known c.steps.run.seen c.in-Some-2.pair) (sym c.in_ok-is_settled.ensures ∙ ap (λ (b : Bool). Ok b) c.if-branch.false))) (ap tells_settled (unknown_if c.in-Some-2.pair.0 (known c.steps.run.seen c.in-Some-2.pair) (sym c.in_ok-is_settled.ensures ∙ ap (λ (b : Bool). Ok b) c.if-branch.false))) c.allocator_of.ensures c.allocator_of-2.ensures
+    c.in_err-start.field-0.0 c.from_residual-in_err-start.result c.in_err-start.ensures.refused (handed c.from_residual-in_err-start.result c.in_err-start.field-0.0 c.from_residual-in_err-start.ensures.1))
+    )
+
+pub returns-then-not-branch : goal.returns-then-not-branch
+returns-then-not-branch g c =
+    first_told g c.args.local.now c.args.target.now c.args.first.pair _ c.args.starts.now _
+    (
+    differs c.args.local.now c.args.target.now (pair_of c.args.first.pair) (opened_in c.steps.run.seen) (settled_in c.steps.run.seen) (frame_of c.steps.top) (stack_of c.steps.run.below.items) (count c.steps.run.seen) (told g c.args.first.pair c.args.starts.now c.steps.starts) c.steps.invariant.0
+    (pair_of c.in-Some-2.pair) (frame_of c.pay.new.self) (waits_for c.args.local.now c.args.target.now c.steps.top c.pay.new.self c.in-Owes.found c.in_ok-pair.field-0 c.in-Some-2.pair c.in-Some-2.is c.in_ok-pair.ensures.next) (ap tells_open (unknown_if c.in-Some-2.pair.0 (known c.steps.run.seen c.in-Some-2.pair) (sym c.in_ok-is_settled.ensures ∙ ap (λ (b : Bool). Ok b) c.if-branch.false))) (ap tells_settled (unknown_if c.in-Some-2.pair.0 (known c.steps.run.seen c.in-Some-2.pair) (sym c.in_ok-is_settled.ensures ∙ ap (λ (b : Bool). Ok b) c.if-branch.false))) (told g c.args.first.pair c.args.starts.now c.start.new.starts)
+    (subst (λ (b : Bool). IsStarted c.args.local.now c.args.target.now (pair_of c.in-Some-2.pair) b) c.if-not-branch.true c.in_ok-start.ensures.started) (λ ids h before began. c.in_ok-start.ensures.listed before ids (h before began))
+    )
+
+-- ---- a pair that is started
+
+above : (g : Over) (c : After-walk-in-steps g) → Above c.args.local.now c.args.target.now (pair_of c.args.first.pair) c.steps.run.seen c.steps.run.passed c.steps.run.below.items c.steps.top (told g c.args.first.pair c.args.starts.now c.steps.starts) (told g c.args.first.pair c.args.starts.now c.start.new.starts)
+    c.in-Some-2.pair c.pay.new.self c.new-inner.result c.walk-in-steps.new.self
+above g c = record {
+  state = c.steps.invariant.0;
+  are = c.steps.invariant.1;
+  next = waits_for c.args.local.now c.args.target.now c.steps.top c.pay.new.self c.in-Owes.found c.in_ok-pair.field-0 c.in-Some-2.pair c.in-Some-2.is c.in_ok-pair.ensures.next;
+  unknown = unknown_if c.in-Some-2.pair.0 (known c.steps.run.seen c.in-Some-2.pair) (sym c.in_ok-is_settled.ensures ∙ ap (λ (b : Bool). Ok b) c.if-branch.false);
+  begins = subst (λ (b : Bool). IsStarted c.args.local.now c.args.target.now (pair_of c.in-Some-2.pair) b) c.if-not-branch.false c.in_ok-start.ensures.started;
+  tells = λ ids h before began. c.in_ok-start.ensures.listed before ids (h before began);
+  new = c.new-inner.ensures.frame;
+  goes = c.walk-in-steps.ensures.walks;
+}
+
+pub returns-in_err-walk : goal.returns-in_err-walk
+returns-in_err-walk g c =
+    first_told g c.args.local.now c.args.target.now c.args.first.pair _ c.args.starts.now _
+    (inner_fails (above g (goal.at.returns-in_err-walk g c).After-walk-in-steps) c.in_err-walk.field-0.0 c.from_residual-in_err-walk.result c.in_err-walk.ensures.comes (handed c.from_residual-in_err-walk.result c.in_err-walk.field-0.0 c.from_residual-in_err-walk.ensures.1))
+
+pub returns-in-Ends-false-2 : goal.returns-in-Ends-false-2
+returns-in-Ends-false-2 g c =
+    first_told g c.args.local.now c.args.target.now c.args.first.pair _ c.args.starts.now _
+    (inner_false (above g (goal.at.returns-in-Ends-false-2 g c).After-walk-in-steps)
+    (ends_by c.args.local.now c.args.target.now c.walk-in-steps.new.self c.in_ok-walk.field-0 c.in-Ends-false-2.field-0 false c.in-Ends-false-2.is c.in-Ends-false-2.field-0-test c.in_ok-walk.ensures.comes))
+
+-- it came out true
+
+pub insert-requires-in-Ends-true-2 : goal.insert-requires-in-Ends-true-2
+insert-requires-in-Ends-true-2 g c = (omega arith, (above g (goal.at.insert-requires-in-Ends-true-2 g c).After-walk-in-steps).unknown)
+
+pub returns-in_err-insert-in-Ends-true-2 : goal.returns-in_err-insert-in-Ends-true-2
+returns-in_err-insert-in-Ends-true-2 g c =
+    first_told g c.args.local.now c.args.target.now c.args.first.pair _ c.args.starts.now _
+    (inner_no_memory (above g (goal.at.returns-in_err-insert-in-Ends-true-2 g c).After-walk-in-steps) c.allocator_of.ensures c.allocator_of-2.ensures c.from_residual-in_err-insert-in-Ends-true-2.result
+    (handed c.from_residual-in_err-insert-in-Ends-true-2.result OutOfMemory c.from_residual-in_err-insert-in-Ends-true-2.ensures.1))
+
+pub steps-smaller-in_ok-insert-in-Ends-true-2 : goal.steps-smaller-in_ok-insert-in-Ends-true-2
+steps-smaller-in_ok-insert-in-Ends-true-2 g c =
+    inner_settled_less (above g (goal.at.steps-smaller-in_ok-insert-in-Ends-true-2 g c).After-walk-in-steps) (c.walk-in-steps.ensures.pair ∙ c.new-inner.ensures.pair) c.insert-in-Ends-true-2.new.self c.in_ok-insert-in-Ends-true-2.ensures.learns c.in_ok-insert-in-Ends-true-2.ensures.counts
+
+pub steps-preserved-in_ok-insert-in-Ends-true-2 : goal.steps-preserved-in_ok-insert-in-Ends-true-2
+steps-preserved-in_ok-insert-in-Ends-true-2 g c = (
+  inner_settled (above g (goal.at.steps-preserved-in_ok-insert-in-Ends-true-2 g c).After-walk-in-steps) (c.walk-in-steps.ensures.pair ∙ c.new-inner.ensures.pair) c.insert-in-Ends-true-2.new.self c.in_ok-insert-in-Ends-true-2.ensures.learns c.in_ok-insert-in-Ends-true-2.ensures.counts
+      (ends_by c.args.local.now c.args.target.now c.walk-in-steps.new.self c.in_ok-walk.field-0 c.in-Ends-true-2.field-0 true c.in-Ends-true-2.is c.in-Ends-true-2.field-0-test c.in_ok-walk.ensures.comes),
+  inner_settled_passed (above g (goal.at.steps-preserved-in_ok-insert-in-Ends-true-2 g c).After-walk-in-steps) (c.walk-in-steps.ensures.pair ∙ c.new-inner.ensures.pair) c.insert-in-Ends-true-2.new.self c.in_ok-insert-in-Ends-true-2.ensures.learns,
+  still_owes c.args.local.now c.args.target.now c.pay.new.self c.steps.place c.in-Owes.found c.in-Owes.is c.pay.ensures.here,
+)
+
+-- it has come to prototypes
+
+pub insert-requires-in-Owes-2 : goal.insert-requires-in-Owes-2
+insert-requires-in-Owes-2 g c = (omega arith, (above g (goal.at.insert-requires-in-Owes-2 g c).After-walk-in-steps).unknown)
+
+pub returns-in_err-insert-in-Owes-2 : goal.returns-in_err-insert-in-Owes-2
+returns-in_err-insert-in-Owes-2 g c =
+    first_told g c.args.local.now c.args.target.now c.args.first.pair _ c.args.starts.now _
+    (inner_no_memory (above g (goal.at.returns-in_err-insert-in-Owes-2 g c).After-walk-in-steps) c.allocator_of.ensures c.allocator_of-2.ensures c.from_residual-in_err-insert-in-Owes-2.result
+    (handed c.from_residual-in_err-insert-in-Owes-2.result OutOfMemory c.from_residual-in_err-insert-in-Owes-2.ensures.1))
+
+pub returns-in_err-push-in-Owes-2 : goal.returns-in_err-push-in-Owes-2
+returns-in_err-push-in-Owes-2 g c =
+    first_told g c.args.local.now c.args.target.now c.args.first.pair _ c.args.starts.now _
+    (inner_no_memory (above g (goal.at.returns-in_err-push-in-Owes-2 g c).After-walk-in-steps) c.allocator_of.ensures c.allocator_of-2.ensures c.from_residual-in_err-push-in-Owes-2.result
+    (handed c.from_residual-in_err-push-in-Owes-2.result OutOfMemory c.from_residual-in_err-push-in-Owes-2.ensures.1))
+
+pub steps-smaller : goal.steps-smaller
+steps-smaller g c = inner_open_less (above g (goal.at.steps-smaller g c).After-walk-in-steps) c.insert-in-Owes-2.new.self c.in_ok-insert-in-Owes-2.ensures.learns c.in_ok-insert-in-Owes-2.ensures.counts c.push.new.self.items c.in_ok-push-in-Owes-2.ensures.items
+
+pub steps-preserved : goal.steps-preserved
+steps-preserved g c = (
+  inner_open (above g (goal.at.steps-preserved g c).After-walk-in-steps) c.insert-in-Owes-2.new.self c.in_ok-insert-in-Owes-2.ensures.learns c.in_ok-insert-in-Owes-2.ensures.counts c.push.new.self.items c.in_ok-push-in-Owes-2.ensures.items,
+  inner_open_passed (above g (goal.at.steps-preserved g c).After-walk-in-steps) c.insert-in-Owes-2.new.self c.in_ok-insert-in-Owes-2.ensures.learns,
+  subst (λ (p : Place). ComesTo c.args.local.now c.args.target.now c.walk-in-steps.new.self (Ok p)) c.in-Owes-2.is c.in_ok-walk.ensures.comes,
+)
