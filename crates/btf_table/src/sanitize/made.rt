@@ -118,6 +118,7 @@ impl Made {
     }
 
     /// Keeps what a type becomes: the type that takes its place, or its id, where it is to change in place.
+    #[inline(always)]
     pub fn keep(
         &mut self,
         denied: &mut Vec<u32>,

@@ -35,6 +35,7 @@ impl Made {
 
     /// The rule of a FUNC_PROTO: its parameters get names, or it becomes an ENUM; None where it stays.
     /// `InvalidStringOffset` where strings have no room for the names.
+    #[inline(never)]
     fn rewrite_proto(
         &mut self,
         btf: &Btf,
@@ -64,6 +65,7 @@ impl Made {
 
     /// The rule of an ENUM64 for a kernel that has none: it becomes a UNION. `InvalidStringOffset` and
     /// `InvalidTypeInfo` where strings or types have no room for the type of its members.
+    #[inline(never)]
     fn rewrite_enum64(&mut self, btf: &Btf, enum64: &Enum64) -> Result<BtfType, BtfError>
         requires { HasRoom btf.now self.old.changes }
         ensures { (given : Given) (answers : List Answer) (id : ℕ)
@@ -83,6 +85,7 @@ impl Made {
 
     /// The rule of a type that is neither a FUNC nor a DATASEC, where the kernel has the feature that it asks for, or
     /// where it has not.
+    #[inline(always)]
     pub fn rewrite_by(
         &mut self,
         btf: &Btf,
