@@ -1,14 +1,14 @@
 -- What the parts of the comparison of types stand for.
 use Rattle.std.specs.BTreeSet as ordered
 use Rattle.std.specs.BTreeSet.{BTreeSet}
-use Rattle.std.specs.Prelude.{◌≡◌, ◌≢◌, ◌⊎◌, ◌<◌, ◌≤◌, ℕ, suc, ◌-◌, ◌*◌, length, All, Bool, true, false, List, [], ◌++◌, map, slice_get, Option, Some, None, Result, Ok, Err}
+use Rattle.std.specs.Prelude.{◌≡◌, ◌≢◌, ◌⊎◌, ◌<◌, ◌≤◌, ℕ, suc, ◌-◌, ◌*◌, length, All, Bool, true, false, List, ◌++◌, map, slice_get, Option, Some, None, Result, Ok, Err}
 use Rattle.std.specs.List.{IsDistinct}
 use Rattle.btf_model.specs.Record.{Record, Kind, compared_kind}
 use Rattle.btf_model.specs.Refusal.{Refusal}
 use Rattle.btf_model.specs.Table.{Table}
 use Rattle.btf_model.specs.Walk.{walk_limit}
 use Rattle.btf_model.specs.Fields.{Pair}
-use Rattle.btf_model.specs.Compat.{Told, On, Owes, pairs, Finds, ResolvesPair, AreKnown, Plain, firsts, pair_eq}
+use Rattle.btf_model.specs.Compat.{Told, On, Owes, pairs, Finds, ResolvesPair, AreKnown, pair_eq}
 use Rattle.btf_model.specs.Compat as model
 use Rattle.btf_model.specs.Laws.{AreIds}
 use Rattle.btf_model.specs.Run as runs
@@ -157,9 +157,3 @@ pub record AreStarts (local target : Table) (ps : List Pair) : Type 0 where
 -- The list has gained such pairs.
 abbrev pub GainsStarts : Table → Table → List (ℕ × ℕ) → List (ℕ × ℕ) → Type 0
 GainsStarts local target old new = (ps : List Pair) × AreStarts local target ps × (new ≡ old ++ map ids_of ps)
-
--- The call returns the comparison of this pair that remembers nothing, and the pairs that this starts were reported.
-abbrev pub ComparesFrom : Table → Table → Pair → (List (ℕ × ℕ) → Type 0) → Result Bool BtfError → Type 0
-ComparesFrom local target root IsTold result =
-    (answer : Result Bool Refusal) × (listed : List Pair) × Plain local target [] root answer listed
-    × TracesBy IsTold result answer (firsts listed)

@@ -5,7 +5,7 @@ ghost use Rattle.std.specs.BTreeSet.{IsEmpty};
 ghost use Rattle.btf_model.specs.Fields.{Pair};
 ghost use Rattle.btf_model.specs.Refusal.{Refusal};
 ghost use Rattle.btf_model.specs.Compat.{Plain, firsts};
-ghost use Rattle.btf_compare.specs.Compared.{IsStarted, IsRefused, TracesBy, GainsOnly, WalksTo, AreAt, ComparesFrom, frame_of, settled_by};
+ghost use Rattle.btf_compare.specs.Compared.{IsStarted, IsRefused, TracesBy, GainsOnly, WalksTo, AreAt, frame_of, settled_by};
 ghost use Rattle.btf_model.specs.Run.{new_frame};
 ghost use Rattle.btf_compare.specs.PairMap.{known, count, Learns};
 ghost use Rattle.btf_compare.specs.Pairs.{pair_of};
@@ -148,8 +148,9 @@ fn compare_on<S: Starts>(
         (new_frame (pair_of first.pair)) (frame_of first) }
     requires here { AreAt local.now target.now first prototypes }
     ensures { (before : S) → S.has_added before starts.old (first.pair ∷ [])
-        → ComparesFrom local.now target.now (pair_of first.pair)
-        (S.has_added before starts.new) result }
+        → (answer : Result Bool Refusal) × (listed : List Pair)
+        × Plain local.now target.now [] (pair_of first.pair) answer listed
+        × TracesBy (S.has_added before starts.new) result answer (firsts listed) }
 {
     let mut run = Run::new(allocator_of(local));
     // The contract speaks of an answer, which there is where each record has a kind, as a use of the tables shows.

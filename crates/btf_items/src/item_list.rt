@@ -7,9 +7,11 @@ ghost use Rattle.btf_words.specs.Endianness.{order_of};
 ghost use Rattle.btf_items.specs.ReadItems.{ReadsItems};
 ghost use Rattle.btf_items.specs.ItemList.{items_of};
 
+use crate::blank::Blank;
 use crate::list::{Item, clone_items, read_items};
 use btf_words::{BtfError, Endianness};
 use std::alloc::{AllocError, Global};
+use std::array;
 use std::fmt;
 
 /// The length in bytes of an item of three words, which no item passes.
@@ -39,7 +41,7 @@ impl<T, const N: usize> ItemList<T, N> {
     }
 }
 
-impl<T: Item, const N: usize> ItemList<T, N> {
+impl<T: Blank, const N: usize> ItemList<T, N> {
     /// So many items from the front of bytes. `InvalidTypeInfo` where the bytes end before them.
     pub fn read(
         alloc: Global,
@@ -62,7 +64,9 @@ impl<T: Item, const N: usize> ItemList<T, N> {
         let items = read_few(bytes, endianness, count)?;
         Ok(ItemList::Few(count, items))
     }
+}
 
+impl<T: Item, const N: usize> ItemList<T, N> {
     /// Puts an item in the place of the one that is there.
     pub fn set(&mut self, index: usize, item: T)
         requires { index < length (items_of self.old) }
@@ -89,7 +93,7 @@ impl<T: Item, const N: usize> ItemList<T, N> {
 
 /// So many items from the front of bytes, in the first places of an array. `InvalidTypeInfo` where the bytes end before
 /// them.
-fn read_few<T: Item, const N: usize>(
+fn read_few<T: Blank, const N: usize>(
     bytes: &[u8],
     endianness: Endianness,
     count: usize,
@@ -98,7 +102,7 @@ fn read_few<T: Item, const N: usize>(
     ensures { MeetsOrNoMemory (take count) result
         (ReadsItems T.width T.item_words (order_of endianness) bytes.now count) }
 {
-    let mut items: [T; N] = Default::default();
+    let mut items: [T; N] = array::from_fn(|_| T::blank());
     let mut rest = bytes;
     for index in 0..count {
         let (item, after) = T::read(rest, endianness)?;

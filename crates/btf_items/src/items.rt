@@ -1,6 +1,6 @@
 //! The items of the records that have a list.
 
-ghost use Rattle.std.specs.Prelude.{◌≡◌, ◌/◌, ◌%◌, ◌^◌, [], ◌∷◌, refl};
+ghost use Rattle.std.specs.Prelude.{◌≡◌, ◌/◌, ◌%◌, ◌^◌, [], ◌∷◌};
 ghost use Rattle.btf_items.specs.Items.{enum_words, enum64_words, member_words, param_words, entry_words};
 
 use crate::list::Item;
@@ -9,7 +9,7 @@ use btf_words::{BtfError, Endianness};
 use std::alloc::AllocError;
 
 /// A variant of an ENUM (the kernel's documentation, "BTF_KIND_ENUM").
-#[derive(Clone, Debug, Default, Drop)]
+#[derive(Clone, Debug, Drop)]
 pub struct BtfEnum {
     /// The string offset of the name.
     pub name_offset: u32,
@@ -27,7 +27,7 @@ impl BtfEnum {
 }
 
 /// A variant of an ENUM64 (the kernel's documentation, "BTF_KIND_ENUM64").
-#[derive(Copy, Clone, Debug, Default)]
+#[derive(Copy, Clone, Debug)]
 pub struct BtfEnum64 {
     /// The string offset of the name.
     pub name_offset: u32,
@@ -55,7 +55,7 @@ impl BtfEnum64 {
 }
 
 /// A member of a STRUCT or a UNION (the kernel's documentation, "BTF_KIND_STRUCT").
-#[derive(Clone, Debug, Default, Drop)]
+#[derive(Clone, Debug, Drop)]
 pub struct BtfMember {
     /// The string offset of the name.
     pub name_offset: u32,
@@ -66,7 +66,7 @@ pub struct BtfMember {
 }
 
 /// A parameter of a FUNC_PROTO (the kernel's documentation, "BTF_KIND_FUNC_PROTO").
-#[derive(Clone, Debug, Default, Drop)]
+#[derive(Clone, Debug, Drop)]
 pub struct BtfParam {
     /// The string offset of the name.
     pub name_offset: u32,
@@ -75,7 +75,7 @@ pub struct BtfParam {
 }
 
 /// An entry of a DATASEC (the kernel's documentation, "BTF_KIND_DATASEC").
-#[derive(Clone, Debug, Default, Drop)]
+#[derive(Clone, Debug, Drop)]
 pub struct DataSecEntry {
     /// The id of the VAR.
     pub btf_type: u32,
@@ -99,8 +99,6 @@ impl Item for BtfEnum {
     fn append_to(&self, out: &mut Vec<u8>, endianness: Endianness) -> Result<(), AllocError> {
         push_array(out, endianness, &[self.name_offset, self.value])
     }
-
-    ghost item_width = { λ x. refl };
 
     ghost cloned_words = { λ x y h i. h.0 i ∷ h.1 i ∷ [] };
 }
@@ -132,8 +130,6 @@ impl Item for BtfEnum64 {
         )
     }
 
-    ghost item_width = { λ x. refl };
-
     ghost cloned_words = { λ x y h i. enum64_words (h i) };
 }
 
@@ -164,8 +160,6 @@ impl Item for BtfMember {
         )
     }
 
-    ghost item_width = { λ x. refl };
-
     ghost cloned_words = { λ x y h i. h.0 i ∷ h.1.0 i ∷ h.1.1 i ∷ [] };
 }
 
@@ -189,8 +183,6 @@ impl Item for BtfParam {
     fn append_to(&self, out: &mut Vec<u8>, endianness: Endianness) -> Result<(), AllocError> {
         push_array(out, endianness, &[self.name_offset, self.btf_type])
     }
-
-    ghost item_width = { λ x. refl };
 
     ghost cloned_words = { λ x y h i. h.0 i ∷ h.1 i ∷ [] };
 }
@@ -217,8 +209,6 @@ impl Item for DataSecEntry {
     fn append_to(&self, out: &mut Vec<u8>, endianness: Endianness) -> Result<(), AllocError> {
         push_array(out, endianness, &[self.btf_type, self.offset, self.size])
     }
-
-    ghost item_width = { λ x. refl };
 
     ghost cloned_words = { λ x y h i. h.0 i ∷ h.1.0 i ∷ h.1.1 i ∷ [] };
 }

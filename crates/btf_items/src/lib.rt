@@ -1,6 +1,7 @@
 //! The items of records that have a list, how a list is read, written and copied, and what a UNION keeps of an ENUM64.
 #![tactic(auto)]
 
+mod blank;
 mod fallback;
 mod item_list;
 mod items;

@@ -12,7 +12,7 @@ use btf_words::{BtfError, Endianness};
 use std::alloc::{AllocError, Global};
 
 /// An item of a list: so many words.
-pub trait Item: Sized + Clone + Default + Drop {
+pub trait Item: Sized + Clone + Drop {
     /// How many words an item has.
     ghost width: { ℕ };
 
@@ -32,9 +32,6 @@ pub trait Item: Sized + Clone + Default + Drop {
         ensures written { OnOk result (out.new.items ≡ out.old.items
             ++ flat_map (word (order_of endianness)) (item_words self.now)) }
         ensures words_fit { AllByRecursion (λ w. w < 2 ^ 32) (item_words self.now) };
-
-    /// Each item has so many words.
-    ghost item_width: { (x : Self) → length (item_words x) ≡ width };
 
     /// A clone has the same words.
     ghost cloned_words: { (x y : Self) → Self.is_clone x y → item_words y ≡ item_words x };

@@ -6,6 +6,8 @@ mod built_records;
 #[cfg(test)]
 mod clones;
 #[cfg(test)]
+mod debug;
+#[cfg(test)]
 mod errors;
 #[cfg(test)]
 mod getters;

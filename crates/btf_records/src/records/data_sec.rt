@@ -213,6 +213,8 @@ impl WithList for DataSec {
         self.entries.as_slice()
     }
 
+    ghost item_width = { λ x. refl };
+
     ghost tail_width = { λ n. refl };
 
     ghost is_kept = { λ r. refl };

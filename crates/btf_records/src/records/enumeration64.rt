@@ -192,6 +192,8 @@ impl WithList for Enum64 {
         self.variants.as_slice()
     }
 
+    ghost item_width = { λ x. refl };
+
     ghost tail_width = { λ n. refl };
 
     ghost is_kept = { λ r. refl };

@@ -203,6 +203,8 @@ impl WithList for FuncProto {
         self.params.as_slice()
     }
 
+    ghost item_width = { λ x. refl };
+
     ghost tail_width = { λ n. refl };
 
     ghost is_kept = { λ r. refl };

@@ -204,6 +204,8 @@ impl WithList for Struct {
         self.members.as_slice()
     }
 
+    ghost item_width = { λ x. refl };
+
     ghost tail_width = { λ n. refl };
 
     ghost is_kept = { λ r. refl };

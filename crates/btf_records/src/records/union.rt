@@ -282,6 +282,8 @@ impl WithList for Union {
         self.members.as_slice()
     }
 
+    ghost item_width = { λ x. refl };
+
     ghost tail_width = { λ n. refl };
 
     ghost is_kept = { λ r. refl };

@@ -74,6 +74,10 @@ pub trait WithList: Sized {
             ≡ flat_map Self.Element.item_words result.now }
         ensures count { vlen (words self.now).info ≡ length result.now };
 
+    /// Each item has the same number of words.
+    ghost item_width: { (x : Self.Element)
+        → length (Self.Element.item_words x) ≡ Self.Element.width };
+
     /// The tail of a record of the kind is the words of its items.
     ghost tail_width: { (n : ℕ) → tail_words kind n ≡ Self.Element.width * n };
 

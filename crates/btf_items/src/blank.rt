@@ -1,0 +1,83 @@
+//! What fills the places of a list in which no item stands.
+
+ghost use Rattle.std.specs.Prelude.{◌≡◌, length};
+
+use crate::items::{BtfEnum, BtfEnum64, BtfMember, BtfParam, DataSecEntry};
+use crate::list::Item;
+
+/// An item that can fill such a place.
+pub trait Blank: Item {
+    /// The item whose words are zero.
+    fn blank() -> Self;
+
+    /// Each item has so many words.
+    ghost item_width: { (x : Self) → length (Self.item_words x) ≡ Self.width };
+}
+
+impl Blank for BtfEnum {
+    ghost use Rattle.std.specs.Prelude.{refl};
+
+    fn blank() -> Self {
+        BtfEnum {
+            name_offset: 0,
+            value: 0,
+        }
+    }
+
+    ghost item_width = { λ x. refl };
+}
+
+impl Blank for BtfEnum64 {
+    ghost use Rattle.std.specs.Prelude.{refl};
+
+    fn blank() -> Self {
+        BtfEnum64 {
+            name_offset: 0,
+            value_low: 0,
+            value_high: 0,
+        }
+    }
+
+    ghost item_width = { λ x. refl };
+}
+
+impl Blank for BtfMember {
+    ghost use Rattle.std.specs.Prelude.{refl};
+
+    fn blank() -> Self {
+        BtfMember {
+            name_offset: 0,
+            btf_type: 0,
+            offset: 0,
+        }
+    }
+
+    ghost item_width = { λ x. refl };
+}
+
+impl Blank for BtfParam {
+    ghost use Rattle.std.specs.Prelude.{refl};
+
+    fn blank() -> Self {
+        BtfParam {
+            name_offset: 0,
+            btf_type: 0,
+        }
+    }
+
+    ghost item_width = { λ x. refl };
+}
+
+impl Blank for DataSecEntry {
+    ghost use Rattle.std.specs.Prelude.{refl};
+
+    fn blank() -> Self {
+        DataSecEntry {
+            btf_type: 0,
+            offset: 0,
+            size: 0,
+        }
+    }
+
+    ghost item_width = { λ x. refl };
+}

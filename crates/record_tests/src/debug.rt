@@ -1,0 +1,202 @@
+//! What records with a list print: the text that they printed when each list was a vector. A few items lie in their
+//! record now, and more have a vector, so the numbers of items here are on both sides of where that changes.
+
+use crate::built_records::{fallback, member};
+use btf_plain::Endianness;
+use btf_records::{BtfType, DataSec, Enum, Enum64, Enum64Fallback, FuncProto, Struct, Union};
+use btf_samples::spelled::{read, spelled};
+use std::alloc::{AllocError, Global};
+use std::fmt::Debug;
+use std::test::Fail;
+
+/// The records with each list in a vector.
+mod vectors {
+    use btf_records::{BtfEnum, BtfEnum64, BtfMember, BtfParam, DataSecEntry, Enum64Fallback};
+
+    #[derive(Debug, Drop)]
+    pub struct FuncProto {
+        pub name_offset: u32,
+        pub info: u32,
+        pub return_type: u32,
+        pub params: Vec<BtfParam>,
+    }
+
+    #[derive(Debug, Drop)]
+    pub struct Struct {
+        pub name_offset: u32,
+        pub info: u32,
+        pub size: u32,
+        pub members: Vec<BtfMember>,
+    }
+
+    #[derive(Debug, Drop)]
+    pub struct Union {
+        pub name_offset: u32,
+        pub info: u32,
+        pub size: u32,
+        pub members: Vec<BtfMember>,
+        pub fallback: Option<Enum64Fallback>,
+    }
+
+    #[derive(Debug, Drop)]
+    pub struct Enum {
+        pub name_offset: u32,
+        pub info: u32,
+        pub size: u32,
+        pub variants: Vec<BtfEnum>,
+    }
+
+    #[derive(Debug, Drop)]
+    pub struct Enum64 {
+        pub name_offset: u32,
+        pub info: u32,
+        pub size: u32,
+        pub variants: Vec<BtfEnum64>,
+    }
+
+    #[derive(Debug, Drop)]
+    pub struct DataSec {
+        pub name_offset: u32,
+        pub info: u32,
+        pub size: u32,
+        pub entries: Vec<DataSecEntry>,
+    }
+}
+
+/// Whether two values print the same text, in one line and in many.
+fn print_alike<A: Debug, B: Debug>(alloc: Global, a: &A, b: &B) -> Result<bool, AllocError> {
+    let text = format!(in alloc; "{a:?} {a:#?}")?;
+    let wanted = format!(in alloc; "{b:?} {b:#?}")?;
+    Ok(text == wanted)
+}
+
+fn proto_prints(alloc: Global, t: &FuncProto) -> Result<bool, AllocError> {
+    let wanted = vectors::FuncProto {
+        name_offset: t.name_offset(),
+        info: t.info(),
+        return_type: t.return_type(),
+        params: t.params().to_vec(alloc)?,
+    };
+    print_alike(alloc, t, &wanted)
+}
+
+fn struct_prints(alloc: Global, t: &Struct) -> Result<bool, AllocError> {
+    let wanted = vectors::Struct {
+        name_offset: t.name_offset(),
+        info: t.info(),
+        size: t.size(),
+        members: t.members().to_vec(alloc)?,
+    };
+    print_alike(alloc, t, &wanted)
+}
+
+/// The same for a union, which keeps this fallback.
+fn union_prints(
+    alloc: Global,
+    t: &Union,
+    fallback: Option<Enum64Fallback>,
+) -> Result<bool, AllocError> {
+    let wanted = vectors::Union {
+        name_offset: t.name_offset(),
+        info: t.info(),
+        size: t.size(),
+        members: t.members().to_vec(alloc)?,
+        fallback,
+    };
+    print_alike(alloc, t, &wanted)
+}
+
+fn enum_prints(alloc: Global, t: &Enum) -> Result<bool, AllocError> {
+    let wanted = vectors::Enum {
+        name_offset: t.name_offset(),
+        info: t.info(),
+        size: t.size(),
+        variants: t.variants().to_vec(alloc)?,
+    };
+    print_alike(alloc, t, &wanted)
+}
+
+fn enum64_prints(alloc: Global, t: &Enum64) -> Result<bool, AllocError> {
+    let wanted = vectors::Enum64 {
+        name_offset: t.name_offset(),
+        info: t.info(),
+        size: t.size(),
+        variants: t.variants().to_vec(alloc)?,
+    };
+    print_alike(alloc, t, &wanted)
+}
+
+fn data_sec_prints(alloc: Global, t: &DataSec) -> Result<bool, AllocError> {
+    let wanted = vectors::DataSec {
+        name_offset: t.name_offset(),
+        info: t.info(),
+        size: t.size(),
+        entries: t.entries().to_vec(alloc)?,
+    };
+    print_alike(alloc, t, &wanted)
+}
+
+/// Whether a record prints what it printed when its list was a vector.
+fn prints(alloc: Global, record: &BtfType) -> Result<bool, AllocError> {
+    match record {
+        BtfType::FuncProto(t) => proto_prints(alloc, t),
+        BtfType::Struct(t) => struct_prints(alloc, t),
+        BtfType::Union(t) => union_prints(alloc, t, None),
+        BtfType::Enum(t) => enum_prints(alloc, t),
+        BtfType::Enum64(t) => enum64_prints(alloc, t),
+        BtfType::DataSec(t) => data_sec_prints(alloc, t),
+        _ => Ok(false),
+    }
+}
+
+/// The kinds that have a list, and the number of words of an item.
+static LISTS: [(u32, usize); 6] = [(4, 3), (5, 3), (6, 2), (13, 2), (15, 3), (19, 3)];
+
+/// The record of a kind, with so many items at the front of these words.
+fn record_of(alloc: Global, kind: u32, vlen: u8, tail: &[u32]) -> Result<BtfType, Fail> {
+    let mut words = vec![in alloc; 1, kind << 24 | u32::from(vlen), 3]?;
+    words.extend_from_slice(tail)?;
+    let bytes = spelled(alloc, &words, Endianness::Little)?;
+    read(alloc, &bytes, Endianness::Little)
+}
+
+/// Whether the record of a kind with so many items prints as it should, whatever number of words follows it.
+fn record_prints(alloc: Global, kind: u32, vlen: u8, words: usize) -> Result<bool, Fail> {
+    let mut tail = vec![in alloc; 7; words]?;
+    let alone = record_of(alloc, kind, vlen, &tail)?;
+    tail.resize(words + 24, 9)?;
+    let followed = record_of(alloc, kind, vlen, &tail)?;
+    Ok(prints(alloc, &alone)? && prints(alloc, &followed)?)
+}
+
+#[test]
+fn records_with_few_and_many_items_print_as_with_vectors(rt: HostRuntime) -> Result<(), Fail> {
+    for (kind, width) in LISTS {
+        for vlen in 0..10u8 {
+            let words = width * usize::from(vlen);
+            assert!(rt;
+                record_prints(rt.alloc(), kind, vlen, words)?,
+                "{kind} {vlen}"
+            );
+        }
+    }
+    Ok(())
+}
+
+/// A UNION of two members that keeps a fallback.
+fn union_with_fallback(alloc: Global) -> Result<Union, AllocError> {
+    let members = vec![in alloc; member(7, 2, 0), member(9, 2, 0)]?;
+    Ok(Union::new(1, 8, members, Some(fallback(alloc)?)))
+}
+
+fn kept_fallback_prints(alloc: Global) -> Result<bool, AllocError> {
+    let union = union_with_fallback(alloc)?;
+    let kept = fallback(alloc)?;
+    union_prints(alloc, &union, Some(kept))
+}
+
+#[test]
+fn unions_with_a_fallback_print_as_with_a_vector(rt: HostRuntime) -> Result<(), Fail> {
+    assert!(rt; kept_fallback_prints(rt.alloc())?);
+    Ok(())
+}
