@@ -6,6 +6,7 @@ ghost use Rattle.btf_model.specs.Word.{Little, word, word_of, words_at};
 ghost use Rattle.btf_model.specs.Blob as blob;
 ghost use Rattle.btf_words.specs.Endianness.{order_of};
 
+use btf_items::push_array;
 use btf_plain::Endianness;
 use std::alloc::AllocError;
 
@@ -42,12 +43,9 @@ pub fn four_words(bytes: &[u8], endianness: Endianness) -> [u32; 4]
     [first, second, third, fourth]
 }
 
-/// Writes words at the end of bytes, the lowest byte first.
-pub fn push_little(out: &mut Vec<u8>, words: &[u32]) -> Result<(), AllocError>
+/// Writes words at the end of bytes, the lowest byte first, all at once.
+pub fn push_little<const N: usize>(out: &mut Vec<u8>, words: &[u32; N]) -> Result<(), AllocError>
     ensures { OnOk result (out.new.items ≡ out.old.items ++ flat_map (word Little) words.now) }
 {
-    for value in words {
-        out.extend_from_slice(&value.to_le_bytes())?;
-    }
-    Ok(())
+    push_array(out, Endianness::Little, words)
 }

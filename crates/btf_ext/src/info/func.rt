@@ -12,6 +12,9 @@ use crate::words::{push_little, split_word};
 use btf_plain::{BtfError, Endianness};
 use std::alloc::{AllocError, Global};
 
+/// The number of bytes that a function record is written in.
+const FUNC_LEN: usize = 8;
+
 /// Where a function begins, and its type (the kernel's documentation, ".BTF.ext section", `struct bpf_func_info`).
 #[derive(Copy, Clone, Debug)]
 #[allow(non_camel_case_types)]
@@ -74,7 +77,8 @@ impl FuncSecInfo {
         ensures { IsOrNoMemory (λ v. v.items) result
             (Ok (little_bytes (map func_words self.now.func_info.items))) }
     {
-        let mut out = Vec::new(*self.func_info.allocator());
+        let len = self.func_info.len().saturating_mul(FUNC_LEN);
+        let mut out = Vec::with_capacity(*self.func_info.allocator(), len)?;
         for record in &self.func_info {
             push_little(&mut out, &[record.insn_off, record.type_id])?;
         }

@@ -12,6 +12,9 @@ use crate::words::{four_words, push_little};
 use btf_plain::{BtfError, Endianness};
 use std::alloc::{AllocError, Global};
 
+/// The number of bytes that a line record is written in.
+const LINE_LEN: usize = 16;
+
 /// The line of source that an instruction comes from (the kernel's documentation, ".BTF.ext section",
 /// `struct bpf_line_info`).
 #[derive(Copy, Clone, Debug)]
@@ -80,7 +83,8 @@ impl LineSecInfo {
         ensures { IsOrNoMemory (λ v. v.items) result
             (Ok (little_bytes (map line_words self.now.line_info.items))) }
     {
-        let mut out = Vec::new(*self.line_info.allocator());
+        let len = self.line_info.len().saturating_mul(LINE_LEN);
+        let mut out = Vec::with_capacity(*self.line_info.allocator(), len)?;
         for record in &self.line_info {
             let words = [
                 record.insn_off,

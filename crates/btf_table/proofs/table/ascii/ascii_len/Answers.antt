@@ -1,0 +1,16 @@
+use Rattle.std.proofs.Common.{◌+◌, ◌≤◌, length, arith}
+use Rattle.btf_table.proofs.Ascii.{ascii_on, ascii_ends}
+use Rattle.btf_table.proofs.table.ascii.ascii_len.Goals as goal
+
+pub returns-then-zero-lt-LANES : goal.returns-then-zero-lt-LANES
+returns-then-zero-lt-LANES c =
+    let room : c.loop-at.at + 16 ≤ length c.args.bytes.now = omega (arith, c.loop-at-test.true, c.loop-at.invariant.within) in
+    ascii_ends c.args.bytes.now c.loop-at.at c.runs_at-zero.result.0 c.runs_at-zero.result.1 room c.runs_at-zero.ensures.zero c.runs_at-zero.ensures.other c.loop-at.invariant.ascii c.if-other-zero.false c.if-zero-lt-LANES.true
+
+pub loop-at-preserved : goal.loop-at-preserved
+loop-at-preserved c =
+    let room : c.loop-at.at + 16 ≤ length c.args.bytes.now = omega (arith, c.loop-at-test.true, c.loop-at.invariant.within) in
+    record {
+      within = room;
+      ascii = ascii_on c.args.bytes.now c.loop-at.at c.runs_at-zero.result.0 c.runs_at-zero.result.1 room c.runs_at-zero.ensures.zero c.runs_at-zero.ensures.other c.loop-at.invariant.ascii (c.loop-at.at + 16) (omega (arith, c.if-zero-lt-LANES.false)) (omega (arith, c.if-zero-lt-LANES.false, c.if-other-zero.false));
+    }

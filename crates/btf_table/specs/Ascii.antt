@@ -1,0 +1,17 @@
+-- Texts of ASCII alone.
+use Rattle.std.specs.Prelude.{◌≡◌, ◌≢◌, ℕ, ◌<◌, ◌==◌, if◌then◌else◌, List, length, take, get_or}
+use Rattle.std.specs.Int.{w64, trailing_zeros}
+
+-- The text at the front of the bytes ends here, with a zero byte, and is of ASCII alone.
+pub record IsAsciiEnd (bytes : List ℕ) (end : ℕ) : Type 0 where
+  pub within : end < length bytes
+  pub stops : get_or bytes end 0 ≡ 0
+  pub ascii : (k : ℕ) → k < end → (get_or bytes k 0 ≢ 0) × (get_or bytes k 0 < 128)
+
+-- The text at the front of the bytes is this, and is of ASCII alone.
+abbrev pub IsAsciiText : List ℕ → List ℕ → Type 0
+IsAsciiText bytes text = (end : ℕ) × IsAsciiEnd bytes end × (text ≡ take end bytes)
+
+-- The place of the lowest bit that is set, or the number of bits where none is.
+abbrev pub lowest_bit : ℕ → ℕ → ℕ
+lowest_bit mask bits = if mask == 0 then bits else trailing_zeros w64 mask
