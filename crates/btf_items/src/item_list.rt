@@ -11,8 +11,7 @@ use crate::blank::Blank;
 use crate::list::{Item, clone_items, read_items};
 use btf_words::{BtfError, Endianness};
 use std::alloc::{AllocError, Global};
-use std::array;
-use std::fmt;
+use std::{array, fmt};
 
 /// The length in bytes of an item of three words, which no item passes.
 const LONGEST_ITEM: usize = 12;

@@ -24,9 +24,9 @@ module _ (bytes : List ℕ) (at zero other : ℕ) (room : at + 16 ≤ length byt
       elim (cases_lt k at) [
         | inl early ↦ before k early
         | inr late ↦ (
-            eqb-false (get_or bytes k 0) 0 (run_in_chunk_fails is_zero bytes at 16 zero 0 room zeros k late (omega arith)),
-            leb-false 128 (get_or bytes k 0) (run_in_chunk_fails (leb 128) bytes at 16 other 0 room others k late (omega arith)),
-          )
+          eqb-false (get_or bytes k 0) 0 (run_in_chunk_fails is_zero bytes at 16 zero 0 room zeros k late (omega arith)),
+          leb-false 128 (get_or bytes k 0) (run_in_chunk_fails (leb 128) bytes at 16 other 0 room others k late (omega arith)),
+        )
       ]
 
   -- a zero byte before anything that is not ASCII ends the text
@@ -47,5 +47,5 @@ pub ascii_text_at : (strings : List ℕ) (offset : ℕ) (rest text : List ℕ) �
 ascii_text_at strings offset rest text is h =
     let end = h.0 in
     let found : bytes_at strings offset ≡ Some (take end rest) =
-        bytes_are strings offset rest end is h.1.within (λ k lt. ne_eqb (get_or rest k 0) 0 (h.1.ascii k lt).0) (ap is_zero h.1.stops) in
+    bytes_are strings offset rest end is h.1.within (λ k lt. ne_eqb (get_or rest k 0) 0 (h.1.ascii k lt).0) (ap is_zero h.1.stops) in
     ap (λ (bytes : List ℕ). Ok bytes) (h.2 ∙ sym (lossy_chars-utf8 (take end rest) (end_is_utf8 rest end h.1))) ∙ ap (text_of offset) (sym found)

@@ -19,5 +19,6 @@ pub mod KnownKinds
 pub mod Sections
 pub mod Tables
 pub mod Names
+pub mod Ascii
 pub mod Readable
 pub mod Walks

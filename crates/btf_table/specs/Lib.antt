@@ -2,6 +2,7 @@ pub mod Changes
 pub mod Denied
 pub mod Adding
 pub mod Params
+pub mod Ascii
 pub mod Readable
 pub mod PassStep
 pub mod SectionStep

@@ -1,5 +1,6 @@
 //! A table of types and strings.
 
+mod ascii;
 mod changes;
 mod header;
 mod limits;

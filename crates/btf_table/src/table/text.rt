@@ -12,6 +12,7 @@ ghost use Rattle.btf_records.specs.BtfType.{record_of};
 ghost use Rattle.btf_table.specs.BtfStr.{text_bytes, IsNamed};
 ghost use Rattle.btf_table.specs.Readable.{IsReadableEnd, IsComparable, HasNameAt};
 
+use crate::table::ascii::ascii_text;
 use bstr::ByteSlice;
 use btf_plain::{BtfError, BtfKind};
 use btf_records::BtfType;
@@ -51,10 +52,24 @@ fn bytes_at(strings: &[u8], offset: u32) -> Option<&[u8]>
     Some(&rest[..end])
 }
 
-/// The text at an offset, or `InvalidStringOffset` of it where no zero byte stands at it or after it.
+/// The text at an offset, or `InvalidStringOffset` of it where no zero byte stands at it or after it. Most are of ASCII
+/// alone.
 pub fn text_at(alloc: Global, strings: &[u8], offset: u32) -> Result<BtfStr<'_>, BtfError>
     ensures text { IsOrNoMemory text_bytes result (model.text_at strings.now offset) }
     // Memory is taken only for bytes that are not UTF-8.
+    ensures no_memory { IfSome (model.bytes_at strings.now offset) IsUtf8
+        → Meets text_bytes result (λ answer. answer ≡ model.text_at strings.now offset) }
+{
+    match ascii_text(strings_from(strings, offset)) {
+        Some(text) => Ok(BtfStr::Borrowed(text)),
+        None => any_text_at(alloc, strings, offset),
+    }
+}
+
+/// The same, of bytes that may be any.
+#[inline(never)]
+fn any_text_at(alloc: Global, strings: &[u8], offset: u32) -> Result<BtfStr<'_>, BtfError>
+    ensures text { IsOrNoMemory text_bytes result (model.text_at strings.now offset) }
     ensures no_memory { IfSome (model.bytes_at strings.now offset) IsUtf8
         → Meets text_bytes result (λ answer. answer ≡ model.text_at strings.now offset) }
 {

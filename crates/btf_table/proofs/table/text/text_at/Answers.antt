@@ -1,7 +1,8 @@
-use Rattle.std.proofs.Common.{refl, ap}
-use Rattle.btf_model.specs.Text.{text_of}
-use Rattle.btf_model.specs.Refusal.{InvalidStringOffset}
+use Rattle.btf_table.proofs.Ascii.{ascii_text_at}
 use Rattle.btf_table.proofs.table.text.text_at.Goals as goal
 
-pub returns-in_default-clause-no_memory : goal.returns-in_default-clause-no_memory
-returns-in_default-clause-no_memory c = λ _. (InvalidStringOffset c.args.offset, refl, ap (text_of c.args.offset) c.in_default.ensures)
+pub returns-in-Some-clause-text : goal.returns-in-Some-clause-text
+returns-in-Some-clause-text c = ascii_text_at c.args.strings.now c.args.offset c.strings_from.result.now c.in-Some.text.now c.strings_from.ensures c.in-Some.ensures
+
+pub returns-in-Some-clause-no_memory : goal.returns-in-Some-clause-no_memory
+returns-in-Some-clause-no_memory c = λ _. returns-in-Some-clause-text c
