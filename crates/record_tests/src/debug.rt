@@ -4,7 +4,7 @@
 use crate::built_records::{fallback, member};
 use btf_plain::Endianness;
 use btf_records::{BtfType, DataSec, Enum, Enum64, Enum64Fallback, FuncProto, Struct, Union};
-use btf_samples::spelled::{read, spelled};
+use btf_samples::spelled::{push_words, read, spelled};
 use std::alloc::{AllocError, Global};
 use std::fmt::Debug;
 use std::test::Fail;
@@ -152,33 +152,41 @@ fn prints(alloc: Global, record: &BtfType) -> Result<bool, AllocError> {
 /// The kinds that have a list, and the number of words of an item.
 static LISTS: [(u32, usize); 6] = [(4, 3), (5, 3), (6, 2), (13, 2), (15, 3), (19, 3)];
 
+/// Words of items, and of what follows them.
+static WORDS: [u32; 60] = [7; 60];
+
 /// The record of a kind, with so many items at the front of these words.
 fn record_of(alloc: Global, kind: u32, vlen: u8, tail: &[u32]) -> Result<BtfType, Fail> {
-    let mut words = vec![in alloc; 1, kind << 24 | u32::from(vlen), 3]?;
-    words.extend_from_slice(tail)?;
-    let bytes = spelled(alloc, &words, Endianness::Little)?;
+    let mut bytes = spelled(
+        alloc,
+        &[1, kind << 24 | u32::from(vlen), 3],
+        Endianness::Little,
+    )?;
+    push_words(&mut bytes, tail, Endianness::Little)?;
     read(alloc, &bytes, Endianness::Little)
 }
 
-/// Whether the record of a kind with so many items prints as it should, whatever number of words follows it.
-fn record_prints(alloc: Global, kind: u32, vlen: u8, words: usize) -> Result<bool, Fail> {
-    let mut tail = vec![in alloc; 7; words]?;
-    let alone = record_of(alloc, kind, vlen, &tail)?;
-    tail.resize(words + 24, 9)?;
-    let followed = record_of(alloc, kind, vlen, &tail)?;
-    Ok(prints(alloc, &alone)? && prints(alloc, &followed)?)
+/// Whether that record prints as it should.
+fn record_prints(alloc: Global, kind: u32, vlen: u8, tail: &[u32]) -> Result<bool, Fail> {
+    let record = record_of(alloc, kind, vlen, tail)?;
+    Ok(prints(alloc, &record)?)
+}
+
+/// Whether the records of a kind print as they should, with 0 to 9 items of so many words, and whatever follows them.
+fn kind_prints(alloc: Global, kind: u32, width: usize) -> Result<bool, Fail> {
+    for vlen in 0..10u8 {
+        let items = WORDS.get(..width * usize::from(vlen)).unwrap_or(&[]);
+        if !record_prints(alloc, kind, vlen, items)? || !record_prints(alloc, kind, vlen, &WORDS)? {
+            return Ok(false);
+        }
+    }
+    Ok(true)
 }
 
 #[test]
 fn records_with_few_and_many_items_print_as_with_vectors(rt: HostRuntime) -> Result<(), Fail> {
-    for (kind, width) in LISTS {
-        for vlen in 0..10u8 {
-            let words = width * usize::from(vlen);
-            assert!(rt;
-                record_prints(rt.alloc(), kind, vlen, words)?,
-                "{kind} {vlen}"
-            );
-        }
+    for row in &LISTS {
+        assert!(rt; kind_prints(rt.alloc(), row.0, row.1)?, "{}", row.0);
     }
     Ok(())
 }
