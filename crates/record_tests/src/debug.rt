@@ -1,9 +1,10 @@
 //! What records with a list print: the text that they printed when each list was a vector. A few items lie in their
-//! record now, and more have a vector, so the numbers of items here are on both sides of where that changes.
+//! record now, and more have a vector, so the numbers of items here are on both sides of where that changes. One kind
+//! stands for the five whose list is one of items alone, and a UNION may keep an ENUM64 beside its own.
 
 use crate::built_records::{fallback, member};
 use btf_plain::Endianness;
-use btf_records::{BtfType, DataSec, Enum, Enum64, Enum64Fallback, FuncProto, Struct, Union};
+use btf_records::{BtfType, Enum64Fallback, FuncProto, Union};
 use btf_samples::spelled::{push_words, read, spelled};
 use std::alloc::{AllocError, Global};
 use std::fmt::Debug;
@@ -11,7 +12,7 @@ use std::test::Fail;
 
 /// The records with each list in a vector.
 mod vectors {
-    use btf_records::{BtfEnum, BtfEnum64, BtfMember, BtfParam, DataSecEntry, Enum64Fallback};
+    use btf_records::{BtfMember, BtfParam, Enum64Fallback};
 
     #[derive(Debug, Drop)]
     pub struct FuncProto {
@@ -22,44 +23,12 @@ mod vectors {
     }
 
     #[derive(Debug, Drop)]
-    pub struct Struct {
-        pub name_offset: u32,
-        pub info: u32,
-        pub size: u32,
-        pub members: Vec<BtfMember>,
-    }
-
-    #[derive(Debug, Drop)]
     pub struct Union {
         pub name_offset: u32,
         pub info: u32,
         pub size: u32,
         pub members: Vec<BtfMember>,
         pub fallback: Option<Enum64Fallback>,
-    }
-
-    #[derive(Debug, Drop)]
-    pub struct Enum {
-        pub name_offset: u32,
-        pub info: u32,
-        pub size: u32,
-        pub variants: Vec<BtfEnum>,
-    }
-
-    #[derive(Debug, Drop)]
-    pub struct Enum64 {
-        pub name_offset: u32,
-        pub info: u32,
-        pub size: u32,
-        pub variants: Vec<BtfEnum64>,
-    }
-
-    #[derive(Debug, Drop)]
-    pub struct DataSec {
-        pub name_offset: u32,
-        pub info: u32,
-        pub size: u32,
-        pub entries: Vec<DataSecEntry>,
     }
 }
 
@@ -80,16 +49,6 @@ fn proto_prints(alloc: Global, t: &FuncProto) -> Result<bool, AllocError> {
     print_alike(alloc, t, &wanted)
 }
 
-fn struct_prints(alloc: Global, t: &Struct) -> Result<bool, AllocError> {
-    let wanted = vectors::Struct {
-        name_offset: t.name_offset(),
-        info: t.info(),
-        size: t.size(),
-        members: t.members().to_vec(alloc)?,
-    };
-    print_alike(alloc, t, &wanted)
-}
-
 /// The same for a union, which keeps this fallback.
 fn union_prints(
     alloc: Global,
@@ -106,54 +65,22 @@ fn union_prints(
     print_alike(alloc, t, &wanted)
 }
 
-fn enum_prints(alloc: Global, t: &Enum) -> Result<bool, AllocError> {
-    let wanted = vectors::Enum {
-        name_offset: t.name_offset(),
-        info: t.info(),
-        size: t.size(),
-        variants: t.variants().to_vec(alloc)?,
-    };
-    print_alike(alloc, t, &wanted)
-}
-
-fn enum64_prints(alloc: Global, t: &Enum64) -> Result<bool, AllocError> {
-    let wanted = vectors::Enum64 {
-        name_offset: t.name_offset(),
-        info: t.info(),
-        size: t.size(),
-        variants: t.variants().to_vec(alloc)?,
-    };
-    print_alike(alloc, t, &wanted)
-}
-
-fn data_sec_prints(alloc: Global, t: &DataSec) -> Result<bool, AllocError> {
-    let wanted = vectors::DataSec {
-        name_offset: t.name_offset(),
-        info: t.info(),
-        size: t.size(),
-        entries: t.entries().to_vec(alloc)?,
-    };
-    print_alike(alloc, t, &wanted)
-}
-
 /// Whether a record prints what it printed when its list was a vector.
 fn prints(alloc: Global, record: &BtfType) -> Result<bool, AllocError> {
     match record {
         BtfType::FuncProto(t) => proto_prints(alloc, t),
-        BtfType::Struct(t) => struct_prints(alloc, t),
         BtfType::Union(t) => union_prints(alloc, t, None),
-        BtfType::Enum(t) => enum_prints(alloc, t),
-        BtfType::Enum64(t) => enum64_prints(alloc, t),
-        BtfType::DataSec(t) => data_sec_prints(alloc, t),
         _ => Ok(false),
     }
 }
 
-/// The kinds that have a list, and the number of words of an item.
-static LISTS: [(u32, usize); 6] = [(4, 3), (5, 3), (6, 2), (13, 2), (15, 3), (19, 3)];
-
 /// Words of items, and of what follows them.
-static WORDS: [u32; 60] = [7; 60];
+static WORDS: [u32; 60] = [
+    100, 101, 102, 103, 104, 105, 106, 107, 108, 109, 110, 111, 112, 113, 114, 115, 116, 117, 118,
+    119, 120, 121, 122, 123, 124, 125, 126, 127, 128, 129, 130, 131, 132, 133, 134, 135, 136, 137,
+    138, 139, 140, 141, 142, 143, 144, 145, 146, 147, 148, 149, 150, 151, 152, 153, 154, 155, 156,
+    157, 158, 159,
+];
 
 /// The record of a kind, with so many items at the front of these words.
 fn record_of(alloc: Global, kind: u32, vlen: u8, tail: &[u32]) -> Result<BtfType, Fail> {
@@ -175,7 +102,9 @@ fn record_prints(alloc: Global, kind: u32, vlen: u8, tail: &[u32]) -> Result<boo
 /// Whether the records of a kind print as they should, with 0 to 9 items of so many words, and whatever follows them.
 fn kind_prints(alloc: Global, kind: u32, width: usize) -> Result<bool, Fail> {
     for vlen in 0..10u8 {
-        let items = WORDS.get(..width * usize::from(vlen)).unwrap_or(&[]);
+        let items = WORDS
+            .get(..width.saturating_mul(usize::from(vlen)))
+            .unwrap_or(&[]);
         if !record_prints(alloc, kind, vlen, items)? || !record_prints(alloc, kind, vlen, &WORDS)? {
             return Ok(false);
         }
@@ -185,9 +114,8 @@ fn kind_prints(alloc: Global, kind: u32, width: usize) -> Result<bool, Fail> {
 
 #[test]
 fn records_with_few_and_many_items_print_as_with_vectors(rt: HostRuntime) -> Result<(), Fail> {
-    for row in &LISTS {
-        assert!(rt; kind_prints(rt.alloc(), row.0, row.1)?, "{}", row.0);
-    }
+    assert!(rt; kind_prints(rt.alloc(), 13, 2)?);
+    assert!(rt; kind_prints(rt.alloc(), 5, 3)?);
     Ok(())
 }
 
