@@ -1,9 +1,9 @@
 -- Texts of ASCII alone, found 16 bytes at a time.
-use Rattle.std.proofs.Common.{◌≡◌, ◌≢◌, ℕ, ◌+◌, ◌<◌, ◌≤◌, leb, not, List, length, take, drop, get_or, Some, Ok, inl, inr, sym, ap, subst, ◌∙◌, arith}
+use Rattle.std.proofs.Common.{◌≡◌, ◌≢◌, ℕ, suc, ◌+◌, ◌-◌, ◌<◌, ◌≤◌, leb, not, List, length, take, drop, get_or, Some, Ok, inl, inr, sym, ap, subst, ◌∙◌, arith}
 use Rattle.std.specs.Str.{IsUtf8}
 use Rattle.std.specs.List.{prefix_len}
-use Rattle.std.proofs.lemmas.Bool.{eqb-false, eqb-true, ne_eqb, leb-false, cases_lt}
-use Rattle.std.proofs.lemmas.Simd.{run_in_chunk_fails, run_in_chunk_stops}
+use Rattle.std.proofs.lemmas.Bool.{eqb-false, eqb-true, ne_eqb, leb-false, leb-true, cases_lt}
+use Rattle.std.proofs.lemmas.Simd.{run_in_chunk_fails, run_in_chunk_le, run_in_chunk_stops}
 use Rattle.std.proofs.lemmas.List.{get_or-take, length-take-le}
 use Rattle.std.proofs.lemmas.Str.{IsUtf8-from_ascii}
 use Rattle.std.proofs.lemmas.Str.Ascii.{IsAscii-from_reads}
@@ -36,6 +36,26 @@ module _ (bytes : List ℕ) (at zero other : ℕ) (room : at + 16 ≤ length byt
     stops = eqb-true (get_or bytes (at + zero) 0) 0 (run_in_chunk_stops is_zero bytes at 16 zero 0 room zeros lt);
     ascii = ascii_on (at + zero) (omega arith) (omega arith);
   }
+
+  -- what is not ASCII, before any zero byte, leaves no end
+  pub none_ends : other < zero → (end : ℕ) → ¬ (IsAsciiEnd bytes end)
+  none_ends lt end h =
+      let few : other < 16 = omega (arith, lt, run_in_chunk_le is_zero bytes at 16 zero 0 room zeros) in
+      let high : 128 ≤ get_or bytes (at + other) 0 = leb-true 128 _ (run_in_chunk_stops (leb 128) bytes at 16 other 0 room others few) in
+      elim (cases_lt (at + other) end) [
+        | inl after ↦ omega (arith, high, (h.ascii (at + other) after).1)
+        | inr early ↦
+            elim (cases_lt end (at + other)) [
+              | inl first ↦ (ascii_on (suc end) (omega (arith, lt, first)) (omega (arith, first)) end (omega arith)).0 h.stops
+              | inr late ↦
+                  let here : end ≡ at + other = omega (arith, early, late) in
+                  omega (arith, high, subst (λ k. get_or bytes k 0 ≡ 0) here h.stops)
+            ]
+      ]
+
+-- where fewer than 16 bytes are left, and no text has ended, none ends with as many after it
+pub none_is_left : (bytes : List ℕ) (at : ℕ) → AreAscii bytes at → length bytes - at < 16 → (end : ℕ) → end + 16 ≤ length bytes → ¬ (IsAsciiEnd bytes end)
+none_is_left bytes at before few end room h = (before end (omega (arith, few, room))).0 h.stops
 
 -- such a text is UTF-8
 pub end_is_utf8 : (bytes : List ℕ) (end : ℕ) → IsAsciiEnd bytes end → IsUtf8 (take end bytes)

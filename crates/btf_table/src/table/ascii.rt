@@ -1,6 +1,6 @@
 //! Texts of ASCII alone, which most names are: their end is found 16 bytes at a time.
 
-ghost use Rattle.std.specs.Prelude.{◌≡◌, ℕ, ◌+◌, ◌≤◌, not, leb, length, take, drop, IfSome};
+ghost use Rattle.std.specs.Prelude.{◌≡◌, ℕ, ◌+◌, ◌≤◌, not, leb, length, take, drop, IfSome, IfNone};
 ghost use Rattle.std.specs.List.{prefix_len};
 ghost use Rattle.btf_model.specs.Text.{is_zero};
 ghost use Rattle.btf_table.specs.Ascii.{lowest_bit, IsAsciiEnd, IsAsciiText};
@@ -35,10 +35,12 @@ fn runs_at(bytes: &[u8], at: usize) -> (usize, usize)
     (lowest_bit(zeros), lowest_bit(others))
 }
 
-/// The length of the text at the front of bytes, up to the first zero byte, where it is of ASCII alone. None says
-/// nothing: the text is another, or fewer than 16 bytes are left to look at.
+/// The length of the text at the front of bytes, up to the first zero byte, where it is of ASCII alone. None where it is
+/// not, or where it may end so near to the end of the bytes that fewer than 16 are left from there on.
 pub fn ascii_len(bytes: &[u8]) -> Option<usize>
-    ensures { IfSome result (IsAsciiEnd bytes.now) }
+    ensures found { IfSome result (IsAsciiEnd bytes.now) }
+    ensures none { IfNone result ((end : ℕ) → end + LANES ≤ length bytes.now
+        → ¬ IsAsciiEnd bytes.now end) }
 {
     let mut at = 0;
     while bytes.len() - at >= LANES {
