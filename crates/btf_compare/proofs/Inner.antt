@@ -12,7 +12,6 @@ use Rattle.btf_model.proofs.RunLengths.{widest, left_to_do, less_settled}
 use Rattle.btf_words.specs.declared.error.BtfError.{BtfError}
 use Rattle.btf_words.specs.declared.error.BtfError.TheVariants as errors
 use Rattle.btf_compare.specs.declared.frame.Frame.{Frame}
-use Rattle.btf_compare.specs.declared.progress.Progress.{Progress}
 use Rattle.btf_compare.specs.declared.progress.Progress.TheVariants.{Open, Compatible}
 use Rattle.btf_compare.specs.declared.pair_map.PairMap.{PairMap}
 use Rattle.btf_compare.specs.PairMap.{known, count, Learns}
@@ -29,7 +28,7 @@ cond_again false x = refl
 
 -- A pair that has to be compatible before the open pair top goes on, which is g then: it was started, and its walk went
 -- from f to h.
-pub record Above (local target : Table) (root : Pair) (seen : PairMap Progress) (passed : BTreeSet (ℕ × ℕ)) (below : List Frame) (top : Frame) (IsTold IsToldNow : List (ℕ × ℕ) → Type 0) (ids : ℕ × ℕ) (g f h : Frame) : Type 0 where
+pub record Above (local target : Table) (root : Pair) (seen : PairMap) (passed : BTreeSet (ℕ × ℕ)) (below : List Frame) (top : Frame) (IsTold IsToldNow : List (ℕ × ℕ) → Type 0) (ids : ℕ × ℕ) (g f h : Frame) : Type 0 where
   pub state : Running local target root seen below top IsTold
   pub are : PassedIn local target seen passed
   pub next : IsNext local target (frame_of top) (runs.Waits (pair_of ids) (frame_of g))
@@ -39,7 +38,7 @@ pub record Above (local target : Table) (root : Pair) (seen : PairMap Progress) 
   pub new : frame_of f ≡ new_frame (pair_of ids)
   pub goes : WalksTo local target (passed_in passed) (frame_of f) (frame_of h)
 
-module _ {local target : Table} {root : Pair} {seen : PairMap Progress} {passed : BTreeSet (ℕ × ℕ)} {below : List Frame} {top : Frame} {IsTold IsToldNow : List (ℕ × ℕ) → Type 0} {ids : ℕ × ℕ} {g f h : Frame} (w : Above local target root seen passed below top IsTold IsToldNow ids g f h) where
+module _ {local target : Table} {root : Pair} {seen : PairMap} {passed : BTreeSet (ℕ × ℕ)} {below : List Frame} {top : Frame} {IsTold IsToldNow : List (ℕ × ℕ) → Type 0} {ids : ℕ × ℕ} {g f h : Frame} (w : Above local target root seen passed below top IsTold IsToldNow ids g f h) where
   -- it is open too
   abbrev opened : PairSet
   opened q = cond (pair_eq (pair_of ids) q) true (opened_in seen q)
@@ -68,7 +67,7 @@ module _ {local target : Table} {root : Pair} {seen : PairMap Progress} {passed 
 
   -- ---- it came out true
 
-  module _ (same : h.pair ≡ ids) (more : PairMap Progress) (learns : Learns seen more ids Compatible) where
+  module _ (same : h.pair ≡ ids) (more : PairMap) (learns : Learns seen more ids Compatible) where
     changes : Changes (settled_in seen) (settled_in more) (pair_of ids) true
     changes = learned seen more ids Compatible learns tells_settled
 
@@ -88,7 +87,7 @@ module _ {local target : Table} {root : Pair} {seen : PairMap Progress} {passed 
 
   -- ---- it has come to prototypes
 
-  module _ (more : PairMap Progress) (learns : Learns seen more ids Open) where
+  module _ (more : PairMap) (learns : Learns seen more ids Open) where
     nothing : ◌≡◌ {A = Pair → Bool} (settled_in more) (settled_in seen)
     nothing = learned_nothing seen more ids Open learns tells_settled (ap tells_settled w.unknown)
 

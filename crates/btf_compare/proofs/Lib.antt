@@ -5,7 +5,10 @@ pub mod Steps
 pub mod Walking
 pub mod Roots
 pub mod Inner
-pub mod PairMaps
+pub mod EntryLists
+pub mod Buckets
+pub mod PairTables
+pub mod Splits
 pub mod Comparing
 pub mod Progresses
 pub mod Starts

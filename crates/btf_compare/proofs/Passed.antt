@@ -16,7 +16,7 @@ use Rattle.btf_model.specs.Run.{IsNext}
 use Rattle.btf_model.proofs.Comparisons.{one_position, found_alike}
 use Rattle.btf_model.proofs.RunLengths.{owed_at, left_to_do, less_passed}
 use Rattle.btf_model.proofs.RunStates.{AllBefore, run_passes}
-use Rattle.btf_compare.specs.PairMap.{ids_cmp}
+use Rattle.btf_compare.specs.Entries.{ids_cmp}
 use Rattle.btf_compare.specs.Compared.{GoesPast, passed_in}
 use Rattle.btf_compare.specs.Pairs.{ids_of}
 use Rattle.btf_compare.proofs.Comparing.{PairSet, IsIn, Changes, IsRunning}

@@ -11,10 +11,11 @@ use Rattle.btf_compare.specs.declared.progress.Progress.TheVariants as progresse
 use Rattle.btf_words.specs.declared.error.BtfError.{BtfError}
 use Rattle.btf_words.specs.declared.error.BtfError.TheVariants as errors
 use Rattle.std.proofs.lemmas.Bool.{false≢true}
-use Rattle.btf_compare.specs.PairMap.{known, is_ids, Learns}
+use Rattle.btf_compare.specs.Entries.{is_ids}
+use Rattle.btf_compare.specs.PairMap.{known, Learns}
 use Rattle.btf_compare.specs.Compared.{tells_open, tells_settled, settled_by}
 use Rattle.btf_compare.specs.Pairs.{pair_of, ids_of}
-use Rattle.btf_compare.proofs.PairMaps.{ids_eq, is_same}
+use Rattle.btf_compare.proofs.EntryLists.{ids_eq, is_same}
 use Rattle.btf_compare.proofs.Comparing.{Changes}
 
 -- what is said of a value that a condition picks
@@ -26,7 +27,7 @@ cond_same : (c b : Bool) (x : Bool) → (c ≡ true → x ≡ b) → cond c b x 
 cond_same true b x is = sym (is refl)
 cond_same false b x is = refl
 
-module _ (old new : PairMap Progress) (ids : ℕ × ℕ) (v : Progress) (learns : Learns old new ids v) where
+module _ (old new : PairMap) (ids : ℕ × ℕ) (v : Progress) (learns : Learns old new ids v) where
   -- what f tells of each pair
   pub learned : (f : Option Progress → Bool) → Changes (λ q. f (known old (ids_of q))) (λ q. f (known new (ids_of q))) (pair_of ids) (f (Some v))
   learned f q =

@@ -12,7 +12,6 @@ use Rattle.btf_compare.specs.declared.frame.Frame.{Frame}
 use Rattle.btf_compare.specs.declared.frame.Place.{Place}
 use Rattle.btf_compare.specs.declared.frame.Place.TheVariants as places
 use Rattle.btf_compare.specs.declared.position.ProtoPair.{ProtoPair}
-use Rattle.btf_compare.specs.declared.progress.Progress.{Progress}
 use Rattle.btf_compare.specs.declared.progress.Progress.TheVariants.{Open, Compatible}
 use Rattle.btf_compare.specs.declared.pair_map.PairMap.{PairMap}
 use Rattle.btf_compare.specs.PairMap.{known, count, Learns}
@@ -54,15 +53,15 @@ still_owes local target g place found is here = subst (λ (p : Place). ComesTo l
 -- ---- the run
 
 -- It is a run, in which this pair is open above the others.
-abbrev pub Running : Table → Table → Pair → PairMap Progress → List Frame → Frame → (List (ℕ × ℕ) → Type 0) → Type 0
+abbrev pub Running : Table → Table → Pair → PairMap → List Frame → Frame → (List (ℕ × ℕ) → Type 0) → Type 0
 Running local target root seen below top IsTold = IsRunning local target root (opened_in seen) (settled_in seen) (frame_of top) (stack_of below) (count seen) IsTold
 
 -- the passed prototypes
-abbrev pub PassedIn : Table → Table → PairMap Progress → BTreeSet (ℕ × ℕ) → Type 0
+abbrev pub PassedIn : Table → Table → PairMap → BTreeSet (ℕ × ℕ) → Type 0
 PassedIn local target seen passed = ArePassed local target (settled_in seen) (passed_in passed)
 
 -- what is left to do
-abbrev pub left : Table → Table → PairMap Progress → List Frame → Frame → ℕ
+abbrev pub left : Table → Table → PairMap → List Frame → Frame → ℕ
 left local target seen below top = left_to_do (length (known_pairs local target)) (count seen) (widest local.records) (frame_of top) (stack_of below)
 
 pub shorter : (a b c : ℕ) → a ≤ b → b < c → a < c
@@ -73,7 +72,7 @@ lower a b c lt more = omega (arith, lt, more)
 
 -- ---- its beginning
 
-module _ (local target : Table) (ids : ℕ × ℕ) (empty seen : PairMap Progress) (is_empty : (q : ℕ × ℕ) → known empty q ≡ None) (learns : Learns empty seen ids Open) where
+module _ (local target : Table) (ids : ℕ × ℕ) (empty seen : PairMap) (is_empty : (q : ℕ × ℕ) → known empty q ≡ None) (learns : Learns empty seen ids Open) where
   none_settled : (q : Pair) → settled_in seen q ≡ false
   none_settled q = ap (λ (f : Pair → Bool). f q) (learned_nothing empty seen ids Open learns tells_settled (ap tells_settled (is_empty ids))) ∙ ap tells_settled (is_empty (ids_of q))
 
@@ -85,7 +84,7 @@ module _ (local target : Table) (ids : ℕ × ℕ) (empty seen : PairMap Progres
   pub begun_passed : (old passed : BTreeSet (ℕ × ℕ)) → IsEmpty old → passed ≡ old → PassedIn local target seen passed
   begun_passed old passed none same = none_passed local target (settled_in seen) (passed_in passed) (λ p. ap (λ (set : BTreeSet (ℕ × ℕ)). passed_in set p) same ∙ nothing_in old none p)
 
-module _ (local target : Table) (root : Pair) (seen : PairMap Progress) (passed : BTreeSet (ℕ × ℕ)) (below : List Frame) (top : Frame) (IsTold : List (ℕ × ℕ) → Type 0) (state : Running local target root seen below top IsTold) (are : PassedIn local target seen passed) where
+module _ (local target : Table) (root : Pair) (seen : PairMap) (passed : BTreeSet (ℕ × ℕ)) (below : List Frame) (top : Frame) (IsTold : List (ℕ × ℕ) → Type 0) (state : Running local target root seen below top IsTold) (are : PassedIn local target seen passed) where
   -- ---- its walk
 
   module _ (g : Frame) (goes : WalksTo local target (passed_in passed) (frame_of top) (frame_of g)) where
@@ -100,7 +99,7 @@ module _ (local target : Table) (root : Pair) (seen : PairMap Progress) (passed 
 
   -- ---- it came out true
 
-  module _ (more : PairMap Progress) (learns : Learns seen more top.pair Compatible) where
+  module _ (more : PairMap) (learns : Learns seen more top.pair Compatible) where
     pub settled_passed : (now : BTreeSet (ℕ × ℕ)) → now ≡ passed → PassedIn local target more now
     settled_passed now same =
         rw same (still_passed local target (settled_in seen) (settled_in more) (passed_in passed)

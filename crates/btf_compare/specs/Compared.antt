@@ -21,7 +21,8 @@ use Rattle.btf_items.specs.declared.items.BtfParam.{BtfParam}
 use Rattle.btf_compare.specs.declared.pair_map.PairMap.{PairMap}
 use Rattle.btf_compare.specs.declared.progress.Progress.{Progress}
 use Rattle.btf_compare.specs.declared.progress.Progress.TheVariants as progresses
-use Rattle.btf_compare.specs.PairMap.{known, ids_cmp}
+use Rattle.btf_compare.specs.PairMap.{known}
+use Rattle.btf_compare.specs.Entries.{ids_cmp}
 use Rattle.btf_compare.specs.declared.position.Position.{Position}
 use Rattle.btf_compare.specs.declared.position.Position.TheVariants as positions
 use Rattle.btf_compare.specs.declared.position.ProtoPair.{ProtoPair}
@@ -109,10 +110,10 @@ abbrev pub tells_settled : Option Progress → Bool
 tells_settled (Some progresses.Compatible) = true
 tells_settled o = false
 
-abbrev pub opened_in : PairMap Progress → Pair → Bool
+abbrev pub opened_in : PairMap → Pair → Bool
 opened_in seen p = tells_open (known seen (ids_of p))
 
-abbrev pub settled_in : PairMap Progress → Pair → Bool
+abbrev pub settled_in : PairMap → Pair → Bool
 settled_in seen p = tells_settled (known seen (ids_of p))
 
 -- whether a pair whose local id this is came out true, by what a run knows of it; an open one is refused

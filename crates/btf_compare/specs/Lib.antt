@@ -1,4 +1,7 @@
 pub mod Pairs
+pub mod Entries
+pub mod Buckets
+pub mod PairTable
 pub mod PairMap
 pub mod FieldStep
 pub mod Compared

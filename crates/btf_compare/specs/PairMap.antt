@@ -1,39 +1,28 @@
 -- A map from pairs of ids.
-use Rattle.std.specs.Prelude.{◌≡◌, ℕ, zero, suc, ◌+◌, length, Bool, true, false, cond, List, [], ◌∷◌, Option, None, Some}
-use Rattle.std.specs.Option.{option_or}
-use Rattle.std.specs.Map.{lookup}
-use Rattle.std.specs.BTreeMap.{is_at}
-use Rattle.std.specs.declared.cmp.Ordering.{Ordering}
-use Rattle.std.specs.Ordering.{nat_cmp, ordering_then}
+use Rattle.std.specs.Prelude.{ℕ, length, List, Option, None, Some}
+use Rattle.btf_compare.specs.Entries.{Sets, values_in}
+use Rattle.btf_compare.specs.PairTable.{Layout, count_in, value_of}
 use Rattle.btf_compare.specs.declared.pair_map.PairMap.{PairMap}
+use Rattle.btf_compare.specs.declared.progress.Progress.{Progress}
 
--- the order of two pairs of ids: by the local ids, and then by the target ids
-abbrev pub ids_cmp : ℕ × ℕ → ℕ × ℕ → Ordering
-ids_cmp x y = ordering_then (nat_cmp x.0 y.0) (nat_cmp x.1 y.1)
+-- what each pair has: in the table, if there is one
+abbrev pub known_in : List ((ℕ × ℕ) × Progress) → Option (Layout Progress) → ℕ × ℕ → Option Progress
+known_in few None = values_in few
+known_in few (Some table) = value_of table
 
--- whether two pairs of ids are one
-abbrev pub is_ids : ℕ × ℕ → ℕ × ℕ → Bool
-is_ids x y = is_at (ids_cmp x) y
+-- how many have something
+abbrev pub count_of : List ((ℕ × ℕ) × Progress) → Option (Layout Progress) → ℕ
+count_of few None = length few
+count_of few (Some table) = count_in table
 
-module _ {V : Type 0} where
-  -- the value of a pair
-  abbrev pub known : PairMap V → ℕ × ℕ → Option V
-  known m ids = option_or (lookup (is_ids ids) m.first.items) (lookup (is_ids ids) m.further.entries)
+-- the progress of a pair
+abbrev pub known : PairMap → ℕ × ℕ → Option Progress
+known m = known_in m.few.list.items m.many
 
-  -- how many entries there are
-  abbrev pub count : PairMap V → ℕ
-  count m = length m.first.items + length m.further.entries
+-- how many entries there are
+abbrev pub count : PairMap → ℕ
+count m = count_of m.few.list.items m.many
 
-  -- the pair has the value v now, and each other what it had
-  abbrev pub Learns : PairMap V → PairMap V → ℕ × ℕ → V → Type 0
-  Learns old new ids v = (other : ℕ × ℕ) → known new other ≡ cond (is_ids ids other) (Some v) (known old other)
-
-  -- no entry is the pair's
-  abbrev pub IsNoPair : ℕ × ℕ → List ((ℕ × ℕ) × V) → Type 0
-  IsNoPair ids entries = lookup (is_ids ids) entries ≡ None
-
-  -- the first entry of the pair has this index
-  abbrev pub IsPlaceOf : ℕ × ℕ → List ((ℕ × ℕ) × V) → ℕ → Type 0
-  IsPlaceOf ids [] index = ⊥
-  IsPlaceOf ids (e ∷ es) zero = is_ids ids e.0 ≡ true
-  IsPlaceOf ids (e ∷ es) (suc index) = (is_ids ids e.0 ≡ false) × IsPlaceOf ids es index
+-- the pair has the progress p now, and each other what it had
+abbrev pub Learns : PairMap → PairMap → ℕ × ℕ → Progress → Type 0
+Learns old new = Sets (known old) (known new)

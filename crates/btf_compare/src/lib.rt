@@ -1,9 +1,12 @@
 //! Comparisons of the types of two tables, as relocation engines make them.
 #![tactic(auto)]
 
+mod bucket;
+mod entries;
 mod fields;
 mod frame;
 mod pair_map;
+mod pair_table;
 mod position;
 mod progress;
 mod resolved;

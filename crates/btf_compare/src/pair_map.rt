@@ -1,84 +1,91 @@
 //! What is known of pairs of ids.
 
-ghost use Rattle.std.specs.Prelude.{◌≡◌, ℕ, ◌+◌, ◌<◌, length, None, IsSome, IfSome, IfNone, OnOk};
-ghost use Rattle.btf_compare.specs.PairMap.{known, count, IsNoPair, IsPlaceOf, Learns};
+ghost use Rattle.std.specs.Prelude.{◌≡◌, ℕ, ◌+◌, None, IsSome, OnOk};
+ghost use Rattle.btf_compare.specs.PairMap.{known, count, Learns};
 
-use arrayvec::ArrayVec;
+use crate::bucket::ROOM;
+use crate::entries::Entries;
+use crate::pair_table::PairTable;
+use crate::progress::Progress;
 use std::alloc::{AllocError, Global};
-use std::collections::BTreeMap;
+use std::mem;
 
 /// A map from pairs of ids, the local id first. The first few lie in an array, as most comparisons need no more, and
-/// take no memory of their own; the others lie in an ordered map, whose look-ups stay short whatever ids a table names.
+/// take no memory of their own; where there are more, all lie in a table.
 #[derive(Drop)]
-pub struct PairMap<V> {
-    first: ArrayVec<((u32, u32), V), 8>,
-    further: BTreeMap<(u32, u32), V>,
+pub struct PairMap {
+    few: Entries<ROOM>,
+    many: Option<PairTable>,
+    alloc: Global,
 }
 
-impl<V: Copy + Default + Drop> PairMap<V> {
+impl PairMap {
     /// A map of no pair.
     pub fn new(alloc: Global) -> Self
         ensures empty { (ids : ℕ × ℕ) → known result ids ≡ None }
         ensures counts { count result ≡ 0 }
     {
         PairMap {
-            first: ArrayVec::new(),
-            further: BTreeMap::new(alloc),
+            few: Entries::new(),
+            many: None,
+            alloc,
         }
     }
 
-    /// The value of a pair.
-    pub fn get(&self, pair: (u32, u32)) -> Option<V>
+    /// The progress of a pair.
+    pub fn get(&self, pair: (u32, u32)) -> Option<Progress>
         ensures { result ≡ known self.now pair }
     {
-        match self.place(pair) {
-            Some(index) => Some(self.first[index].1),
-            None => self.further.get(&pair).copied(),
+        match &self.many {
+            Some(table) => table.get(pair),
+            None => self.few.get(pair),
         }
     }
 
-    /// Gives a pair that has no value its first.
+    /// Gives a pair that has none its first progress.
     #[inline(always)]
-    pub fn insert(&mut self, pair: (u32, u32), value: V) -> Result<(), AllocError>
+    pub fn insert(&mut self, pair: (u32, u32), progress: Progress) -> Result<(), AllocError>
         requires { known self.old pair ≡ None }
-        ensures learns { OnOk result (Learns self.old self.new pair value) }
+        ensures learns { OnOk result (Learns self.old self.new pair progress) }
         ensures counts { OnOk result (count self.new ≡ count self.old + 1) }
     {
-        if self.first.is_full() {
-            self.further.insert(pair, value)?;
-        } else {
-            self.first.push((pair, value));
+        if self.many.is_none() && !self.few.are_full() {
+            self.few.push(pair, progress);
+            return Ok(());
         }
+        self.insert_in_table(pair, progress)
+    }
+
+    /// Does so where the array is full, or there is a table. It is a call of its own, as few comparisons come here, and a
+    /// function clears all that it has on the call stack when it is called.
+    #[inline(never)]
+    fn insert_in_table(&mut self, pair: (u32, u32), progress: Progress) -> Result<(), AllocError>
+        requires { known self.old pair ≡ None }
+        ensures learns { OnOk result (Learns self.old self.new pair progress) }
+        ensures counts { OnOk result (count self.new ≡ count self.old + 1) }
+    {
+        if let Some(table) = &mut self.many {
+            return table.insert(pair, progress);
+        }
+        let few = mem::replace(&mut self.few, Entries::new());
+        let mut table = PairTable::new(self.alloc, few)?;
+        table.insert(pair, progress)?;
+        self.many = Some(table);
         Ok(())
     }
 
-    /// Gives a pair that has a value another, which takes no memory.
+    /// Gives a pair that has one another progress, which takes no memory.
     #[inline(always)]
-    pub fn update(&mut self, pair: (u32, u32), value: V)
+    pub fn update(&mut self, pair: (u32, u32), progress: Progress)
         requires { IsSome (known self.old pair) }
-        ensures learns { Learns self.old self.new pair value }
+        ensures learns { Learns self.old self.new pair progress }
         ensures counts { count self.new ≡ count self.old }
     {
-        if let Some(index) = self.place(pair) {
-            if let Some(entry) = self.first.get_mut(index) {
-                *entry = (pair, value);
-            }
-        } else if let Some(entry) = self.further.get_mut(&pair) {
-            *entry = value;
-        }
-    }
-
-    /// Where a pair stands in the array.
-    fn place(&self, pair: (u32, u32)) -> Option<usize>
-        ensures place { IfSome result (λ index. IsPlaceOf pair self.now.first.items index) }
-        ensures within { IfSome result (λ index. index < length self.now.first.items) }
-        ensures none { IfNone result (IsNoPair pair self.now.first.items) }
-    {
-        for (index, entry) in self.first.iter().enumerate() {
-            if pair == entry.0 {
-                return Some(index);
+        match &mut self.many {
+            Some(table) => table.update(pair, progress),
+            None => {
+                self.few.set(pair, progress);
             }
         }
-        None
     }
 }

@@ -26,7 +26,7 @@ struct Run {
     /// The open pairs that wait for the one above them, the root first.
     below: Vec<Frame>,
     /// The pairs that were started, each with its progress.
-    seen: PairMap<Progress>,
+    seen: PairMap,
     /// The long prototypes all of whose parameters came out true, which a walk that meets them again goes past.
     passed: BTreeSet<(u32, u32)>,
 }

@@ -1,4 +1,4 @@
-use Rattle.std.proofs.Common.{◌≡◌, ◌∷◌, ◌≤◌, [], ℕ, Option, Bool, true, false, Result, Ok, Err, ◌∙◌, refl, sym, ap, subst, length, arith}
+use Rattle.std.proofs.Common.{◌≡◌, ◌∷◌, ◌≤◌, [], ℕ, Option, Bool, true, false, Result, Ok, Err, ◌∙◌, refl, sym, ap, subst, length, inl}
 use Rattle.btf_model.proofs.RunLengths.{less_paid}
 use Rattle.btf_model.proofs.Known.{known_pairs}
 use Rattle.btf_words.specs.declared.error.BtfError.{BtfError}
@@ -9,7 +9,7 @@ use Rattle.btf_compare.specs.PairMap.{known, count}
 use Rattle.btf_compare.specs.Compared.{ComesTo, PaysNext, IsStarted, frame_of, owed_by, tells_open, tells_settled, opened_in, settled_in}
 use Rattle.btf_compare.specs.Pairs.{pair_of}
 use Rattle.btf_compare.proofs.Comparing.{Compares, handed, stack_of, no_memory, ends_refused, ends_false, ends_true, pays, is_open, is_refused, differs, told_on}
-use Rattle.btf_compare.proofs.Progresses.{open_if, settled_if, unknown_if}
+use Rattle.btf_compare.proofs.Progresses.{known_if_open, open_if, settled_if, unknown_if}
 use Rattle.btf_compare.proofs.Walking.{waits_for, still_owes, Running, PassedIn, shorter, begun, begun_passed, walks, walks_less, walk_fails, ends_by, settled_below, settled_less, settled_passed, returned, returned_less, returned_passed}
 use Rattle.btf_compare.proofs.Inner.{Above, inner_no_memory, inner_fails, inner_false, inner_settled, inner_settled_less, inner_settled_passed, inner_open, inner_open_less, inner_open_passed}
 use Rattle.btf_compare.proofs.Roots.{root_frame, root_no_memory, nothing_passed}
@@ -66,6 +66,9 @@ returns-in_default g c =
     ends_true c.args.local.now c.args.target.now (pair_of c.args.first.pair) (opened_in c.steps.run.seen) (settled_in c.steps.run.seen) (frame_of c.steps.top) (stack_of c.steps.run.below.items) (count c.steps.run.seen) (told g c.args.first.pair c.args.starts.now c.steps.starts) c.steps.invariant.0
     (ends_by c.args.local.now c.args.target.now c.steps.top c.steps.place c.in-Ends-true.field-0 true c.in-Ends-true.is c.in-Ends-true.field-0-test c.steps.invariant.2) (ap stack_of c.in_default.ensures.next)
     )
+
+pub settle-requires : goal.settle-requires
+settle-requires g c = known_if_open (known c.steps.run.seen c.steps.top.pair) (c.steps.invariant.0.has_all (pair_of c.steps.top.pair) (inl refl))
 
 next_runs : (g : Over) (c : After-walk g) → Running c.args.local.now c.args.target.now (pair_of c.args.first.pair) c.settle.new.self.seen c.settle.new.self.below.items c.in-Some.next (told g c.args.first.pair c.args.starts.now c.steps.starts)
 next_runs g c =
@@ -246,7 +249,7 @@ returns-in-Ends-false-2 g c =
 -- it came out true
 
 pub insert-requires-in-Ends-true-2 : goal.insert-requires-in-Ends-true-2
-insert-requires-in-Ends-true-2 g c = (omega arith, (above g (goal.at.insert-requires-in-Ends-true-2 g c).After-walk-in-steps).unknown)
+insert-requires-in-Ends-true-2 g c = (above g (goal.at.insert-requires-in-Ends-true-2 g c).After-walk-in-steps).unknown
 
 pub returns-in_err-insert-in-Ends-true-2 : goal.returns-in_err-insert-in-Ends-true-2
 returns-in_err-insert-in-Ends-true-2 g c =
@@ -269,7 +272,7 @@ steps-preserved-in_ok-insert-in-Ends-true-2 g c = (
 -- it has come to prototypes
 
 pub insert-requires-in-Owes-2 : goal.insert-requires-in-Owes-2
-insert-requires-in-Owes-2 g c = (omega arith, (above g (goal.at.insert-requires-in-Owes-2 g c).After-walk-in-steps).unknown)
+insert-requires-in-Owes-2 g c = (above g (goal.at.insert-requires-in-Owes-2 g c).After-walk-in-steps).unknown
 
 pub returns-in_err-insert-in-Owes-2 : goal.returns-in_err-insert-in-Owes-2
 returns-in_err-insert-in-Owes-2 g c =

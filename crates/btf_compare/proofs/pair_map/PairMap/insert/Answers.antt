@@ -1,15 +1,21 @@
-use Rattle.std.specs.Map.{lookup}
-use Rattle.btf_compare.specs.PairMap.{is_ids}
-use Rattle.btf_compare.proofs.PairMaps.{array_push, further_set, nowhere}
+use Rattle.std.proofs.Common.{◌≡◌, ℕ, List, Option, Some, None, refl, ap, sym, ◌∙◌, false, is_some}
+use Rattle.std.specs.Prelude.{cond}
+use Rattle.std.proofs.lemmas.Bool.{false≢true}
+use Rattle.btf_compare.specs.Entries.{IsNoPair, is_ids, values_in}
+use Rattle.btf_compare.specs.PairMap.{known_in}
+use Rattle.btf_compare.specs.PairTable.{Layout}
+use Rattle.btf_compare.specs.declared.progress.Progress.{Progress}
+use Rattle.btf_compare.proofs.EntryLists.{list_push}
 use Rattle.btf_compare.proofs.pair_map.PairMap.insert.Goals as goal
 
-pub returns-in_ok-insert-clause-learns : goal.returns-in_ok-insert-clause-learns
-returns-in_ok-insert-clause-learns g c =
-    let none = nowhere c.args.pair c.args.self.now.first.items (lookup (is_ids c.args.pair) c.args.self.now.further.entries) c.requires in
-    further_set c.args.pair c.args.self.now.first.items c.args.value (λ other. lookup (is_ids other) c.args.self.now.further.entries) (λ other. lookup (is_ids other) c.insert.new.self.entries) none.0 c.in_ok-insert.ensures.updates.0
+no_table : (o : Option (Layout Progress)) → is_some o ≡ false → o ≡ None
+no_table None is = refl
+no_table (Some table) is = absurd (false≢true (sym is))
 
-pub returns-else-is_full-clause-learns : goal.returns-else-is_full-clause-learns
-returns-else-is_full-clause-learns g c =
-    let none = nowhere c.args.pair c.args.self.now.first.items (lookup (is_ids c.args.pair) c.args.self.now.further.entries) c.requires in
-    rw (c.push.ensures.items)
-    (array_push c.args.pair c.args.self.now.first.items c.args.value (λ other. lookup (is_ids other) c.args.self.now.further.entries) none.0)
+pub returns-then-not-are_full-clause-learns : goal.returns-then-not-are_full-clause-learns
+returns-then-not-are_full-clause-learns c other =
+    let few = c.args.self.now.few.list.items in
+    let is : c.args.self.now.many ≡ None = no_table c.args.self.now.many c.if-is_none.ensures in
+    let none : IsNoPair c.args.pair few = ap (λ (o : Option (Layout Progress)). known_in few o c.args.pair) (sym is) ∙ c.requires in
+    ap (λ (o : Option (Layout Progress)). known_in c.push.new.self.list.items o other) is ∙ ap (λ (es : List ((ℕ × ℕ) × Progress)). values_in es other) c.push.ensures ∙ list_push c.args.pair few c.args.progress none other
+    ∙ ap (λ (o : Option (Layout Progress)). cond (is_ids c.args.pair other) (Some c.args.progress) (known_in few o other)) (sym is)

@@ -1,6 +1,6 @@
 use Rattle.std.proofs.Common.{take}
-use Rattle.btf_compare.specs.PairMap.{IsNoPair}
-use Rattle.btf_compare.proofs.pair_map.PairMap.place.Given as goal
+use Rattle.btf_compare.specs.Entries.{IsNoPair}
+use Rattle.btf_compare.proofs.entries.Entries.place.Given as goal
 
 -- none of the entries so far is the pair's
 abbrev pub invariant-loop-index : goal.invariant-loop-index

@@ -8,7 +8,7 @@ use Rattle.std.specs.Ordering.{nat_cmp}
 use Rattle.std.proofs.lemmas.Bool.{cases_Bool, false≢true}
 use Rattle.std.proofs.lemmas.Option.{none-some, same_Some}
 use Rattle.btf_model.proofs.Firsts.{eq_itself, eq_same, eq_other}
-use Rattle.btf_compare.specs.PairMap.{is_ids, IsNoPair, IsPlaceOf}
+use Rattle.btf_compare.specs.Entries.{is_ids, IsNoPair, IsPlaceOf}
 use Rattle.btf_compare.specs.Pairs.{pair_of, ids_of}
 
 -- ---- pairs of ids
@@ -106,9 +106,18 @@ module _ {V : Type 0} (ids : ℕ × ℕ) where
   push_other [] v other differs = ap (λ (b : Bool). cond b (Some v) None) (is_turned other ids ∙ differs)
   push_other (a ∷ es) v other differs = ap (λ (o : Option V). cond (is_ids other a.0) (Some a.1) o) (push_other es v other differs)
 
+  pub list_push : (es : List ((ℕ × ℕ) × V)) (v : V) → IsNoPair ids es → (other : ℕ × ℕ) → lookup (is_ids other) (es ++ (ids, v) ∷ []) ≡ cond (is_ids ids other) (Some v) (lookup (is_ids other) es)
+  list_push es v none other =
+      elim (cases_Bool (is_ids ids other)) [
+        | inl is ↦
+            subst (λ (x : ℕ × ℕ). lookup (is_ids x) (es ++ (ids, v) ∷ []) ≡ cond (is_ids ids x) (Some v) (lookup (is_ids x) es)) (is_same ids other is)
+            (push_same es v none ∙ ap (λ (b : Bool). cond b (Some v) (lookup (is_ids ids) es)) (sym (is_itself ids)))
+        | inr differs ↦ push_other es v other differs ∙ ap (λ (b : Bool). cond b (Some v) (lookup (is_ids other) es)) (sym differs)
+      ]
+
   -- ---- the array, and the map after it
 
-  set_then_more : (p : Bool) (v : V) (o more : Option V) → option_or (cond p (Some v) o) more ≡ cond p (Some v) (option_or o more)
+  pub set_then_more : (p : Bool) (v : V) (o more : Option V) → option_or (cond p (Some v) o) more ≡ cond p (Some v) (option_or o more)
   set_then_more true v o more = refl
   set_then_more false v o more = refl
 
@@ -118,15 +127,7 @@ module _ {V : Type 0} (ids : ℕ × ℕ) where
 
   pub array_push : (es : List ((ℕ × ℕ) × V)) (v : V) (more : ℕ × ℕ → Option V) → IsNoPair ids es
       → (other : ℕ × ℕ) → option_or (lookup (is_ids other) (es ++ (ids, v) ∷ [])) (more other) ≡ cond (is_ids ids other) (Some v) (option_or (lookup (is_ids other) es) (more other))
-  array_push es v more none other =
-      elim (cases_Bool (is_ids ids other)) [
-        | inl is ↦
-            subst (λ (x : ℕ × ℕ). option_or (lookup (is_ids x) (es ++ (ids, v) ∷ [])) (more x) ≡ cond (is_ids ids x) (Some v) (option_or (lookup (is_ids x) es) (more x))) (is_same ids other is)
-            (ap (λ (o : Option V). option_or o (more ids)) (push_same es v none) ∙ ap (λ (b : Bool). cond b (Some v) (option_or (lookup (is_ids ids) es) (more ids))) (sym (is_itself ids)))
-        | inr differs ↦
-            ap (λ (o : Option V). option_or o (more other)) (push_other es v other differs)
-            ∙ ap (λ (b : Bool). cond b (Some v) (option_or (lookup (is_ids other) es) (more other))) (sym differs)
-      ]
+  array_push es v more none other = ap (λ (o : Option V). option_or o (more other)) (list_push es v none other) ∙ set_then_more (is_ids ids other) v (lookup (is_ids other) es) (more other)
 
   -- where the array has no entry of the pair, the map tells
   pub further : (es : List ((ℕ × ℕ) × V)) (more : Option V) → IsNoPair ids es → option_or (lookup (is_ids ids) es) more ≡ more
