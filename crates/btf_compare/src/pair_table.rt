@@ -12,7 +12,7 @@ use std::alloc::{AllocError, Global};
 use std::collections::BTreeMap;
 use std::marker::Model;
 
-/// The number of pairs for each bucket, with which one more bucket is made. Of 20,000 pairs one finds no room then.
+/// The number of pairs for each bucket, with which one more bucket is made.
 const LOAD: usize = 6;
 
 /// The number of buckets that a table has memory for as it begins.
