@@ -110,6 +110,11 @@ abbrev pub tells_settled : Option Progress → Bool
 tells_settled (Some progresses.Compatible) = true
 tells_settled o = false
 
+-- what is remembered of a pair, by what its walk came to: it came out true, or it is open
+abbrev pub progress_of : Result Place BtfError → Progress
+progress_of (Ok (places.Ends true)) = progresses.Compatible
+progress_of end = progresses.Open
+
 abbrev pub opened_in : PairMap → Pair → Bool
 opened_in seen p = tells_open (known seen (ids_of p))
 

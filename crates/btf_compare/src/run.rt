@@ -5,7 +5,7 @@ ghost use Rattle.std.specs.BTreeSet.{IsEmpty};
 ghost use Rattle.btf_model.specs.Fields.{Pair};
 ghost use Rattle.btf_model.specs.Refusal.{Refusal};
 ghost use Rattle.btf_model.specs.Compat.{Plain, firsts};
-ghost use Rattle.btf_compare.specs.Compared.{IsStarted, IsRefused, TracesBy, GainsOnly, WalksTo, AreAt, frame_of, settled_by};
+ghost use Rattle.btf_compare.specs.Compared.{IsStarted, IsRefused, TracesBy, GainsOnly, WalksTo, AreAt, frame_of, progress_of, settled_by};
 ghost use Rattle.btf_model.specs.Run.{new_frame};
 ghost use Rattle.btf_compare.specs.PairMap.{known, count, Learns};
 ghost use Rattle.btf_compare.specs.Pairs.{pair_of};
@@ -46,6 +46,29 @@ impl Run {
         }
     }
 
+    /// Starts a pair, with its progress: remembers it, for which memory is asked first, and reports it.
+    #[inline(always)]
+    fn start<S: Starts>(
+        &mut self,
+        pair: (u32, u32),
+        progress: Progress,
+        starts: &mut S,
+    ) -> Result<(), AllocError>
+        requires { known self.old.seen pair ≡ None }
+        ensures learns { OnOk result (Learns self.old.seen self.new.seen pair progress) }
+        ensures counts { OnOk result (count self.new.seen ≡ count self.old.seen + 1) }
+        ensures listed { OnOk result ((first : S) → (ids : List (ℕ × ℕ))
+            → S.has_added first starts.old ids → S.has_added first starts.new (ids ++ pair ∷ [])) }
+        ensures not_listed { OnErr result
+            ((first : S) → (ids : List (ℕ × ℕ)) → S.has_added first starts.old ids
+            → S.has_added first starts.new ids) }
+        ensures below { self.new.below ≡ self.old.below }
+        ensures passed { self.new.passed ≡ self.old.passed }
+    {
+        self.seen.insert(pair, progress)?;
+        starts.add(pair)
+    }
+
     /// Whether a pair came out true before. One that is still open is refused.
     fn is_settled(&self, pair: (u32, u32)) -> Result<bool, BtfError>
         ensures { result ≡ settled_by pair.0 (known self.now.seen pair) }
@@ -84,27 +107,27 @@ impl Run {
     }
 }
 
-/// Starts a pair: looks up both ids, the local one first, and reports the pair. Whether its walk begins, which it does
-/// where the two types are of compatible kinds. An error reports nothing.
+/// Looks up both ids of a pair, the local one first. Whether its walk begins, which it does where the two types are of
+/// compatible kinds.
 #[inline(always)]
-fn start<S: Starts>(
-    local: &Btf,
-    target: &Btf,
-    pair: (u32, u32),
-    starts: &mut S,
-) -> Result<bool, BtfError>
+fn begins(local: &Btf, target: &Btf, pair: (u32, u32)) -> Result<bool, BtfError>
     ensures started { IfOk result (IsStarted local.now target.now (pair_of pair)) }
-    ensures listed { OnOk result ((first : S) → (ids : List (ℕ × ℕ))
-        → S.has_added first starts.old ids → S.has_added first starts.new (ids ++ pair ∷ [])) }
     ensures refused { IfErr result (IsRefused local.now target.now (pair_of pair)) }
-    ensures not_listed { OnErr result
-        ((first : S) → (ids : List (ℕ × ℕ)) → S.has_added first starts.old ids
-        → S.has_added first starts.new ids) }
 {
     let local_type = local.type_by_id(pair.0)?;
     let target_type = target.type_by_id(pair.1)?;
-    starts.add(pair)?;
     Ok(local_type.is_compatible(target_type))
+}
+
+/// What is remembered of a pair, by what its walk came to.
+#[inline(always)]
+fn progress_of(end: &Result<Place<'_>, BtfError>) -> Progress
+    ensures { result ≡ progress_of end.now }
+{
+    match end {
+        Ok(Place::Ends(true)) => Progress::Compatible,
+        _ => Progress::Open,
+    }
 }
 
 /// Whether the types of a pair of ids are compatible. Most pairs are settled by their own walk, for which nothing has to
@@ -123,7 +146,9 @@ pub fn compare<S: Starts>(
     let alloc = allocator_of(local);
     // The contract speaks of an answer, which there is where each record has a kind, as a use of the tables shows.
     let _ = allocator_of(target);
-    if !start(local, target, root, starts)? {
+    let begins = begins(local, target, root)?;
+    starts.add(root)?;
+    if !begins {
         return Ok(false);
     }
     let mut top = Frame::new(root);
@@ -180,15 +205,17 @@ fn compare_on<S: Starts>(
         if run.is_settled(pair)? {
             continue;
         }
-        if !start(local, target, pair, starts)? {
+        if !begins(local, target, pair)? {
+            run.start(pair, Progress::Open, starts)?;
             return Ok(false);
         }
         let mut inner = Frame::new(pair);
-        match inner.walk(local, target, &run.passed)? {
+        let end = inner.walk(local, target, &run.passed);
+        run.start(pair, progress_of(&end), starts)?;
+        match end? {
             Place::Ends(false) => return Ok(false),
-            Place::Ends(true) => run.seen.insert(pair, Progress::Compatible)?,
+            Place::Ends(true) => {}
             Place::Owes(inside) => {
-                run.seen.insert(pair, Progress::Open)?;
                 run.below.push(top)?;
                 top = inner;
                 place = Place::Owes(inside);

@@ -1,12 +1,18 @@
 use Rattle.std.proofs.Common.{◌≡◌, ◌∷◌, ◌≤◌, [], ℕ, Option, Bool, true, false, Result, Ok, Err, ◌∙◌, refl, sym, ap, subst, length, inl}
+use Rattle.std.specs.Result.{result_from_control_flow}
 use Rattle.btf_model.proofs.RunLengths.{less_paid}
 use Rattle.btf_model.proofs.Known.{known_pairs}
 use Rattle.btf_words.specs.declared.error.BtfError.{BtfError}
 use Rattle.btf_words.specs.declared.error.BtfError.TheVariants.{OutOfMemory}
 use Rattle.btf_compare.specs.declared.frame.Frame.{Frame}
 use Rattle.btf_compare.specs.declared.frame.Place.{Place}
-use Rattle.btf_compare.specs.PairMap.{known, count}
-use Rattle.btf_compare.specs.Compared.{ComesTo, PaysNext, IsStarted, frame_of, owed_by, tells_open, tells_settled, opened_in, settled_in}
+use Rattle.btf_compare.specs.declared.frame.Place.TheVariants.{Ends, Owes}
+use Rattle.btf_compare.specs.declared.position.ProtoPair.{ProtoPair}
+use Rattle.btf_compare.specs.declared.pair_map.PairMap.{PairMap}
+use Rattle.btf_compare.specs.declared.progress.Progress.{Progress}
+use Rattle.btf_compare.specs.declared.progress.Progress.TheVariants.{Open, Compatible}
+use Rattle.btf_compare.specs.PairMap.{known, count, Learns}
+use Rattle.btf_compare.specs.Compared.{ComesTo, PaysNext, IsStarted, frame_of, owed_by, tells_open, tells_settled, opened_in, settled_in, progress_of}
 use Rattle.btf_compare.specs.Pairs.{pair_of}
 use Rattle.btf_compare.proofs.Comparing.{Compares, handed, stack_of, no_memory, ends_refused, ends_false, ends_true, pays, is_open, is_refused, differs, told_on}
 use Rattle.btf_compare.proofs.Progresses.{known_if_open, open_if, settled_if, unknown_if}
@@ -17,7 +23,7 @@ use Rattle.btf_compare.proofs.run.compare_on.Invariants.{told}
 use Rattle.btf_model.specs.Table.{Table}
 use Rattle.btf_compare.proofs.run.compare_on.Given.{Over}
 use Rattle.btf_compare.proofs.run.compare_on.Goals as goal
-use Rattle.btf_compare.proofs.run.compare_on.Goals.{After-walk, After-walk-in_default-2, After-walk-in-steps}
+use Rattle.btf_compare.proofs.run.compare_on.Goals.{After-walk, After-walk-in_default-2, In_ok-start-2}
 
 -- ---- the pair of the call
 
@@ -201,14 +207,29 @@ steps-preserved-then-branch g c = (
   still_owes c.args.local.now c.args.target.now c.pay.new.self c.steps.place c.in-Owes.found c.in-Owes.is c.pay.ensures.here,
 )
 
+-- it is looked up
+
+pub returns-in_err-begins : goal.returns-in_err-begins
+returns-in_err-begins g c =
+    first_told g c.args.local.now c.args.target.now c.args.first.pair _ c.args.starts.now _
+    (
+    is_refused c.args.local.now c.args.target.now (pair_of c.args.first.pair) (opened_in c.steps.run.seen) (settled_in c.steps.run.seen) (frame_of c.steps.top) (stack_of c.steps.run.below.items) (count c.steps.run.seen) (told g c.args.first.pair c.args.starts.now c.steps.starts) c.steps.invariant.0
+    (pair_of c.in-Some-2.pair) (frame_of c.pay.new.self) (waits_for c.args.local.now c.args.target.now c.steps.top c.pay.new.self c.in-Owes.found c.in_ok-pair.field-0 c.in-Some-2.pair c.in-Some-2.is c.in_ok-pair.ensures.next) (ap tells_open (unknown_if c.in-Some-2.pair.0 (known c.steps.run.seen c.in-Some-2.pair) (sym c.in_ok-is_settled.ensures ∙ ap (λ (b : Bool). Ok b) c.if-branch.false))) (ap tells_settled (unknown_if c.in-Some-2.pair.0 (known c.steps.run.seen c.in-Some-2.pair) (sym c.in_ok-is_settled.ensures ∙ ap (λ (b : Bool). Ok b) c.if-branch.false))) c.allocator_of.ensures c.allocator_of-2.ensures
+    c.in_err-begins.field-0.0 c.from_residual-in_err-begins.result c.in_err-begins.ensures.refused (handed c.from_residual-in_err-begins.result c.in_err-begins.field-0.0 c.from_residual-in_err-begins.ensures.1)
+    )
+
+-- ---- its kinds differ
+
+pub start-requires : goal.start-requires
+start-requires g c = unknown_if c.in-Some-2.pair.0 (known c.steps.run.seen c.in-Some-2.pair) (sym c.in_ok-is_settled.ensures ∙ ap (λ (b : Bool). Ok b) c.if-branch.false)
+
 pub returns-in_err-start : goal.returns-in_err-start
 returns-in_err-start g c =
     first_told g c.args.local.now c.args.target.now c.args.first.pair _ c.args.starts.now _
     (
     told_on c.args.local.now c.args.target.now (pair_of c.args.first.pair) c.from_residual-in_err-start.result (told g c.args.first.pair c.args.starts.now c.steps.starts) (told g c.args.first.pair c.args.starts.now c.start.new.starts) (λ ids h before began. c.in_err-start.ensures.not_listed before ids (h before began))
-    (is_refused c.args.local.now c.args.target.now (pair_of c.args.first.pair) (opened_in c.steps.run.seen) (settled_in c.steps.run.seen) (frame_of c.steps.top) (stack_of c.steps.run.below.items) (count c.steps.run.seen) (told g c.args.first.pair c.args.starts.now c.steps.starts) c.steps.invariant.0
-    (pair_of c.in-Some-2.pair) (frame_of c.pay.new.self) (waits_for c.args.local.now c.args.target.now c.steps.top c.pay.new.self c.in-Owes.found c.in_ok-pair.field-0 c.in-Some-2.pair c.in-Some-2.is c.in_ok-pair.ensures.next) (ap tells_open (unknown_if c.in-Some-2.pair.0 (known c.steps.run.seen c.in-Some-2.pair) (sym c.in_ok-is_settled.ensures ∙ ap (λ (b : Bool). Ok b) c.if-branch.false))) (ap tells_settled (unknown_if c.in-Some-2.pair.0 (known c.steps.run.seen c.in-Some-2.pair) (sym c.in_ok-is_settled.ensures ∙ ap (λ (b : Bool). Ok b) c.if-branch.false))) c.allocator_of.ensures c.allocator_of-2.ensures
-    c.in_err-start.field-0.0 c.from_residual-in_err-start.result c.in_err-start.ensures.refused (handed c.from_residual-in_err-start.result c.in_err-start.field-0.0 c.from_residual-in_err-start.ensures.1))
+    (no_memory c.args.local.now c.args.target.now (pair_of c.args.first.pair) (opened_in c.steps.run.seen) (settled_in c.steps.run.seen) (frame_of c.steps.top) (stack_of c.steps.run.below.items) (count c.steps.run.seen) (told g c.args.first.pair c.args.starts.now c.steps.starts) c.steps.invariant.0 c.allocator_of.ensures c.allocator_of-2.ensures c.from_residual-in_err-start.result
+    (handed c.from_residual-in_err-start.result OutOfMemory c.from_residual-in_err-start.ensures.1))
     )
 
 pub returns-then-not-branch : goal.returns-then-not-branch
@@ -217,81 +238,88 @@ returns-then-not-branch g c =
     (
     differs c.args.local.now c.args.target.now (pair_of c.args.first.pair) (opened_in c.steps.run.seen) (settled_in c.steps.run.seen) (frame_of c.steps.top) (stack_of c.steps.run.below.items) (count c.steps.run.seen) (told g c.args.first.pair c.args.starts.now c.steps.starts) c.steps.invariant.0
     (pair_of c.in-Some-2.pair) (frame_of c.pay.new.self) (waits_for c.args.local.now c.args.target.now c.steps.top c.pay.new.self c.in-Owes.found c.in_ok-pair.field-0 c.in-Some-2.pair c.in-Some-2.is c.in_ok-pair.ensures.next) (ap tells_open (unknown_if c.in-Some-2.pair.0 (known c.steps.run.seen c.in-Some-2.pair) (sym c.in_ok-is_settled.ensures ∙ ap (λ (b : Bool). Ok b) c.if-branch.false))) (ap tells_settled (unknown_if c.in-Some-2.pair.0 (known c.steps.run.seen c.in-Some-2.pair) (sym c.in_ok-is_settled.ensures ∙ ap (λ (b : Bool). Ok b) c.if-branch.false))) (told g c.args.first.pair c.args.starts.now c.start.new.starts)
-    (subst (λ (b : Bool). IsStarted c.args.local.now c.args.target.now (pair_of c.in-Some-2.pair) b) c.if-not-branch.true c.in_ok-start.ensures.started) (λ ids h before began. c.in_ok-start.ensures.listed before ids (h before began))
+    (subst (λ (b : Bool). IsStarted c.args.local.now c.args.target.now (pair_of c.in-Some-2.pair) b) c.if-not-branch.true c.in_ok-begins.ensures.started) (λ ids h before began. c.in_ok-start.ensures.listed before ids (h before began))
     )
 
--- ---- a pair that is started
+-- ---- its walk begins
 
-above : (g : Over) (c : After-walk-in-steps g) → Above c.args.local.now c.args.target.now (pair_of c.args.first.pair) c.steps.run.seen c.steps.run.passed c.steps.run.below.items c.steps.top (told g c.args.first.pair c.args.starts.now c.steps.starts) (told g c.args.first.pair c.args.starts.now c.start.new.starts)
-    c.in-Some-2.pair c.pay.new.self c.new-inner.result c.walk-in-steps.new.self
+pub start-requires-in-steps : goal.start-requires-in-steps
+start-requires-in-steps g c = unknown_if c.in-Some-2.pair.0 (known c.steps.run.seen c.in-Some-2.pair) (sym c.in_ok-is_settled.ensures ∙ ap (λ (b : Bool). Ok b) c.if-branch.false)
+
+pub returns-in_err-start-2 : goal.returns-in_err-start-2
+returns-in_err-start-2 g c =
+    first_told g c.args.local.now c.args.target.now c.args.first.pair _ c.args.starts.now _
+    (
+    told_on c.args.local.now c.args.target.now (pair_of c.args.first.pair) c.from_residual-in_err-start-2.result (told g c.args.first.pair c.args.starts.now c.steps.starts) (told g c.args.first.pair c.args.starts.now c.start-in-steps.new.starts) (λ ids h before began. c.in_err-start-2.ensures.not_listed before ids (h before began))
+    (no_memory c.args.local.now c.args.target.now (pair_of c.args.first.pair) (opened_in c.steps.run.seen) (settled_in c.steps.run.seen) (frame_of c.steps.top) (stack_of c.steps.run.below.items) (count c.steps.run.seen) (told g c.args.first.pair c.args.starts.now c.steps.starts) c.steps.invariant.0 c.allocator_of.ensures c.allocator_of-2.ensures c.from_residual-in_err-start-2.result
+    (handed c.from_residual-in_err-start-2.result OutOfMemory c.from_residual-in_err-start-2.ensures.1))
+    )
+
+above : (g : Over) (c : In_ok-start-2 g) → Above c.args.local.now c.args.target.now (pair_of c.args.first.pair) c.steps.run.seen c.steps.run.passed c.steps.run.below.items c.steps.top (told g c.args.first.pair c.args.starts.now c.steps.starts) (told g c.args.first.pair c.args.starts.now c.start-in-steps.new.starts)
+    c.in-Some-2.pair c.pay.new.self c.new-inner.result c.walk-end.new.self
 above g c = record {
   state = c.steps.invariant.0;
   are = c.steps.invariant.1;
   next = waits_for c.args.local.now c.args.target.now c.steps.top c.pay.new.self c.in-Owes.found c.in_ok-pair.field-0 c.in-Some-2.pair c.in-Some-2.is c.in_ok-pair.ensures.next;
   unknown = unknown_if c.in-Some-2.pair.0 (known c.steps.run.seen c.in-Some-2.pair) (sym c.in_ok-is_settled.ensures ∙ ap (λ (b : Bool). Ok b) c.if-branch.false);
-  begins = subst (λ (b : Bool). IsStarted c.args.local.now c.args.target.now (pair_of c.in-Some-2.pair) b) c.if-not-branch.false c.in_ok-start.ensures.started;
-  tells = λ ids h before began. c.in_ok-start.ensures.listed before ids (h before began);
+  begins = subst (λ (b : Bool). IsStarted c.args.local.now c.args.target.now (pair_of c.in-Some-2.pair) b) c.if-not-branch.false c.in_ok-begins.ensures.started;
+  tells = λ ids h before began. c.in_ok-start-2.ensures.listed before ids (h before began);
   new = c.new-inner.ensures.frame;
-  goes = c.walk-in-steps.ensures.walks;
+  goes = c.walk-end.ensures.walks;
 }
 
-pub returns-in_err-walk : goal.returns-in_err-walk
-returns-in_err-walk g c =
+-- what it came to is what the walk returned
+comes_to : (local target : Table) (f : Frame) (end known : Result Place BtfError) → end ≡ known → ComesTo local target f end → ComesTo local target f known
+comes_to local target f end known is comes = subst (λ (r : Result Place BtfError). ComesTo local target f r) is comes
+
+learns_then : (old new : PairMap) (ids : ℕ × ℕ) (p known : Progress) → p ≡ known → Learns old new ids p → Learns old new ids known
+learns_then old new ids p known is learns = subst (λ (x : Progress). Learns old new ids x) is learns
+
+true_then : (end : Result Place BtfError) (place : Place) (answer : Bool) → end ≡ Ok place → place ≡ Ends answer → answer ≡ true → progress_of end ≡ Compatible
+true_then end place answer is ends same = ap progress_of (is ∙ ap (λ (p : Place). Ok p) (ends ∙ ap (λ (b : Bool). Ends b) same))
+
+owes_then : (end : Result Place BtfError) (place : Place) (found : ProtoPair) → end ≡ Ok place → place ≡ Owes found → progress_of end ≡ Open
+owes_then end place found is owes = ap progress_of (is ∙ ap (λ (p : Place). Ok p) owes)
+
+pub returns-in_err-end : goal.returns-in_err-end
+returns-in_err-end g c =
     first_told g c.args.local.now c.args.target.now c.args.first.pair _ c.args.starts.now _
-    (inner_fails (above g (goal.at.returns-in_err-walk g c).After-walk-in-steps) c.in_err-walk.field-0.0 c.from_residual-in_err-walk.result c.in_err-walk.ensures.comes (handed c.from_residual-in_err-walk.result c.in_err-walk.field-0.0 c.from_residual-in_err-walk.ensures.1))
+    (inner_fails (above g (goal.at.returns-in_err-end g c).In_ok-start-2) c.in_err-end.field-0.0 c.from_residual-in_err-end.result (comes_to c.args.local.now c.args.target.now c.walk-end.new.self c.walk-end.result (Err c.in_err-end.field-0.0) (c.branch-end.ensures ∙ ap result_from_control_flow c.in_err-end.is) c.walk-end.ensures.comes) (handed c.from_residual-in_err-end.result c.in_err-end.field-0.0 c.from_residual-in_err-end.ensures.1))
 
 pub returns-in-Ends-false-2 : goal.returns-in-Ends-false-2
 returns-in-Ends-false-2 g c =
     first_told g c.args.local.now c.args.target.now c.args.first.pair _ c.args.starts.now _
-    (inner_false (above g (goal.at.returns-in-Ends-false-2 g c).After-walk-in-steps)
-    (ends_by c.args.local.now c.args.target.now c.walk-in-steps.new.self c.in_ok-walk.field-0 c.in-Ends-false-2.field-0 false c.in-Ends-false-2.is c.in-Ends-false-2.field-0-test c.in_ok-walk.ensures.comes))
+    (inner_false (above g (goal.at.returns-in-Ends-false-2 g c).In_ok-start-2)
+    (ends_by c.args.local.now c.args.target.now c.walk-end.new.self c.in_ok-end.field-0 c.in-Ends-false-2.field-0 false c.in-Ends-false-2.is c.in-Ends-false-2.field-0-test (comes_to c.args.local.now c.args.target.now c.walk-end.new.self c.walk-end.result (Ok c.in_ok-end.field-0) (c.branch-end.ensures ∙ ap result_from_control_flow c.in_ok-end.is) c.walk-end.ensures.comes)))
 
 -- it came out true
 
-pub insert-requires-in-Ends-true-2 : goal.insert-requires-in-Ends-true-2
-insert-requires-in-Ends-true-2 g c = (above g (goal.at.insert-requires-in-Ends-true-2 g c).After-walk-in-steps).unknown
+pub steps-smaller-in-Ends-true-2 : goal.steps-smaller-in-Ends-true-2
+steps-smaller-in-Ends-true-2 g c =
+    rw (c.start-in-steps.ensures.below) (inner_settled_less (above g (goal.at.steps-smaller-in-Ends-true-2 g c).In_ok-start-2) (c.walk-end.ensures.pair ∙ c.new-inner.ensures.pair) c.start-in-steps.new.self.seen (learns_then c.steps.run.seen c.start-in-steps.new.self.seen c.in-Some-2.pair c.progress_of.result Compatible (c.progress_of.ensures ∙ true_then c.walk-end.result c.in_ok-end.field-0 c.in-Ends-true-2.field-0 (c.branch-end.ensures ∙ ap result_from_control_flow c.in_ok-end.is) c.in-Ends-true-2.is c.in-Ends-true-2.field-0-test) c.in_ok-start-2.ensures.learns) c.in_ok-start-2.ensures.counts)
 
-pub returns-in_err-insert-in-Ends-true-2 : goal.returns-in_err-insert-in-Ends-true-2
-returns-in_err-insert-in-Ends-true-2 g c =
-    first_told g c.args.local.now c.args.target.now c.args.first.pair _ c.args.starts.now _
-    (inner_no_memory (above g (goal.at.returns-in_err-insert-in-Ends-true-2 g c).After-walk-in-steps) c.allocator_of.ensures c.allocator_of-2.ensures c.from_residual-in_err-insert-in-Ends-true-2.result
-    (handed c.from_residual-in_err-insert-in-Ends-true-2.result OutOfMemory c.from_residual-in_err-insert-in-Ends-true-2.ensures.1))
-
-pub steps-smaller-in_ok-insert-in-Ends-true-2 : goal.steps-smaller-in_ok-insert-in-Ends-true-2
-steps-smaller-in_ok-insert-in-Ends-true-2 g c =
-    inner_settled_less (above g (goal.at.steps-smaller-in_ok-insert-in-Ends-true-2 g c).After-walk-in-steps) (c.walk-in-steps.ensures.pair ∙ c.new-inner.ensures.pair) c.insert-in-Ends-true-2.new.self c.in_ok-insert-in-Ends-true-2.ensures.learns c.in_ok-insert-in-Ends-true-2.ensures.counts
-
-pub steps-preserved-in_ok-insert-in-Ends-true-2 : goal.steps-preserved-in_ok-insert-in-Ends-true-2
-steps-preserved-in_ok-insert-in-Ends-true-2 g c = (
-  inner_settled (above g (goal.at.steps-preserved-in_ok-insert-in-Ends-true-2 g c).After-walk-in-steps) (c.walk-in-steps.ensures.pair ∙ c.new-inner.ensures.pair) c.insert-in-Ends-true-2.new.self c.in_ok-insert-in-Ends-true-2.ensures.learns c.in_ok-insert-in-Ends-true-2.ensures.counts
-      (ends_by c.args.local.now c.args.target.now c.walk-in-steps.new.self c.in_ok-walk.field-0 c.in-Ends-true-2.field-0 true c.in-Ends-true-2.is c.in-Ends-true-2.field-0-test c.in_ok-walk.ensures.comes),
-  inner_settled_passed (above g (goal.at.steps-preserved-in_ok-insert-in-Ends-true-2 g c).After-walk-in-steps) (c.walk-in-steps.ensures.pair ∙ c.new-inner.ensures.pair) c.insert-in-Ends-true-2.new.self c.in_ok-insert-in-Ends-true-2.ensures.learns,
+pub steps-preserved-in-Ends-true-2 : goal.steps-preserved-in-Ends-true-2
+steps-preserved-in-Ends-true-2 g c = (
+  rw (c.start-in-steps.ensures.below) (inner_settled (above g (goal.at.steps-preserved-in-Ends-true-2 g c).In_ok-start-2) (c.walk-end.ensures.pair ∙ c.new-inner.ensures.pair) c.start-in-steps.new.self.seen (learns_then c.steps.run.seen c.start-in-steps.new.self.seen c.in-Some-2.pair c.progress_of.result Compatible (c.progress_of.ensures ∙ true_then c.walk-end.result c.in_ok-end.field-0 c.in-Ends-true-2.field-0 (c.branch-end.ensures ∙ ap result_from_control_flow c.in_ok-end.is) c.in-Ends-true-2.is c.in-Ends-true-2.field-0-test) c.in_ok-start-2.ensures.learns) c.in_ok-start-2.ensures.counts
+      (ends_by c.args.local.now c.args.target.now c.walk-end.new.self c.in_ok-end.field-0 c.in-Ends-true-2.field-0 true c.in-Ends-true-2.is c.in-Ends-true-2.field-0-test (comes_to c.args.local.now c.args.target.now c.walk-end.new.self c.walk-end.result (Ok c.in_ok-end.field-0) (c.branch-end.ensures ∙ ap result_from_control_flow c.in_ok-end.is) c.walk-end.ensures.comes))),
+  rw (c.start-in-steps.ensures.passed) (inner_settled_passed (above g (goal.at.steps-preserved-in-Ends-true-2 g c).In_ok-start-2) (c.walk-end.ensures.pair ∙ c.new-inner.ensures.pair) c.start-in-steps.new.self.seen (learns_then c.steps.run.seen c.start-in-steps.new.self.seen c.in-Some-2.pair c.progress_of.result Compatible (c.progress_of.ensures ∙ true_then c.walk-end.result c.in_ok-end.field-0 c.in-Ends-true-2.field-0 (c.branch-end.ensures ∙ ap result_from_control_flow c.in_ok-end.is) c.in-Ends-true-2.is c.in-Ends-true-2.field-0-test) c.in_ok-start-2.ensures.learns)),
   still_owes c.args.local.now c.args.target.now c.pay.new.self c.steps.place c.in-Owes.found c.in-Owes.is c.pay.ensures.here,
 )
 
 -- it has come to prototypes
 
-pub insert-requires-in-Owes-2 : goal.insert-requires-in-Owes-2
-insert-requires-in-Owes-2 g c = (above g (goal.at.insert-requires-in-Owes-2 g c).After-walk-in-steps).unknown
-
-pub returns-in_err-insert-in-Owes-2 : goal.returns-in_err-insert-in-Owes-2
-returns-in_err-insert-in-Owes-2 g c =
-    first_told g c.args.local.now c.args.target.now c.args.first.pair _ c.args.starts.now _
-    (inner_no_memory (above g (goal.at.returns-in_err-insert-in-Owes-2 g c).After-walk-in-steps) c.allocator_of.ensures c.allocator_of-2.ensures c.from_residual-in_err-insert-in-Owes-2.result
-    (handed c.from_residual-in_err-insert-in-Owes-2.result OutOfMemory c.from_residual-in_err-insert-in-Owes-2.ensures.1))
-
 pub returns-in_err-push-in-Owes-2 : goal.returns-in_err-push-in-Owes-2
 returns-in_err-push-in-Owes-2 g c =
     first_told g c.args.local.now c.args.target.now c.args.first.pair _ c.args.starts.now _
-    (inner_no_memory (above g (goal.at.returns-in_err-push-in-Owes-2 g c).After-walk-in-steps) c.allocator_of.ensures c.allocator_of-2.ensures c.from_residual-in_err-push-in-Owes-2.result
+    (inner_no_memory (above g (goal.at.returns-in_err-push-in-Owes-2 g c).In_ok-start-2) c.allocator_of.ensures c.allocator_of-2.ensures c.from_residual-in_err-push-in-Owes-2.result
     (handed c.from_residual-in_err-push-in-Owes-2.result OutOfMemory c.from_residual-in_err-push-in-Owes-2.ensures.1))
 
 pub steps-smaller : goal.steps-smaller
-steps-smaller g c = inner_open_less (above g (goal.at.steps-smaller g c).After-walk-in-steps) c.insert-in-Owes-2.new.self c.in_ok-insert-in-Owes-2.ensures.learns c.in_ok-insert-in-Owes-2.ensures.counts c.push.new.self.items c.in_ok-push-in-Owes-2.ensures.items
+steps-smaller g c = inner_open_less (above g (goal.at.steps-smaller g c).In_ok-start-2) c.start-in-steps.new.self.seen (learns_then c.steps.run.seen c.start-in-steps.new.self.seen c.in-Some-2.pair c.progress_of.result Open (c.progress_of.ensures ∙ owes_then c.walk-end.result c.in_ok-end.field-0 c.in-Owes-2.inside (c.branch-end.ensures ∙ ap result_from_control_flow c.in_ok-end.is) c.in-Owes-2.is) c.in_ok-start-2.ensures.learns) c.in_ok-start-2.ensures.counts c.push.new.self.items (rw (sym c.start-in-steps.ensures.below) c.in_ok-push-in-Owes-2.ensures.items)
 
 pub steps-preserved : goal.steps-preserved
 steps-preserved g c = (
-  inner_open (above g (goal.at.steps-preserved g c).After-walk-in-steps) c.insert-in-Owes-2.new.self c.in_ok-insert-in-Owes-2.ensures.learns c.in_ok-insert-in-Owes-2.ensures.counts c.push.new.self.items c.in_ok-push-in-Owes-2.ensures.items,
-  inner_open_passed (above g (goal.at.steps-preserved g c).After-walk-in-steps) c.insert-in-Owes-2.new.self c.in_ok-insert-in-Owes-2.ensures.learns,
-  subst (λ (p : Place). ComesTo c.args.local.now c.args.target.now c.walk-in-steps.new.self (Ok p)) c.in-Owes-2.is c.in_ok-walk.ensures.comes,
+  inner_open (above g (goal.at.steps-preserved g c).In_ok-start-2) c.start-in-steps.new.self.seen (learns_then c.steps.run.seen c.start-in-steps.new.self.seen c.in-Some-2.pair c.progress_of.result Open (c.progress_of.ensures ∙ owes_then c.walk-end.result c.in_ok-end.field-0 c.in-Owes-2.inside (c.branch-end.ensures ∙ ap result_from_control_flow c.in_ok-end.is) c.in-Owes-2.is) c.in_ok-start-2.ensures.learns) c.in_ok-start-2.ensures.counts c.push.new.self.items (rw (sym c.start-in-steps.ensures.below) c.in_ok-push-in-Owes-2.ensures.items),
+  rw (c.start-in-steps.ensures.passed) (inner_open_passed (above g (goal.at.steps-preserved g c).In_ok-start-2) c.start-in-steps.new.self.seen (learns_then c.steps.run.seen c.start-in-steps.new.self.seen c.in-Some-2.pair c.progress_of.result Open (c.progress_of.ensures ∙ owes_then c.walk-end.result c.in_ok-end.field-0 c.in-Owes-2.inside (c.branch-end.ensures ∙ ap result_from_control_flow c.in_ok-end.is) c.in-Owes-2.is) c.in_ok-start-2.ensures.learns)),
+  subst (λ (p : Place). ComesTo c.args.local.now c.args.target.now c.walk-end.new.self (Ok p)) c.in-Owes-2.is (comes_to c.args.local.now c.args.target.now c.walk-end.new.self c.walk-end.result (Ok c.in_ok-end.field-0) (c.branch-end.ensures ∙ ap result_from_control_flow c.in_ok-end.is) c.walk-end.ensures.comes),
 )

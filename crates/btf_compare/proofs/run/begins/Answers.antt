@@ -2,10 +2,10 @@ use Rattle.btf_records.specs.declared.btf_type.BtfType.{BtfType}
 use Rattle.btf_records.specs.BtfType.{record_of, type_kind}
 use Rattle.btf_compare.specs.Pairs.{pair_of}
 use Rattle.btf_compare.proofs.Comparing.{started}
-use Rattle.btf_compare.proofs.run.start.Goals as goal
+use Rattle.btf_compare.proofs.run.begins.Goals as goal
 
 pub returns-clause-started : goal.returns-clause-started
-returns-clause-started g c =
+returns-clause-started c =
     let a : BtfType = c.in_ok-local_type.local_type.now in
     let b : BtfType = c.in_ok-target_type.target_type.now in
     let local = c.in_ok-local_type.ensures in
