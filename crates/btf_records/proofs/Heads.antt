@@ -1,5 +1,5 @@
 -- Reading a record whose head is read, and writing one.
-use Rattle.std.proofs.Common.{◌≡◌, ℕ, ◌+◌, ◌^◌, ◌<◌, List, [], ◌∷◌, drop, length, Some, None, Result, Ok, Err, refl, sym, ap, subst, ◌∙◌, arith}
+use Rattle.std.proofs.Common.{inl, ◌≡◌, ℕ, ◌+◌, ◌^◌, ◌<◌, List, [], ◌∷◌, drop, length, Some, None, Result, Ok, Err, refl, sym, ap, subst, ◌∙◌, arith}
 use Rattle.std.specs.Prelude.{IsErrAnd, OnOk, slice_get, map, min}
 use Rattle.std.specs.List.{AllByRecursion}
 use Rattle.std.proofs.lemmas.List.{length-drop}
@@ -22,7 +22,7 @@ use Rattle.btf_words.specs.Error.{refusal_of}
 use Rattle.btf_records.specs.declared.btf_type.BtfType.{BtfType}
 use Rattle.btf_records.specs.declared.codec.Head.{Head}
 use Rattle.btf_records.specs.Head.{IsHead, record_behind, ReadsTail}
-use Rattle.btf_records.specs.Place.{Puts}
+use Rattle.btf_records.specs.Place.{Puts, StaysOr}
 
 behind_is : (order : Order) (bytes : List ℕ) (head : Head) (rest : List ℕ) (n : ℕ) → IsHead order bytes head rest → record_at order n bytes ≡ record_behind order head n rest
 behind_is order bytes head rest n h = λ i. record { name = sym h.name i; info = sym h.info i; third = sym h.third i; tail = words_at order n (sym h.behind i) }
@@ -32,13 +32,13 @@ length-behind order bytes head rest h =
     omega (arith, h.long, ap length h.behind, length-drop 4 (drop 4 (drop 4 bytes)), length-drop 4 (drop 4 bytes), length-drop 4 bytes)
 
 -- a record whose tail is put is read from the front
-pub front_put : {P : Type 0} (HasPut : P → BtfType → P → Type 0) (old new : P) (order : Order) (bytes : List ℕ) (head : Head) (rest : List ℕ) (k : Kind) (r : Result ℕ BtfError) → IsBytes bytes → IsHead order bytes head rest → kind_of head.info ≡ Some k → Puts HasPut old new (ReadsTail order head k rest) r → Puts HasPut old new (ReadsFront order bytes) r
-front_put HasPut old new order bytes head rest k (Ok size) fits h kind given =
+pub front_put : {P : Type 0} (HasPut : P → BtfType → P → Type 0) (Stays : P → P → Type 0) (old new : P) (order : Order) (bytes : List ℕ) (head : Head) (rest : List ℕ) (k : Kind) (r : Result ℕ BtfError) → IsBytes bytes → IsHead order bytes head rest → kind_of head.info ≡ Some k → Puts HasPut Stays old new (ReadsTail order head k rest) r → Puts HasPut Stays old new (ReadsFront order bytes) r
+front_put HasPut Stays old new order bytes head rest k (Ok size) fits h kind given =
     let t = given.0 in
     let n = tail_words k (vlen head.info) in
     let found = reads order bytes k n fits (omega (arith, given.2.0, length-behind order bytes head rest h)) (ap kind_of (sym h.info) ∙ kind) (ap (λ (i : ℕ). tail_words k (vlen i)) h.info) in
     (t, given.1, subst (λ (q : Record). ReadsFront order bytes (Ok q)) (ap (kept k) (behind_is order bytes head rest n h) ∙ sym given.2.1) found, given.3, given.4)
-front_put HasPut old new order bytes head rest k (Err e) fits h kind given = (
+front_put HasPut Stays old new order bytes head rest k (Err e) fits h kind given = (
   given.0,
   IfSome_then (refusal_of e) given.1 (λ f q.
       subst (λ (x : refusals.Refusal). ReadsFront order bytes (Err x)) (sym q.1)
@@ -46,14 +46,14 @@ front_put HasPut old new order bytes head rest k (Err e) fits h kind given = (
 )
 
 -- a kind that does not exist
-pub kind_refused : {P : Type 0} (HasPut : P → BtfType → P → Type 0) (place : P) (order : Order) (bytes : List ℕ) (head : Head) (rest : List ℕ) (number : ℕ) (r : Result ℕ BtfError) (e : BtfError) → IsErrAnd r (λ y. y ≡ e) → slice_get kinds number ≡ None → e ≡ InvalidTypeKind number → number ≡ kind_number head.info → IsHead order bytes head rest → Puts HasPut place place (ReadsFront order bytes) r
-kind_refused HasPut place order bytes head rest number r e err none is number-is h =
+pub kind_refused : {P : Type 0} (HasPut : P → BtfType → P → Type 0) (HasKept : P → P → Type 0) (place : P) (order : Order) (bytes : List ℕ) (head : Head) (rest : List ℕ) (number : ℕ) (r : Result ℕ BtfError) (e : BtfError) → IsErrAnd r (λ y. y ≡ e) → slice_get kinds number ≡ None → e ≡ InvalidTypeKind number → number ≡ kind_number head.info → IsHead order bytes head rest → Puts HasPut (StaysOr HasKept) place place (ReadsFront order bytes) r
+kind_refused HasPut HasKept place order bytes head rest number r e err none is number-is h =
     let p = err_from_is_err_and r err in
     let no_kind : kind_of head.info ≡ None = ap (slice_get kinds) (sym number-is) ∙ none in
     let found = reads_other_kind order bytes h.long (ap kind_of (sym h.info) ∙ no_kind) in
     let same : InvalidTypeKind (kind_number head.info) ≡ e = ap (λ (n : ℕ). InvalidTypeKind n) (sym number-is) ∙ sym is in
     let told : ReadsFront order bytes (Err (refusals.InvalidTypeKind (kind_number head.info))) = subst (λ (i : ℕ). ReadsFront order bytes (Err (refusals.InvalidTypeKind (kind_number i)))) (sym h.info) found in
-    subst (λ (x : Result ℕ BtfError). Puts HasPut place place (ReadsFront order bytes) x) (sym (p.1 ∙ ap (λ (x : BtfError). Err x) (p.2 ∙ sym same))) (refl, told)
+    subst (λ (x : Result ℕ BtfError). Puts HasPut (StaysOr HasKept) place place (ReadsFront order bytes) x) (sym (p.1 ∙ ap (λ (x : BtfError). Err x) (p.2 ∙ sym same))) (inl refl, told)
 
 -- ---- what is written
 

@@ -9,7 +9,7 @@ ghost use Rattle.btf_words.specs.Error.{MeetsOrNoMemory, IsOrNoMemory};
 ghost use Rattle.btf_words.specs.Endianness.{order_of};
 ghost use Rattle.btf_records.specs.BtfType.{record_of, fallback_of};
 ghost use Rattle.btf_records.specs.Head.{IsHead, ReadsTail};
-ghost use Rattle.btf_records.specs.Place.{Puts};
+ghost use Rattle.btf_records.specs.Place.{Puts, StaysOr};
 ghost use Rattle.btf_words.specs.Kind as kinds;
 
 use crate::btf_type::BtfType;
@@ -142,10 +142,9 @@ impl BtfType {
         data: &[u8],
         endianness: Endianness,
     ) -> Result<usize, BtfError>
-        ensures { Puts (λ old t new. new ≡ old ++ t ∷ []) types.old.items types.new.items
-            (ReadsFront (order_of endianness) «data».now) result }
+        ensures { Puts (λ old t new. new ≡ old ++ t ∷ []) (λ old new. new ≡ old)
+            types.old.items types.new.items (ReadsFront (order_of endianness) «data».now) result }
     {
-        types.reserve(1)?;
         let alloc = *types.allocator();
         read_to(types, alloc, data, endianness)
     }
@@ -236,8 +235,7 @@ fn read_to<P: Place>(
     data: &[u8],
     endianness: Endianness,
 ) -> Result<usize, BtfError>
-    requires { P.is_ready place.old }
-    ensures { Puts P.has_put place.old place.new
+    ensures { Puts P.has_put (StaysOr P.has_kept) place.old place.new
         (ReadsFront (order_of endianness) «data».now) result }
 {
     let (head, rest) = Head::read(data, endianness)?;
@@ -255,56 +253,55 @@ fn put_tail<P: Place>(
     rest: &[u8],
     endianness: Endianness,
 ) -> Result<usize, BtfError>
-    requires ready { P.is_ready place.old }
-    requires kind { kind_of head.info ≡ Some (kinds.kind kind) }
-    ensures { Puts P.has_put place.old place.new
+    requires { kind_of head.info ≡ Some (kinds.kind kind) }
+    ensures { Puts P.has_put (StaysOr P.has_kept) place.old place.new
         (ReadsTail (order_of endianness) head (kinds.kind kind) rest.now) result }
 {
     let Head { name, info, third } = head;
     match kind {
-        BtfKind::Unknown => Ok(put(place, BtfType::Unknown)),
-        BtfKind::Int => Ok(put(place, BtfType::Int(read_int(head, rest, endianness)?))),
-        BtfKind::Ptr => Ok(put(place, BtfType::Ptr(Ptr::new(name, third).with_info(info)))),
-        BtfKind::Array => Ok(put(place, BtfType::Array(read_array(head, rest, endianness)?))),
+        BtfKind::Unknown => put(place, BtfType::Unknown),
+        BtfKind::Int => put(place, BtfType::Int(read_int(head, rest, endianness)?)),
+        BtfKind::Ptr => put(place, BtfType::Ptr(Ptr::new(name, third).with_info(info))),
+        BtfKind::Array => put(place, BtfType::Array(read_array(head, rest, endianness)?)),
         BtfKind::Struct => put_with_list::<P, Struct>(place, alloc, &head, rest, endianness),
         BtfKind::Union => put_with_list::<P, Union>(place, alloc, &head, rest, endianness),
         BtfKind::Enum => put_with_list::<P, Enum>(place, alloc, &head, rest, endianness),
-        BtfKind::Fwd => Ok(put(place, BtfType::Fwd(Fwd::new(name, false).with_info(info)))),
+        BtfKind::Fwd => put(place, BtfType::Fwd(Fwd::new(name, false).with_info(info))),
         BtfKind::Typedef => {
             let record = Typedef::new(name, third);
-            Ok(put(place, BtfType::Typedef(record.with_info(info))))
+            put(place, BtfType::Typedef(record.with_info(info)))
         }
         BtfKind::Volatile => {
             let record = Volatile::new(third).with_name_offset(name);
-            Ok(put(place, BtfType::Volatile(record.with_info(info))))
+            put(place, BtfType::Volatile(record.with_info(info)))
         }
         BtfKind::Const => {
             let record = Const::new(third).with_name_offset(name);
-            Ok(put(place, BtfType::Const(record.with_info(info))))
+            put(place, BtfType::Const(record.with_info(info)))
         }
         BtfKind::Restrict => {
             let record = Restrict::new(third).with_name_offset(name);
-            Ok(put(place, BtfType::Restrict(record.with_info(info))))
+            put(place, BtfType::Restrict(record.with_info(info)))
         }
         BtfKind::Func => {
             let record = Func::new(name, third, FuncLinkage::Static);
-            Ok(put(place, BtfType::Func(record.with_info(info))))
+            put(place, BtfType::Func(record.with_info(info)))
         }
         BtfKind::FuncProto => put_with_list::<P, FuncProto>(place, alloc, &head, rest, endianness),
-        BtfKind::Var => Ok(put(place, BtfType::Var(read_var(head, rest, endianness)?))),
+        BtfKind::Var => put(place, BtfType::Var(read_var(head, rest, endianness)?)),
         BtfKind::DataSec => put_with_list::<P, DataSec>(place, alloc, &head, rest, endianness),
-        BtfKind::Float => Ok(put(
+        BtfKind::Float => put(
             place,
             BtfType::Float(Float::new(name, third).with_info(info)),
-        )),
-        BtfKind::DeclTag => Ok(put(
+        ),
+        BtfKind::DeclTag => put(
             place,
             BtfType::DeclTag(read_decl_tag(head, rest, endianness)?),
-        )),
-        BtfKind::TypeTag => Ok(put(
+        ),
+        BtfKind::TypeTag => put(
             place,
             BtfType::TypeTag(TypeTag::new(name, third).with_info(info)),
-        )),
+        ),
         BtfKind::Enum64 => put_with_list::<P, Enum64>(place, alloc, &head, rest, endianness),
     }
 }
@@ -318,13 +315,12 @@ fn put_with_list<P: Place, R: WithList>(
     rest: &[u8],
     endianness: Endianness,
 ) -> Result<usize, BtfError>
-    requires ready { P.is_ready place.old }
-    requires kind { kind_of head.now.info ≡ Some R.kind }
-    ensures { Puts P.has_put place.old place.new
+    requires { kind_of head.now.info ≡ Some R.kind }
+    ensures { Puts P.has_put (StaysOr P.has_kept) place.old place.new
         (ReadsTail (order_of endianness) head.now R.kind rest.now) result }
 {
     let record: R = read_with_list(alloc, *head, rest, endianness)?;
-    Ok(put(place, record.into_type()))
+    put(place, record.into_type())
 }
 
 /// Writes an ARRAY at the end of bytes, its third word as 0.

@@ -1,37 +1,42 @@
 //! Where a record is put as it is read, so that it is not moved from place to place.
 
-ghost use Rattle.std.specs.Prelude.{◌≡◌, ◌+◌, ◌*◌, length};
+ghost use Rattle.std.specs.Prelude.{◌≡◌, ◌+◌, ◌*◌, length, OnOk, OnErr, IfOk, IfErr};
 ghost use Rattle.btf_records.specs.BtfType.{record_of};
 
 use crate::btf_type::BtfType;
+use btf_words::BtfError;
+use std::alloc::AllocError;
 
 /// A place for a record.
 pub trait Place {
+    ghost use Rattle.std.specs.Prelude.{OnOk, OnErr};
     ghost use Rattle.btf_records.specs.declared.btf_type.BtfType.{BtfType};
-
-    /// There is room for a record.
-    ghost is_ready: { Self → Type 0 };
 
     /// What the place is after a record was put there.
     ghost has_put: { Self → BtfType → Self → Type 0 };
 
+    /// What the place is after there was no memory to put a record there.
+    ghost has_kept: { Self → Self → Type 0 };
+
     /// Puts a record there.
-    fn put(&mut self, btf_type: BtfType)
-        requires { is_ready self.old }
-        ensures { has_put self.old btf_type self.new };
+    fn put(&mut self, btf_type: BtfType) -> Result<(), AllocError>
+        ensures put { OnOk result (has_put self.old btf_type self.new) }
+        ensures kept { OnErr result (has_kept self.old self.new) };
 }
 
-/// The end of a vector with room for one more.
+/// The end of a vector, which grows.
 impl Place for Vec<BtfType> {
-    ghost use Rattle.std.specs.Prelude.{◌≡◌, ◌<◌, ◌∷◌, [], ◌++◌, vec_len, vec_capacity};
-
-    ghost is_ready = { λ v. vec_len v < vec_capacity v };
+    ghost use Rattle.std.specs.Prelude.{◌≡◌, ◌∷◌, [], ◌++◌};
 
     ghost has_put = { λ old t new. new.items ≡ old.items ++ t ∷ [] };
 
+    ghost has_kept = { λ old new. new.items ≡ old.items };
+
     #[inline(always)]
-    fn put(&mut self, btf_type: BtfType) {
+    fn put(&mut self, btf_type: BtfType) -> Result<(), AllocError> {
+        self.reserve(1)?;
         self.push_reserved(btf_type);
+        Ok(())
     }
 }
 
@@ -45,24 +50,26 @@ pub struct One {
 impl Place for One {
     ghost use Rattle.std.specs.Prelude.{◌≡◌, ⊤};
 
-    ghost is_ready = { λ one. ⊤ };
-
     ghost has_put = { λ old t new. new.btf_type ≡ t };
 
+    ghost has_kept = { λ old new. ⊤ };
+
     #[inline(always)]
-    fn put(&mut self, btf_type: BtfType) {
+    fn put(&mut self, btf_type: BtfType) -> Result<(), AllocError> {
         self.btf_type = btf_type;
+        Ok(())
     }
 }
 
 /// Puts a record in a place. Its length in bytes is returned.
 #[inline(always)]
-pub fn put<P: Place>(place: &mut P, btf_type: BtfType) -> usize
-    requires { P.is_ready place.old }
-    ensures put { P.has_put place.old btf_type place.new }
-    ensures size { result ≡ 12 + 4 * length (record_of btf_type).tail }
+pub fn put<P: Place>(place: &mut P, btf_type: BtfType) -> Result<usize, BtfError>
+    ensures put { OnOk result (P.has_put place.old btf_type place.new) }
+    ensures size { IfOk result (λ size. size ≡ 12 + 4 * length (record_of btf_type).tail) }
+    ensures kept { IfErr result
+        (λ e. (e ≡ BtfError.OutOfMemory) × P.has_kept place.old place.new) }
 {
     let size = btf_type.type_info_size();
-    place.put(btf_type);
-    size
+    place.put(btf_type)?;
+    Ok(size)
 }
