@@ -124,6 +124,7 @@ impl PairTable {
     fn split_next(&mut self) -> Result<(), AllocError>
         ensures values { (ids : ℕ × ℕ) → value_of self.new ids ≡ value_of self.old ids }
         ensures counts { count_in self.new ≡ count_in self.old }
+        ensures grows { OnOk result (length self.new.rows ≡ length self.old.rows + 1) }
     {
         self.buckets.reserve(1)?;
         let many = self.buckets.len();

@@ -1,4 +1,5 @@
-use Rattle.std.proofs.Common.{◌≡◌, ℕ, ◌+◌, ◌-◌, ◌*◌, ◌/◌, List, [], ◌∷◌, ◌++◌, length, get_or, set, refl, sym, ap, subst, ◌∙◌, arith, inl, inr}
+use Rattle.std.proofs.Common.{◌≡◌, ℕ, ◌+◌, ◌-◌, ◌*◌, ◌/◌, List, [], ◌∷◌, ◌++◌, length, get_or, map, set, refl, sym, ap, subst, ◌∙◌, arith, inl, inr}
+use Rattle.std.proofs.lemmas.List.{length-append, length-map, length-set}
 use Rattle.btf_compare.specs.PairTable.{AreShared, IsTable, count_in, entries_of, layout, value_of}
 use Rattle.btf_compare.specs.declared.bucket.Bucket.{Bucket}
 use Rattle.btf_compare.proofs.Buckets.{IsNextMask, lt_not}
@@ -57,6 +58,20 @@ module _ (c : After-push_reserved) (long : c.len-many.result ≡ length c.self.i
         ∙ split_counts t.buckets.items t.mask t.further.entries c.self.invariant (c.len-many.result - (t.mask / 2 + 1)) from c.index.result.now is c.split-stay.result.0 c.split-stay.result.1 shared c.split-stay.ensures.counts c.split-stay.ensures.stay c.split-stay.ensures.go next masks
         ∙ ap count_in c.self.view_is
 
+    longer : length (map entries_of c.push_reserved.new.self.items) ≡ length c.args.self.now.rows + 1
+    longer =
+        let t = c.self.inside in
+        let i = c.len-many.result - (t.mask / 2 + 1) in
+        omega (
+          arith,
+          length-map c.push_reserved.new.self.items entries_of,
+          ap length (items c),
+          length-append (set t.buckets.items i c.split-stay.result.0) (c.split-stay.result.1 ∷ []),
+          length-set t.buckets.items i c.split-stay.result.0,
+          length-map t.buckets.items entries_of,
+          ap (λ t. length t.rows) c.self.view_is,
+        )
+
     stays_table : IsTable (layout c.push_reserved.new.self.items next c.self.inside.further.entries)
     stays_table =
         let t = c.self.inside in
@@ -93,3 +108,9 @@ returns-else-many-self-clause-values c = values (goal.at.returns-else-many-self-
 
 pub returns-else-many-self-clause-counts : goal.returns-else-many-self-clause-counts
 returns-else-many-self-clause-counts c = same_counts (goal.at.returns-else-many-self-clause-counts c).After-push_reserved (fewer c).0 _ (fewer c).1
+
+pub returns-then-many-self-clause-grows : goal.returns-then-many-self-clause-grows
+returns-then-many-self-clause-grows c = longer (goal.at.returns-then-many-self-clause-grows c).After-push_reserved (full c).0 _ (full c).1
+
+pub returns-else-many-self-clause-grows : goal.returns-else-many-self-clause-grows
+returns-else-many-self-clause-grows c = longer (goal.at.returns-else-many-self-clause-grows c).After-push_reserved (fewer c).0 _ (fewer c).1
