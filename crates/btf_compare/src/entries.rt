@@ -26,7 +26,8 @@ impl<const N: usize> Entries<N> {
     /// Whether there is no room for another pair.
     #[inline(always)]
     pub fn are_full(&self) -> bool
-        ensures { result ≡ false → length self.now.list.items < N }
+        ensures room { result ≡ false → length self.now.list.items < N }
+        ensures full { IsTrue result → length self.now.list.items ≡ N }
     {
         self.list.is_full()
     }
