@@ -53,12 +53,15 @@ impl Bucket {
     }
 }
 
-/// The number by which a pair of ids finds its bucket: its bits, spread by a product (Knuth, "The Art of Computer
+/// The number by which a pair of ids finds its bucket. Pairs that are as far apart as each other, and whose local ids
+/// stand together, are often met one after the other, so that up to eight of them have numbers in a row, and their
+/// buckets lie beside each other in memory. Where such a row begins is spread by a product (Knuth, "The Art of Computer
 /// Programming", volume 3, section 6.4).
 #[inline(always)]
 pub fn spread(pair: (u32, u32)) -> usize
     ensures { result ≡ spread pair }
 {
-    let bits = pair.0 as u64 * (1 << 32) + pair.1 as u64;
-    (bits.wrapping_mul(0x9e37_79b9_7f4a_7c15) >> 32) as usize
+    let apart = pair.1.wrapping_sub(pair.0) as u64;
+    let bits = apart * (1 << 32) + (pair.0 / 8) as u64;
+    (bits.wrapping_mul(0x9e37_79b9_7f4a_7c15) >> 32) as usize + (pair.0 % 8) as usize
 }
