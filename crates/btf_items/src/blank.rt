@@ -1,4 +1,4 @@
-//! What fills the places of a list in which no item stands.
+//! What fills the places of a list: blank items, and copies of items.
 
 ghost use Rattle.std.specs.Prelude.{◌≡◌, length};
 
@@ -9,6 +9,10 @@ use crate::list::Item;
 pub trait Blank: Item {
     /// The item whose words are zero.
     fn blank() -> Self;
+
+    /// The same item once more, which takes no memory.
+    fn copied(&self) -> Self
+        ensures { result ≡ self.now };
 
     /// Each item has so many words.
     ghost item_width: { (x : Self) → length (Self.item_words x) ≡ Self.width };
@@ -21,6 +25,13 @@ impl Blank for BtfEnum {
         BtfEnum {
             name_offset: 0,
             value: 0,
+        }
+    }
+
+    fn copied(&self) -> Self {
+        BtfEnum {
+            name_offset: self.name_offset,
+            value: self.value,
         }
     }
 
@@ -38,6 +49,14 @@ impl Blank for BtfEnum64 {
         }
     }
 
+    fn copied(&self) -> Self {
+        BtfEnum64 {
+            name_offset: self.name_offset,
+            value_low: self.value_low,
+            value_high: self.value_high,
+        }
+    }
+
     ghost item_width = { λ x. refl };
 }
 
@@ -49,6 +68,14 @@ impl Blank for BtfMember {
             name_offset: 0,
             btf_type: 0,
             offset: 0,
+        }
+    }
+
+    fn copied(&self) -> Self {
+        BtfMember {
+            name_offset: self.name_offset,
+            btf_type: self.btf_type,
+            offset: self.offset,
         }
     }
 
@@ -65,6 +92,13 @@ impl Blank for BtfParam {
         }
     }
 
+    fn copied(&self) -> Self {
+        BtfParam {
+            name_offset: self.name_offset,
+            btf_type: self.btf_type,
+        }
+    }
+
     ghost item_width = { λ x. refl };
 }
 
@@ -76,6 +110,14 @@ impl Blank for DataSecEntry {
             btf_type: 0,
             offset: 0,
             size: 0,
+        }
+    }
+
+    fn copied(&self) -> Self {
+        DataSecEntry {
+            btf_type: self.btf_type,
+            offset: self.offset,
+            size: self.size,
         }
     }
 

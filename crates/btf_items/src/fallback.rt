@@ -2,7 +2,7 @@
 
 ghost use Rattle.std.specs.Prelude.{◌≡◌, Ok};
 ghost use Rattle.btf_words.specs.Error.{IsOrNoMemory};
-ghost use Rattle.btf_items.specs.Fallback.{fallback_value, fallback_of_option};
+ghost use Rattle.btf_items.specs.Fallback.{fallback_value};
 
 use btf_words::BtfError;
 
@@ -40,15 +40,5 @@ impl Enum64Fallback {
             signed: self.signed,
             variants,
         })
-    }
-}
-
-/// An equal fallback, if there is one. `OutOfMemory` is the only error.
-pub fn clone_fallback(fallback: &Option<Enum64Fallback>) -> Result<Option<Enum64Fallback>, BtfError>
-    ensures { IsOrNoMemory fallback_of_option result (Ok (fallback_of_option fallback.now)) }
-{
-    match fallback {
-        Some(fallback) => Ok(Some(fallback.try_clone()?)),
-        None => Ok(None),
     }
 }

@@ -63,6 +63,18 @@ impl<T: Blank, const N: usize> ItemList<T, N> {
         let items = read_few(bytes, endianness, count)?;
         Ok(ItemList::Few(count, items))
     }
+
+    /// Equal items.
+    pub fn try_clone(&self) -> Result<Self, AllocError>
+        ensures { IfOk result (λ v. (flat_map T.item_words (items_of v)
+            ≡ flat_map T.item_words (items_of self.now))
+            × (length (items_of v) ≡ length (items_of self.now))) }
+    {
+        match self {
+            ItemList::Few(count, items) => Ok(ItemList::Few(*count, copy_few(items))),
+            ItemList::Many(items) => Ok(ItemList::Many(clone_items(items)?)),
+        }
+    }
 }
 
 impl<T: Item, const N: usize> ItemList<T, N> {
@@ -76,18 +88,17 @@ impl<T: Item, const N: usize> ItemList<T, N> {
             ItemList::Many(items) => items[index] = item,
         }
     }
+}
 
-    /// Equal items.
-    pub fn try_clone(&self) -> Result<Self, AllocError>
-        ensures { IfOk result (λ v. (flat_map T.item_words (items_of v)
-            ≡ flat_map T.item_words (items_of self.now))
-            × (length (items_of v) ≡ length (items_of self.now))) }
-    {
-        match self {
-            ItemList::Few(count, items) => Ok(ItemList::Few(*count, items.clone()?)),
-            ItemList::Many(items) => Ok(ItemList::Many(clone_items(items)?)),
-        }
+/// The same items once more. A loop of a known number of rounds is copied as a whole.
+fn copy_few<T: Blank, const N: usize>(items: &[T; N]) -> [T; N]
+    ensures { result ≡ items.now }
+{
+    let mut copies: [T; N] = array::from_fn(|_| T::blank());
+    for index in 0..N {
+        copies[index] = items.as_slice()[index].copied();
     }
+    copies
 }
 
 /// So many items from the front of bytes, in the first places of an array. `InvalidTypeInfo` where the bytes end before

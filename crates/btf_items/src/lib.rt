@@ -8,7 +8,7 @@ mod items;
 mod list;
 mod words;
 
-pub use fallback::{Enum64Fallback, Enum64VariantFallback, clone_fallback};
+pub use fallback::{Enum64Fallback, Enum64VariantFallback};
 pub use item_list::ItemList;
 pub use items::{BtfEnum, BtfEnum64, BtfMember, BtfParam, DataSecEntry};
 pub use list::{Item, clone_items, push_items, read_items};
