@@ -1,17 +1,17 @@
 -- Texts of ASCII alone, found 16 bytes at a time.
-use Rattle.std.proofs.Common.{◌≡◌, ◌≢◌, ℕ, suc, ◌+◌, ◌-◌, ◌<◌, ◌≤◌, leb, not, List, length, take, drop, get_or, Some, Ok, inl, inr, sym, ap, subst, ◌∙◌, arith}
-use Rattle.std.specs.Str.{IsUtf8}
+use Rattle.std.proofs.Common.{◌≡◌, ◌≢◌, ℕ, suc, ◌+◌, ◌-◌, ◌<◌, ◌≤◌, zero, leb, not, List, length, take, drop, get_or, Some, None, true, false, Ok, inl, inr, sym, ap, subst, ◌∙◌, arith}
+use Rattle.std.specs.Str.{IsUtf8, IsCharBoundary}
 use Rattle.std.specs.List.{prefix_len}
 use Rattle.std.proofs.lemmas.Bool.{eqb-false, eqb-true, ne_eqb, leb-false, leb-true, cases_lt}
 use Rattle.std.proofs.lemmas.Simd.{run_in_chunk_fails, run_in_chunk_le, run_in_chunk_stops}
-use Rattle.std.proofs.lemmas.List.{get_or-take, length-take-le}
-use Rattle.std.proofs.lemmas.Str.{IsUtf8-from_ascii}
+use Rattle.std.proofs.lemmas.List.{get_or-take, get_or-drop, length-drop, length-take-le, take-append-drop}
+use Rattle.std.proofs.lemmas.Str.{IsUtf8-from_ascii, IsUtf8-append, IsUtf8-drop, IsCharBoundary-after_ascii}
 use Rattle.std.proofs.lemmas.Str.Ascii.{IsAscii-from_reads}
 use Rattle.bstr.proofs.lemmas.EncodeLemmas.{lossy_chars-utf8}
 use lib.Lanes.{chunk}
 use Rattle.btf_model.specs.Text.{is_zero, bytes_at, text_of, text_at}
-use Rattle.btf_model.proofs.Texts.{bytes_are}
-use Rattle.btf_table.specs.Ascii.{IsAsciiEnd, IsAsciiText}
+use Rattle.btf_model.proofs.Texts.{bytes_are, no_bytes}
+use Rattle.btf_table.specs.Ascii.{IsAsciiEnd, IsAsciiText, BeginsAscii}
 
 -- no byte below an index is zero, and each is ASCII
 abbrev pub AreAscii : List ℕ → ℕ → Type 0
@@ -37,10 +37,20 @@ module _ (bytes : List ℕ) (at zero other : ℕ) (room : at + 16 ≤ length byt
     ascii = ascii_on (at + zero) (omega arith) (omega arith);
   }
 
+  -- what comes before the first byte that is not ASCII, where no zero byte comes first
+  pub few_before : other < zero → other < 16
+  few_before lt = omega (arith, lt, run_in_chunk_le is_zero bytes at 16 zero 0 room zeros)
+
+  pub begins_before : other < zero → BeginsAscii bytes (at + other)
+  begins_before lt = record {
+    within = omega (arith, room, few_before lt);
+    each = ascii_on (at + other) (omega (arith, lt)) (omega arith);
+  }
+
   -- what is not ASCII, before any zero byte, leaves no end
   pub none_ends : other < zero → (end : ℕ) → ¬ (IsAsciiEnd bytes end)
   none_ends lt end h =
-      let few : other < 16 = omega (arith, lt, run_in_chunk_le is_zero bytes at 16 zero 0 room zeros) in
+      let few : other < 16 = few_before lt in
       let high : 128 ≤ get_or bytes (at + other) 0 = leb-true 128 _ (run_in_chunk_stops (leb 128) bytes at 16 other 0 room others few) in
       elim (cases_lt (at + other) end) [
         | inl after ↦ omega (arith, high, (h.ascii (at + other) after).1)
@@ -53,14 +63,14 @@ module _ (bytes : List ℕ) (at zero other : ℕ) (room : at + 16 ≤ length byt
             ]
       ]
 
--- where fewer than 16 bytes are left, and no text has ended, none ends with as many after it
-pub none_is_left : (bytes : List ℕ) (at : ℕ) → AreAscii bytes at → length bytes - at < 16 → (end : ℕ) → end + 16 ≤ length bytes → ¬ (IsAsciiEnd bytes end)
-none_is_left bytes at before few end room h = (before end (omega (arith, few, room))).0 h.stops
-
 -- such a text is UTF-8
 pub end_is_utf8 : (bytes : List ℕ) (end : ℕ) → IsAsciiEnd bytes end → IsUtf8 (take end bytes)
 end_is_utf8 bytes end h =
     IsUtf8-from_ascii (take end bytes) (IsAscii-from_reads (take end bytes) end (omega (arith, length-take-le end bytes (omega (arith, h.within)))) (λ k lt. subst (λ b. b < 128) (sym (get_or-take end bytes k 0 lt)) (h.ascii k lt).1))
+
+-- the text of bytes that are UTF-8 is these bytes
+pub utf8_text_at : (strings : List ℕ) (offset : ℕ) (bytes text : List ℕ) → Some bytes ≡ bytes_at strings offset → text ≡ bytes → IsUtf8 bytes → Ok text ≡ text_at strings offset
+utf8_text_at strings offset bytes text found is whole = ap (λ (xs : List ℕ). Ok xs) (is ∙ sym (lossy_chars-utf8 bytes whole)) ∙ ap (text_of offset) found
 
 -- and it is the text that is read there
 pub ascii_text_at : (strings : List ℕ) (offset : ℕ) (rest text : List ℕ) → rest ≡ drop offset strings → IsAsciiText rest text → Ok text ≡ text_at strings offset
@@ -68,4 +78,59 @@ ascii_text_at strings offset rest text is h =
     let end = h.0 in
     let found : bytes_at strings offset ≡ Some (take end rest) =
     bytes_are strings offset rest end is h.1.within (λ k lt. ne_eqb (get_or rest k 0) 0 (h.1.ascii k lt).0) (ap is_zero h.1.stops) in
-    ap (λ (bytes : List ℕ). Ok bytes) (h.2 ∙ sym (lossy_chars-utf8 (take end rest) (end_is_utf8 rest end h.1))) ∙ ap (text_of offset) (sym found)
+    utf8_text_at strings offset (take end rest) text (sym found) h.2 (end_is_utf8 rest end h.1)
+
+-- ---- bytes of which the first are ASCII
+
+-- no byte before an index is zero, where none of the first is, and none between these and the index
+module _ (rest after : List ℕ) (ascii : ℕ) (begins : BeginsAscii rest ascii) (after-is : after ≡ drop ascii rest) where
+  none_before : (n : ℕ) → ((k : ℕ) → k < n → is_zero (get_or after k 0) ≡ false) → (k : ℕ) → k < ascii + n → is_zero (get_or rest k 0) ≡ false
+  none_before n none k lt =
+      elim (cases_lt k ascii) [
+        | inl early ↦ ne_eqb (get_or rest k 0) 0 (begins.each k early).0
+        | inr late ↦
+            let same : ascii + (k - ascii) ≡ k = omega (arith, late) in
+            let here : get_or after (k - ascii) 0 ≡ get_or rest k 0 =
+            ap (λ (xs : List ℕ). get_or xs (k - ascii) 0) after-is ∙ get_or-drop ascii rest (k - ascii) 0 ∙ ap (λ (i : ℕ). get_or rest i 0) same in
+            subst (λ b. is_zero b ≡ false) here (none (k - ascii) (omega (arith, lt, late)))
+      ]
+
+  length-after : ascii + length after ≡ length rest
+  length-after = omega (arith, ap length after-is, length-drop ascii rest, begins.within)
+
+-- the bytes up to a zero byte that is found after the first
+pub bytes_after : (strings rest after : List ℕ) (offset ascii n : ℕ) → rest ≡ drop offset strings → BeginsAscii (drop offset strings) ascii → after ≡ drop ascii rest → n < length after → ((k : ℕ) → k < n → is_zero (get_or after k 0) ≡ false) → is_zero (get_or after n 0) ≡ true → bytes_at strings offset ≡ Some (take (ascii + n) rest)
+bytes_after strings rest after offset ascii n is begins after-is lt none zero-there =
+    let here : BeginsAscii rest ascii = subst (λ (xs : List ℕ). BeginsAscii xs ascii) (sym is) begins in
+    let at : get_or after n 0 ≡ get_or rest (ascii + n) 0 = ap (λ (xs : List ℕ). get_or xs n 0) after-is ∙ get_or-drop ascii rest n 0 in
+    bytes_are strings offset rest (ascii + n) is (omega (arith, lt, length-after rest after ascii here after-is)) (none_before rest after ascii here after-is n none) (subst (λ b. is_zero b ≡ true) at zero-there)
+
+-- none where none is found after the first
+pub no_bytes_after : (strings rest after : List ℕ) (offset ascii : ℕ) → rest ≡ drop offset strings → BeginsAscii (drop offset strings) ascii → after ≡ drop ascii rest → ((k : ℕ) → k < length after → is_zero (get_or after k 0) ≡ false) → bytes_at strings offset ≡ None
+no_bytes_after strings rest after offset ascii is begins after-is none =
+    let here : BeginsAscii rest ascii = subst (λ (xs : List ℕ). BeginsAscii xs ascii) (sym is) begins in
+    no_bytes strings offset rest is (λ k lt. none_before rest after ascii here after-is (length after) none k (omega (arith, lt, length-after rest after ascii here after-is)))
+
+-- ASCII, and then UTF-8, is UTF-8
+pub utf8_with_ascii : (bytes : List ℕ) (ascii : ℕ) → BeginsAscii bytes ascii → IsUtf8 (drop ascii bytes) → IsUtf8 bytes
+utf8_with_ascii bytes ascii begins after =
+    let front : IsUtf8 (take ascii bytes) =
+    IsUtf8-from_ascii (take ascii bytes) (IsAscii-from_reads (take ascii bytes) ascii (omega (arith, length-take-le ascii bytes begins.within)) (λ k lt. subst (λ b. b < 128) (sym (get_or-take ascii bytes k 0 lt)) (begins.each k lt).1)) in
+    subst IsUtf8 (take-append-drop ascii bytes) (IsUtf8-append (take ascii bytes) (drop ascii bytes) front after)
+
+-- and what follows ASCII in UTF-8 is UTF-8
+pub utf8_after_ascii : (bytes : List ℕ) (ascii : ℕ) → BeginsAscii bytes ascii → IsUtf8 bytes → IsUtf8 (drop ascii bytes)
+utf8_after_ascii bytes zero begins whole = whole
+utf8_after_ascii bytes (suc k) begins whole =
+    let last : k + 1 ≡ suc k = omega arith in
+    let boundary = IsCharBoundary-after_ascii bytes k whole (omega (arith, begins.within)) (begins.each k (omega arith)).1 in
+    IsUtf8-drop bytes (suc k) whole (subst (IsCharBoundary bytes) last boundary)
+
+-- ASCII at the front of bytes is at the front of a longer part of them
+pub begins_part : (bytes : List ℕ) (ascii end : ℕ) → BeginsAscii bytes ascii → ascii ≤ end → end ≤ length bytes → BeginsAscii (take end bytes) ascii
+begins_part bytes ascii end begins le within = record {
+  within = omega (arith, le, length-take-le end bytes within);
+  each = λ k lt.
+      let same : get_or (take end bytes) k 0 ≡ get_or bytes k 0 = get_or-take end bytes k 0 (omega (arith, le, lt)) in
+      subst (λ b. (b ≢ 0) × (b < 128)) (sym same) (begins.each k lt);
+}

@@ -1,14 +1,18 @@
 //! Texts of ASCII alone, which most names are: their end is found 16 bytes at a time.
 
-ghost use Rattle.std.specs.Prelude.{◌≡◌, ℕ, ◌+◌, ◌≤◌, not, leb, length, take, drop, IfSome, IfNone};
+ghost use Rattle.std.specs.Prelude.{◌≡◌, ℕ, ◌+◌, ◌<◌, ◌≤◌, not, leb, length, take, drop, IfOk, IfErr, MatchResult};
 ghost use Rattle.std.specs.List.{prefix_len};
 ghost use Rattle.btf_model.specs.Text.{is_zero};
-ghost use Rattle.btf_table.specs.Ascii.{lowest_bit, IsAsciiEnd, IsAsciiText};
+ghost use Rattle.btf_table.specs.Ascii.{lowest_bit, IsAsciiEnd, IsAsciiText, BeginsAscii};
 
 use std::simd::prelude::*;
 
 /// The number of bytes that are looked at at once.
 const LANES: usize = 16;
+
+/// The number of bytes in which the end of a text is searched for 16 bytes at a time. The search for a zero byte alone is
+/// faster where a text is longer.
+const SEARCHED: usize = 128;
 
 /// The place of the lowest bit that is set, or `LANES` where none is.
 #[inline(always)]
@@ -35,33 +39,40 @@ fn runs_at(bytes: &[u8], at: usize) -> (usize, usize)
     (lowest_bit(zeros), lowest_bit(others))
 }
 
-/// The length of the text at the front of bytes, up to the first zero byte, where it is of ASCII alone. None where it is
-/// not, or where it may end so near to the end of the bytes that fewer than 16 are left from there on.
-pub fn ascii_len(bytes: &[u8]) -> Option<usize>
-    ensures found { IfSome result (IsAsciiEnd bytes.now) }
-    ensures none { IfNone result ((end : ℕ) → end + LANES ≤ length bytes.now
+/// The length of the text at the front of bytes, up to the first zero byte, where it is of ASCII alone. Otherwise the
+/// number of bytes at the front that are known to be ASCII, and not zero: the search ends after `SEARCHED` bytes, where a
+/// byte is not ASCII, or where fewer than 16 bytes are left.
+pub fn ascii_len(bytes: &[u8]) -> Result<usize, usize>
+    ensures found { IfOk result (IsAsciiEnd bytes.now) }
+    ensures ascii { IfErr result (BeginsAscii bytes.now) }
+    ensures none { IfErr result (λ _. (end : ℕ) → end < SEARCHED → end + LANES ≤ length bytes.now
         → ¬ IsAsciiEnd bytes.now end) }
+    // No more bytes are looked at than these.
+    ensures bounded { MatchResult result (λ end. end < SEARCHED) (λ ascii. ascii ≤ SEARCHED) }
 {
+    let limit = bytes.len().min(SEARCHED);
     let mut at = 0;
-    while bytes.len() - at >= LANES {
+    while limit - at >= LANES {
         let (zero, other) = runs_at(bytes, at);
         if other < zero {
-            return None;
+            return Err(at + other);
         }
         if zero < LANES {
-            return Some(at + zero);
+            return Ok(at + zero);
         }
         at += LANES;
     }
-    None
+    Err(at)
 }
 
-/// The text at the front of bytes, up to the first zero byte, where `ascii_len` finds it.
+/// The text at the front of bytes, up to the first zero byte, where `ascii_len` finds it. Otherwise the number of bytes at
+/// the front that are known to be ASCII, and not zero.
 #[inline(always)]
-pub fn ascii_text(bytes: &[u8]) -> Option<&str>
-    ensures { IfSome result (λ text. IsAsciiText bytes.now text.now) }
+pub fn ascii_text(bytes: &[u8]) -> Result<&str, usize>
+    ensures text { IfOk result (λ text. IsAsciiText bytes.now text.now) }
+    ensures ascii { IfErr result (BeginsAscii bytes.now) }
 {
     let text = &bytes[..ascii_len(bytes)?];
     // SAFETY: ASCII is UTF-8, which is what the call demands, and what is proved of these bytes.
-    Some(unsafe { str::from_utf8_unchecked(text) })
+    Ok(unsafe { str::from_utf8_unchecked(text) })
 }

@@ -1,6 +1,6 @@
 //! Texts of the string section, and the type of a name.
 
-ghost use Rattle.std.specs.Prelude.{◌≡◌, ◌↔◌, ◌<◌, ◌^◌, length, drop, map, Some, IfSome, IsTrue};
+ghost use Rattle.std.specs.Prelude.{◌≡◌, ◌↔◌, ◌<◌, ◌^◌, length, drop, map, Some, IfSome, IsTrue, MatchOption};
 ghost use Rattle.std.specs.Option.{option_map};
 ghost use Rattle.std.specs.Str.{IsUtf8};
 ghost use Rattle.btf_model.specs.Record.{kind_of};
@@ -9,6 +9,7 @@ ghost use Rattle.btf_model.specs.Text.{FindsName};
 ghost use Rattle.btf_words.specs.Error.{MeetsOrNoMemory, IsOrNoMemory, Meets};
 ghost use Rattle.btf_words.specs.Kind as kinds;
 ghost use Rattle.btf_records.specs.BtfType.{record_of};
+ghost use Rattle.btf_table.specs.Ascii.{BeginsAscii};
 ghost use Rattle.btf_table.specs.BtfStr.{text_bytes, IsNamed};
 ghost use Rattle.btf_table.specs.Readable.{IsReadableEnd, IsComparable, HasNameAt};
 
@@ -17,7 +18,6 @@ use bstr::ByteSlice;
 use btf_plain::{BtfError, BtfKind};
 use btf_records::BtfType;
 use std::alloc::Global;
-use std::borrow::CowStr;
 
 /// A text of a table: its own bytes where they are UTF-8, else the text that they are read as.
 #[derive(Debug, Drop)]
@@ -43,13 +43,31 @@ impl<'a> BtfStr<'a> {
     }
 }
 
-/// The bytes from an offset up to the first zero byte; None where there is none.
-fn bytes_at(strings: &[u8], offset: u32) -> Option<&[u8]>
-    ensures { option_map (λ b. b.now) result ≡ model.bytes_at strings.now offset }
+/// The bytes from an offset up to the first zero byte; None where there is none. The first `ascii` bytes there are known
+/// to be ASCII, and not zero, so the search begins after them.
+fn bytes_at(strings: &[u8], offset: u32, ascii: usize) -> Option<&[u8]>
+    requires { BeginsAscii (drop offset strings.now) ascii }
+    ensures bytes { option_map (λ b. b.now) result ≡ model.bytes_at strings.now offset }
+    ensures ascii { IfSome result (λ b. BeginsAscii b.now ascii) }
 {
     let rest = strings.get(offset as usize..)?;
-    let end = rest.find_byte(0)?;
-    Some(&rest[..end])
+    let after = &rest[ascii..];
+    let end = after.find_byte(0)?;
+    Some(&rest[..ascii + end])
+}
+
+/// The text of bytes, where they are UTF-8. The first `ascii` bytes are known to be ASCII, so only those after them are
+/// looked at.
+fn utf8_text(bytes: &[u8], ascii: usize) -> Option<&str>
+    requires { BeginsAscii bytes.now ascii }
+    ensures { MatchOption result (¬ IsUtf8 bytes.now)
+        (λ text. (text.now ≡ bytes.now) × IsUtf8 bytes.now) }
+{
+    match str::from_utf8(&bytes[ascii..]) {
+        // SAFETY: ASCII, and then UTF-8, is UTF-8, which is what the call demands.
+        Ok(_) => Some(unsafe { str::from_utf8_unchecked(bytes) }),
+        Err(_) => None,
+    }
 }
 
 /// The text at an offset, or `InvalidStringOffset` of it where no zero byte stands at it or after it. Most are of ASCII
@@ -61,27 +79,35 @@ pub fn text_at(alloc: Global, strings: &[u8], offset: u32) -> Result<BtfStr<'_>,
         → Meets text_bytes result (λ answer. answer ≡ model.text_at strings.now offset) }
 {
     match ascii_text(strings_from(strings, offset)) {
-        Some(text) => Ok(BtfStr::Borrowed(text)),
-        None => any_text_at(alloc, strings, offset),
+        Ok(text) => Ok(BtfStr::Borrowed(text)),
+        Err(ascii) => any_text_at(alloc, strings, offset, ascii),
     }
 }
 
-/// The same, of bytes that may be any.
+/// The same, of bytes that may be any, after the first `ascii` bytes, which are known to be ASCII, and not zero.
 #[inline(never)]
-fn any_text_at(alloc: Global, strings: &[u8], offset: u32) -> Result<BtfStr<'_>, BtfError>
+fn any_text_at(
+    alloc: Global,
+    strings: &[u8],
+    offset: u32,
+    ascii: usize,
+) -> Result<BtfStr<'_>, BtfError>
+    requires { BeginsAscii (drop offset strings.now) ascii }
     ensures text { IsOrNoMemory text_bytes result (model.text_at strings.now offset) }
     ensures no_memory { IfSome (model.bytes_at strings.now offset) IsUtf8
         → Meets text_bytes result (λ answer. answer ≡ model.text_at strings.now offset) }
 {
-    let Some(bytes) = bytes_at(strings, offset) else {
+    let Some(bytes) = bytes_at(strings, offset, ascii) else {
         return Err(BtfError::InvalidStringOffset {
             offset: offset as usize,
         });
     };
-    match bytes.to_str_lossy(alloc)? {
-        CowStr::Borrowed(text) => Ok(BtfStr::Borrowed(text)),
-        CowStr::Owned(text) => Ok(BtfStr::Owned(text)),
+    if let Some(text) = utf8_text(bytes, ascii) {
+        return Ok(BtfStr::Borrowed(text));
     }
+    let mut text = String::with_capacity(alloc, bytes.len())?;
+    bytes.to_str_lossy_into(&mut text)?;
+    Ok(BtfStr::Owned(text))
 }
 
 /// The end of the offsets at which a text can be read: a zero byte stands at each below it, or after it.
