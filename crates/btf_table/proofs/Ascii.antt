@@ -63,6 +63,10 @@ module _ (bytes : List ℕ) (at zero other : ℕ) (room : at + 16 ≤ length byt
             ]
       ]
 
+-- where fewer than 16 bytes are left, and no text has ended, none ends with as many after it
+pub none_is_left : (bytes : List ℕ) (at : ℕ) → AreAscii bytes at → length bytes - at < 16 → (end : ℕ) → end + 16 ≤ length bytes → ¬ (IsAsciiEnd bytes end)
+none_is_left bytes at before few end room h = (before end (omega (arith, few, room))).0 h.stops
+
 -- such a text is UTF-8
 pub end_is_utf8 : (bytes : List ℕ) (end : ℕ) → IsAsciiEnd bytes end → IsUtf8 (take end bytes)
 end_is_utf8 bytes end h =

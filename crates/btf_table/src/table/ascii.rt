@@ -1,6 +1,6 @@
 //! Texts of ASCII alone, which most names are: their end is found 16 bytes at a time.
 
-ghost use Rattle.std.specs.Prelude.{◌≡◌, ℕ, ◌+◌, ◌<◌, ◌≤◌, not, leb, length, take, drop, IfOk, IfErr, MatchResult};
+ghost use Rattle.std.specs.Prelude.{◌≡◌, ℕ, ◌+◌, ◌≤◌, not, leb, length, take, drop, IfOk, IfErr, IsTrue};
 ghost use Rattle.std.specs.List.{prefix_len};
 ghost use Rattle.btf_model.specs.Text.{is_zero};
 ghost use Rattle.btf_table.specs.Ascii.{lowest_bit, IsAsciiEnd, IsAsciiText, BeginsAscii};
@@ -10,9 +10,8 @@ use std::simd::prelude::*;
 /// The number of bytes that are looked at at once.
 const LANES: usize = 16;
 
-/// The number of bytes in which the end of a text is searched for 16 bytes at a time. The search for a zero byte alone is
-/// faster where a text is longer.
-const SEARCHED: usize = 128;
+/// The number of bytes that are passed over together. A byte costs less so than in the search for a zero byte alone.
+const BLOCK: usize = 64;
 
 /// The place of the lowest bit that is set, or `LANES` where none is.
 #[inline(always)]
@@ -39,20 +38,71 @@ fn runs_at(bytes: &[u8], at: usize) -> (usize, usize)
     (lowest_bit(zeros), lowest_bit(others))
 }
 
+/// Whether the 16 bytes at a place are ASCII, and none of them is zero.
+#[inline(always)]
+fn is_plain(bytes: &[u8], at: usize) -> bool
+    requires { at + LANES ≤ length bytes.now }
+    ensures { IsTrue result → BeginsAscii bytes.now at → BeginsAscii bytes.now (at + LANES) }
+{
+    let (zero, other) = runs_at(bytes, at);
+    zero == LANES && other == LANES
+}
+
+/// Whether the bytes of the block at a place are ASCII, and none of them is zero.
+#[inline(always)]
+fn is_plain_block(bytes: &[u8], at: usize) -> bool
+    requires { at + BLOCK ≤ length bytes.now }
+    ensures { IsTrue result → BeginsAscii bytes.now at → BeginsAscii bytes.now (at + BLOCK) }
+{
+    is_plain(bytes, at)
+        && is_plain(bytes, at + 16)
+        && is_plain(bytes, at + 32)
+        && is_plain(bytes, at + 48)
+}
+
+/// The place itself, but at the end of the first block the place after all blocks from there on that are ASCII, with no
+/// zero byte. Most texts end in the first block, where 16 bytes at a time find the end sooner.
+#[inline(always)]
+fn after_first_block(bytes: &[u8], from: usize) -> usize
+    requires { BeginsAscii bytes.now from }
+    ensures ascii { BeginsAscii bytes.now result }
+    ensures on { from ≤ result }
+{
+    if from == BLOCK {
+        after_blocks(bytes, from)
+    } else {
+        from
+    }
+}
+
+/// The place after the blocks at a place that are ASCII, with no zero byte.
+#[inline(never)]
+fn after_blocks(bytes: &[u8], from: usize) -> usize
+    requires { BeginsAscii bytes.now from }
+    ensures ascii { BeginsAscii bytes.now result }
+    ensures on { from ≤ result }
+{
+    let mut at = from;
+    while bytes.len() - at >= BLOCK {
+        if !is_plain_block(bytes, at) {
+            return at;
+        }
+        at += BLOCK;
+    }
+    at
+}
+
 /// The length of the text at the front of bytes, up to the first zero byte, where it is of ASCII alone. Otherwise the
-/// number of bytes at the front that are known to be ASCII, and not zero: the search ends after `SEARCHED` bytes, where a
-/// byte is not ASCII, or where fewer than 16 bytes are left.
+/// number of bytes at the front that are known to be ASCII, and not zero: the search ends where a byte is not ASCII, or
+/// where fewer than 16 bytes are left.
 pub fn ascii_len(bytes: &[u8]) -> Result<usize, usize>
     ensures found { IfOk result (IsAsciiEnd bytes.now) }
     ensures ascii { IfErr result (BeginsAscii bytes.now) }
-    ensures none { IfErr result (λ _. (end : ℕ) → end < SEARCHED → end + LANES ≤ length bytes.now
+    ensures none { IfErr result (λ _. (end : ℕ) → end + LANES ≤ length bytes.now
         → ¬ IsAsciiEnd bytes.now end) }
-    // No more bytes are looked at than these.
-    ensures bounded { MatchResult result (λ end. end < SEARCHED) (λ ascii. ascii ≤ SEARCHED) }
 {
-    let limit = bytes.len().min(SEARCHED);
     let mut at = 0;
-    while limit - at >= LANES {
+    while bytes.len() - at >= LANES {
         let (zero, other) = runs_at(bytes, at);
         if other < zero {
             return Err(at + other);
@@ -60,7 +110,7 @@ pub fn ascii_len(bytes: &[u8]) -> Result<usize, usize>
         if zero < LANES {
             return Ok(at + zero);
         }
-        at += LANES;
+        at = after_first_block(bytes, at + LANES);
     }
     Err(at)
 }

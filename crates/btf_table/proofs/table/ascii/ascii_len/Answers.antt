@@ -1,39 +1,36 @@
 use Rattle.std.proofs.Common.{◌+◌, ◌<◌, ◌≤◌, length, arith}
-use Rattle.btf_table.proofs.Ascii.{ascii_on, ascii_ends, none_ends, few_before, begins_before}
+use Rattle.btf_table.proofs.Ascii.{ascii_on, ascii_ends, none_ends, none_is_left, few_before, begins_before}
 use Rattle.btf_table.proofs.table.ascii.ascii_len.Goals as goal
 
 pub overflow_add-result : goal.overflow_add-result
 overflow_add-result c =
-    let room : c.loop-at.at + 16 ≤ length c.args.bytes.now = omega (arith, c.loop-at-test.true, c.loop-at.invariant.within, c.min-limit.ensures) in
-    let few : c.runs_at-zero.result.1 < 16 = few_before c.args.bytes.now c.loop-at.at c.runs_at-zero.result.0 c.runs_at-zero.result.1 room c.runs_at-zero.ensures.zero c.runs_at-zero.ensures.other c.loop-at.invariant.ascii c.if-other-zero.true in
-    omega (arith, few, room, c.loop-at-test.true, c.loop-at.invariant.within, c.min-limit.ensures)
+    let room : c.loop-at.at + 16 ≤ length c.args.bytes.now = omega (arith, c.loop-at-test.true, c.loop-at.invariant.within) in
+    let few : c.runs_at-zero.result.1 < 16 = few_before c.args.bytes.now c.loop-at.at c.runs_at-zero.result.0 c.runs_at-zero.result.1 room c.runs_at-zero.ensures.zero c.runs_at-zero.ensures.other c.loop-at.invariant.each c.if-other-zero.true in
+    omega (arith, few, room)
 
 pub returns-then-other-zero-clause-ascii : goal.returns-then-other-zero-clause-ascii
 returns-then-other-zero-clause-ascii c =
-    let room : c.loop-at.at + 16 ≤ length c.args.bytes.now = omega (arith, c.loop-at-test.true, c.loop-at.invariant.within, c.min-limit.ensures) in
-    begins_before c.args.bytes.now c.loop-at.at c.runs_at-zero.result.0 c.runs_at-zero.result.1 room c.runs_at-zero.ensures.zero c.runs_at-zero.ensures.other c.loop-at.invariant.ascii c.if-other-zero.true
+    let room : c.loop-at.at + 16 ≤ length c.args.bytes.now = omega (arith, c.loop-at-test.true, c.loop-at.invariant.within) in
+    begins_before c.args.bytes.now c.loop-at.at c.runs_at-zero.result.0 c.runs_at-zero.result.1 room c.runs_at-zero.ensures.zero c.runs_at-zero.ensures.other c.loop-at.invariant.each c.if-other-zero.true
 
 pub returns-then-other-zero-clause-none : goal.returns-then-other-zero-clause-none
-returns-then-other-zero-clause-none c end near room_after =
-    let room : c.loop-at.at + 16 ≤ length c.args.bytes.now = omega (arith, c.loop-at-test.true, c.loop-at.invariant.within, c.min-limit.ensures) in
-    none_ends c.args.bytes.now c.loop-at.at c.runs_at-zero.result.0 c.runs_at-zero.result.1 room c.runs_at-zero.ensures.zero c.runs_at-zero.ensures.other c.loop-at.invariant.ascii c.if-other-zero.true end
-
-pub returns-then-other-zero-clause-bounded : goal.returns-then-other-zero-clause-bounded
-returns-then-other-zero-clause-bounded c =
-    let room : c.loop-at.at + 16 ≤ length c.args.bytes.now = omega (arith, c.loop-at-test.true, c.loop-at.invariant.within, c.min-limit.ensures) in
-    let few : c.runs_at-zero.result.1 < 16 = few_before c.args.bytes.now c.loop-at.at c.runs_at-zero.result.0 c.runs_at-zero.result.1 room c.runs_at-zero.ensures.zero c.runs_at-zero.ensures.other c.loop-at.invariant.ascii c.if-other-zero.true in
-    omega (arith, few, c.loop-at-test.true, c.loop-at.invariant.within, c.min-limit.ensures)
+returns-then-other-zero-clause-none c end room_after =
+    let room : c.loop-at.at + 16 ≤ length c.args.bytes.now = omega (arith, c.loop-at-test.true, c.loop-at.invariant.within) in
+    none_ends c.args.bytes.now c.loop-at.at c.runs_at-zero.result.0 c.runs_at-zero.result.1 room c.runs_at-zero.ensures.zero c.runs_at-zero.ensures.other c.loop-at.invariant.each c.if-other-zero.true end
 
 pub returns-then-zero-lt-LANES-clause-found : goal.returns-then-zero-lt-LANES-clause-found
 returns-then-zero-lt-LANES-clause-found c =
-    let room : c.loop-at.at + 16 ≤ length c.args.bytes.now = omega (arith, c.loop-at-test.true, c.loop-at.invariant.within, c.min-limit.ensures) in
-    ascii_ends c.args.bytes.now c.loop-at.at c.runs_at-zero.result.0 c.runs_at-zero.result.1 room c.runs_at-zero.ensures.zero c.runs_at-zero.ensures.other c.loop-at.invariant.ascii c.if-other-zero.false c.if-zero-lt-LANES.true
+    let room : c.loop-at.at + 16 ≤ length c.args.bytes.now = omega (arith, c.loop-at-test.true, c.loop-at.invariant.within) in
+    ascii_ends c.args.bytes.now c.loop-at.at c.runs_at-zero.result.0 c.runs_at-zero.result.1 room c.runs_at-zero.ensures.zero c.runs_at-zero.ensures.other c.loop-at.invariant.each c.if-other-zero.false c.if-zero-lt-LANES.true
 
-pub loop-at-preserved : goal.loop-at-preserved
-loop-at-preserved c =
-    let room : c.loop-at.at + 16 ≤ length c.args.bytes.now = omega (arith, c.loop-at-test.true, c.loop-at.invariant.within, c.min-limit.ensures) in
+pub after_first_block-at-requires : goal.after_first_block-at-requires
+after_first_block-at-requires c =
+    let room : c.loop-at.at + 16 ≤ length c.args.bytes.now = omega (arith, c.loop-at-test.true, c.loop-at.invariant.within) in
     record {
-      within = omega (arith, c.loop-at-test.true, c.loop-at.invariant.within);
-      whole = omega (arith, c.loop-at.invariant.whole);
-      ascii = ascii_on c.args.bytes.now c.loop-at.at c.runs_at-zero.result.0 c.runs_at-zero.result.1 room c.runs_at-zero.ensures.zero c.runs_at-zero.ensures.other c.loop-at.invariant.ascii (c.loop-at.at + 16) (omega (arith, c.if-zero-lt-LANES.false)) (omega (arith, c.if-zero-lt-LANES.false, c.if-other-zero.false));
+      within = room;
+      each = ascii_on c.args.bytes.now c.loop-at.at c.runs_at-zero.result.0 c.runs_at-zero.result.1 room c.runs_at-zero.ensures.zero c.runs_at-zero.ensures.other c.loop-at.invariant.each (c.loop-at.at + 16) (omega (arith, c.if-zero-lt-LANES.false)) (omega (arith, c.if-zero-lt-LANES.false, c.if-other-zero.false));
     }
+
+pub returns-clause-none : goal.returns-clause-none
+returns-clause-none c end room_after =
+    none_is_left c.args.bytes.now c.loop-at.at c.loop-at.invariant.each (omega (arith, c.loop-at-test.false)) end room_after

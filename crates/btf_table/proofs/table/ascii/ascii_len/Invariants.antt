@@ -1,13 +1,9 @@
-use Rattle.std.proofs.Common.{◌≡◌, ◌≤◌, ◌*◌, ◌-◌, ◌/◌}
-use Rattle.btf_table.proofs.Ascii.{AreAscii}
+use Rattle.std.proofs.Common.{length, ◌-◌}
+use Rattle.btf_table.specs.Ascii.{BeginsAscii}
 use Rattle.btf_table.proofs.table.ascii.ascii_len.Given as goal
 
 abbrev pub invariant-loop-at : goal.invariant-loop-at
-invariant-loop-at l = record {
-  within : l.at ≤ l.limit;
-  whole : l.at ≡ 16 * (l.at / 16);
-  ascii : AreAscii l.bytes l.at;
-}
+invariant-loop-at l = BeginsAscii l.bytes l.at
 
 abbrev pub decreases-loop-at : goal.decreases-loop-at
-decreases-loop-at l = l.limit - l.at
+decreases-loop-at l = length l.bytes - l.at
