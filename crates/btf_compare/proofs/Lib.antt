@@ -12,3 +12,4 @@ pub mod Splits
 pub mod Comparing
 pub mod Progresses
 pub mod Starts
+pub mod Begun

@@ -6,7 +6,7 @@ use Rattle.std.proofs.lemmas.Bool.{cases_Bool, cases_eq, false≢true}
 use Rattle.btf_compare.specs.Entries.{is_ids, values_in, Sets}
 use Rattle.btf_compare.specs.Buckets.{bucket_of, is_numbered}
 use Rattle.std.proofs.lemmas.List.{map-set, get_or-set_same, get_or-set_other, length-map, length-set, length-append}
-use Rattle.btf_compare.specs.PairTable.{AreShared, IsTable, count_in, entries_of, held, layout, mark_of, place_in, value_of}
+use Rattle.btf_compare.specs.PairTable.{AreShared, IsTable, TakesMore, count_in, entries_of, held, layout, mark_of, place_in, value_of}
 use Rattle.btf_compare.specs.declared.bucket.Bucket.{Bucket}
 use Rattle.btf_compare.specs.declared.progress.Progress.{Progress}
 use Rattle.btf_compare.proofs.EntryLists.{is_same, array_push, further_set, nowhere, set_then_more}
@@ -138,6 +138,20 @@ module _ (buckets : List Bucket) (mask : ℕ) (further : List ((ℕ × ℕ) × P
       counts_set =
           let rows_set = map-set entries_of buckets i new in
           omega (arith, ap held rows_set, held_set (map entries_of buckets) i (entries_of b) (entries_of new) (omega (arith, inside, many)) row_here)
+
+      -- the pairs that come into the buckets before one more is made
+      pub takes_more : (left now : ℕ) → TakesMore (layout buckets mask further) left → now + length (entries_of new) ≡ left + length (entries_of b) → TakesMore (layout (set buckets i new) mask more) now
+      takes_more left now takes same =
+          let rows_set = map-set entries_of buckets i new in
+          omega (
+            arith,
+            takes,
+            same,
+            ap held rows_set,
+            ap length rows_set,
+            length-set (map entries_of buckets) i (entries_of new),
+            held_set (map entries_of buckets) i (entries_of b) (entries_of new) (omega (arith, inside, many)) row_here,
+          )
 
       module _ (p : Progress) (apart : (other : ℕ × ℕ) → is_ids ids other ≡ false → values_in more other ≡ values_in further other) where
         columns : length (map entries_of (set buckets i new)) ≡ length (map entries_of buckets)

@@ -1,11 +1,12 @@
 -- Positions of the comparison of types.
-use Rattle.std.proofs.Common.{◌≡◌, ℕ, zero, suc, ◌≤◌, arith, nat_lt, slice_get, slice_index_or, None, List, [], ◌∷◌, length, refl, sym, ap, subst, ◌∙◌, inl, inr, Bool, true, false, Some, Ok, Err, Result}
+use Rattle.std.proofs.Common.{◌≡◌, ℕ, zero, suc, ◌<◌, ◌≤◌, ◌^◌, arith, nat_lt, slice_get, slice_index_or, None, List, [], ◌∷◌, length, refl, sym, ap, subst, ◌∙◌, inl, inr, Bool, true, false, Some, Ok, Err, Result}
 use Rattle.std.specs.List.{flat_map}
 use Rattle.std.specs.Option.{option_map}
 use Rattle.std.proofs.lemmas.Bool.{eq-eqb, ne_eqb, ltb-true, ltb-false}
 use Rattle.std.proofs.lemmas.Option.{same_Some, slice_get-map, slice_get_past, slice_get_read, slice_get_within}
 use Rattle.std.proofs.lemmas.List.{length-map}
-use Rattle.btf_model.specs.Record.{Record, Kind}
+use Rattle.std.proofs.Math.Nat.{mod-lt}
+use Rattle.btf_model.specs.Record.{Record, Kind, vlen}
 use Rattle.btf_model.specs.Refusal.{Refusal}
 use Rattle.btf_model.specs.Table.{Table}
 use Rattle.btf_model.specs.Fields.{Pair}
@@ -82,6 +83,10 @@ length-pairs : (ids others : List ℕ) → (length (pairs ids others) ≤ length
 length-pairs [] others = (omega arith, omega arith)
 length-pairs (id ∷ ids) [] = (omega arith, omega arith)
 length-pairs (id ∷ ids) (other ∷ others) = let le = length-pairs ids others in (omega (arith, le.0), omega (arith, le.1))
+
+-- no more parameters are owed than a vlen can count
+pub few_owed : (params others : List BtfParam) (info : ℕ) → vlen info ≡ length params → length (pairs (types_of params) (types_of others)) < 2 ^ 16
+few_owed params others info is = omega (arith, is, (length-pairs (types_of params) (types_of others)).0, count_of params, mod-lt info {m = 2 ^ 16} (omega arith))
 
 its_type : (params : List BtfParam) (index : ℕ) (p : BtfParam) → true ≡ nat_lt index (length params) → p ≡ slice_index_or params index p → slice_get (types_of params) index ≡ Some p.btf_type
 its_type params index p lt is = slice_get-map (λ (x : BtfParam). x.btf_type) params index ∙ ap (option_map (λ (x : BtfParam). x.btf_type)) (slice_get_read params (length params) index p refl (ltb-true index (length params) (sym lt)) is)

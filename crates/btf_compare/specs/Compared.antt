@@ -1,7 +1,7 @@
 -- What the parts of the comparison of types stand for.
 use Rattle.std.specs.BTreeSet as ordered
 use Rattle.std.specs.BTreeSet.{BTreeSet}
-use Rattle.std.specs.Prelude.{◌≡◌, ◌≢◌, ◌⊎◌, ◌<◌, ◌≤◌, ℕ, suc, ◌-◌, ◌*◌, length, All, Bool, true, false, List, ◌++◌, map, slice_get, Option, Some, None, Result, Ok, Err}
+use Rattle.std.specs.Prelude.{◌≡◌, ◌≢◌, ◌⊎◌, ◌<◌, ◌≤◌, ℕ, suc, ◌-◌, ◌*◌, ◌^◌, length, All, Bool, true, false, cond, ltb, List, ◌++◌, map, slice_get, Option, Some, None, Result, Ok, Err}
 use Rattle.std.specs.List.{IsDistinct}
 use Rattle.btf_model.specs.Record.{Record, Kind, compared_kind}
 use Rattle.btf_model.specs.Refusal.{Refusal}
@@ -39,6 +39,10 @@ types_of params = map (λ p. p.btf_type) params
 abbrev pub owed_by : ProtoPair → List Pair
 owed_by found = pairs (types_of found.params.now) (types_of found.others.now)
 
+-- whether it is worth remembering that all parameters of two prototypes came out true
+abbrev pub are_long : ProtoPair → Bool
+are_long found = ltb 8 (length found.params.now)
+
 -- the position is one of which P holds
 abbrev pub PositionIs : Position → (model.Position → Type 0) → Type 0
 PositionIs (positions.Told answer) P = Meets (λ b. b) answer (λ a. P (Told a))
@@ -49,6 +53,11 @@ PositionIs (positions.Owes found) P = P (Owes (owed_by found) (pair_of found.ret
 abbrev pub IfOwed : Position → (Pair → Type 0) → Type 0
 IfOwed (positions.Owes found) P = P (pair_of found.ids)
 IfOwed x P = Unit {0}
+
+-- Two prototypes have as many parameters as their vlen can count.
+abbrev pub HasFew : Position → Type 0
+HasFew (positions.Owes found) = length (owed_by found) < 2 ^ 16
+HasFew x = Unit {0}
 
 -- whether the set has the pair
 abbrev pub passed_in : BTreeSet (ℕ × ℕ) → Pair → Bool
@@ -73,6 +82,7 @@ pub record AreAt (local target : Table) (f : Frame) (found : ProtoPair) : Type 0
   pub finds : Finds local target (pair_of f.at) (Owes (owed_by found) (pair_of found.returns))
   pub resolves : ResolvesPair local target (pair_of f.at) (Ok (pair_of found.ids))
   pub within : f.gone < walk_limit
+  pub few : length (owed_by found) < 2 ^ 16
 
 -- Where the walk of an open pair gets to from f without waiting for another pair: it goes on, and past prototypes that
 -- were passed before.
@@ -96,6 +106,11 @@ PaysNext local target f g found (Ok (Some ids)) =
     IsNext local target (frame_of f) (runs.Waits (pair_of ids) (frame_of g))
 PaysNext local target f g found (Ok None) = (length (owed_by found) ≤ f.parameter) × (g ≡ f)
 PaysNext local target f g found (Err e) = Meets (λ b. b) (Err e) (λ a. IsNext local target (frame_of f) (runs.Ends a))
+
+-- the set has gained the ids of the prototypes if these are long, and nothing else
+abbrev pub Passes : BTreeSet (ℕ × ℕ) → BTreeSet (ℕ × ℕ) → ProtoPair → Type 0
+Passes old new found = (p : Pair)
+    → passed_in new p ≡ cond (are_long found) (cond (pair_eq (pair_of found.ids) p) true (passed_in old p)) (passed_in old p)
 
 -- the set has gained these ids at most
 abbrev pub GainsOnly : BTreeSet (ℕ × ℕ) → BTreeSet (ℕ × ℕ) → Pair → Type 0
@@ -131,6 +146,13 @@ settled_by id None = Ok false
 abbrev pub IsStarted : Table → Table → Pair → Bool → Type 0
 IsStarted local target p true = Begins local target p
 IsStarted local target p false = (k q : Kind) × AreKnown local target p k q × (compared_kind k ≢ compared_kind q)
+
+-- A pair was started: its kinds differ, or its walk got to this frame from its first position, and came to this end.
+abbrev pub HasStarted : Table → Table → (Pair → Bool) → Pair → Frame → Result Place BtfError → Type 0
+HasStarted local target passed p f end =
+    (IsStarted local target p false × (end ≡ Ok (places.Ends false)))
+    ⊎ (IsStarted local target p true × WalksTo local target passed (new_frame p) (frame_of f)
+    × ComesTo local target f end)
 
 -- Why a pair is not started: an id is not known, the local one first, or memory is refused.
 abbrev pub IsRefused : Table → Table → Pair → BtfError → Type 0

@@ -1,10 +1,14 @@
 -- A table of many pairs of ids, in buckets.
-use Rattle.std.specs.Prelude.{◌≡◌, ℕ, suc, ◌+◌, ◌-◌, ◌^◌, ◌≤◌, length, map, get_or, Bool, false, List, [], ◌∷◌, Option, None, if◌then◌else◌}
+use Rattle.std.specs.Prelude.{◌≡◌, ℕ, suc, ◌+◌, ◌-◌, ◌*◌, ◌^◌, ◌<◌, ◌≤◌, length, map, get_or, Bool, false, List, [], ◌∷◌, Option, None, if◌then◌else◌}
 use Rattle.std.specs.Option.{option_or}
 use Rattle.btf_compare.specs.Entries.{values_in}
 use Rattle.btf_compare.specs.Buckets.{bucket_of, is_numbered}
 use Rattle.btf_compare.specs.declared.bucket.Bucket.{Bucket}
 use Rattle.btf_compare.specs.declared.progress.Progress.{Progress}
+
+-- how many pairs come into the buckets before one more is made
+abbrev pub load : ℕ
+load = 6
 
 -- What lies where in a table: the entries of each bucket, which of them had no room for more, the mask that tells the
 -- bucket of a pair, and the entries for which there was no room.
@@ -50,6 +54,15 @@ module _ {V : Type 0} where
   -- how many entries there are
   abbrev pub count_in : Layout V → ℕ
   count_in t = held t.rows + length t.further
+
+  -- So many more pairs come into the buckets before one more is made: all buckets have as many pairs then as `load` for
+  -- each of them and for two more.
+  abbrev pub TakesMore : Layout V → ℕ → Type 0
+  TakesMore t left = held t.rows + left ≡ load * (length t.rows + 2)
+
+  -- One more pair comes into the buckets before that.
+  abbrev pub HasRoom : Layout V → Type 0
+  HasRoom t = held t.rows < load * (length t.rows + 2)
 
   -- The mask has a bit more than the numbers of all buckets take, and an entry is not in its bucket only where that had
   -- no room.

@@ -1,6 +1,6 @@
 //! An open pair of the comparison of types, and its walk.
 
-ghost use Rattle.std.specs.Prelude.{◌≡◌, ◌+◌, ◌<◌};
+ghost use Rattle.std.specs.Prelude.{◌≡◌, ◌+◌, ◌<◌, Ok, IsTrue, false};
 ghost use Rattle.btf_model.specs.Compat.{ResolvesPair};
 ghost use Rattle.btf_model.specs.Run.{new_frame};
 ghost use Rattle.btf_words.specs.Error.{Meets};
@@ -12,14 +12,17 @@ use btf_plain::BtfError;
 use btf_table::{Btf, WALK_LIMIT};
 use std::collections::BTreeSet;
 
+/// How many positions a walk passes.
+const POSITIONS: u32 = WALK_LIMIT as u32;
+
 /// A pair of ids that is open: where its walk is, how many positions it has passed, and which parameter comes next.
 #[derive(Clone, Copy, Drop)]
 pub struct Frame {
     /// The pair, the local id first.
     pub pair: (u32, u32),
     at: (u32, u32),
-    gone: usize,
-    parameter: usize,
+    gone: u32,
+    parameter: u32,
 }
 
 /// What the walk of an open pair comes to.
@@ -45,6 +48,27 @@ impl Frame {
         }
     }
 
+    /// Walks a pair that has not walked yet. If the kinds of its types are not alike, it ends with false at once.
+    #[inline(always)]
+    pub fn begin<'a>(
+        &mut self,
+        alike: bool,
+        local: &'a Btf,
+        target: &'a Btf,
+        passed: &BTreeSet<(u32, u32)>,
+    ) -> Result<Place<'a>, BtfError>
+        ensures differs { alike ≡ false → result ≡ Ok (Place.Ends false) }
+        ensures walks { IsTrue alike → WalksTo local.now target.now (passed_in passed.now)
+            (frame_of self.old) (frame_of self.new) }
+        ensures comes { IsTrue alike → ComesTo local.now target.now self.new result }
+        ensures pair { self.new.pair ≡ self.old.pair }
+    {
+        if !alike {
+            return Ok(Place::Ends(false));
+        }
+        self.walk(local, target, passed)
+    }
+
     /// Walks on, to two prototypes or to the end. At each position the two ids are looked up, after their modifiers.
     /// Prototypes whose parameters came out true before, the `passed` ones, are gone past.
     pub fn walk<'a>(
@@ -58,7 +82,7 @@ impl Frame {
         ensures comes { ComesTo local.now target.now self.new result }
         ensures pair { self.new.pair ≡ self.old.pair }
     {
-        'positions: while self.gone < WALK_LIMIT {
+        'positions: while self.gone < POSITIONS {
             match found_at(local, target, self.at) {
                 Position::Told(answer) => return Ok(Place::Ends(answer?)),
                 Position::On(next) => self.go_on(next),
@@ -85,7 +109,7 @@ impl Frame {
         ensures here { AreAt local.now target.now self.new found.now }
         ensures pair { self.new.pair ≡ self.old.pair }
     {
-        let Some(at) = found.parameters_at(self.parameter) else {
+        let Some(at) = found.parameters_at(self.parameter as usize) else {
             return Ok(None);
         };
         let pair = resolved_ids(local, target, at)?;

@@ -5,6 +5,7 @@ mod bucket;
 mod entries;
 mod fields;
 mod frame;
+mod listed;
 mod pair_map;
 mod pair_table;
 mod position;

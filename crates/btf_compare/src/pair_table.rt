@@ -1,9 +1,9 @@
 //! Many pairs of ids, in buckets.
 
-ghost use Rattle.std.specs.Prelude.{◌≡◌, ℕ, ◌+◌, ◌<◌, suc, length, None, IsSome, IfOk, OnOk};
+ghost use Rattle.std.specs.Prelude.{◌≡◌, ℕ, ◌+◌, ◌*◌, ◌<◌, suc, length, None, IsSome, IfOk, OnOk};
 ghost use Rattle.btf_compare.specs.Entries.{Sets, values_in};
 ghost use Rattle.btf_compare.specs.Buckets.{bucket_of};
-ghost use Rattle.btf_compare.specs.PairTable.{count_in, value_of};
+ghost use Rattle.btf_compare.specs.PairTable.{HasRoom, count_in, held, load, value_of};
 
 use crate::bucket::{Bucket, ROOM, spread};
 use crate::entries::Entries;
@@ -12,7 +12,7 @@ use std::alloc::{AllocError, Global};
 use std::collections::BTreeMap;
 use std::marker::Model;
 
-/// The number of pairs for each bucket, with which one more bucket is made.
+/// How many pairs come into the buckets before one more is made.
 const LOAD: usize = 6;
 
 /// The number of buckets that a table has memory for as it begins.
@@ -26,20 +26,22 @@ pub struct PairTable {
     buckets: Vec<Bucket>,
     /// Ones: the bits of a pair's number that tell its bucket, where there is that bucket. Else they are one fewer.
     mask: usize,
-    /// How many pairs there are, by which buckets are added.
-    taken: usize,
+    /// How many more pairs come into the buckets before one more is made. Pairs of the ordered map do not count, so a
+    /// flood makes no buckets.
+    left: usize,
     further: BTreeMap<(u32, u32), Progress>,
 }
 
 impl Model for PairTable {
-    ghost use Rattle.btf_compare.specs.PairTable.{IsTable, Layout, layout};
+    ghost use Rattle.btf_compare.specs.PairTable.{IsTable, TakesMore, Layout, layout};
     ghost use Rattle.btf_compare.specs.declared.progress.Progress.{Progress};
 
     ghost Value = { Layout Progress };
 
     ghost view = { λ t. layout t.buckets.items t.mask t.further.entries };
 
-    ghost invariant = { λ t. IsTable (layout t.buckets.items t.mask t.further.entries) };
+    ghost invariant = { λ t. IsTable (layout t.buckets.items t.mask t.further.entries)
+        × TakesMore (layout t.buckets.items t.mask t.further.entries) t.left };
 }
 
 impl PairTable {
@@ -49,7 +51,7 @@ impl PairTable {
             (λ t. (ids : ℕ × ℕ) → value_of t ids ≡ values_in entries.list.items ids) }
         ensures counts { IfOk result (λ t. count_in t ≡ length entries.list.items) }
     {
-        let taken = entries.list.len();
+        let left = 3 * LOAD - entries.list.len();
         let mut buckets = Vec::with_capacity(alloc, FIRST_BUCKETS)?;
         buckets.push_reserved(Bucket {
             entries,
@@ -58,7 +60,7 @@ impl PairTable {
         Ok(PairTable {
             buckets,
             mask: 1,
-            taken,
+            left,
             further: BTreeMap::new(alloc),
         })
     }
@@ -82,7 +84,6 @@ impl PairTable {
         ensures counts { OnOk result (count_in self.new ≡ count_in self.old + 1) }
     {
         self.make_room()?;
-        self.taken = self.taken.saturating_add(1);
         let index = bucket_of(self.mask, self.buckets.len(), pair);
         let bucket = &mut self.buckets[index];
         if bucket.entries.are_full() {
@@ -90,6 +91,7 @@ impl PairTable {
             bucket.overflows = true;
         } else {
             bucket.entries.push(pair, progress);
+            self.left -= 1;
         }
         Ok(())
     }
@@ -108,13 +110,15 @@ impl PairTable {
         }
     }
 
-    /// Makes one more bucket, where there are many pairs for each.
+    /// Makes one more bucket, if the buckets have no room for one more pair.
     #[inline(always)]
     fn make_room(&mut self) -> Result<(), AllocError>
         ensures values { (ids : ℕ × ℕ) → value_of self.new ids ≡ value_of self.old ids }
         ensures counts { count_in self.new ≡ count_in self.old }
+        ensures room { OnOk result (HasRoom self.new) }
+        ensures kept { HasRoom self.old → self.new ≡ self.old }
     {
-        if self.taken / LOAD >= self.buckets.len() {
+        if self.left == 0 {
             self.split_next()?;
         }
         Ok(())
@@ -122,9 +126,11 @@ impl PairTable {
 
     /// Makes one more bucket, for the pairs of the next one to be split that have its number.
     fn split_next(&mut self) -> Result<(), AllocError>
+        requires { held self.old.rows ≡ load * (length self.old.rows + 2) }
         ensures values { (ids : ℕ × ℕ) → value_of self.new ids ≡ value_of self.old ids }
         ensures counts { count_in self.new ≡ count_in self.old }
         ensures grows { OnOk result (length self.new.rows ≡ length self.old.rows + 1) }
+        ensures room { OnOk result (HasRoom self.new) }
     {
         self.buckets.reserve(1)?;
         let many = self.buckets.len();
@@ -132,6 +138,7 @@ impl PairTable {
         let (stay, go) = self.buckets[next].split(self.mask, many);
         self.buckets[next] = stay;
         self.buckets.push_reserved(go);
+        self.left = LOAD;
         if many == self.mask {
             self.mask = 2 * self.mask + 1;
         }

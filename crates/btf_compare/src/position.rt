@@ -5,7 +5,7 @@ ghost use Rattle.std.specs.Option.{option_map};
 ghost use Rattle.btf_model.specs.Record as model;
 ghost use Rattle.btf_model.specs.Compat.{Finds, PositionFound, ResolvesPair, position_by};
 ghost use Rattle.btf_records.specs.BtfType.{record_of, type_kind};
-ghost use Rattle.btf_compare.specs.Compared.{PositionIs, IfOwed, owed_by};
+ghost use Rattle.btf_compare.specs.Compared.{PositionIs, IfOwed, HasFew, are_long, owed_by};
 ghost use Rattle.btf_compare.specs.Pairs.{pair_of};
 
 use crate::resolved::resolved;
@@ -44,6 +44,7 @@ pub struct ProtoPair<'a> {
 pub fn found_at<'a>(local: &'a Btf, target: &'a Btf, at: (u32, u32)) -> Position<'a>
     ensures position { PositionIs result (Finds local.now target.now (pair_of at)) }
     ensures ids { IfOwed result (λ ids. ResolvesPair local.now target.now (pair_of at) (Ok ids)) }
+    ensures few { HasFew result }
 {
     let (local_id, local_type) = match resolved(local, at.0) {
         Ok(found) => found,
@@ -61,6 +62,7 @@ fn types_at<'a>(ids: (u32, u32), local_type: &'a BtfType, target_type: &'a BtfTy
         (PositionFound ids.0 (type_kind local_type.now) (type_kind target_type.now)
         (record_of local_type.now) (record_of target_type.now)) }
     ensures ids { IfOwed result (λ owing. owing ≡ pair_of ids) }
+    ensures few { HasFew result }
 {
     if !local_type.is_compatible(target_type) {
         return Position::Told(Ok(false));
@@ -136,6 +138,7 @@ fn prototypes<'a>(ids: (u32, u32), local: &'a FuncProto, target_type: &'a BtfTyp
         → PositionIs result (λ found. found ≡ position_by 0 model.FuncProto local.now
         (record_of target_type.now)) }
     ensures ids { IfOwed result (λ owing. owing ≡ pair_of ids) }
+    ensures few { HasFew result }
 {
     let BtfType::FuncProto(target) = target_type else {
         return Position::Told(Ok(false));
@@ -156,14 +159,15 @@ fn prototypes<'a>(ids: (u32, u32), local: &'a FuncProto, target_type: &'a BtfTyp
 impl ProtoPair<'_> {
     /// Whether it is worth remembering that all parameters came out true: where they are few, to look each of them up
     /// again costs no more than that.
-    pub fn are_long(&self) -> bool {
+    pub fn are_long(&self) -> bool
+        ensures { result ≡ are_long self.now }
+    {
         self.params.len() > FEW_PARAMETERS
     }
 
     /// The types of the parameters at an index, if both prototypes have one there.
     pub fn parameters_at(&self, index: usize) -> Option<(u32, u32)>
         ensures pair { option_map pair_of result ≡ slice_get (owed_by self.now) index }
-        ensures index { IsSome result → index < 2 ^ 63 }
     {
         let param = self.params.get(index)?;
         let other = self.others.get(index)?;

@@ -5,12 +5,13 @@ ghost use Rattle.std.specs.BTreeSet.{IsEmpty};
 ghost use Rattle.btf_model.specs.Fields.{Pair};
 ghost use Rattle.btf_model.specs.Refusal.{Refusal};
 ghost use Rattle.btf_model.specs.Compat.{Plain, firsts};
-ghost use Rattle.btf_compare.specs.Compared.{IsStarted, IsRefused, TracesBy, GainsOnly, WalksTo, AreAt, frame_of, progress_of, settled_by};
+ghost use Rattle.btf_compare.specs.Compared.{IsStarted, HasStarted, IsRefused, TracesBy, GainsOnly, Passes, WalksTo, AreAt, frame_of, passed_in, progress_of, settled_by};
 ghost use Rattle.btf_model.specs.Run.{new_frame};
 ghost use Rattle.btf_compare.specs.PairMap.{known, count, Learns};
 ghost use Rattle.btf_compare.specs.Pairs.{pair_of};
 
 use crate::frame::{Frame, Place};
+use crate::listed::{Listed, NoneListed};
 use crate::pair_map::PairMap;
 use crate::position::ProtoPair;
 use crate::progress::Progress;
@@ -46,29 +47,6 @@ impl Run {
         }
     }
 
-    /// Starts a pair, with its progress: remembers it, for which memory is asked first, and reports it.
-    #[inline(always)]
-    fn start<S: Starts>(
-        &mut self,
-        pair: (u32, u32),
-        progress: Progress,
-        starts: &mut S,
-    ) -> Result<(), AllocError>
-        requires { known self.old.seen pair ≡ None }
-        ensures learns { OnOk result (Learns self.old.seen self.new.seen pair progress) }
-        ensures counts { OnOk result (count self.new.seen ≡ count self.old.seen + 1) }
-        ensures listed { OnOk result ((first : S) → (ids : List (ℕ × ℕ))
-            → S.has_added first starts.old ids → S.has_added first starts.new (ids ++ pair ∷ [])) }
-        ensures not_listed { OnErr result
-            ((first : S) → (ids : List (ℕ × ℕ)) → S.has_added first starts.old ids
-            → S.has_added first starts.new ids) }
-        ensures below { self.new.below ≡ self.old.below }
-        ensures passed { self.new.passed ≡ self.old.passed }
-    {
-        self.seen.insert(pair, progress)?;
-        starts.add(pair)
-    }
-
     /// Whether a pair came out true before. One that is still open is refused.
     fn is_settled(&self, pair: (u32, u32)) -> Result<bool, BtfError>
         ensures { result ≡ settled_by pair.0 (known self.now.seen pair) }
@@ -82,6 +60,7 @@ impl Run {
 
     /// Remembers prototypes whose parameters all came out true, if it is worth it.
     fn pass(&mut self, found: &ProtoPair<'_>) -> Result<(), AllocError>
+        ensures passes { OnOk result (Passes self.old.passed self.new.passed found.now) }
         ensures passed { OnOk result
             (GainsOnly self.old.passed self.new.passed (pair_of found.now.ids)) }
         ensures seen { self.new.seen ≡ self.old.seen }
@@ -107,18 +86,6 @@ impl Run {
     }
 }
 
-/// Looks up both ids of a pair, the local one first. Whether its walk begins, which it does where the two types are of
-/// compatible kinds.
-#[inline(always)]
-fn begins(local: &Btf, target: &Btf, pair: (u32, u32)) -> Result<bool, BtfError>
-    ensures started { IfOk result (IsStarted local.now target.now (pair_of pair)) }
-    ensures refused { IfErr result (IsRefused local.now target.now (pair_of pair)) }
-{
-    let local_type = local.type_by_id(pair.0)?;
-    let target_type = target.type_by_id(pair.1)?;
-    Ok(local_type.is_compatible(target_type))
-}
-
 /// What is remembered of a pair, by what its walk came to.
 #[inline(always)]
 fn progress_of(end: &Result<Place<'_>, BtfError>) -> Progress
@@ -128,6 +95,40 @@ fn progress_of(end: &Result<Place<'_>, BtfError>) -> Progress
         Ok(Place::Ends(true)) => Progress::Compatible,
         _ => Progress::Open,
     }
+}
+
+/// Starts a pair that was not listed: looks up both ids, the local one first, walks as far as no other pair is waited
+/// for, remembers the pair with what its walk came to, and lists it. The walk looks at no other pair and asks for no
+/// memory, so what it came to is looked at last, by the caller: an error of this call leaves the list as it was.
+#[inline(always)]
+fn start<'a, L: Listed, S: Starts>(
+    local: &'a Btf,
+    target: &'a Btf,
+    pair: (u32, u32),
+    passed: &BTreeSet<(u32, u32)>,
+    listed: &mut L,
+    starts: &mut S,
+) -> Result<(Frame, Result<Place<'a>, BtfError>), BtfError>
+    requires { L.knows listed.old pair ≡ None }
+    ensures started { IfOk result (λ it. HasStarted local.now target.now (passed_in passed.now)
+        (pair_of pair) it.0 it.1) }
+    ensures pair { IfOk result (λ it. it.0.pair ≡ pair) }
+    ensures learns { IfOk result (λ it. L.learns listed.old listed.new pair (progress_of it.1)) }
+    ensures listed { OnOk result ((first : S) → (ids : List (ℕ × ℕ))
+        → S.has_added first starts.old ids → S.has_added first starts.new (ids ++ pair ∷ [])) }
+    ensures refused { IfErr result (IsRefused local.now target.now (pair_of pair)) }
+    ensures not_listed { OnErr result
+        ((first : S) → (ids : List (ℕ × ℕ)) → S.has_added first starts.old ids
+        → S.has_added first starts.new ids) }
+{
+    let local_type = local.type_by_id(pair.0)?;
+    let target_type = target.type_by_id(pair.1)?;
+    let alike = local_type.is_compatible(target_type);
+    let mut frame = Frame::new(pair);
+    let end = frame.begin(alike, local, target, passed);
+    listed.remember(pair, progress_of(&end))?;
+    starts.add(pair)?;
+    Ok((frame, end))
 }
 
 /// Whether the types of a pair of ids are compatible. Most pairs are settled by their own walk, for which nothing has to
@@ -146,13 +147,9 @@ pub fn compare<S: Starts>(
     let alloc = allocator_of(local);
     // The contract speaks of an answer, which there is where each record has a kind, as a use of the tables shows.
     let _ = allocator_of(target);
-    let begins = begins(local, target, root)?;
-    starts.add(root)?;
-    if !begins {
-        return Ok(false);
-    }
-    let mut top = Frame::new(root);
-    match top.walk(local, target, &BTreeSet::new(alloc))? {
+    let none = BTreeSet::new(alloc);
+    let (top, end) = start(local, target, root, &none, &mut NoneListed, starts)?;
+    match end? {
         Place::Ends(answer) => Ok(answer),
         Place::Owes(found) => compare_on(local, target, top, found, starts),
     }
@@ -205,13 +202,7 @@ fn compare_on<S: Starts>(
         if run.is_settled(pair)? {
             continue;
         }
-        if !begins(local, target, pair)? {
-            run.start(pair, Progress::Open, starts)?;
-            return Ok(false);
-        }
-        let mut inner = Frame::new(pair);
-        let end = inner.walk(local, target, &run.passed);
-        run.start(pair, progress_of(&end), starts)?;
+        let (inner, end) = start(local, target, pair, &run.passed, &mut run.seen, starts)?;
         match end? {
             Place::Ends(false) => return Ok(false),
             Place::Ends(true) => {}

@@ -1,5 +1,4 @@
-use Rattle.std.proofs.Common.{◌≡◌, ◌∷◌, ◌≤◌, [], ℕ, Option, Bool, true, false, Result, Ok, Err, ◌∙◌, refl, sym, ap, subst, length, inl}
-use Rattle.std.specs.Result.{result_from_control_flow}
+use Rattle.std.proofs.Common.{◌≡◌, ◌∷◌, ◌≤◌, [], ℕ, Option, Bool, true, false, Result, Ok, Err, ◌∙◌, refl, sym, ap, subst, length, inl, inr}
 use Rattle.btf_model.proofs.RunLengths.{less_paid}
 use Rattle.btf_model.proofs.Known.{known_pairs}
 use Rattle.btf_words.specs.declared.error.BtfError.{BtfError}
@@ -7,23 +6,24 @@ use Rattle.btf_words.specs.declared.error.BtfError.TheVariants.{OutOfMemory}
 use Rattle.btf_compare.specs.declared.frame.Frame.{Frame}
 use Rattle.btf_compare.specs.declared.frame.Place.{Place}
 use Rattle.btf_compare.specs.declared.frame.Place.TheVariants.{Ends, Owes}
-use Rattle.btf_compare.specs.declared.position.ProtoPair.{ProtoPair}
 use Rattle.btf_compare.specs.declared.pair_map.PairMap.{PairMap}
 use Rattle.btf_compare.specs.declared.progress.Progress.{Progress}
 use Rattle.btf_compare.specs.declared.progress.Progress.TheVariants.{Open, Compatible}
 use Rattle.btf_compare.specs.PairMap.{known, count, Learns}
-use Rattle.btf_compare.specs.Compared.{ComesTo, PaysNext, IsStarted, frame_of, owed_by, tells_open, tells_settled, opened_in, settled_in, progress_of}
+use Rattle.btf_compare.specs.Compared.{HasStarted, PaysNext, frame_of, passed_in, owed_by, tells_open, tells_settled, opened_in, settled_in, progress_of}
 use Rattle.btf_compare.specs.Pairs.{pair_of}
-use Rattle.btf_compare.proofs.Comparing.{Compares, handed, stack_of, no_memory, ends_refused, ends_false, ends_true, pays, is_open, is_refused, differs, told_on}
+use Rattle.btf_compare.proofs.Comparing as runs_of
+use Rattle.btf_compare.proofs.Comparing.{Compares, handed, stack_of, no_memory, ends_refused, ends_true, pays, is_open, is_refused, differs, told_on}
 use Rattle.btf_compare.proofs.Progresses.{known_if_open, open_if, settled_if, unknown_if}
 use Rattle.btf_compare.proofs.Walking.{waits_for, still_owes, Running, PassedIn, shorter, begun, begun_passed, walks, walks_less, walk_fails, ends_by, settled_below, settled_less, settled_passed, returned, returned_less, returned_passed}
 use Rattle.btf_compare.proofs.Inner.{Above, inner_no_memory, inner_fails, inner_false, inner_settled, inner_settled_less, inner_settled_passed, inner_open, inner_open_less, inner_open_passed}
+use Rattle.btf_compare.proofs.Begun.{Walked, ends_false, walked_unless_false}
 use Rattle.btf_compare.proofs.Roots.{root_frame, root_no_memory, nothing_passed}
 use Rattle.btf_compare.proofs.run.compare_on.Invariants.{told}
 use Rattle.btf_model.specs.Table.{Table}
 use Rattle.btf_compare.proofs.run.compare_on.Given.{Over}
 use Rattle.btf_compare.proofs.run.compare_on.Goals as goal
-use Rattle.btf_compare.proofs.run.compare_on.Goals.{After-walk, After-walk-in_default-2, In_ok-start-2}
+use Rattle.btf_compare.proofs.run.compare_on.Goals.{After-walk, After-walk-in_default-2, In_ok-inner, In-Ends-false-2, In-Ends-true-2, In-Owes-2}
 
 -- ---- the pair of the call
 
@@ -61,7 +61,7 @@ pub returns-in-Ends-false : goal.returns-in-Ends-false
 returns-in-Ends-false g c =
     first_told g c.args.local.now c.args.target.now c.args.first.pair _ c.args.starts.now _
     (
-    ends_false c.args.local.now c.args.target.now (pair_of c.args.first.pair) (opened_in c.steps.run.seen) (settled_in c.steps.run.seen) (frame_of c.steps.top) (stack_of c.steps.run.below.items) (count c.steps.run.seen) (told g c.args.first.pair c.args.starts.now c.steps.starts) c.steps.invariant.0
+    runs_of.ends_false c.args.local.now c.args.target.now (pair_of c.args.first.pair) (opened_in c.steps.run.seen) (settled_in c.steps.run.seen) (frame_of c.steps.top) (stack_of c.steps.run.below.items) (count c.steps.run.seen) (told g c.args.first.pair c.args.starts.now c.steps.starts) c.steps.invariant.0
     (ends_by c.args.local.now c.args.target.now c.steps.top c.steps.place c.in-Ends-false.field-0 false c.in-Ends-false.is c.in-Ends-false.field-0-test c.steps.invariant.2)
     )
 
@@ -207,119 +207,117 @@ steps-preserved-then-branch g c = (
   still_owes c.args.local.now c.args.target.now c.pay.new.self c.steps.place c.in-Owes.found c.in-Owes.is c.pay.ensures.here,
 )
 
--- it is looked up
-
-pub returns-in_err-begins : goal.returns-in_err-begins
-returns-in_err-begins g c =
-    first_told g c.args.local.now c.args.target.now c.args.first.pair _ c.args.starts.now _
-    (
-    is_refused c.args.local.now c.args.target.now (pair_of c.args.first.pair) (opened_in c.steps.run.seen) (settled_in c.steps.run.seen) (frame_of c.steps.top) (stack_of c.steps.run.below.items) (count c.steps.run.seen) (told g c.args.first.pair c.args.starts.now c.steps.starts) c.steps.invariant.0
-    (pair_of c.in-Some-2.pair) (frame_of c.pay.new.self) (waits_for c.args.local.now c.args.target.now c.steps.top c.pay.new.self c.in-Owes.found c.in_ok-pair.field-0 c.in-Some-2.pair c.in-Some-2.is c.in_ok-pair.ensures.next) (ap tells_open (unknown_if c.in-Some-2.pair.0 (known c.steps.run.seen c.in-Some-2.pair) (sym c.in_ok-is_settled.ensures ∙ ap (λ (b : Bool). Ok b) c.if-branch.false))) (ap tells_settled (unknown_if c.in-Some-2.pair.0 (known c.steps.run.seen c.in-Some-2.pair) (sym c.in_ok-is_settled.ensures ∙ ap (λ (b : Bool). Ok b) c.if-branch.false))) c.allocator_of.ensures c.allocator_of-2.ensures
-    c.in_err-begins.field-0.0 c.from_residual-in_err-begins.result c.in_err-begins.ensures.refused (handed c.from_residual-in_err-begins.result c.in_err-begins.field-0.0 c.from_residual-in_err-begins.ensures.1)
-    )
-
--- ---- its kinds differ
-
 pub start-requires : goal.start-requires
 start-requires g c = unknown_if c.in-Some-2.pair.0 (known c.steps.run.seen c.in-Some-2.pair) (sym c.in_ok-is_settled.ensures ∙ ap (λ (b : Bool). Ok b) c.if-branch.false)
 
-pub returns-in_err-start : goal.returns-in_err-start
-returns-in_err-start g c =
+-- it is not started
+
+pub returns-in_err-inner : goal.returns-in_err-inner
+returns-in_err-inner g c =
     first_told g c.args.local.now c.args.target.now c.args.first.pair _ c.args.starts.now _
     (
-    told_on c.args.local.now c.args.target.now (pair_of c.args.first.pair) c.from_residual-in_err-start.result (told g c.args.first.pair c.args.starts.now c.steps.starts) (told g c.args.first.pair c.args.starts.now c.start.new.starts) (λ ids h before began. c.in_err-start.ensures.not_listed before ids (h before began))
-    (no_memory c.args.local.now c.args.target.now (pair_of c.args.first.pair) (opened_in c.steps.run.seen) (settled_in c.steps.run.seen) (frame_of c.steps.top) (stack_of c.steps.run.below.items) (count c.steps.run.seen) (told g c.args.first.pair c.args.starts.now c.steps.starts) c.steps.invariant.0 c.allocator_of.ensures c.allocator_of-2.ensures c.from_residual-in_err-start.result
-    (handed c.from_residual-in_err-start.result OutOfMemory c.from_residual-in_err-start.ensures.1))
+    told_on c.args.local.now c.args.target.now (pair_of c.args.first.pair) c.from_residual-in_err-inner.result (told g c.args.first.pair c.args.starts.now c.steps.starts) (told g c.args.first.pair c.args.starts.now c.start.new.starts) (λ ids h before began. c.in_err-inner.ensures.not_listed before ids (h before began))
+    (is_refused c.args.local.now c.args.target.now (pair_of c.args.first.pair) (opened_in c.steps.run.seen) (settled_in c.steps.run.seen) (frame_of c.steps.top) (stack_of c.steps.run.below.items) (count c.steps.run.seen) (told g c.args.first.pair c.args.starts.now c.steps.starts) c.steps.invariant.0
+    (pair_of c.in-Some-2.pair) (frame_of c.pay.new.self) (waits_for c.args.local.now c.args.target.now c.steps.top c.pay.new.self c.in-Owes.found c.in_ok-pair.field-0 c.in-Some-2.pair c.in-Some-2.is c.in_ok-pair.ensures.next) (ap tells_open (unknown_if c.in-Some-2.pair.0 (known c.steps.run.seen c.in-Some-2.pair) (sym c.in_ok-is_settled.ensures ∙ ap (λ (b : Bool). Ok b) c.if-branch.false))) (ap tells_settled (unknown_if c.in-Some-2.pair.0 (known c.steps.run.seen c.in-Some-2.pair) (sym c.in_ok-is_settled.ensures ∙ ap (λ (b : Bool). Ok b) c.if-branch.false))) c.allocator_of.ensures c.allocator_of-2.ensures
+    c.in_err-inner.field-0.0 c.from_residual-in_err-inner.result c.in_err-inner.ensures.refused (handed c.from_residual-in_err-inner.result c.in_err-inner.field-0.0 c.from_residual-in_err-inner.ensures.1))
     )
 
-pub returns-then-not-branch : goal.returns-then-not-branch
-returns-then-not-branch g c =
-    first_told g c.args.local.now c.args.target.now c.args.first.pair _ c.args.starts.now _
-    (
-    differs c.args.local.now c.args.target.now (pair_of c.args.first.pair) (opened_in c.steps.run.seen) (settled_in c.steps.run.seen) (frame_of c.steps.top) (stack_of c.steps.run.below.items) (count c.steps.run.seen) (told g c.args.first.pair c.args.starts.now c.steps.starts) c.steps.invariant.0
-    (pair_of c.in-Some-2.pair) (frame_of c.pay.new.self) (waits_for c.args.local.now c.args.target.now c.steps.top c.pay.new.self c.in-Owes.found c.in_ok-pair.field-0 c.in-Some-2.pair c.in-Some-2.is c.in_ok-pair.ensures.next) (ap tells_open (unknown_if c.in-Some-2.pair.0 (known c.steps.run.seen c.in-Some-2.pair) (sym c.in_ok-is_settled.ensures ∙ ap (λ (b : Bool). Ok b) c.if-branch.false))) (ap tells_settled (unknown_if c.in-Some-2.pair.0 (known c.steps.run.seen c.in-Some-2.pair) (sym c.in_ok-is_settled.ensures ∙ ap (λ (b : Bool). Ok b) c.if-branch.false))) (told g c.args.first.pair c.args.starts.now c.start.new.starts)
-    (subst (λ (b : Bool). IsStarted c.args.local.now c.args.target.now (pair_of c.in-Some-2.pair) b) c.if-not-branch.true c.in_ok-begins.ensures.started) (λ ids h before began. c.in_ok-start.ensures.listed before ids (h before began))
-    )
+-- ---- a pair that is started
 
--- ---- its walk begins
+-- it came to this end
+came_to : (g : Over) (c : In_ok-inner g) (end : Result Place BtfError) → c.in_ok-inner.end ≡ end → HasStarted c.args.local.now c.args.target.now (passed_in c.steps.run.passed) (pair_of c.in-Some-2.pair) c.in_ok-inner.inner end
+came_to g c end is = subst (HasStarted c.args.local.now c.args.target.now (passed_in c.steps.run.passed) (pair_of c.in-Some-2.pair) c.in_ok-inner.inner) is c.in_ok-inner.ensures.started
 
-pub start-requires-in-steps : goal.start-requires-in-steps
-start-requires-in-steps g c = unknown_if c.in-Some-2.pair.0 (known c.steps.run.seen c.in-Some-2.pair) (sym c.in_ok-is_settled.ensures ∙ ap (λ (b : Bool). Ok b) c.if-branch.false)
+-- its walk began
+walk_of : (g : Over) (c : In_ok-inner g) (end : Result Place BtfError) → ends_false end ≡ false → c.in_ok-inner.end ≡ end → Walked c.args.local.now c.args.target.now (passed_in c.steps.run.passed) (pair_of c.in-Some-2.pair) c.in_ok-inner.inner end
+walk_of g c end not is = walked_unless_false c.args.local.now c.args.target.now (passed_in c.steps.run.passed) (pair_of c.in-Some-2.pair) c.in_ok-inner.inner end not (came_to g c end is)
 
-pub returns-in_err-start-2 : goal.returns-in_err-start-2
-returns-in_err-start-2 g c =
-    first_told g c.args.local.now c.args.target.now c.args.first.pair _ c.args.starts.now _
-    (
-    told_on c.args.local.now c.args.target.now (pair_of c.args.first.pair) c.from_residual-in_err-start-2.result (told g c.args.first.pair c.args.starts.now c.steps.starts) (told g c.args.first.pair c.args.starts.now c.start-in-steps.new.starts) (λ ids h before began. c.in_err-start-2.ensures.not_listed before ids (h before began))
-    (no_memory c.args.local.now c.args.target.now (pair_of c.args.first.pair) (opened_in c.steps.run.seen) (settled_in c.steps.run.seen) (frame_of c.steps.top) (stack_of c.steps.run.below.items) (count c.steps.run.seen) (told g c.args.first.pair c.args.starts.now c.steps.starts) c.steps.invariant.0 c.allocator_of.ensures c.allocator_of-2.ensures c.from_residual-in_err-start-2.result
-    (handed c.from_residual-in_err-start-2.result OutOfMemory c.from_residual-in_err-start-2.ensures.1))
-    )
-
-above : (g : Over) (c : In_ok-start-2 g) → Above c.args.local.now c.args.target.now (pair_of c.args.first.pair) c.steps.run.seen c.steps.run.passed c.steps.run.below.items c.steps.top (told g c.args.first.pair c.args.starts.now c.steps.starts) (told g c.args.first.pair c.args.starts.now c.start-in-steps.new.starts)
-    c.in-Some-2.pair c.pay.new.self c.new-inner.result c.walk-end.new.self
-above g c = record {
+above : (g : Over) (c : In_ok-inner g) (end : Result Place BtfError) → Walked c.args.local.now c.args.target.now (passed_in c.steps.run.passed) (pair_of c.in-Some-2.pair) c.in_ok-inner.inner end
+    → Above c.args.local.now c.args.target.now (pair_of c.args.first.pair) c.steps.run.seen c.steps.run.passed c.steps.run.below.items c.steps.top (told g c.args.first.pair c.args.starts.now c.steps.starts) (told g c.args.first.pair c.args.starts.now c.start.new.starts) c.in-Some-2.pair c.pay.new.self (root_frame c.in-Some-2.pair) c.in_ok-inner.inner
+above g c end w = record {
   state = c.steps.invariant.0;
   are = c.steps.invariant.1;
   next = waits_for c.args.local.now c.args.target.now c.steps.top c.pay.new.self c.in-Owes.found c.in_ok-pair.field-0 c.in-Some-2.pair c.in-Some-2.is c.in_ok-pair.ensures.next;
   unknown = unknown_if c.in-Some-2.pair.0 (known c.steps.run.seen c.in-Some-2.pair) (sym c.in_ok-is_settled.ensures ∙ ap (λ (b : Bool). Ok b) c.if-branch.false);
-  begins = subst (λ (b : Bool). IsStarted c.args.local.now c.args.target.now (pair_of c.in-Some-2.pair) b) c.if-not-branch.false c.in_ok-begins.ensures.started;
-  tells = λ ids h before began. c.in_ok-start-2.ensures.listed before ids (h before began);
-  new = c.new-inner.ensures.frame;
-  goes = c.walk-end.ensures.walks;
+  begins = w.0;
+  tells = λ ids h before began. c.in_ok-inner.ensures.listed before ids (h before began);
+  new = refl;
+  goes = w.1;
 }
-
--- what it came to is what the walk returned
-comes_to : (local target : Table) (f : Frame) (end known : Result Place BtfError) → end ≡ known → ComesTo local target f end → ComesTo local target f known
-comes_to local target f end known is comes = subst (λ (r : Result Place BtfError). ComesTo local target f r) is comes
 
 learns_then : (old new : PairMap) (ids : ℕ × ℕ) (p known : Progress) → p ≡ known → Learns old new ids p → Learns old new ids known
 learns_then old new ids p known is learns = subst (λ (x : Progress). Learns old new ids x) is learns
 
-true_then : (end : Result Place BtfError) (place : Place) (answer : Bool) → end ≡ Ok place → place ≡ Ends answer → answer ≡ true → progress_of end ≡ Compatible
-true_then end place answer is ends same = ap progress_of (is ∙ ap (λ (p : Place). Ok p) (ends ∙ ap (λ (b : Bool). Ends b) same))
-
-owes_then : (end : Result Place BtfError) (place : Place) (found : ProtoPair) → end ≡ Ok place → place ≡ Owes found → progress_of end ≡ Open
-owes_then end place found is owes = ap progress_of (is ∙ ap (λ (p : Place). Ok p) owes)
-
 pub returns-in_err-end : goal.returns-in_err-end
 returns-in_err-end g c =
+    let s = (goal.at.returns-in_err-end g c).In_ok-inner in
+    let w = walk_of g s (Err c.in_err-end.field-0.0) refl c.in_err-end.was in
     first_told g c.args.local.now c.args.target.now c.args.first.pair _ c.args.starts.now _
-    (inner_fails (above g (goal.at.returns-in_err-end g c).In_ok-start-2) c.in_err-end.field-0.0 c.from_residual-in_err-end.result (comes_to c.args.local.now c.args.target.now c.walk-end.new.self c.walk-end.result (Err c.in_err-end.field-0.0) (c.branch-end.ensures ∙ ap result_from_control_flow c.in_err-end.is) c.walk-end.ensures.comes) (handed c.from_residual-in_err-end.result c.in_err-end.field-0.0 c.from_residual-in_err-end.ensures.1))
+    (inner_fails (above g s (Err c.in_err-end.field-0.0) w) c.in_err-end.field-0.0 c.from_residual-in_err-end.result w.2 (handed c.from_residual-in_err-end.result c.in_err-end.field-0.0 c.from_residual-in_err-end.ensures.1))
+
+false_is : (g : Over) (c : In-Ends-false-2 g) → c.in_ok-inner.end ≡ Ok (Ends false)
+false_is g c = c.in_ok-end.was ∙ ap (λ (p : Place). Ok p) (c.in-Ends-false-2.is ∙ ap (λ (b : Bool). Ends b) c.in-Ends-false-2.field-0-test)
 
 pub returns-in-Ends-false-2 : goal.returns-in-Ends-false-2
 returns-in-Ends-false-2 g c =
+    let s = (goal.at.returns-in-Ends-false-2 g c).In_ok-inner in
     first_told g c.args.local.now c.args.target.now c.args.first.pair _ c.args.starts.now _
-    (inner_false (above g (goal.at.returns-in-Ends-false-2 g c).In_ok-start-2)
-    (ends_by c.args.local.now c.args.target.now c.walk-end.new.self c.in_ok-end.field-0 c.in-Ends-false-2.field-0 false c.in-Ends-false-2.is c.in-Ends-false-2.field-0-test (comes_to c.args.local.now c.args.target.now c.walk-end.new.self c.walk-end.result (Ok c.in_ok-end.field-0) (c.branch-end.ensures ∙ ap result_from_control_flow c.in_ok-end.is) c.walk-end.ensures.comes)))
+    (elim (came_to g s (Ok (Ends false)) (false_is g (goal.at.returns-in-Ends-false-2 g c).In-Ends-false-2)) [
+      | inl kinds ↦
+          differs c.args.local.now c.args.target.now (pair_of c.args.first.pair) (opened_in c.steps.run.seen) (settled_in c.steps.run.seen) (frame_of c.steps.top) (stack_of c.steps.run.below.items) (count c.steps.run.seen) (told g c.args.first.pair c.args.starts.now c.steps.starts) c.steps.invariant.0
+          (pair_of c.in-Some-2.pair) (frame_of c.pay.new.self) (waits_for c.args.local.now c.args.target.now c.steps.top c.pay.new.self c.in-Owes.found c.in_ok-pair.field-0 c.in-Some-2.pair c.in-Some-2.is c.in_ok-pair.ensures.next) (ap tells_open (unknown_if c.in-Some-2.pair.0 (known c.steps.run.seen c.in-Some-2.pair) (sym c.in_ok-is_settled.ensures ∙ ap (λ (b : Bool). Ok b) c.if-branch.false))) (ap tells_settled (unknown_if c.in-Some-2.pair.0 (known c.steps.run.seen c.in-Some-2.pair) (sym c.in_ok-is_settled.ensures ∙ ap (λ (b : Bool). Ok b) c.if-branch.false))) (told g c.args.first.pair c.args.starts.now c.start.new.starts)
+          kinds.0 (λ ids h before began. c.in_ok-inner.ensures.listed before ids (h before began))
+      | inr w ↦ inner_false (above g s (Ok (Ends false)) w) w.2
+    ])
 
 -- it came out true
 
+true_is : (g : Over) (c : In-Ends-true-2 g) → c.in_ok-inner.end ≡ Ok (Ends true)
+true_is g c = c.in_ok-end.was ∙ ap (λ (p : Place). Ok p) (c.in-Ends-true-2.is ∙ ap (λ (b : Bool). Ends b) c.in-Ends-true-2.field-0-test)
+
 pub steps-smaller-in-Ends-true-2 : goal.steps-smaller-in-Ends-true-2
 steps-smaller-in-Ends-true-2 g c =
-    rw (c.start-in-steps.ensures.below) (inner_settled_less (above g (goal.at.steps-smaller-in-Ends-true-2 g c).In_ok-start-2) (c.walk-end.ensures.pair ∙ c.new-inner.ensures.pair) c.start-in-steps.new.self.seen (learns_then c.steps.run.seen c.start-in-steps.new.self.seen c.in-Some-2.pair c.progress_of.result Compatible (c.progress_of.ensures ∙ true_then c.walk-end.result c.in_ok-end.field-0 c.in-Ends-true-2.field-0 (c.branch-end.ensures ∙ ap result_from_control_flow c.in_ok-end.is) c.in-Ends-true-2.is c.in-Ends-true-2.field-0-test) c.in_ok-start-2.ensures.learns) c.in_ok-start-2.ensures.counts)
+    let s = (goal.at.steps-smaller-in-Ends-true-2 g c).In_ok-inner in
+    let is = true_is g (goal.at.steps-smaller-in-Ends-true-2 g c).In-Ends-true-2 in
+    inner_settled_less (above g s (Ok (Ends true)) (walk_of g s (Ok (Ends true)) refl is)) c.in_ok-inner.ensures.pair c.start.new.listed (learns_then c.steps.run.seen c.start.new.listed c.in-Some-2.pair _ Compatible (ap progress_of is) c.in_ok-inner.ensures.learns.0) c.in_ok-inner.ensures.learns.1
 
 pub steps-preserved-in-Ends-true-2 : goal.steps-preserved-in-Ends-true-2
-steps-preserved-in-Ends-true-2 g c = (
-  rw (c.start-in-steps.ensures.below) (inner_settled (above g (goal.at.steps-preserved-in-Ends-true-2 g c).In_ok-start-2) (c.walk-end.ensures.pair ∙ c.new-inner.ensures.pair) c.start-in-steps.new.self.seen (learns_then c.steps.run.seen c.start-in-steps.new.self.seen c.in-Some-2.pair c.progress_of.result Compatible (c.progress_of.ensures ∙ true_then c.walk-end.result c.in_ok-end.field-0 c.in-Ends-true-2.field-0 (c.branch-end.ensures ∙ ap result_from_control_flow c.in_ok-end.is) c.in-Ends-true-2.is c.in-Ends-true-2.field-0-test) c.in_ok-start-2.ensures.learns) c.in_ok-start-2.ensures.counts
-      (ends_by c.args.local.now c.args.target.now c.walk-end.new.self c.in_ok-end.field-0 c.in-Ends-true-2.field-0 true c.in-Ends-true-2.is c.in-Ends-true-2.field-0-test (comes_to c.args.local.now c.args.target.now c.walk-end.new.self c.walk-end.result (Ok c.in_ok-end.field-0) (c.branch-end.ensures ∙ ap result_from_control_flow c.in_ok-end.is) c.walk-end.ensures.comes))),
-  rw (c.start-in-steps.ensures.passed) (inner_settled_passed (above g (goal.at.steps-preserved-in-Ends-true-2 g c).In_ok-start-2) (c.walk-end.ensures.pair ∙ c.new-inner.ensures.pair) c.start-in-steps.new.self.seen (learns_then c.steps.run.seen c.start-in-steps.new.self.seen c.in-Some-2.pair c.progress_of.result Compatible (c.progress_of.ensures ∙ true_then c.walk-end.result c.in_ok-end.field-0 c.in-Ends-true-2.field-0 (c.branch-end.ensures ∙ ap result_from_control_flow c.in_ok-end.is) c.in-Ends-true-2.is c.in-Ends-true-2.field-0-test) c.in_ok-start-2.ensures.learns)),
-  still_owes c.args.local.now c.args.target.now c.pay.new.self c.steps.place c.in-Owes.found c.in-Owes.is c.pay.ensures.here,
-)
+steps-preserved-in-Ends-true-2 g c =
+    let s = (goal.at.steps-preserved-in-Ends-true-2 g c).In_ok-inner in
+    let is = true_is g (goal.at.steps-preserved-in-Ends-true-2 g c).In-Ends-true-2 in
+    let w = walk_of g s (Ok (Ends true)) refl is in
+    let learns = learns_then c.steps.run.seen c.start.new.listed c.in-Some-2.pair _ Compatible (ap progress_of is) c.in_ok-inner.ensures.learns.0 in (
+      inner_settled (above g s (Ok (Ends true)) w) c.in_ok-inner.ensures.pair c.start.new.listed learns c.in_ok-inner.ensures.learns.1 w.2,
+      inner_settled_passed (above g s (Ok (Ends true)) w) c.in_ok-inner.ensures.pair c.start.new.listed learns,
+      still_owes c.args.local.now c.args.target.now c.pay.new.self c.steps.place c.in-Owes.found c.in-Owes.is c.pay.ensures.here,
+    )
 
 -- it has come to prototypes
 
+owes_is : (g : Over) (c : In-Owes-2 g) → c.in_ok-inner.end ≡ Ok (Owes c.in-Owes-2.inside)
+owes_is g c = c.in_ok-end.was ∙ ap (λ (p : Place). Ok p) c.in-Owes-2.is
+
 pub returns-in_err-push-in-Owes-2 : goal.returns-in_err-push-in-Owes-2
 returns-in_err-push-in-Owes-2 g c =
+    let s = (goal.at.returns-in_err-push-in-Owes-2 g c).In_ok-inner in
+    let is = owes_is g (goal.at.returns-in_err-push-in-Owes-2 g c).In-Owes-2 in
     first_told g c.args.local.now c.args.target.now c.args.first.pair _ c.args.starts.now _
-    (inner_no_memory (above g (goal.at.returns-in_err-push-in-Owes-2 g c).In_ok-start-2) c.allocator_of.ensures c.allocator_of-2.ensures c.from_residual-in_err-push-in-Owes-2.result
+    (inner_no_memory (above g s (Ok (Owes c.in-Owes-2.inside)) (walk_of g s (Ok (Owes c.in-Owes-2.inside)) refl is)) c.allocator_of.ensures c.allocator_of-2.ensures c.from_residual-in_err-push-in-Owes-2.result
     (handed c.from_residual-in_err-push-in-Owes-2.result OutOfMemory c.from_residual-in_err-push-in-Owes-2.ensures.1))
 
 pub steps-smaller : goal.steps-smaller
-steps-smaller g c = inner_open_less (above g (goal.at.steps-smaller g c).In_ok-start-2) c.start-in-steps.new.self.seen (learns_then c.steps.run.seen c.start-in-steps.new.self.seen c.in-Some-2.pair c.progress_of.result Open (c.progress_of.ensures ∙ owes_then c.walk-end.result c.in_ok-end.field-0 c.in-Owes-2.inside (c.branch-end.ensures ∙ ap result_from_control_flow c.in_ok-end.is) c.in-Owes-2.is) c.in_ok-start-2.ensures.learns) c.in_ok-start-2.ensures.counts c.push.new.self.items (rw (sym c.start-in-steps.ensures.below) c.in_ok-push-in-Owes-2.ensures.items)
+steps-smaller g c =
+    let s = (goal.at.steps-smaller g c).In_ok-inner in
+    let is = owes_is g (goal.at.steps-smaller g c).In-Owes-2 in
+    inner_open_less (above g s (Ok (Owes c.in-Owes-2.inside)) (walk_of g s (Ok (Owes c.in-Owes-2.inside)) refl is)) c.start.new.listed (learns_then c.steps.run.seen c.start.new.listed c.in-Some-2.pair _ Open (ap progress_of is) c.in_ok-inner.ensures.learns.0) c.in_ok-inner.ensures.learns.1 c.push.new.self.items c.in_ok-push-in-Owes-2.ensures.items
 
 pub steps-preserved : goal.steps-preserved
-steps-preserved g c = (
-  inner_open (above g (goal.at.steps-preserved g c).In_ok-start-2) c.start-in-steps.new.self.seen (learns_then c.steps.run.seen c.start-in-steps.new.self.seen c.in-Some-2.pair c.progress_of.result Open (c.progress_of.ensures ∙ owes_then c.walk-end.result c.in_ok-end.field-0 c.in-Owes-2.inside (c.branch-end.ensures ∙ ap result_from_control_flow c.in_ok-end.is) c.in-Owes-2.is) c.in_ok-start-2.ensures.learns) c.in_ok-start-2.ensures.counts c.push.new.self.items (rw (sym c.start-in-steps.ensures.below) c.in_ok-push-in-Owes-2.ensures.items),
-  rw (c.start-in-steps.ensures.passed) (inner_open_passed (above g (goal.at.steps-preserved g c).In_ok-start-2) c.start-in-steps.new.self.seen (learns_then c.steps.run.seen c.start-in-steps.new.self.seen c.in-Some-2.pair c.progress_of.result Open (c.progress_of.ensures ∙ owes_then c.walk-end.result c.in_ok-end.field-0 c.in-Owes-2.inside (c.branch-end.ensures ∙ ap result_from_control_flow c.in_ok-end.is) c.in-Owes-2.is) c.in_ok-start-2.ensures.learns)),
-  subst (λ (p : Place). ComesTo c.args.local.now c.args.target.now c.walk-end.new.self (Ok p)) c.in-Owes-2.is (comes_to c.args.local.now c.args.target.now c.walk-end.new.self c.walk-end.result (Ok c.in_ok-end.field-0) (c.branch-end.ensures ∙ ap result_from_control_flow c.in_ok-end.is) c.walk-end.ensures.comes),
-)
+steps-preserved g c =
+    let s = (goal.at.steps-preserved g c).In_ok-inner in
+    let is = owes_is g (goal.at.steps-preserved g c).In-Owes-2 in
+    let w = walk_of g s (Ok (Owes c.in-Owes-2.inside)) refl is in
+    let learns = learns_then c.steps.run.seen c.start.new.listed c.in-Some-2.pair _ Open (ap progress_of is) c.in_ok-inner.ensures.learns.0 in (
+      inner_open (above g s (Ok (Owes c.in-Owes-2.inside)) w) c.start.new.listed learns c.in_ok-inner.ensures.learns.1 c.push.new.self.items c.in_ok-push-in-Owes-2.ensures.items,
+      inner_open_passed (above g s (Ok (Owes c.in-Owes-2.inside)) w) c.start.new.listed learns,
+      w.2,
+    )

@@ -34,7 +34,7 @@ positions-preserved-in-On c = record {
 pub positions-preserved : goal.positions-preserved
 positions-preserved c =
     let found = c.in-Owes.found in
-    let here : AreAt c.args.local.now c.args.target.now c.positions.self found = record { finds = c.in-Owes.ensures.position; resolves = c.in-Owes.ensures.ids; within = c.positions-test.true } in
+    let here : AreAt c.args.local.now c.args.target.now c.positions.self found = record { finds = c.in-Owes.ensures.position; resolves = c.in-Owes.ensures.ids; within = c.positions-test.true; few = c.in-Owes.ensures.few } in
     record {
       walks = WalksTo.past (frame_of c.positions.self) (frame_of c.go_on-in-Owes.new.self) (pair_of found.ids) c.positions.invariant.walks
           (goes_past c.args.local.now c.args.target.now c.positions.self found here c.go_on-in-Owes.new.self c.go_on-in-Owes.ensures) (sym c.contains.ensures ∙ c.if-not-contains.false) (omega (arith, c.if-self-gt0.false));

@@ -1,6 +1,6 @@
 use Rattle.std.proofs.Common.{◌≡◌, ℕ, ◌+◌, ◌-◌, ◌*◌, ◌/◌, List, [], ◌∷◌, ◌++◌, length, get_or, map, set, refl, sym, ap, subst, ◌∙◌, arith, inl, inr}
 use Rattle.std.proofs.lemmas.List.{length-append, length-map, length-set}
-use Rattle.btf_compare.specs.PairTable.{AreShared, IsTable, count_in, entries_of, layout, value_of}
+use Rattle.btf_compare.specs.PairTable.{AreShared, IsTable, TakesMore, count_in, load, entries_of, layout, value_of}
 use Rattle.btf_compare.specs.declared.bucket.Bucket.{Bucket}
 use Rattle.btf_compare.proofs.Buckets.{IsNextMask, lt_not}
 use Rattle.btf_compare.proofs.Splits.{half_within, next_within, most, split_values, split_counts, split_table}
@@ -13,19 +13,19 @@ many c = c.len-many.ensures ∙ c.in_ok-reserve.ensures.len ∙ c.self.inside.bu
 pub overflow_sub-next : goal.overflow_sub-next
 overflow_sub-next c =
     let t = c.self.inside in
-    rw (many c) (half_within t.buckets.items t.mask t.further.entries c.self.invariant)
+    rw (many c) (half_within t.buckets.items t.mask t.further.entries c.self.invariant.0)
 
 pub index-requires : goal.index-requires
 index-requires c =
     let t = c.self.inside in
     let s = (goal.at.index-requires c).After-len-many in
-    rw (sym c.len-many.ensures, many s) (next_within t.buckets.items t.mask t.further.entries c.self.invariant)
+    rw (sym c.len-many.ensures, many s) (next_within t.buckets.items t.mask t.further.entries c.self.invariant.0)
 
 pub index_mut-requires : goal.index_mut-requires
 index_mut-requires c =
     let t = c.self.inside in
     let s = (goal.at.index_mut-requires c).After-len-many in
-    rw (sym c.len-many.ensures, many s) (next_within t.buckets.items t.mask t.further.entries c.self.invariant)
+    rw (sym c.len-many.ensures, many s) (next_within t.buckets.items t.mask t.further.entries c.self.invariant.0)
 
 -- ---- what is there after it
 
@@ -48,14 +48,14 @@ module _ (c : After-push_reserved) (long : c.len-many.result ≡ length c.self.i
     values ids =
         let t = c.self.inside in
         ap (λ (bs : List Bucket). value_of (layout bs next t.further.entries) ids) (items c)
-        ∙ split_values t.buckets.items t.mask t.further.entries c.self.invariant (c.len-many.result - (t.mask / 2 + 1)) from c.index.result.now is c.split-stay.result.0 c.split-stay.result.1 shared c.split-stay.ensures.counts c.split-stay.ensures.stay c.split-stay.ensures.go next masks ids
+        ∙ split_values t.buckets.items t.mask t.further.entries c.self.invariant.0 (c.len-many.result - (t.mask / 2 + 1)) from c.index.result.now is c.split-stay.result.0 c.split-stay.result.1 shared c.split-stay.ensures.counts c.split-stay.ensures.stay c.split-stay.ensures.go next masks ids
         ∙ ap (λ t. value_of t ids) c.self.view_is
 
     same_counts : count_in (layout c.push_reserved.new.self.items next c.self.inside.further.entries) ≡ count_in c.args.self.now
     same_counts =
         let t = c.self.inside in
         ap (λ (bs : List Bucket). count_in (layout bs next t.further.entries)) (items c)
-        ∙ split_counts t.buckets.items t.mask t.further.entries c.self.invariant (c.len-many.result - (t.mask / 2 + 1)) from c.index.result.now is c.split-stay.result.0 c.split-stay.result.1 shared c.split-stay.ensures.counts c.split-stay.ensures.stay c.split-stay.ensures.go next masks
+        ∙ split_counts t.buckets.items t.mask t.further.entries c.self.invariant.0 (c.len-many.result - (t.mask / 2 + 1)) from c.index.result.now is c.split-stay.result.0 c.split-stay.result.1 shared c.split-stay.ensures.counts c.split-stay.ensures.stay c.split-stay.ensures.go next masks
         ∙ ap count_in c.self.view_is
 
     longer : length (map entries_of c.push_reserved.new.self.items) ≡ length c.args.self.now.rows + 1
@@ -76,7 +76,11 @@ module _ (c : After-push_reserved) (long : c.len-many.result ≡ length c.self.i
     stays_table =
         let t = c.self.inside in
         subst (λ (bs : List Bucket). IsTable (layout bs next t.further.entries)) (sym (items c))
-        (split_table t.buckets.items t.mask t.further.entries c.self.invariant (c.len-many.result - (t.mask / 2 + 1)) from c.index.result.now is c.split-stay.result.0 c.split-stay.result.1 shared c.split-stay.ensures.counts c.split-stay.ensures.stay c.split-stay.ensures.go next masks)
+        (split_table t.buckets.items t.mask t.further.entries c.self.invariant.0 (c.len-many.result - (t.mask / 2 + 1)) from c.index.result.now is c.split-stay.result.0 c.split-stay.result.1 shared c.split-stay.ensures.counts c.split-stay.ensures.stay c.split-stay.ensures.go next masks)
+
+    -- the buckets were full, and take as many pairs more as one is made for
+    takes : TakesMore (layout c.push_reserved.new.self.items next c.self.inside.further.entries) load
+    takes = omega (arith, c.requires, same_counts, longer, ap (λ t. length t.further) c.self.view_is)
 
 -- as many buckets as the mask has room for
 full : (c : goal.After-self-then-many-self-1) → (c.len-many.result ≡ length c.self.inside.buckets.items) × IsNextMask c.self.inside.mask (length c.self.inside.buckets.items) (2 * c.self.inside.mask + 1)
@@ -89,13 +93,17 @@ fewer : (c : goal.Else-many-self) → (c.len-many.result ≡ length c.self.insid
 fewer c =
     let t = c.self.inside in
     let long = many (goal.at.returns-else-many-self-clause-counts c).After-len-many in
-    (long, inl (lt_not t.mask (length t.buckets.items) (omega (arith, most t.buckets.items t.mask t.further.entries c.self.invariant)) (λ is. c.if-many-self.false (long ∙ is)), refl))
+    (long, inl (lt_not t.mask (length t.buckets.items) (omega (arith, most t.buckets.items t.mask t.further.entries c.self.invariant.0)) (λ is. c.if-many-self.false (long ∙ is)), refl))
 
 pub invariant_of-self-then-many-self : goal.invariant_of-self-then-many-self
-invariant_of-self-then-many-self c = stays_table (goal.at.invariant_of-self-then-many-self c).After-push_reserved (full c).0 _ (full c).1
+invariant_of-self-then-many-self c =
+    let s = (goal.at.invariant_of-self-then-many-self c).After-push_reserved in
+    (stays_table s (full c).0 _ (full c).1, takes s (full c).0 _ (full c).1)
 
 pub invariant_of-self-else-many-self : goal.invariant_of-self-else-many-self
-invariant_of-self-else-many-self c = stays_table (goal.at.invariant_of-self-else-many-self c).After-push_reserved (fewer c).0 _ (fewer c).1
+invariant_of-self-else-many-self c =
+    let s = (goal.at.invariant_of-self-else-many-self c).After-push_reserved in
+    (stays_table s (fewer c).0 _ (fewer c).1, takes s (fewer c).0 _ (fewer c).1)
 
 pub returns-then-many-self-clause-values : goal.returns-then-many-self-clause-values
 returns-then-many-self-clause-values c = values (goal.at.returns-then-many-self-clause-values c).After-push_reserved (full c).0 _ (full c).1
@@ -114,3 +122,9 @@ returns-then-many-self-clause-grows c = longer (goal.at.returns-then-many-self-c
 
 pub returns-else-many-self-clause-grows : goal.returns-else-many-self-clause-grows
 returns-else-many-self-clause-grows c = longer (goal.at.returns-else-many-self-clause-grows c).After-push_reserved (fewer c).0 _ (fewer c).1
+
+pub returns-then-many-self-clause-room : goal.returns-then-many-self-clause-room
+returns-then-many-self-clause-room c = omega (arith, takes (goal.at.returns-then-many-self-clause-room c).After-push_reserved (full c).0 _ (full c).1)
+
+pub returns-else-many-self-clause-room : goal.returns-else-many-self-clause-room
+returns-else-many-self-clause-room c = omega (arith, takes (goal.at.returns-else-many-self-clause-room c).After-push_reserved (fewer c).0 _ (fewer c).1)

@@ -1,0 +1,29 @@
+-- What is known of a pair that was started, by what its walk came to.
+use Rattle.std.proofs.Common.{◌≡◌, refl, sym, ap, ◌∙◌, inl, inr, Bool, true, false, Ok, Result}
+use Rattle.std.proofs.lemmas.Bool.{false≢true}
+use Rattle.btf_model.specs.Table.{Table}
+use Rattle.btf_model.specs.Fields.{Pair}
+use Rattle.btf_model.specs.Run.{new_frame}
+use Rattle.btf_words.specs.declared.error.BtfError.{BtfError}
+use Rattle.btf_compare.specs.declared.frame.Frame.{Frame}
+use Rattle.btf_compare.specs.declared.frame.Place.{Place}
+use Rattle.btf_compare.specs.declared.frame.Place.TheVariants as places
+use Rattle.btf_compare.specs.Compared.{HasStarted, IsStarted, WalksTo, ComesTo, frame_of}
+
+-- whether a walk ends with false, as it does where kinds differ
+abbrev pub ends_false : Result Place BtfError → Bool
+ends_false (Ok (places.Ends false)) = true
+ends_false end = false
+
+module _ (local target : Table) (passed : Pair → Bool) (p : Pair) (f : Frame) where
+  -- the kinds of the pair are alike, and its walk went to a frame and came to an end
+  abbrev pub Walked : Result Place BtfError → Type 0
+  Walked end = IsStarted local target p true × WalksTo local target passed (new_frame p) (frame_of f) × ComesTo local target f end
+
+  pub walked_unless_false : (end : Result Place BtfError) → ends_false end ≡ false → HasStarted local target passed p f end → Walked end
+  walked_unless_false end not (inl h) = absurd (false≢true (sym not ∙ ap ends_false h.1))
+  walked_unless_false end not (inr h) = h
+
+  pub has_started : (alike : Bool) (end : Result Place BtfError) → IsStarted local target p alike → (alike ≡ false → end ≡ Ok (places.Ends false)) → (alike ≡ true → WalksTo local target passed (new_frame p) (frame_of f)) → (alike ≡ true → ComesTo local target f end) → HasStarted local target passed p f end
+  has_started true end starts differs walks comes = inr (starts, walks refl, comes refl)
+  has_started false end starts differs walks comes = inl (starts, differs refl)

@@ -1,0 +1,54 @@
+//! What a run knows of the pairs that it has listed.
+
+use crate::pair_map::PairMap;
+use crate::progress::Progress;
+use std::alloc::AllocError;
+
+/// A memory of the pairs that a run has listed.
+pub trait Listed {
+    ghost use Rattle.std.specs.Prelude.{◌≡◌, ℕ, Option, None, OnOk};
+    ghost use Rattle.btf_compare.specs.declared.progress.Progress.{Progress};
+
+    /// What is known of each pair: None of one that was not listed.
+    ghost knows: { Self → ℕ × ℕ → Option Progress };
+
+    /// The second value is the first after this pair was listed, with its progress.
+    ghost learns: { Self → Self → ℕ × ℕ → Progress → Type 0 };
+
+    /// Remembers a pair that was not listed before.
+    fn remember(&mut self, pair: (u32, u32), progress: Progress) -> Result<(), AllocError>
+        requires { knows self.old pair ≡ None }
+        ensures { OnOk result (learns self.old self.new pair progress) };
+}
+
+/// The map of a run.
+impl Listed for PairMap {
+    ghost use Rattle.std.specs.Prelude.{◌≡◌, ◌+◌};
+    ghost use Rattle.btf_compare.specs.PairMap.{known, count, Learns};
+
+    ghost knows = { λ m ids. known m ids };
+
+    ghost learns = { λ old new ids p. Learns old new ids p × (count new ≡ count old + 1) };
+
+    #[inline(always)]
+    fn remember(&mut self, pair: (u32, u32), progress: Progress) -> Result<(), AllocError> {
+        self.insert(pair, progress)
+    }
+}
+
+/// No pair was listed yet, and the first one is not remembered.
+#[derive(Drop)]
+pub struct NoneListed;
+
+impl Listed for NoneListed {
+    ghost use Rattle.std.specs.Prelude.{None};
+
+    ghost knows = { λ m ids. None };
+
+    ghost learns = { λ old new ids p. Unit {0} };
+
+    #[inline(always)]
+    fn remember(&mut self, _pair: (u32, u32), _progress: Progress) -> Result<(), AllocError> {
+        Ok(())
+    }
+}
