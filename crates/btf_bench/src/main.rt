@@ -4,18 +4,24 @@
 //! the least and the median time of REPS runs, and the least by record; with `--csv` in nanoseconds, with commas
 //! between, and with `--names` that it was done, without its times.
 //!
-//! `btf_bench FAMILY N [REPS] [--csv|--names]` does so for a table that a stranger could make, at the sizes N, 2 N and
-//! 4 N: a step that is not linear shows in the time of a unit. FAMILY is `collide`, `fan`, `rings`, `nest`, `longname`
-//! or `sections`; what these are stands in the module `hostile`.
+//! `btf_bench FAMILY N [REPS] [--csv|--names]` does so for a table that an attacker could make, at the sizes N, 2 N and
+//! 4 N: a step that is not linear shows in the time of a unit. FAMILY is `collide`, `fan`, `rings`, `nest`, `flood`,
+//! `floodrings`, `longname` or `sections`; what these are stands in the module `hostile`.
+//!
+//! `btf_bench names N [REPS] [--csv|--names]` reads a name N times, for names of several lengths, each as the last of
+//! the string section and as another one.
 #![tactic(auto)]
 
+mod flood;
 mod hostile;
+mod names;
 mod sketch;
 mod table;
 mod timing;
 mod work;
 
 use crate::hostile::{Family, Hostile};
+use crate::names::{LENGTHS, Names};
 use crate::table::{Form, Row};
 use crate::timing::Timing;
 use crate::work::{Bench, NAMES};
@@ -112,8 +118,30 @@ fn print_hostile(
     Row { name, units, unit }.print(rt, timing, request.form)
 }
 
+/// Times how long it takes to read a name of this length as often as it is asked for, and prints its line.
+fn time_name(rt: &HostRuntime, len: u32, is_last: bool, request: &Request) -> Result<(), Fail> {
+    let count: u32 = request.what.parse()?;
+    let timing = Names::new(rt.alloc(), len, is_last, count)?.timing(rt, request.reps)?;
+    let place = if is_last { " last" } else { "" };
+    let name = format!(in rt.alloc(); "name {len}{place}")?;
+    let (name, units, unit) = (name.as_str(), u64::from(count), "name");
+    Row { name, units, unit }.print(rt, &timing, request.form)
+}
+
+/// Does so for all lengths, each at both places.
+fn time_names(rt: &HostRuntime, request: &Request) -> Result<(), Fail> {
+    for len in &LENGTHS {
+        time_name(rt, *len, false, request)?;
+        time_name(rt, *len, true, request)?;
+    }
+    Ok(())
+}
+
 fn main(rt: HostRuntime) -> Result<(), Fail> {
     let request = asked_for(&rt, rt.alloc())?;
+    if request.file.as_str() == "names" {
+        return time_names(&rt, &request);
+    }
     let Some(family) = Family::named(request.file.as_str()) else {
         return time_works(&rt, &request);
     };

@@ -3,6 +3,7 @@
 use btf_plain::Endianness;
 use btf_samples::blobs::blob;
 use btf_samples::spelled::push_words;
+use btf_types::Btf;
 use std::alloc::{AllocError, Global};
 use std::test::Fail;
 
@@ -69,8 +70,9 @@ impl Sketch {
         Ok(offset)
     }
 
-    /// The bytes of the whole table.
-    pub fn bytes(&self) -> Result<Vec<u8>, Fail> {
-        blob(self.alloc, &self.types, &self.strings, Endianness::Little)
+    /// The table.
+    pub fn parsed(&self) -> Result<Btf, Fail> {
+        let bytes = blob(self.alloc, &self.types, &self.strings, Endianness::Little)?;
+        Ok(Btf::parse(self.alloc, &bytes, Endianness::Little)?)
     }
 }
