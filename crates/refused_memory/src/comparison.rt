@@ -1,4 +1,4 @@
-//! Comparisons of a table's first type with itself, and of the fields of its first two.
+//! Comparisons of a table's first type with itself, of its first two, and of their fields.
 
 use crate::probe::Probe;
 use crate::report::Report;
@@ -11,6 +11,7 @@ fn compare(work: &str, btf: &Btf, starts: &mut Vec<(u32, u32)>) -> Result<bool, 
     match work {
         "fields" => fields_are_compatible(btf, 1, btf, 2),
         "types" => types_are_compatible(btf, 1, btf, 1),
+        "two_types" => types_are_compatible(btf, 1, btf, 2),
         _ => types_are_compatible_traced(btf, 1, btf, 1, starts),
     }
 }

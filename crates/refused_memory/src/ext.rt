@@ -15,21 +15,6 @@ fn bytes_of(work: &str, ext: &BtfExt) -> Result<Vec<u8>, BtfError> {
     }
 }
 
-/// A `.BTF.ext` section, parsed or cloned, by its records of one section.
-fn make(
-    work: &str,
-    probe: &Probe,
-    data: &[u8],
-    ext: &BtfExt,
-    btf: &Btf,
-) -> Result<Vec<u8>, BtfError> {
-    match work {
-        "parse_ext" => bytes_of("func_bytes", &BtfExt::parse(data, probe.order, btf)?),
-        "clone_ext" => bytes_of("line_bytes", &ext.try_clone()?),
-        _ => bytes_of(work, ext),
-    }
-}
-
 /// Does the work on a section that was parsed.
 fn done_on(
     work: &str,
@@ -39,7 +24,11 @@ fn done_on(
     report: &mut Report,
 ) -> Result<(), Fail> {
     let ext = BtfExt::parse(data, probe.order, btf)?;
-    probe.twice(report, || make(work, probe, data, &ext, btf))
+    match work {
+        "parse_ext" => probe.twice(report, || BtfExt::parse(data, probe.order, btf)),
+        "clone_ext" => probe.twice(report, || ext.try_clone()),
+        _ => probe.twice(report, || bytes_of(work, &ext)),
+    }
 }
 
 pub fn done(work: &str, probe: &Probe, blob: &[u8], report: &mut Report) -> Result<(), Fail> {

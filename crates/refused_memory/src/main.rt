@@ -47,12 +47,15 @@ fn done(work: &str, probe: &Probe, blob: &[u8], report: &mut Report) -> Result<(
         "parse" | "clone" | "clone_kept" | "to_bytes" | "new" => table::made(
             work, probe, blob, report,
         ),
+        "parse_full" => table::parsed(probe, blob, report),
         "add_string" | "add_type" => table::added(work, probe, blob, report),
         "string_at" | "type_name" | "err_type_name" | "id_by_name" => {
             table::named(work, probe, blob, report)
         }
         "read_type" | "type_to_bytes" | "clone_type" => records::all(work, probe, blob, report),
-        "fields" | "types" | "traced" => comparison::compared(work, probe, blob, report),
+        "fields" | "types" | "two_types" | "traced" => comparison::compared(
+            work, probe, blob, report,
+        ),
         "variant_value" => above::value(probe, blob, report),
         "relocations_of" => above::relocations(probe, blob, report),
         "ksyms" | "ksyms_alone" => rewrite::step(work, probe, blob, report),

@@ -1,45 +1,107 @@
-//! Single records: read, written and cloned, one after another.
+//! The records of a table: read, written and cloned, one after another.
 
 use crate::probe::Probe;
 use crate::report::Report;
 use btf_plain::BtfError;
 use btf_records::BtfType;
 use btf_types::Btf;
+use std::alloc::Global;
 use std::test::Fail;
 
-/// A record's bytes, after it was read or cloned where that is the work.
-fn bytes_of(work: &str, probe: &Probe, record: &BtfType) -> Result<Vec<u8>, BtfError> {
-    match work {
-        "clone_type" => record.try_clone()?.to_bytes(probe.alloc, probe.order),
-        _ => record.to_bytes(probe.alloc, probe.order),
+/// What is made of the records of a table: records, or bytes. There is room for all, so that no request is made for it.
+#[derive(Drop)]
+struct Made {
+    records: Vec<BtfType>,
+    bytes: Vec<u8>,
+}
+
+impl Made {
+    fn new(alloc: Global) -> Result<Self, Fail> {
+        Ok(Made {
+            records: Vec::with_capacity(alloc, 32)?,
+            bytes: Vec::with_capacity(alloc, 1024)?,
+        })
+    }
+
+    /// Reads so many records at the front of bytes.
+    fn read(&mut self, probe: &Probe, bytes: &[u8], count: usize) -> Result<(), BtfError> {
+        let mut rest = bytes;
+        for _ in 0..count {
+            let record = BtfType::read(probe.alloc, rest, probe.order)?;
+            rest = rest.get(record.type_info_size()..).unwrap_or(&[]);
+            self.records.push(record)?;
+        }
+        Ok(())
+    }
+
+    /// Clones the records of a table.
+    fn clone(&mut self, btf: &Btf) -> Result<(), BtfError> {
+        for record in btf.types() {
+            self.records.push(record.try_clone()?)?;
+        }
+        Ok(())
+    }
+
+    /// Writes the records of a table.
+    fn write(&mut self, probe: &Probe, btf: &Btf) -> Result<(), BtfError> {
+        for record in btf.types() {
+            let bytes = record.to_bytes(probe.alloc, probe.order)?;
+            self.bytes.extend_from_slice(&bytes)?;
+        }
+        Ok(())
+    }
+
+    /// Does the work on all records of a table.
+    fn make(&mut self, work: &str, probe: &Probe, blob: &[u8], btf: &Btf) -> Result<(), BtfError> {
+        match work {
+            "read_type" => {
+                // The records stand after the header.
+                let bytes = blob.get(24..).unwrap_or(&[]);
+                self.read(probe, bytes, btf.types().len().saturating_sub(1))
+            }
+            "clone_type" => self.clone(btf),
+            _ => self.write(probe, btf),
+        }
+    }
+
+    /// A line of what was made.
+    fn report(&self, name: &str, report: &mut Report) -> Result<(), Fail> {
+        if self.bytes.is_empty() {
+            report.value(name, &self.records)
+        } else {
+            report.value(name, &self.bytes)
+        }
     }
 }
 
-/// The bytes of the first record of a table, read.
-fn read(probe: &Probe, blob: &[u8]) -> Result<Vec<u8>, BtfError> {
-    // It stands after the header.
-    let data = blob.get(24..).unwrap_or(&[]);
-    let record = BtfType::read(probe.alloc, data, probe.order)?;
-    record.to_bytes(probe.alloc, probe.order)
+fn first(
+    work: &str,
+    probe: &Probe,
+    blob: &[u8],
+    btf: &Btf,
+    report: &mut Report,
+) -> Result<(), Fail> {
+    let mut made = Made::new(probe.alloc)?;
+    probe.begin(report)?;
+    let outcome = made.make(work, probe, blob, btf);
+    probe.end(&outcome, report)?;
+    made.report("made", report)
 }
 
-/// The bytes of all records of a table, as the work makes them.
-fn all_bytes(work: &str, probe: &Probe, btf: &Btf) -> Result<Vec<u8>, BtfError> {
-    let mut all = Vec::new(probe.alloc);
-    for record in btf.types() {
-        all.extend_from_slice(&bytes_of(work, probe, record)?)?;
-    }
-    Ok(all)
-}
-
-fn make(work: &str, probe: &Probe, blob: &[u8], btf: &Btf) -> Result<Vec<u8>, BtfError> {
-    match work {
-        "read_type" => read(probe, blob),
-        _ => all_bytes(work, probe, btf),
-    }
+fn again(
+    work: &str,
+    probe: &Probe,
+    blob: &[u8],
+    btf: &Btf,
+    report: &mut Report,
+) -> Result<(), Fail> {
+    let mut made = Made::new(probe.alloc)?;
+    report.result("again", &made.make(work, probe, blob, btf))?;
+    made.report("all", report)
 }
 
 pub fn all(work: &str, probe: &Probe, blob: &[u8], report: &mut Report) -> Result<(), Fail> {
     let btf = Btf::parse(probe.alloc, blob, probe.order)?;
-    probe.twice(report, || make(work, probe, blob, &btf))
+    first(work, probe, blob, &btf, report)?;
+    again(work, probe, blob, &btf, report)
 }

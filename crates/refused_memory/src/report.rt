@@ -1,9 +1,9 @@
 //! What a work writes down, a line for each name.
 
 use btf_items::Enum64VariantFallback;
-use btf_plain::BtfError;
+use btf_plain::{BtfError, Endianness};
 use btf_records::BtfType;
-use btf_types::Btf;
+use btf_types::{Btf, BtfExt, BtfStr};
 use std::alloc::{AllocError, Global};
 use std::fmt::Write;
 use std::test::Fail;
@@ -69,6 +69,54 @@ impl Show for String {
     fn show(&self, out: &mut String) -> Result<(), Fail> {
         out.push_str(self)?;
         Ok(())
+    }
+}
+
+impl Show for BtfStr<'_> {
+    fn show(&self, out: &mut String) -> Result<(), Fail> {
+        out.push_str(self.as_str())?;
+        Ok(())
+    }
+}
+
+impl Show for Option<String> {
+    fn show(&self, out: &mut String) -> Result<(), Fail> {
+        match self {
+            Some(text) => text.show(out),
+            None => Ok(out.push_str("none")?),
+        }
+    }
+}
+
+impl Show for BtfType {
+    fn show(&self, out: &mut String) -> Result<(), Fail> {
+        let bytes = self.to_bytes(*out.allocator(), Endianness::Little)?;
+        bytes.show(out)?;
+        show_fallback(self, out)
+    }
+}
+
+impl Show for Vec<BtfType> {
+    fn show(&self, out: &mut String) -> Result<(), Fail> {
+        for record in self {
+            record.show(out)?;
+            out.push_str(" ")?;
+        }
+        Ok(())
+    }
+}
+
+impl Show for BtfExt {
+    fn show(&self, out: &mut String) -> Result<(), Fail> {
+        self.func_info()
+            .get("xdp/pass")?
+            .func_info_bytes()?
+            .show(out)?;
+        out.push_str(" ")?;
+        self.line_info()
+            .get("xdp/pass")?
+            .line_info_bytes()?
+            .show(out)
     }
 }
 

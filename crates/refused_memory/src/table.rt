@@ -45,45 +45,21 @@ pub fn added(work: &str, probe: &Probe, blob: &[u8], report: &mut Report) -> Res
     probe.twice_on(&mut btf, report, |btf| add(work, btf))
 }
 
-/// The first text of the strings.
-fn first_text(probe: &Probe, btf: &Btf) -> Result<String, BtfError> {
-    let text = btf.string_at(1)?;
-    Ok(String::from_str(probe.alloc, text.as_str())?)
-}
-
-/// The text of the last type's name.
-fn last_name(probe: &Probe, btf: &Btf) -> Result<String, BtfError> {
-    let record = btf.type_by_id(last_id(btf))?;
-    let name = btf.type_name(record)?;
-    Ok(String::from_str(probe.alloc, name.as_str())?)
-}
-
-/// The same, where there is one.
-fn last_name_if_any(probe: &Probe, btf: &Btf) -> Result<String, BtfError> {
-    let record = btf.type_by_id(last_id(btf))?;
-    Ok(
-        btf.err_type_name(record)?
-            .unwrap_or(String::new(probe.alloc)),
-    )
-}
-
-/// The id of the INT "foo", in decimal.
-fn id_of_foo(probe: &Probe, btf: &Btf) -> Result<String, BtfError> {
-    let id = btf.id_by_type_name_kind("foo", BtfKind::Int)?;
-    Ok(format!(in probe.alloc; "{id}")?)
-}
-
-/// What a look-up finds, as a text.
-fn find(work: &str, probe: &Probe, btf: &Btf) -> Result<String, BtfError> {
+pub fn named(work: &str, probe: &Probe, blob: &[u8], report: &mut Report) -> Result<(), Fail> {
+    let btf = Btf::parse(probe.alloc, blob, probe.order)?;
+    let last = btf.type_by_id(last_id(&btf))?;
     match work {
-        "string_at" => first_text(probe, btf),
-        "type_name" => last_name(probe, btf),
-        "err_type_name" => last_name_if_any(probe, btf),
-        _ => id_of_foo(probe, btf),
+        "string_at" => probe.twice(report, || btf.string_at(1)),
+        "type_name" => probe.twice(report, || btf.type_name(last)),
+        "err_type_name" => probe.twice(report, || btf.err_type_name(last)),
+        // A name with U+FFFD is compared with the texts that bytes are read as.
+        _ => probe.twice(report, || {
+            btf.id_by_type_name_kind("\u{fffd}A", BtfKind::Int)
+        }),
     }
 }
 
-pub fn named(work: &str, probe: &Probe, blob: &[u8], report: &mut Report) -> Result<(), Fail> {
-    let btf = Btf::parse(probe.alloc, blob, probe.order)?;
-    probe.twice(report, || find(work, probe, &btf))
+/// Parses bytes that need not be those of a table.
+pub fn parsed(probe: &Probe, blob: &[u8], report: &mut Report) -> Result<(), Fail> {
+    probe.twice(report, || Btf::parse(probe.alloc, blob, probe.order))
 }

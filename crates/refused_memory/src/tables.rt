@@ -3,7 +3,7 @@
 use btf_plain::Endianness;
 use btf_samples::blobs::blob;
 use btf_samples::program::{TYPE_LEN, program};
-use btf_samples::spelled::spelled_text;
+use btf_samples::spelled::{push_words, spelled_text};
 use btf_types::Btf;
 use std::alloc::Global;
 use std::test::Fail;
@@ -11,12 +11,14 @@ use std::test::Fail;
 /// A table: its name, the words of its records, and its strings.
 struct Table(&'static str, &'static str, &'static [u8]);
 
-static TABLES: [Table; 21] = [
+static TABLES: [Table; 23] = [
     Table("empty", "", b"\0"),
     // A name that is not UTF-8.
     Table("lossy", "1 01000000 4 20", b"\0\xffA\0"),
     // All kinds.
     Table("kinds", KINDS, b"\0a\0b\0"),
+    // The six kinds that have a list, each with eight items and more.
+    Table("lists", LISTS, b"\0a\0b\0"),
     // A pointer to a prototype that takes it.
     Table("ring", "0 02000000 2  0 0d000001 0 0 1", b"\0"),
     // A prototype that returns a pointer to itself.
@@ -33,6 +35,8 @@ static TABLES: [Table; 21] = [
         "0 0d000009 0 0 2 0 2 0 2 0 2 0 2 0 2 0 2 0 2 0 2  0 1000000 4 20",
         b"\0",
     ),
+    // Two prototypes, the pairs of whose parameters share a bucket, and the INTs that they take.
+    Table("flood", FLOOD, b"\0"),
     Table(
         "records",
         "0 04000001 4 0 3 0  0 05000001 4 0 3 0  0 04000000 4",
@@ -93,6 +97,20 @@ static TABLES: [Table; 21] = [
     ),
 ];
 
+/// A table of pointers and one more record: its name, how many pointers it has, and the words of that record.
+struct PointerTable(&'static str, usize, &'static str);
+
+/// Beside the type of id 0, seven pointers fill the vector of types. The record after them is cut in its third word, has
+/// an unknown kind, or lacks the word after its third.
+static POINTERS: [PointerTable; 6] = [
+    PointerTable("seven", 7, ""),
+    PointerTable("eight", 7, "0 2000000 0"),
+    PointerTable("six_cut", 6, "0 2000000"),
+    PointerTable("seven_cut", 7, "0 2000000"),
+    PointerTable("seven_unknown", 7, "0 14000000 0"),
+    PointerTable("seven_cut_tail", 7, "0 1000000 4"),
+];
+
 /// A record of each kind, of kinds 1 to 19.
 const KINDS: &str =
     "1 1000000 4 1000020  0 2000000 1  0 3000000 0 1 1 4  1 4000001 4 3 1 0  1 5000001 4 3 1 0 \
@@ -108,13 +126,81 @@ const NESTED: &str =
     0 d000002 0 0 12 0 12  0 d000002 0 0 13 0 13  0 d000002 0 0 14 0 14  0 d000002 0 0 15 0 15 \
     0 1000000 4 20";
 
+/// A prototype, a STRUCT, a UNION, an ENUM, an ENUM64 and a DATASEC.
+const LISTS: &str = "0 d000008 0 1 1 1 2 1 3 1 4 1 5 1 6 3 1 0 0 \
+    1 4000008 10 1 0 0 1 0 1 1 0 2 1 0 3 1 0 4 1 0 5 1 0 6 3 0 7 \
+    1 5000009 10 1 0 0 1 0 1 1 0 2 1 0 3 1 0 4 1 0 5 1 0 6 3 0 7 3 0 8 \
+    1 6000008 4 1 0 1 1 1 2 1 3 1 4 1 5 1 6 3 7 \
+    1 1300000a 8 1 0 0 1 1 0 1 2 0 1 3 0 1 4 0 1 5 0 1 6 0 1 7 0 1 8 0 3 9 1 \
+    3 f000008 10 1 0 1 1 1 1 1 2 1 1 3 1 1 4 1 1 5 1 1 6 1 1 7 1";
+
+/// Prototypes 1 and 2, of 40 parameters each, which are INTs of ids 3 to 66. The ids of the second are those for which
+/// the number of each pair ends in six zeros, by which a comparison finds its bucket (`spread` of `btf_compare`).
+const FLOOD: &str = "0 d000028 0 \
+    0 3  0 4  0 5  0 6  0 7  0 8  0 9  0 a  0 b  0 c  0 d  0 e  0 f  0 10  0 11  0 12  0 13  0 14  0 15  0 16 \
+    0 17  0 18  0 19  0 1a  0 1b  0 1c  0 1d  0 1e  0 1f  0 20  0 21  0 22  0 23  0 24  0 25  0 26  0 27  0 28  0 29  0 2a \
+    0 d000028 0 \
+    0 c  0 10  0 14  0 18  0 1c  0 33  0 37  0 3b  0 3f  0 3  0 7  0 b  0 f  0 26  0 2a  0 2e  0 32  0 36  0 3a  0 3e \
+    0 42  0 1c  0 20  0 24  0 28  0 2c  0 30  0 34  0 38  0 f  0 13  0 17  0 1b  0 1f  0 23  0 27  0 2b  0 5  0 9  0 d \
+    0 1000000 4 20  0 1000000 4 20  0 1000000 4 20  0 1000000 4 20  0 1000000 4 20  0 1000000 4 20  0 1000000 4 20 \
+    0 1000000 4 20  0 1000000 4 20  0 1000000 4 20  0 1000000 4 20  0 1000000 4 20  0 1000000 4 20  0 1000000 4 20 \
+    0 1000000 4 20  0 1000000 4 20  0 1000000 4 20  0 1000000 4 20  0 1000000 4 20  0 1000000 4 20  0 1000000 4 20 \
+    0 1000000 4 20  0 1000000 4 20  0 1000000 4 20  0 1000000 4 20  0 1000000 4 20  0 1000000 4 20  0 1000000 4 20 \
+    0 1000000 4 20  0 1000000 4 20  0 1000000 4 20  0 1000000 4 20  0 1000000 4 20  0 1000000 4 20  0 1000000 4 20 \
+    0 1000000 4 20  0 1000000 4 20  0 1000000 4 20  0 1000000 4 20  0 1000000 4 20  0 1000000 4 20  0 1000000 4 20 \
+    0 1000000 4 20  0 1000000 4 20  0 1000000 4 20  0 1000000 4 20  0 1000000 4 20  0 1000000 4 20  0 1000000 4 20 \
+    0 1000000 4 20  0 1000000 4 20  0 1000000 4 20  0 1000000 4 20  0 1000000 4 20  0 1000000 4 20  0 1000000 4 20 \
+    0 1000000 4 20  0 1000000 4 20  0 1000000 4 20  0 1000000 4 20  0 1000000 4 20  0 1000000 4 20  0 1000000 4 20 \
+    0 1000000 4 20";
+
 /// The id of a table's last type.
 pub fn last_id(btf: &Btf) -> u32 {
     u32::try_from(btf.types().len().saturating_sub(1)).unwrap_or(0)
 }
 
+/// The records of 100 prototypes, each of which takes the next one, and of an INT.
+fn deep(alloc: Global, order: Endianness) -> Result<Vec<u8>, Fail> {
+    let mut types = Vec::new(alloc);
+    for id in 2..102 {
+        push_words(&mut types, &[0, 0x0d00_0001, 0, 0, id], order)?;
+    }
+    push_words(&mut types, &[0, 0x0100_0000, 4, 32], order)?;
+    Ok(types)
+}
+
+/// The records of so many pointers, and the words of another record.
+fn after_pointers(
+    alloc: Global,
+    count: usize,
+    words: &str,
+    order: Endianness,
+) -> Result<Vec<u8>, Fail> {
+    let mut types = Vec::new(alloc);
+    for _ in 0..count {
+        push_words(&mut types, &[0, 0x0200_0000, 0], order)?;
+    }
+    types.extend_from_slice(&spelled_text(alloc, words, order)?)?;
+    Ok(types)
+}
+
+/// The records of a table that is not written out above, by its name; None where it is.
+fn made(alloc: Global, name: &str, order: Endianness) -> Result<Option<Vec<u8>>, Fail> {
+    for table in &POINTERS {
+        if table.0 == name {
+            return Ok(Some(after_pointers(alloc, table.1, table.2, order)?));
+        }
+    }
+    if name == "deep" {
+        return Ok(Some(deep(alloc, order)?));
+    }
+    Ok(None)
+}
+
 /// The bytes of a table in an order.
 pub fn bytes_of(alloc: Global, name: &str, order: Endianness) -> Result<Vec<u8>, Fail> {
+    if let Some(types) = made(alloc, name, order)? {
+        return blob(alloc, &types, b"\0", order);
+    }
     for table in &TABLES {
         if table.0 == name {
             let types = spelled_text(alloc, table.1, order)?;
