@@ -63,9 +63,13 @@ module _ (bytes : List ℕ) (at zero other : ℕ) (room : at + 16 ≤ length byt
             ]
       ]
 
--- where fewer than 16 bytes are left, and no text has ended, none ends with as many after it
-pub none_is_left : (bytes : List ℕ) (at : ℕ) → AreAscii bytes at → length bytes - at < 16 → (end : ℕ) → end + 16 ≤ length bytes → ¬ (IsAsciiEnd bytes end)
-none_is_left bytes at before few end room h = (before end (omega (arith, few, room))).0 h.stops
+  -- where the bytes end after these 16, and none of them is zero, no text ends
+  pub nothing_ends : 16 ≤ zero → length bytes ≤ at + 16 → (end : ℕ) → ¬ (IsAsciiEnd bytes end)
+  nothing_ends whole last end h =
+      elim (cases_lt end at) [
+        | inl early ↦ (before end early).0 h.stops
+        | inr late ↦ eqb-false (get_or bytes end 0) 0 (run_in_chunk_fails is_zero bytes at 16 zero 0 room zeros end late (omega (arith, whole, last, h.within))) h.stops
+      ]
 
 -- such a text is UTF-8
 pub end_is_utf8 : (bytes : List ℕ) (end : ℕ) → IsAsciiEnd bytes end → IsUtf8 (take end bytes)

@@ -1,6 +1,6 @@
 //! Texts of ASCII alone, which most names are: their end is found 16 bytes at a time.
 
-ghost use Rattle.std.specs.Prelude.{◌≡◌, ℕ, ◌+◌, ◌≤◌, not, leb, length, take, drop, IfOk, IfErr, IsTrue};
+ghost use Rattle.std.specs.Prelude.{◌≡◌, ℕ, ◌+◌, ◌-◌, ◌<◌, ◌≤◌, not, leb, length, take, drop, IfOk, IfErr, IsTrue};
 ghost use Rattle.std.specs.List.{prefix_len};
 ghost use Rattle.btf_model.specs.Text.{is_zero};
 ghost use Rattle.btf_table.specs.Ascii.{lowest_bit, IsAsciiEnd, IsAsciiText, BeginsAscii};
@@ -93,12 +93,11 @@ fn after_blocks(bytes: &[u8], from: usize) -> usize
 }
 
 /// The length of the text at the front of bytes, up to the first zero byte, where it is of ASCII alone. Otherwise the
-/// number of bytes at the front that are known to be ASCII, and not zero: the search ends where a byte is not ASCII, or
-/// where fewer than 16 bytes are left.
+/// number of bytes at the front that are known to be ASCII, and not zero.
 pub fn ascii_len(bytes: &[u8]) -> Result<usize, usize>
     ensures found { IfOk result (IsAsciiEnd bytes.now) }
     ensures ascii { IfErr result (BeginsAscii bytes.now) }
-    ensures none { IfErr result (λ _. (end : ℕ) → end + LANES ≤ length bytes.now
+    ensures none { IfErr result (λ _. LANES ≤ length bytes.now → (end : ℕ)
         → ¬ IsAsciiEnd bytes.now end) }
 {
     let mut at = 0;
@@ -111,6 +110,28 @@ pub fn ascii_len(bytes: &[u8]) -> Result<usize, usize>
             return Ok(at + zero);
         }
         at = after_first_block(bytes, at + LANES);
+    }
+    if bytes.len() < LANES {
+        return Err(at);
+    }
+    last_ascii_len(bytes, at)
+}
+
+/// The same, where fewer than 16 bytes are left at a place: the last 16 bytes are looked at, some of them once more.
+fn last_ascii_len(bytes: &[u8], at: usize) -> Result<usize, usize>
+    requires begins { BeginsAscii bytes.now at }
+    requires few { length bytes.now - at < LANES }
+    requires long { LANES ≤ length bytes.now }
+    ensures found { IfOk result (IsAsciiEnd bytes.now) }
+    ensures ascii { IfErr result (BeginsAscii bytes.now) }
+    ensures none { IfErr result (λ _. (end : ℕ) → ¬ IsAsciiEnd bytes.now end) }
+{
+    let last = bytes.len() - LANES;
+    let (zero, other) = runs_at(bytes, last);
+    if zero < LANES {
+        if zero <= other {
+            return Ok(last + zero);
+        }
     }
     Err(at)
 }

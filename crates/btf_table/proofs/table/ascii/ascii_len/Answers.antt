@@ -1,5 +1,5 @@
 use Rattle.std.proofs.Common.{◌+◌, ◌<◌, ◌≤◌, length, arith}
-use Rattle.btf_table.proofs.Ascii.{ascii_on, ascii_ends, none_ends, none_is_left, few_before, begins_before}
+use Rattle.btf_table.proofs.Ascii.{ascii_on, ascii_ends, none_ends, few_before, begins_before}
 use Rattle.btf_table.proofs.table.ascii.ascii_len.Goals as goal
 
 pub overflow_add-result : goal.overflow_add-result
@@ -14,7 +14,7 @@ returns-then-other-zero-clause-ascii c =
     begins_before c.args.bytes.now c.loop-at.at c.runs_at-zero.result.0 c.runs_at-zero.result.1 room c.runs_at-zero.ensures.zero c.runs_at-zero.ensures.other c.loop-at.invariant.each c.if-other-zero.true
 
 pub returns-then-other-zero-clause-none : goal.returns-then-other-zero-clause-none
-returns-then-other-zero-clause-none c end room_after =
+returns-then-other-zero-clause-none c long end =
     let room : c.loop-at.at + 16 ≤ length c.args.bytes.now = omega (arith, c.loop-at-test.true, c.loop-at.invariant.within) in
     none_ends c.args.bytes.now c.loop-at.at c.runs_at-zero.result.0 c.runs_at-zero.result.1 room c.runs_at-zero.ensures.zero c.runs_at-zero.ensures.other c.loop-at.invariant.each c.if-other-zero.true end
 
@@ -30,7 +30,3 @@ after_first_block-at-requires c =
       within = room;
       each = ascii_on c.args.bytes.now c.loop-at.at c.runs_at-zero.result.0 c.runs_at-zero.result.1 room c.runs_at-zero.ensures.zero c.runs_at-zero.ensures.other c.loop-at.invariant.each (c.loop-at.at + 16) (omega (arith, c.if-zero-lt-LANES.false)) (omega (arith, c.if-zero-lt-LANES.false, c.if-other-zero.false));
     }
-
-pub returns-clause-none : goal.returns-clause-none
-returns-clause-none c end room_after =
-    none_is_left c.args.bytes.now c.loop-at.at c.loop-at.invariant.each (omega (arith, c.loop-at-test.false)) end room_after
