@@ -1,6 +1,8 @@
 -- What is known of a pair that was started, by what its walk came to.
-use Rattle.std.proofs.Common.{◌≡◌, refl, sym, ap, ◌∙◌, inl, inr, Bool, true, false, Ok, Result}
+use Rattle.std.proofs.Common.{◌≡◌, refl, sym, ap, subst, ◌∙◌, inl, inr, Bool, true, false, Ok, Err, Result}
 use Rattle.std.proofs.lemmas.Bool.{false≢true}
+use Rattle.std.proofs.lemmas.Result.{err_from_is_err_and}
+use Rattle.std.specs.Prelude.{IsErrAnd}
 use Rattle.btf_model.specs.Table.{Table}
 use Rattle.btf_model.specs.Fields.{Pair}
 use Rattle.btf_model.specs.Run.{new_frame}
@@ -8,7 +10,7 @@ use Rattle.btf_words.specs.declared.error.BtfError.{BtfError}
 use Rattle.btf_compare.specs.declared.frame.Frame.{Frame}
 use Rattle.btf_compare.specs.declared.frame.Place.{Place}
 use Rattle.btf_compare.specs.declared.frame.Place.TheVariants as places
-use Rattle.btf_compare.specs.Compared.{HasStarted, IsStarted, WalksTo, ComesTo, frame_of}
+use Rattle.btf_compare.specs.Compared.{FailsFor, HasStarted, IsStarted, WalksTo, ComesTo, frame_of}
 
 -- whether a walk ends with false, as it does where kinds differ
 abbrev pub ends_false : Result Place BtfError → Bool
@@ -27,3 +29,11 @@ module _ (local target : Table) (passed : Pair → Bool) (p : Pair) (f : Frame) 
   pub has_started : (alike : Bool) (end : Result Place BtfError) → IsStarted local target p alike → (alike ≡ false → end ≡ Ok (places.Ends false)) → (alike ≡ true → WalksTo local target passed (new_frame p) (frame_of f)) → (alike ≡ true → ComesTo local target f end) → HasStarted local target passed p f end
   has_started true end starts differs walks comes = inr (starts, walks refl, comes refl)
   has_started false end starts differs walks comes = inl (starts, differs refl)
+
+-- ---- what a start comes to
+
+-- an error that `?` returns
+pub fails_for : {X : Type 0} (r : Result X BtfError) (e : BtfError) (P : BtfError → Type 0) → IsErrAnd r (λ y. y ≡ e) → P e → FailsFor r P
+fails_for {X} r e P err h =
+    let given = err_from_is_err_and r err in
+    subst (λ (x : Result X BtfError). FailsFor x P) (sym (given.1 ∙ ap (λ (y : BtfError). Err y) given.2)) h

@@ -147,6 +147,11 @@ abbrev pub IsStarted : Table → Table → Pair → Bool → Type 0
 IsStarted local target p true = Begins local target p
 IsStarted local target p false = (k q : Kind) × AreKnown local target p k q × (compared_kind k ≢ compared_kind q)
 
+-- the result is an error of which P holds
+abbrev pub FailsFor : {X : Type 0} → Result X BtfError → (BtfError → Type 0) → Type 0
+FailsFor (Ok x) P = ⊥
+FailsFor (Err e) P = P e
+
 -- A pair was started: its kinds differ, or its walk got to this frame from its first position, and came to this end.
 abbrev pub HasStarted : Table → Table → (Pair → Bool) → Pair → Frame → Result Place BtfError → Type 0
 HasStarted local target passed p f end =

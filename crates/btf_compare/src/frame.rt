@@ -35,6 +35,17 @@ pub enum Place<'a> {
 }
 
 impl Frame {
+    /// A place for a frame, in which no pair is open.
+    #[inline(always)]
+    pub fn vacant() -> Self {
+        Frame {
+            pair: (0, 0),
+            at: (0, 0),
+            gone: POSITIONS,
+            parameter: 0,
+        }
+    }
+
     /// The pair before its first step.
     pub fn new(pair: (u32, u32)) -> Self
         ensures frame { frame_of result ≡ new_frame (pair_of pair) }

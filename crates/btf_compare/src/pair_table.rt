@@ -124,7 +124,9 @@ impl PairTable {
         Ok(())
     }
 
-    /// Makes one more bucket, for the pairs of the next one to be split that have its number.
+    /// Makes one more bucket, for the pairs of the next one to be split that have its number. It is a call of its own, as
+    /// few insertions come here, and a function clears all that it has on the call stack when it is called.
+    #[inline(never)]
     fn split_next(&mut self) -> Result<(), AllocError>
         requires { held self.old.rows ≡ load * (length self.old.rows + 2) }
         ensures values { (ids : ℕ × ℕ) → value_of self.new ids ≡ value_of self.old ids }

@@ -1,11 +1,11 @@
 //! The run of the comparison of types: open pairs on a stack of its own, and pairs that came out true.
 
-ghost use Rattle.std.specs.Prelude.{◌≡◌, ℕ, ◌+◌, None, IsSome, [], ◌∷◌, ◌++◌, List, Bool, Result, IfOk, OnOk, IfErr, OnErr, MatchOption, true, false};
+ghost use Rattle.std.specs.Prelude.{◌≡◌, ◌⊎◌, ℕ, ◌+◌, None, IsSome, [], ◌∷◌, ◌++◌, List, Bool, Result, IfOk, OnOk, IfErr, OnErr, MatchOption, true, false};
 ghost use Rattle.std.specs.BTreeSet.{IsEmpty};
 ghost use Rattle.btf_model.specs.Fields.{Pair};
 ghost use Rattle.btf_model.specs.Refusal.{Refusal};
 ghost use Rattle.btf_model.specs.Compat.{Plain, firsts};
-ghost use Rattle.btf_compare.specs.Compared.{IsStarted, HasStarted, IsRefused, TracesBy, GainsOnly, Passes, WalksTo, AreAt, frame_of, passed_in, progress_of, settled_by};
+ghost use Rattle.btf_compare.specs.Compared.{IsStarted, FailsFor, HasStarted, IsRefused, TracesBy, GainsOnly, Passes, WalksTo, AreAt, frame_of, passed_in, progress_of, settled_by};
 ghost use Rattle.btf_model.specs.Run.{new_frame};
 ghost use Rattle.btf_compare.specs.PairMap.{known, count, Learns};
 ghost use Rattle.btf_compare.specs.Pairs.{pair_of};
@@ -97,38 +97,37 @@ fn progress_of(end: &Result<Place<'_>, BtfError>) -> Progress
     }
 }
 
-/// Starts a pair that was not listed: looks up both ids, the local one first, walks as far as no other pair is waited
-/// for, remembers the pair with what its walk came to, and lists it. The walk looks at no other pair and asks for no
-/// memory, so what it came to is looked at last, by the caller: an error of this call leaves the list as it was.
+/// Starts a pair that was not listed: looks up both ids, the local one first, makes its frame, walks as far as no other
+/// pair is waited for, remembers the pair with what its walk came to, and lists it. The walk looks at no other pair and
+/// asks for no memory, so what it came to is returned last: where the pair cannot be remembered, it is not listed.
 #[inline(always)]
 fn start<'a, L: Listed, S: Starts>(
     local: &'a Btf,
     target: &'a Btf,
     pair: (u32, u32),
     passed: &BTreeSet<(u32, u32)>,
+    frame: &mut Frame,
     listed: &mut L,
     starts: &mut S,
-) -> Result<(Frame, Result<Place<'a>, BtfError>), BtfError>
+) -> Result<Place<'a>, BtfError>
     requires { L.knows listed.old pair ≡ None }
-    ensures started { IfOk result (λ it. HasStarted local.now target.now (passed_in passed.now)
-        (pair_of pair) it.0 it.1) }
-    ensures pair { IfOk result (λ it. it.0.pair ≡ pair) }
-    ensures learns { IfOk result (λ it. L.learns listed.old listed.new pair (progress_of it.1)) }
-    ensures listed { OnOk result ((first : S) → (ids : List (ℕ × ℕ))
-        → S.has_added first starts.old ids → S.has_added first starts.new (ids ++ pair ∷ [])) }
-    ensures refused { IfErr result (IsRefused local.now target.now (pair_of pair)) }
-    ensures not_listed { OnErr result
-        ((first : S) → (ids : List (ℕ × ℕ)) → S.has_added first starts.old ids
-        → S.has_added first starts.new ids) }
+    ensures { (FailsFor result (IsRefused local.now target.now (pair_of pair))
+        × ((first : S) → (ids : List (ℕ × ℕ)) → S.has_added first starts.old ids
+        → S.has_added first starts.new ids))
+        ⊎ (HasStarted local.now target.now (passed_in passed.now) (pair_of pair) frame.new result
+        × (frame.new.pair ≡ pair)
+        × L.learns listed.old listed.new pair (progress_of result)
+        × ((first : S) → (ids : List (ℕ × ℕ)) → S.has_added first starts.old ids
+        → S.has_added first starts.new (ids ++ pair ∷ []))) }
 {
     let local_type = local.type_by_id(pair.0)?;
     let target_type = target.type_by_id(pair.1)?;
     let alike = local_type.is_compatible(target_type);
-    let mut frame = Frame::new(pair);
+    *frame = Frame::new(pair);
     let end = frame.begin(alike, local, target, passed);
     listed.remember(pair, progress_of(&end))?;
     starts.add(pair)?;
-    Ok((frame, end))
+    end
 }
 
 /// Whether the types of a pair of ids are compatible. Most pairs are settled by their own walk, for which nothing has to
@@ -148,8 +147,16 @@ pub fn compare<S: Starts>(
     // The contract speaks of an answer, which there is where each record has a kind, as a use of the tables shows.
     let _ = allocator_of(target);
     let none = BTreeSet::new(alloc);
-    let (top, end) = start(local, target, root, &none, &mut NoneListed, starts)?;
-    match end? {
+    let mut top = Frame::vacant();
+    match start(
+        local,
+        target,
+        root,
+        &none,
+        &mut top,
+        &mut NoneListed,
+        starts,
+    )? {
         Place::Ends(answer) => Ok(answer),
         Place::Owes(found) => compare_on(local, target, top, found, starts),
     }
@@ -179,6 +186,7 @@ fn compare_on<S: Starts>(
     let _ = allocator_of(target);
     run.seen.insert(first.pair, Progress::Open)?;
     let mut top = first;
+    let mut inner = Frame::vacant();
     let mut place = Place::Owes(prototypes);
     'steps: loop {
         let found = match place {
@@ -202,8 +210,16 @@ fn compare_on<S: Starts>(
         if run.is_settled(pair)? {
             continue;
         }
-        let (inner, end) = start(local, target, pair, &run.passed, &mut run.seen, starts)?;
-        match end? {
+        let end = start(
+            local,
+            target,
+            pair,
+            &run.passed,
+            &mut inner,
+            &mut run.seen,
+            starts,
+        )?;
+        match end {
             Place::Ends(false) => return Ok(false),
             Place::Ends(true) => {}
             Place::Owes(inside) => {

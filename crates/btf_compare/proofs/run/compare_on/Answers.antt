@@ -1,4 +1,4 @@
-use Rattle.std.proofs.Common.{◌≡◌, ◌∷◌, ◌≤◌, [], ℕ, Option, Bool, true, false, Result, Ok, Err, ◌∙◌, refl, sym, ap, subst, length, inl, inr}
+use Rattle.std.proofs.Common.{◌≡◌, ◌∷◌, ◌++◌, ◌+◌, ◌≤◌, [], ℕ, List, Option, Bool, true, false, Result, Ok, Err, ◌∙◌, refl, sym, ap, subst, length, inl, inr}
 use Rattle.btf_model.proofs.RunLengths.{less_paid}
 use Rattle.btf_model.proofs.Known.{known_pairs}
 use Rattle.btf_words.specs.declared.error.BtfError.{BtfError}
@@ -6,24 +6,22 @@ use Rattle.btf_words.specs.declared.error.BtfError.TheVariants.{OutOfMemory}
 use Rattle.btf_compare.specs.declared.frame.Frame.{Frame}
 use Rattle.btf_compare.specs.declared.frame.Place.{Place}
 use Rattle.btf_compare.specs.declared.frame.Place.TheVariants.{Ends, Owes}
-use Rattle.btf_compare.specs.declared.pair_map.PairMap.{PairMap}
 use Rattle.btf_compare.specs.declared.progress.Progress.{Progress}
-use Rattle.btf_compare.specs.declared.progress.Progress.TheVariants.{Open, Compatible}
 use Rattle.btf_compare.specs.PairMap.{known, count, Learns}
 use Rattle.btf_compare.specs.Compared.{HasStarted, PaysNext, frame_of, passed_in, owed_by, tells_open, tells_settled, opened_in, settled_in, progress_of}
 use Rattle.btf_compare.specs.Pairs.{pair_of}
 use Rattle.btf_compare.proofs.Comparing as runs_of
-use Rattle.btf_compare.proofs.Comparing.{Compares, handed, stack_of, no_memory, ends_refused, ends_true, pays, is_open, is_refused, differs, told_on}
+use Rattle.btf_compare.proofs.Comparing.{Compares, TellsOneMore, handed, stack_of, no_memory, ends_refused, ends_true, pays, is_open, is_refused, differs, told_on}
 use Rattle.btf_compare.proofs.Progresses.{known_if_open, open_if, settled_if, unknown_if}
 use Rattle.btf_compare.proofs.Walking.{waits_for, still_owes, Running, PassedIn, shorter, begun, begun_passed, walks, walks_less, walk_fails, ends_by, settled_below, settled_less, settled_passed, returned, returned_less, returned_passed}
 use Rattle.btf_compare.proofs.Inner.{Above, inner_no_memory, inner_fails, inner_false, inner_settled, inner_settled_less, inner_settled_passed, inner_open, inner_open_less, inner_open_passed}
-use Rattle.btf_compare.proofs.Begun.{Walked, ends_false, walked_unless_false}
+use Rattle.btf_compare.proofs.Begun.{Walked, walked_unless_false}
 use Rattle.btf_compare.proofs.Roots.{root_frame, root_no_memory, nothing_passed}
 use Rattle.btf_compare.proofs.run.compare_on.Invariants.{told}
 use Rattle.btf_model.specs.Table.{Table}
 use Rattle.btf_compare.proofs.run.compare_on.Given.{Over}
 use Rattle.btf_compare.proofs.run.compare_on.Goals as goal
-use Rattle.btf_compare.proofs.run.compare_on.Goals.{After-walk, After-walk-in_default-2, In_ok-inner, In-Ends-false-2, In-Ends-true-2, In-Owes-2}
+use Rattle.btf_compare.proofs.run.compare_on.Goals.{After-walk, After-walk-in_default-2, After-branch-end, In_ok-insert, In_ok-end}
 
 -- ---- the pair of the call
 
@@ -38,22 +36,23 @@ returns-in_err-insert g c =
     (handed c.from_residual.result OutOfMemory c.from_residual.ensures.1))
 
 -- before its first step
-root_runs : (g : Over) (c : goal.In_ok-insert g) → Running c.args.local.now c.args.target.now (pair_of c.args.first.pair) c.insert.new.self c.new-run.result.below.items (root_frame c.args.first.pair) (told g c.args.first.pair c.args.starts.now c.args.starts.now)
+root_runs : (g : Over) (c : In_ok-insert g) → Running c.args.local.now c.args.target.now (pair_of c.args.first.pair) c.insert.new.self c.new-run.result.below.items (root_frame c.args.first.pair) (told g c.args.first.pair c.args.starts.now c.args.starts.now)
 root_runs g c =
     begun c.args.local.now c.args.target.now c.args.first.pair c.new-run.result.seen c.insert.new.self c.new-run.ensures.seen c.in_ok-insert.ensures.learns (root_frame c.args.first.pair) c.new-run.result.below.items (told g c.args.first.pair c.args.starts.now c.args.starts.now)
     c.requires.begins refl c.new-run.ensures.below c.in_ok-insert.ensures.counts c.new-run.ensures.counts (λ before began. began)
 
-root_passed : (g : Over) (c : goal.In_ok-insert g) → PassedIn c.args.local.now c.args.target.now c.insert.new.self c.new-run.result.passed
+root_passed : (g : Over) (c : In_ok-insert g) → PassedIn c.args.local.now c.args.target.now c.insert.new.self c.new-run.result.passed
 root_passed g c =
     begun_passed c.args.local.now c.args.target.now c.args.first.pair c.new-run.result.seen c.insert.new.self c.new-run.ensures.seen c.in_ok-insert.ensures.learns c.new-run.result.passed c.new-run.result.passed c.new-run.ensures.passed refl
 
 pub steps-init : goal.steps-init
-steps-init g c = (
-  walks c.args.local.now c.args.target.now (pair_of c.args.first.pair) c.insert.new.self c.new-run.result.passed c.new-run.result.below.items (root_frame c.args.first.pair) (told g c.args.first.pair c.args.starts.now c.args.starts.now) (root_runs g c) (root_passed g c) c.args.first
-      (rw (nothing_passed c.new-run.result.passed c.new-run.ensures.passed) c.requires.walked),
-  root_passed g c,
-  c.requires.here,
-)
+steps-init g c =
+    let s = (goal.at.steps-init g c).In_ok-insert in (
+      walks c.args.local.now c.args.target.now (pair_of c.args.first.pair) c.insert.new.self c.new-run.result.passed c.new-run.result.below.items (root_frame c.args.first.pair) (told g c.args.first.pair c.args.starts.now c.args.starts.now) (root_runs g s) (root_passed g s) c.args.first
+          (rw (nothing_passed c.new-run.result.passed c.new-run.ensures.passed) c.requires.walked),
+      root_passed g s,
+      c.requires.here,
+    )
 
 -- ---- a walk that is at its end
 
@@ -210,114 +209,115 @@ steps-preserved-then-branch g c = (
 pub start-requires : goal.start-requires
 start-requires g c = unknown_if c.in-Some-2.pair.0 (known c.steps.run.seen c.in-Some-2.pair) (sym c.in_ok-is_settled.ensures ∙ ap (λ (b : Bool). Ok b) c.if-branch.false)
 
--- it is not started
-
-pub returns-in_err-inner : goal.returns-in_err-inner
-returns-in_err-inner g c =
-    first_told g c.args.local.now c.args.target.now c.args.first.pair _ c.args.starts.now _
-    (
-    told_on c.args.local.now c.args.target.now (pair_of c.args.first.pair) c.from_residual-in_err-inner.result (told g c.args.first.pair c.args.starts.now c.steps.starts) (told g c.args.first.pair c.args.starts.now c.start.new.starts) (λ ids h before began. c.in_err-inner.ensures.not_listed before ids (h before began))
-    (is_refused c.args.local.now c.args.target.now (pair_of c.args.first.pair) (opened_in c.steps.run.seen) (settled_in c.steps.run.seen) (frame_of c.steps.top) (stack_of c.steps.run.below.items) (count c.steps.run.seen) (told g c.args.first.pair c.args.starts.now c.steps.starts) c.steps.invariant.0
-    (pair_of c.in-Some-2.pair) (frame_of c.pay.new.self) (waits_for c.args.local.now c.args.target.now c.steps.top c.pay.new.self c.in-Owes.found c.in_ok-pair.field-0 c.in-Some-2.pair c.in-Some-2.is c.in_ok-pair.ensures.next) (ap tells_open (unknown_if c.in-Some-2.pair.0 (known c.steps.run.seen c.in-Some-2.pair) (sym c.in_ok-is_settled.ensures ∙ ap (λ (b : Bool). Ok b) c.if-branch.false))) (ap tells_settled (unknown_if c.in-Some-2.pair.0 (known c.steps.run.seen c.in-Some-2.pair) (sym c.in_ok-is_settled.ensures ∙ ap (λ (b : Bool). Ok b) c.if-branch.false))) c.allocator_of.ensures c.allocator_of-2.ensures
-    c.in_err-inner.field-0.0 c.from_residual-in_err-inner.result c.in_err-inner.ensures.refused (handed c.from_residual-in_err-inner.result c.in_err-inner.field-0.0 c.from_residual-in_err-inner.ensures.1))
-    )
-
--- ---- a pair that is started
-
--- it came to this end
-came_to : (g : Over) (c : In_ok-inner g) (end : Result Place BtfError) → c.in_ok-inner.end ≡ end → HasStarted c.args.local.now c.args.target.now (passed_in c.steps.run.passed) (pair_of c.in-Some-2.pair) c.in_ok-inner.inner end
-came_to g c end is = subst (HasStarted c.args.local.now c.args.target.now (passed_in c.steps.run.passed) (pair_of c.in-Some-2.pair) c.in_ok-inner.inner) is c.in_ok-inner.ensures.started
-
--- its walk began
-walk_of : (g : Over) (c : In_ok-inner g) (end : Result Place BtfError) → ends_false end ≡ false → c.in_ok-inner.end ≡ end → Walked c.args.local.now c.args.target.now (passed_in c.steps.run.passed) (pair_of c.in-Some-2.pair) c.in_ok-inner.inner end
-walk_of g c end not is = walked_unless_false c.args.local.now c.args.target.now (passed_in c.steps.run.passed) (pair_of c.in-Some-2.pair) c.in_ok-inner.inner end not (came_to g c end is)
-
-above : (g : Over) (c : In_ok-inner g) (end : Result Place BtfError) → Walked c.args.local.now c.args.target.now (passed_in c.steps.run.passed) (pair_of c.in-Some-2.pair) c.in_ok-inner.inner end
-    → Above c.args.local.now c.args.target.now (pair_of c.args.first.pair) c.steps.run.seen c.steps.run.passed c.steps.run.below.items c.steps.top (told g c.args.first.pair c.args.starts.now c.steps.starts) (told g c.args.first.pair c.args.starts.now c.start.new.starts) c.in-Some-2.pair c.pay.new.self (root_frame c.in-Some-2.pair) c.in_ok-inner.inner
-above g c end w = record {
+-- the walk of a started pair
+above : (g : Over) (c : After-branch-end g) (end : Result Place BtfError) → Walked c.args.local.now c.args.target.now (passed_in c.steps.run.passed) (pair_of c.in-Some-2.pair) c.start.new.frame end → TellsOneMore (told g c.args.first.pair c.args.starts.now c.steps.starts) (told g c.args.first.pair c.args.starts.now c.start.new.starts) c.in-Some-2.pair
+    → Above c.args.local.now c.args.target.now (pair_of c.args.first.pair) c.steps.run.seen c.steps.run.passed c.steps.run.below.items c.steps.top (told g c.args.first.pair c.args.starts.now c.steps.starts) (told g c.args.first.pair c.args.starts.now c.start.new.starts) c.in-Some-2.pair c.pay.new.self (root_frame c.in-Some-2.pair) c.start.new.frame
+above g c end w tells = record {
   state = c.steps.invariant.0;
   are = c.steps.invariant.1;
   next = waits_for c.args.local.now c.args.target.now c.steps.top c.pay.new.self c.in-Owes.found c.in_ok-pair.field-0 c.in-Some-2.pair c.in-Some-2.is c.in_ok-pair.ensures.next;
   unknown = unknown_if c.in-Some-2.pair.0 (known c.steps.run.seen c.in-Some-2.pair) (sym c.in_ok-is_settled.ensures ∙ ap (λ (b : Bool). Ok b) c.if-branch.false);
   begins = w.0;
-  tells = λ ids h before began. c.in_ok-inner.ensures.listed before ids (h before began);
+  tells = tells;
   new = refl;
   goes = w.1;
 }
 
-learns_then : (old new : PairMap) (ids : ℕ × ℕ) (p known : Progress) → p ≡ known → Learns old new ids p → Learns old new ids known
-learns_then old new ids p known is learns = subst (λ (x : Progress). Learns old new ids x) is learns
+-- ---- it ends with an error
 
 pub returns-in_err-end : goal.returns-in_err-end
 returns-in_err-end g c =
-    let s = (goal.at.returns-in_err-end g c).In_ok-inner in
-    let w = walk_of g s (Err c.in_err-end.field-0.0) refl c.in_err-end.was in
+    let s = (goal.at.returns-in_err-end g c).After-branch-end in
+    let result = c.from_residual-in_err-end.result in
+    let is = handed c.from_residual-in_err-end.result c.in_err-end.field-0.0 c.from_residual-in_err-end.ensures.1 in
     first_told g c.args.local.now c.args.target.now c.args.first.pair _ c.args.starts.now _
-    (inner_fails (above g s (Err c.in_err-end.field-0.0) w) c.in_err-end.field-0.0 c.from_residual-in_err-end.result w.2 (handed c.from_residual-in_err-end.result c.in_err-end.field-0.0 c.from_residual-in_err-end.ensures.1))
+    (elim c.in_err-end.ensures [
+      | inl refused ↦
+          told_on c.args.local.now c.args.target.now (pair_of c.args.first.pair) result (told g c.args.first.pair c.args.starts.now c.steps.starts) (told g c.args.first.pair c.args.starts.now c.start.new.starts) (λ ids h before began. refused.1 before ids (h before began))
+          (is_refused c.args.local.now c.args.target.now (pair_of c.args.first.pair) (opened_in c.steps.run.seen) (settled_in c.steps.run.seen) (frame_of c.steps.top) (stack_of c.steps.run.below.items) (count c.steps.run.seen) (told g c.args.first.pair c.args.starts.now c.steps.starts) c.steps.invariant.0
+          (pair_of c.in-Some-2.pair) (frame_of c.pay.new.self) (waits_for c.args.local.now c.args.target.now c.steps.top c.pay.new.self c.in-Owes.found c.in_ok-pair.field-0 c.in-Some-2.pair c.in-Some-2.is c.in_ok-pair.ensures.next) (ap tells_open (unknown_if c.in-Some-2.pair.0 (known c.steps.run.seen c.in-Some-2.pair) (sym c.in_ok-is_settled.ensures ∙ ap (λ (b : Bool). Ok b) c.if-branch.false))) (ap tells_settled (unknown_if c.in-Some-2.pair.0 (known c.steps.run.seen c.in-Some-2.pair) (sym c.in_ok-is_settled.ensures ∙ ap (λ (b : Bool). Ok b) c.if-branch.false))) c.allocator_of.ensures c.allocator_of-2.ensures
+          c.in_err-end.field-0.0 result refused.0 is)
+      | inr walked ↦
+          let w = walked_unless_false c.args.local.now c.args.target.now (passed_in c.steps.run.passed) (pair_of c.in-Some-2.pair) c.start.new.frame (Err c.in_err-end.field-0.0) refl walked.0 in
+          inner_fails (above g s (Err c.in_err-end.field-0.0) w (λ ids h before began. walked.3 before ids (h before began))) c.in_err-end.field-0.0 result w.2 is
+    ])
 
-false_is : (g : Over) (c : In-Ends-false-2 g) → c.in_ok-inner.end ≡ Ok (Ends false)
-false_is g c = c.in_ok-end.was ∙ ap (λ (p : Place). Ok p) (c.in-Ends-false-2.is ∙ ap (λ (b : Bool). Ends b) c.in-Ends-false-2.field-0-test)
+-- ---- it ends otherwise
 
-pub returns-in-Ends-false-2 : goal.returns-in-Ends-false-2
-returns-in-Ends-false-2 g c =
-    let s = (goal.at.returns-in-Ends-false-2 g c).In_ok-inner in
+-- what is known then
+came : (g : Over) (c : In_ok-end g) → HasStarted c.args.local.now c.args.target.now (passed_in c.steps.run.passed) (pair_of c.in-Some-2.pair) c.start.new.frame (Ok c.in_ok-end.end) × (c.start.new.frame.pair ≡ c.in-Some-2.pair) × (Learns c.steps.run.seen c.start.new.listed c.in-Some-2.pair (progress_of (Ok c.in_ok-end.end)) × (count c.start.new.listed ≡ count c.steps.run.seen + 1))
+    × ((before : g.row.S.Denot) (ids : List (ℕ × ℕ)) → g.S.Starts.has_added before c.steps.starts ids → g.S.Starts.has_added before c.start.new.starts (ids ++ c.in-Some-2.pair ∷ []))
+came g c = elim c.in_ok-end.ensures [ inl failed ↦ absurd failed.0 | inr started ↦ started ]
+
+pub returns-in-Ends-false-end : goal.returns-in-Ends-false-end
+returns-in-Ends-false-end g c =
+    let s = (goal.at.returns-in-Ends-false-end g c).After-branch-end in
+    let h = came g (goal.at.returns-in-Ends-false-end g c).In_ok-end in
+    let is : c.in_ok-end.end ≡ Ends false = c.in-Ends-false-end.is ∙ ap (λ (b : Bool). Ends b) c.in-Ends-false-end.field-0-test in
     first_told g c.args.local.now c.args.target.now c.args.first.pair _ c.args.starts.now _
-    (elim (came_to g s (Ok (Ends false)) (false_is g (goal.at.returns-in-Ends-false-2 g c).In-Ends-false-2)) [
+    (elim (subst (λ (p : Place). HasStarted c.args.local.now c.args.target.now (passed_in c.steps.run.passed) (pair_of c.in-Some-2.pair) c.start.new.frame (Ok p)) is h.0) [
       | inl kinds ↦
           differs c.args.local.now c.args.target.now (pair_of c.args.first.pair) (opened_in c.steps.run.seen) (settled_in c.steps.run.seen) (frame_of c.steps.top) (stack_of c.steps.run.below.items) (count c.steps.run.seen) (told g c.args.first.pair c.args.starts.now c.steps.starts) c.steps.invariant.0
           (pair_of c.in-Some-2.pair) (frame_of c.pay.new.self) (waits_for c.args.local.now c.args.target.now c.steps.top c.pay.new.self c.in-Owes.found c.in_ok-pair.field-0 c.in-Some-2.pair c.in-Some-2.is c.in_ok-pair.ensures.next) (ap tells_open (unknown_if c.in-Some-2.pair.0 (known c.steps.run.seen c.in-Some-2.pair) (sym c.in_ok-is_settled.ensures ∙ ap (λ (b : Bool). Ok b) c.if-branch.false))) (ap tells_settled (unknown_if c.in-Some-2.pair.0 (known c.steps.run.seen c.in-Some-2.pair) (sym c.in_ok-is_settled.ensures ∙ ap (λ (b : Bool). Ok b) c.if-branch.false))) (told g c.args.first.pair c.args.starts.now c.start.new.starts)
-          kinds.0 (λ ids h before began. c.in_ok-inner.ensures.listed before ids (h before began))
-      | inr w ↦ inner_false (above g s (Ok (Ends false)) w) w.2
+          kinds.0 (λ ids told before began. h.3 before ids (told before began))
+      | inr w ↦ inner_false (above g s (Ok (Ends false)) w (λ ids told before began. h.3 before ids (told before began))) w.2
     ])
 
 -- it came out true
 
-true_is : (g : Over) (c : In-Ends-true-2 g) → c.in_ok-inner.end ≡ Ok (Ends true)
-true_is g c = c.in_ok-end.was ∙ ap (λ (p : Place). Ok p) (c.in-Ends-true-2.is ∙ ap (λ (b : Bool). Ends b) c.in-Ends-true-2.field-0-test)
+pub steps-smaller-in-Ends-true-end : goal.steps-smaller-in-Ends-true-end
+steps-smaller-in-Ends-true-end g c =
+    let s = (goal.at.steps-smaller-in-Ends-true-end g c).After-branch-end in
+    let h = came g (goal.at.steps-smaller-in-Ends-true-end g c).In_ok-end in
+    let is = c.in-Ends-true-end.is ∙ ap (λ (b : Bool). Ends b) c.in-Ends-true-end.field-0-test in
+    let w = walked_unless_false c.args.local.now c.args.target.now (passed_in c.steps.run.passed) (pair_of c.in-Some-2.pair) c.start.new.frame (Ok (Ends true)) refl (subst (λ (p : Place). HasStarted c.args.local.now c.args.target.now (passed_in c.steps.run.passed) (pair_of c.in-Some-2.pair) c.start.new.frame (Ok p)) is h.0) in
+    let inner = above g s (Ok (Ends true)) w (λ ids told before began. h.3 before ids (told before began)) in
+    inner_settled_less inner h.1 c.start.new.listed (subst (λ (p : Progress). Learns c.steps.run.seen c.start.new.listed c.in-Some-2.pair p) (ap (λ (p : Place). progress_of (Ok p)) is) h.2.0) h.2.1
 
-pub steps-smaller-in-Ends-true-2 : goal.steps-smaller-in-Ends-true-2
-steps-smaller-in-Ends-true-2 g c =
-    let s = (goal.at.steps-smaller-in-Ends-true-2 g c).In_ok-inner in
-    let is = true_is g (goal.at.steps-smaller-in-Ends-true-2 g c).In-Ends-true-2 in
-    inner_settled_less (above g s (Ok (Ends true)) (walk_of g s (Ok (Ends true)) refl is)) c.in_ok-inner.ensures.pair c.start.new.listed (learns_then c.steps.run.seen c.start.new.listed c.in-Some-2.pair _ Compatible (ap progress_of is) c.in_ok-inner.ensures.learns.0) c.in_ok-inner.ensures.learns.1
-
-pub steps-preserved-in-Ends-true-2 : goal.steps-preserved-in-Ends-true-2
-steps-preserved-in-Ends-true-2 g c =
-    let s = (goal.at.steps-preserved-in-Ends-true-2 g c).In_ok-inner in
-    let is = true_is g (goal.at.steps-preserved-in-Ends-true-2 g c).In-Ends-true-2 in
-    let w = walk_of g s (Ok (Ends true)) refl is in
-    let learns = learns_then c.steps.run.seen c.start.new.listed c.in-Some-2.pair _ Compatible (ap progress_of is) c.in_ok-inner.ensures.learns.0 in (
-      inner_settled (above g s (Ok (Ends true)) w) c.in_ok-inner.ensures.pair c.start.new.listed learns c.in_ok-inner.ensures.learns.1 w.2,
-      inner_settled_passed (above g s (Ok (Ends true)) w) c.in_ok-inner.ensures.pair c.start.new.listed learns,
+pub steps-preserved-in-Ends-true-end : goal.steps-preserved-in-Ends-true-end
+steps-preserved-in-Ends-true-end g c =
+    let s = (goal.at.steps-preserved-in-Ends-true-end g c).After-branch-end in
+    let h = came g (goal.at.steps-preserved-in-Ends-true-end g c).In_ok-end in
+    let is = c.in-Ends-true-end.is ∙ ap (λ (b : Bool). Ends b) c.in-Ends-true-end.field-0-test in
+    let w = walked_unless_false c.args.local.now c.args.target.now (passed_in c.steps.run.passed) (pair_of c.in-Some-2.pair) c.start.new.frame (Ok (Ends true)) refl (subst (λ (p : Place). HasStarted c.args.local.now c.args.target.now (passed_in c.steps.run.passed) (pair_of c.in-Some-2.pair) c.start.new.frame (Ok p)) is h.0) in
+    let inner = above g s (Ok (Ends true)) w (λ ids told before began. h.3 before ids (told before began)) in
+    let learns = (subst (λ (p : Progress). Learns c.steps.run.seen c.start.new.listed c.in-Some-2.pair p) (ap (λ (p : Place). progress_of (Ok p)) is) h.2.0) in (
+      inner_settled inner h.1 c.start.new.listed learns h.2.1 w.2,
+      inner_settled_passed inner h.1 c.start.new.listed learns,
       still_owes c.args.local.now c.args.target.now c.pay.new.self c.steps.place c.in-Owes.found c.in-Owes.is c.pay.ensures.here,
     )
 
 -- it has come to prototypes
 
-owes_is : (g : Over) (c : In-Owes-2 g) → c.in_ok-inner.end ≡ Ok (Owes c.in-Owes-2.inside)
-owes_is g c = c.in_ok-end.was ∙ ap (λ (p : Place). Ok p) c.in-Owes-2.is
-
-pub returns-in_err-push-in-Owes-2 : goal.returns-in_err-push-in-Owes-2
-returns-in_err-push-in-Owes-2 g c =
-    let s = (goal.at.returns-in_err-push-in-Owes-2 g c).In_ok-inner in
-    let is = owes_is g (goal.at.returns-in_err-push-in-Owes-2 g c).In-Owes-2 in
+pub returns-in_err-push-in-Owes-end : goal.returns-in_err-push-in-Owes-end
+returns-in_err-push-in-Owes-end g c =
+    let s = (goal.at.returns-in_err-push-in-Owes-end g c).After-branch-end in
+    let h = came g (goal.at.returns-in_err-push-in-Owes-end g c).In_ok-end in
+    let is = c.in-Owes-end.is in
+    let w = walked_unless_false c.args.local.now c.args.target.now (passed_in c.steps.run.passed) (pair_of c.in-Some-2.pair) c.start.new.frame (Ok (Owes c.in-Owes-end.inside)) refl (subst (λ (p : Place). HasStarted c.args.local.now c.args.target.now (passed_in c.steps.run.passed) (pair_of c.in-Some-2.pair) c.start.new.frame (Ok p)) is h.0) in
+    let inner = above g s (Ok (Owes c.in-Owes-end.inside)) w (λ ids told before began. h.3 before ids (told before began)) in
     first_told g c.args.local.now c.args.target.now c.args.first.pair _ c.args.starts.now _
-    (inner_no_memory (above g s (Ok (Owes c.in-Owes-2.inside)) (walk_of g s (Ok (Owes c.in-Owes-2.inside)) refl is)) c.allocator_of.ensures c.allocator_of-2.ensures c.from_residual-in_err-push-in-Owes-2.result
-    (handed c.from_residual-in_err-push-in-Owes-2.result OutOfMemory c.from_residual-in_err-push-in-Owes-2.ensures.1))
+    (inner_no_memory inner c.allocator_of.ensures c.allocator_of-2.ensures c.from_residual-in_err-push-in-Owes-end.result
+    (handed c.from_residual-in_err-push-in-Owes-end.result OutOfMemory c.from_residual-in_err-push-in-Owes-end.ensures.1))
 
 pub steps-smaller : goal.steps-smaller
 steps-smaller g c =
-    let s = (goal.at.steps-smaller g c).In_ok-inner in
-    let is = owes_is g (goal.at.steps-smaller g c).In-Owes-2 in
-    inner_open_less (above g s (Ok (Owes c.in-Owes-2.inside)) (walk_of g s (Ok (Owes c.in-Owes-2.inside)) refl is)) c.start.new.listed (learns_then c.steps.run.seen c.start.new.listed c.in-Some-2.pair _ Open (ap progress_of is) c.in_ok-inner.ensures.learns.0) c.in_ok-inner.ensures.learns.1 c.push.new.self.items c.in_ok-push-in-Owes-2.ensures.items
+    let s = (goal.at.steps-smaller g c).After-branch-end in
+    let h = came g (goal.at.steps-smaller g c).In_ok-end in
+    let is = c.in-Owes-end.is in
+    let w = walked_unless_false c.args.local.now c.args.target.now (passed_in c.steps.run.passed) (pair_of c.in-Some-2.pair) c.start.new.frame (Ok (Owes c.in-Owes-end.inside)) refl (subst (λ (p : Place). HasStarted c.args.local.now c.args.target.now (passed_in c.steps.run.passed) (pair_of c.in-Some-2.pair) c.start.new.frame (Ok p)) is h.0) in
+    let inner = above g s (Ok (Owes c.in-Owes-end.inside)) w (λ ids told before began. h.3 before ids (told before began)) in
+    inner_open_less inner c.start.new.listed (subst (λ (p : Progress). Learns c.steps.run.seen c.start.new.listed c.in-Some-2.pair p) (ap (λ (p : Place). progress_of (Ok p)) is) h.2.0) h.2.1 c.push.new.self.items c.in_ok-push-in-Owes-end.ensures.items
 
 pub steps-preserved : goal.steps-preserved
 steps-preserved g c =
-    let s = (goal.at.steps-preserved g c).In_ok-inner in
-    let is = owes_is g (goal.at.steps-preserved g c).In-Owes-2 in
-    let w = walk_of g s (Ok (Owes c.in-Owes-2.inside)) refl is in
-    let learns = learns_then c.steps.run.seen c.start.new.listed c.in-Some-2.pair _ Open (ap progress_of is) c.in_ok-inner.ensures.learns.0 in (
-      inner_open (above g s (Ok (Owes c.in-Owes-2.inside)) w) c.start.new.listed learns c.in_ok-inner.ensures.learns.1 c.push.new.self.items c.in_ok-push-in-Owes-2.ensures.items,
-      inner_open_passed (above g s (Ok (Owes c.in-Owes-2.inside)) w) c.start.new.listed learns,
+    let s = (goal.at.steps-preserved g c).After-branch-end in
+    let h = came g (goal.at.steps-preserved g c).In_ok-end in
+    let is = c.in-Owes-end.is in
+    let w = walked_unless_false c.args.local.now c.args.target.now (passed_in c.steps.run.passed) (pair_of c.in-Some-2.pair) c.start.new.frame (Ok (Owes c.in-Owes-end.inside)) refl (subst (λ (p : Place). HasStarted c.args.local.now c.args.target.now (passed_in c.steps.run.passed) (pair_of c.in-Some-2.pair) c.start.new.frame (Ok p)) is h.0) in
+    let inner = above g s (Ok (Owes c.in-Owes-end.inside)) w (λ ids told before began. h.3 before ids (told before began)) in
+    let learns = (subst (λ (p : Progress). Learns c.steps.run.seen c.start.new.listed c.in-Some-2.pair p) (ap (λ (p : Place). progress_of (Ok p)) is) h.2.0) in (
+      inner_open inner c.start.new.listed learns h.2.1 c.push.new.self.items c.in_ok-push-in-Owes-end.ensures.items,
+      inner_open_passed inner c.start.new.listed learns,
       w.2,
     )
