@@ -6,6 +6,7 @@ use Rattle.std.proofs.lemmas.Nat.{and_mask, pow_pos}
 use Rattle.std.proofs.Math.Nat.{mod-lt, mod-eq_of_lt, add-mod_left, pow-suc}
 use Rattle.std.proofs.Math.Pow.{mod-mod-pow}
 use Rattle.btf_compare.specs.Buckets.{bucket_of, is_numbered, spread}
+use Rattle.btf_compare.specs.PairTable.{capacity, load}
 
 -- the index that some bits give, and else one bit fewer
 abbrev pick : ℕ → ℕ → ℕ → ℕ
@@ -110,3 +111,17 @@ module _ (bits mask many : ℕ) (ones : mask ≡ 2 ^ suc bits - 1) (least : 2 ^ 
         | inr not ↦
             sym (pick_wide many w n (lt_not many w below not)) ∙ sym (ap (λ (b : Bool). if b then many else bucket_of mask many ids) (ne_eqb w many not))
       ]
+
+-- ---- how many pairs come into the buckets
+
+pub few_buckets : (buckets : ℕ) → buckets ≤ 3 → capacity buckets ≡ 15 + buckets
+unfolding capacity
+few_buckets buckets le =
+    elim (cases_lt buckets 3) [
+      | inl lt ↦ ap (λ (few : Bool). if few then 15 + buckets else load * buckets) (lt-ltb buckets 3 lt)
+      | inr ge ↦ ap (λ (few : Bool). if few then 15 + buckets else load * buckets) (le-ltb buckets 3 ge) ∙ omega (arith, le, ge)
+    ]
+
+pub more_buckets : (buckets : ℕ) → 3 ≤ buckets → capacity buckets ≡ load * buckets
+unfolding capacity
+more_buckets buckets ge = ap (λ (few : Bool). if few then 15 + buckets else load * buckets) (le-ltb buckets 3 ge)

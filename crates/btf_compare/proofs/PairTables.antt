@@ -6,7 +6,7 @@ use Rattle.std.proofs.lemmas.Bool.{cases_Bool, cases_eq, false≢true}
 use Rattle.btf_compare.specs.Entries.{is_ids, values_in, Sets}
 use Rattle.btf_compare.specs.Buckets.{bucket_of, is_numbered}
 use Rattle.std.proofs.lemmas.List.{map-set, get_or-set_same, get_or-set_other, length-map, length-set, length-append}
-use Rattle.btf_compare.specs.PairTable.{AreShared, IsTable, TakesMore, count_in, entries_of, held, layout, mark_of, place_in, value_of}
+use Rattle.btf_compare.specs.PairTable.{AreShared, IsTable, TakesMore, capacity, count_in, entries_of, held, layout, mark_of, place_in, value_of}
 use Rattle.btf_compare.specs.declared.bucket.Bucket.{Bucket}
 use Rattle.btf_compare.specs.declared.progress.Progress.{Progress}
 use Rattle.btf_compare.proofs.EntryLists.{is_same, array_push, further_set, nowhere, set_then_more}
@@ -148,8 +148,7 @@ module _ (buckets : List Bucket) (mask : ℕ) (further : List ((ℕ × ℕ) × P
             takes,
             same,
             ap held rows_set,
-            ap length rows_set,
-            length-set (map entries_of buckets) i (entries_of new),
+            ap capacity (ap length rows_set ∙ length-set (map entries_of buckets) i (entries_of new)),
             held_set (map entries_of buckets) i (entries_of b) (entries_of new) (omega (arith, inside, many)) row_here,
           )
 

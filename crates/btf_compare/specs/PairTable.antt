@@ -1,5 +1,5 @@
 -- A table of many pairs of ids, in buckets.
-use Rattle.std.specs.Prelude.{◌≡◌, ℕ, suc, ◌+◌, ◌-◌, ◌*◌, ◌^◌, ◌<◌, ◌≤◌, length, map, get_or, Bool, false, List, [], ◌∷◌, Option, None, if◌then◌else◌}
+use Rattle.std.specs.Prelude.{◌≡◌, ℕ, suc, ◌+◌, ◌-◌, ◌*◌, ◌^◌, ◌<◌, ◌≤◌, length, map, get_or, Bool, false, List, [], ◌∷◌, Option, None, if◌then◌else◌, ltb}
 use Rattle.std.specs.Option.{option_or}
 use Rattle.btf_compare.specs.Entries.{values_in}
 use Rattle.btf_compare.specs.Buckets.{bucket_of, is_numbered}
@@ -9,6 +9,11 @@ use Rattle.btf_compare.specs.declared.progress.Progress.{Progress}
 -- how many pairs come into the buckets before one more is made
 abbrev pub load : ℕ
 load = 6
+
+-- how many pairs come into so many buckets before one more is made: `load` for each, but 16 at least, and one more for
+-- the second and for the third bucket
+unfoldable pub capacity : ℕ → ℕ
+capacity buckets = if ltb buckets 3 then 15 + buckets else load * buckets
 
 -- What lies where in a table: the entries of each bucket, which of them had no room for more, the mask that tells the
 -- bucket of a pair, and the entries for which there was no room.
@@ -55,14 +60,13 @@ module _ {V : Type 0} where
   abbrev pub count_in : Layout V → ℕ
   count_in t = held t.rows + length t.further
 
-  -- So many more pairs come into the buckets before one more is made: all buckets have as many pairs then as `load` for
-  -- each of them and for two more.
+  -- So many more pairs come into the buckets before one more is made.
   abbrev pub TakesMore : Layout V → ℕ → Type 0
-  TakesMore t left = held t.rows + left ≡ load * (length t.rows + 2)
+  TakesMore t left = held t.rows + left ≡ capacity (length t.rows)
 
   -- One more pair comes into the buckets before that.
   abbrev pub HasRoom : Layout V → Type 0
-  HasRoom t = held t.rows < load * (length t.rows + 2)
+  HasRoom t = held t.rows < capacity (length t.rows)
 
   -- The mask has a bit more than the numbers of all buckets take, and an entry is not in its bucket only where that had
   -- no room.

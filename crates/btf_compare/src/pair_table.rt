@@ -1,9 +1,9 @@
 //! Many pairs of ids, in buckets.
 
-ghost use Rattle.std.specs.Prelude.{◌≡◌, ℕ, ◌+◌, ◌*◌, ◌<◌, suc, length, None, IsSome, IfOk, OnOk};
+ghost use Rattle.std.specs.Prelude.{◌≡◌, ℕ, ◌+◌, ◌<◌, suc, length, None, IsSome, IfOk, OnOk};
 ghost use Rattle.btf_compare.specs.Entries.{Sets, values_in};
 ghost use Rattle.btf_compare.specs.Buckets.{bucket_of};
-ghost use Rattle.btf_compare.specs.PairTable.{HasRoom, count_in, held, load, value_of};
+ghost use Rattle.btf_compare.specs.PairTable.{HasRoom, capacity, count_in, held, value_of};
 
 use crate::bucket::{Bucket, ROOM, spread};
 use crate::entries::Entries;
@@ -51,7 +51,7 @@ impl PairTable {
             (λ t. (ids : ℕ × ℕ) → value_of t ids ≡ values_in entries.list.items ids) }
         ensures counts { IfOk result (λ t. count_in t ≡ length entries.list.items) }
     {
-        let left = 3 * LOAD - entries.list.len();
+        let left = ROOM - entries.list.len();
         let mut buckets = Vec::with_capacity(alloc, FIRST_BUCKETS)?;
         buckets.push_reserved(Bucket {
             entries,
@@ -128,7 +128,7 @@ impl PairTable {
     /// few insertions come here, and a function clears all that it has on the call stack when it is called.
     #[inline(never)]
     fn split_next(&mut self) -> Result<(), AllocError>
-        requires { held self.old.rows ≡ load * (length self.old.rows + 2) }
+        requires { held self.old.rows ≡ capacity (length self.old.rows) }
         ensures values { (ids : ℕ × ℕ) → value_of self.new ids ≡ value_of self.old ids }
         ensures counts { count_in self.new ≡ count_in self.old }
         ensures grows { OnOk result (length self.new.rows ≡ length self.old.rows + 1) }
@@ -136,16 +136,27 @@ impl PairTable {
     {
         self.buckets.reserve(1)?;
         let many = self.buckets.len();
+        let more = gained(many);
         let next = many - (self.mask / 2 + 1);
         let (stay, go) = self.buckets[next].split(self.mask, many);
         self.buckets[next] = stay;
         self.buckets.push_reserved(go);
-        self.left = LOAD;
+        self.left = more;
         if many == self.mask {
             self.mask = 2 * self.mask + 1;
         }
         Ok(())
     }
+}
+
+/// How many more pairs come into the buckets before the next one is made, with one more bucket than these: one at a
+/// time while the pairs of a full array are shared out.
+#[inline(always)]
+fn gained(many: usize) -> usize
+    ensures gains { result + capacity many ≡ capacity (many + 1) }
+    ensures some { 0 < result }
+{
+    if many < 3 { 1 } else { LOAD }
 }
 
 /// The index of the bucket of a pair, where there are so many.

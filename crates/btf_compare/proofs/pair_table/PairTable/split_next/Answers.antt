@@ -1,6 +1,6 @@
 use Rattle.std.proofs.Common.{◌≡◌, ℕ, ◌+◌, ◌-◌, ◌*◌, ◌/◌, List, [], ◌∷◌, ◌++◌, length, get_or, map, set, refl, sym, ap, subst, ◌∙◌, arith, inl, inr}
 use Rattle.std.proofs.lemmas.List.{length-append, length-map, length-set}
-use Rattle.btf_compare.specs.PairTable.{AreShared, IsTable, TakesMore, count_in, load, entries_of, layout, value_of}
+use Rattle.btf_compare.specs.PairTable.{AreShared, IsTable, TakesMore, capacity, count_in, entries_of, layout, value_of}
 use Rattle.btf_compare.specs.declared.bucket.Bucket.{Bucket}
 use Rattle.btf_compare.proofs.Buckets.{IsNextMask, lt_not}
 use Rattle.btf_compare.proofs.Splits.{half_within, next_within, most, split_values, split_counts, split_table}
@@ -13,7 +13,7 @@ many c = c.len-many.ensures ∙ c.in_ok-reserve.ensures.len ∙ c.self.inside.bu
 pub overflow_sub-next : goal.overflow_sub-next
 overflow_sub-next c =
     let t = c.self.inside in
-    rw (many c) (half_within t.buckets.items t.mask t.further.entries c.self.invariant.0)
+    rw (many (goal.at.overflow_sub-next c).After-len-many) (half_within t.buckets.items t.mask t.further.entries c.self.invariant.0)
 
 pub index-requires : goal.index-requires
 index-requires c =
@@ -78,9 +78,19 @@ module _ (c : After-push_reserved) (long : c.len-many.result ≡ length c.self.i
         subst (λ (bs : List Bucket). IsTable (layout bs next t.further.entries)) (sym (items c))
         (split_table t.buckets.items t.mask t.further.entries c.self.invariant.0 (c.len-many.result - (t.mask / 2 + 1)) from c.index.result.now is c.split-stay.result.0 c.split-stay.result.1 shared c.split-stay.ensures.counts c.split-stay.ensures.stay c.split-stay.ensures.go next masks)
 
-    -- the buckets were full, and take as many pairs more as one is made for
-    takes : TakesMore (layout c.push_reserved.new.self.items next c.self.inside.further.entries) load
-    takes = omega (arith, c.requires, same_counts, longer, ap (λ t. length t.further) c.self.view_is)
+    -- the buckets were full, and take some pairs more
+    takes : TakesMore (layout c.push_reserved.new.self.items next c.self.inside.further.entries) c.gained-more.result
+    takes =
+        let rows : c.len-many.result ≡ length c.args.self.now.rows = omega (arith, long, length-map c.self.inside.buckets.items entries_of, ap (λ t. length t.rows) c.self.view_is) in
+        omega (
+          arith,
+          c.requires,
+          c.gained-more.ensures.gains,
+          ap capacity rows,
+          ap capacity (longer ∙ ap (λ (n : ℕ). n + 1) (sym rows)),
+          same_counts,
+          ap (λ t. length t.further) c.self.view_is,
+        )
 
 -- as many buckets as the mask has room for
 full : (c : goal.After-self-then-many-self-1) → (c.len-many.result ≡ length c.self.inside.buckets.items) × IsNextMask c.self.inside.mask (length c.self.inside.buckets.items) (2 * c.self.inside.mask + 1)
@@ -124,7 +134,7 @@ pub returns-else-many-self-clause-grows : goal.returns-else-many-self-clause-gro
 returns-else-many-self-clause-grows c = longer (goal.at.returns-else-many-self-clause-grows c).After-push_reserved (fewer c).0 _ (fewer c).1
 
 pub returns-then-many-self-clause-room : goal.returns-then-many-self-clause-room
-returns-then-many-self-clause-room c = omega (arith, takes (goal.at.returns-then-many-self-clause-room c).After-push_reserved (full c).0 _ (full c).1)
+returns-then-many-self-clause-room c = omega (arith, c.gained-more.ensures.some, takes (goal.at.returns-then-many-self-clause-room c).After-push_reserved (full c).0 _ (full c).1)
 
 pub returns-else-many-self-clause-room : goal.returns-else-many-self-clause-room
-returns-else-many-self-clause-room c = omega (arith, takes (goal.at.returns-else-many-self-clause-room c).After-push_reserved (fewer c).0 _ (fewer c).1)
+returns-else-many-self-clause-room c = omega (arith, c.gained-more.ensures.some, takes (goal.at.returns-else-many-self-clause-room c).After-push_reserved (fewer c).0 _ (fewer c).1)
