@@ -98,7 +98,7 @@ fn next_ids(alloc: Global, locals: &[u32], targets: &[u32]) -> Result<Vec<u32>, 
 }
 
 /// Rings of N and of N + 1 prototypes, each of which takes the next one, and the first of each. All pairs of the two
-/// rings lie in one bucket of 16. Pointers have the ids between.
+/// rings share one bucket, which holds 16 of them. Pointers take the ids between.
 pub fn flooded_rings(alloc: Global, sketch: &mut Sketch, size: u32) -> Result<(u32, u32), Fail> {
     let locals = local_ring(alloc, size as usize)?;
     let targets = target_ring(alloc, size.wrapping_add(1))?;

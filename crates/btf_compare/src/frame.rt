@@ -59,7 +59,7 @@ impl Frame {
         }
     }
 
-    /// Walks a pair that has not walked yet. If the kinds of its types are not alike, it ends with false at once.
+    /// Walks a pair for the first time. If the kinds of its types differ, the pair is false, and no position is walked.
     #[inline(always)]
     pub fn begin<'a>(
         &mut self,

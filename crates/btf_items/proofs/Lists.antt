@@ -109,14 +109,6 @@ first_items width f each order bytes n more xs le h =
           ∙ take_at (words_at order (width * n) bytes) (words_at order (width * more - width * n) (drop (4 * (width * n)) bytes)) (width * n) (length-words_at order (width * n) bytes),
     )
 
--- clones of the first items
-pub first_clones : {X : Type 0} (R : X → X → Type 0) (n : ℕ) (xs ys : List X) → AllZip R xs ys → AllZip R (take n xs) (take n ys)
-first_clones R zero xs ys h = tt
-first_clones R (suc n) [] [] h = tt
-first_clones R (suc n) [] (y ∷ ys) h = absurd h
-first_clones R (suc n) (x ∷ xs) [] h = absurd h
-first_clones R (suc n) (x ∷ xs) (y ∷ ys) h = (h.0, first_clones R n xs ys h.1)
-
 -- clones have the words of what they are clones of
 pub same_words : {X A : Type 0} (IsClone : X → X → Type 0) (words : X → List A) → ((x y : X) → IsClone x y → words y ≡ words x) → (xs ys : List X) → AllZip IsClone xs ys → flat_map words ys ≡ flat_map words xs
 same_words IsClone words same [] [] h = refl
