@@ -6,12 +6,13 @@
 //!
 //! `btf_bench FAMILY N [REPS] [--csv|--names]` does so for a table that an attacker could make, at the sizes N, 2 N and
 //! 4 N: a step that is not linear shows in the time of a unit. FAMILY is `collide`, `fan`, `rings`, `nest`, `flood`,
-//! `floodrings`, `longname` or `sections`; what these are stands in the module `hostile`.
+//! `floodrings`, `longname`, `sections`, `entries`, `symbols` or `datasecs`; the module `hostile` says what these are.
 //!
 //! `btf_bench names N [REPS] [--csv|--names]` reads a name N times, for names of several lengths, each as the last of
 //! the string section and as another one.
 #![tactic(auto)]
 
+mod data_secs;
 mod flood;
 mod hostile;
 mod names;

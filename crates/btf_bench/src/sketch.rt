@@ -50,6 +50,21 @@ impl Sketch {
         self.record(&[name_offset, 0x0c00_0001, prototype])
     }
 
+    /// A VAR with the name at this offset: Static where the linkage is 0, Global where it is 1.
+    pub fn var(&mut self, name_offset: u32, to: u32, linkage: u32) -> Result<u32, AllocError> {
+        self.record(&[name_offset, 0x0e00_0000, to, linkage])
+    }
+
+    /// A DATASEC of size 0 with an entry of 4 bytes for each of these VARs.
+    pub fn data_sec(&mut self, name_offset: u32, vars: &[u32]) -> Result<u32, Fail> {
+        let vlen = u32::from(u16::try_from(vars.len())?);
+        let id = self.record(&[name_offset, 0x0f00_0000 | vlen, 0])?;
+        for var in vars {
+            push_words(&mut self.types, &[*var, 0, 4], Endianness::Little)?;
+        }
+        Ok(id)
+    }
+
     /// A prototype that returns nothing; its parameters have no names.
     pub fn prototype(&mut self, params: &[u32]) -> Result<u32, Fail> {
         let vlen = u32::from(u16::try_from(params.len())?);

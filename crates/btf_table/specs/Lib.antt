@@ -6,6 +6,7 @@ pub mod Ascii
 pub mod Readable
 pub mod PassStep
 pub mod SectionStep
+pub mod ReadNames
 pub mod Rewrites
 pub mod KsymsStep
 pub mod Btf

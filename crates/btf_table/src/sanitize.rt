@@ -8,6 +8,7 @@ mod ksyms;
 mod made;
 mod outcome;
 mod pass;
+mod read_names;
 mod single;
 
 ghost use Rattle.std.specs.Prelude.{◌≡◌, ℕ, List, [], Option, Some, OnOk, OnErr, IfOk, slice_get};

@@ -4,7 +4,7 @@ mod entries;
 pub mod filler;
 mod name;
 
-ghost use Rattle.std.specs.Prelude.{◌≡◌, ◌==◌, ℕ, List, [], ◌∷◌, length, map, not, true, false, None, Some, Ok, IfOk};
+ghost use Rattle.std.specs.Prelude.{◌≡◌, ◌==◌, ℕ, List, [], ◌∷◌, length, map, not, true, false, None, Some, Ok, IfOk, OnOk};
 ghost use Rattle.std.specs.List.{flat_map};
 ghost use Rattle.std.specs.Option.{unwrap_or};
 ghost use Rattle.btf_model.specs.Record.{Record, vlen};
@@ -23,18 +23,21 @@ ghost use Rattle.btf_records.specs.BtfType.{record_of, fallback_of};
 ghost use Rattle.btf_table.specs.Adding.{HasRoom};
 ghost use Rattle.btf_rules.specs.Checked.{checked};
 ghost use Rattle.btf_rules.specs.Features.{Called, Asks, IsFurther, answers_of, policy_of};
-ghost use Rattle.btf_rules.specs.Layout.{sizes_of, offsets_of};
+ghost use Rattle.btf_rules.specs.Layout.{sizes_of, offsets_of, layout_of};
+ghost use Rattle.btf_table.specs.ReadNames.{AreFound, AreRead};
+ghost use Rattle.btf_table.specs.Readable.{IsReadableEnd};
 ghost use Rattle.btf_table.specs.PassStep.{Given, pass_on, IsType, IsHere, AsksUpTo, Steps, Rules};
 ghost use Rattle.btf_table.specs.SectionStep.{HasNewName, final_size, is_fillable, asks_zero};
 
 use crate::sanitize::data_sec::entries::{members, placed_entries};
 use crate::sanitize::data_sec::name::new_name;
 use crate::sanitize::made::Made;
+use crate::sanitize::read_names::ReadNames;
 use crate::table::{Btf, record_fits};
 use btf_plain::{BtfError, SectionIndex};
 use btf_records::{BtfType, DataSec, DataSecEntry, Struct};
 use btf_rules::{BtfFeature, BtfFeatureResolver, FillPolicy, renamed, section_size};
-use std::collections::HashMap;
+use std::collections::{BTreeMap, HashMap};
 
 /// The length of an entry in bytes.
 const ENTRY_LEN: usize = 12;
@@ -71,10 +74,13 @@ fn as_struct(
 fn with_symbol_offsets(
     btf: &Btf,
     symbols: &HashMap<String, u64>,
+    names: &mut ReadNames,
     data_sec: &DataSec,
     name_offset: u32,
     size: u32,
 ) -> Result<Option<BtfType>, BtfError>
+    requires readable { IsReadableEnd btf.now.strings names.old.readable_end }
+    requires found { AreFound btf.now.strings (offsets_of symbols.now) names.old.offsets }
     ensures answer { (p : Pass) → p.table ≡ btf.now → p.layout.symbols ≡ offsets_of symbols.now
         → IsOrNoMemory (λ new. record_of (unwrap_or new (BtfType.DataSec data_sec.now))) result
         (checked (first_fault (flat_map (entry_checks p) (entries data_sec.now.tail)))
@@ -82,20 +88,28 @@ fn with_symbol_offsets(
         (map (placed p) (entries data_sec.now.tail)))) }
     ensures fallback { IfOk result (λ new. fallback_of
         (unwrap_or new (BtfType.DataSec data_sec.now)) ≡ None) }
+    ensures found { OnOk result
+        (AreFound btf.now.strings (offsets_of symbols.now) names.new.offsets) }
+    ensures same { (names.new.readable_end ≡ names.old.readable_end)
+        × (names.new.kept ≡ names.old.kept) × (names.new.sizes ≡ names.old.sizes) }
 {
-    let entries = placed_entries(btf, symbols, data_sec)?;
+    let end = names.readable_end;
+    let entries = placed_entries(btf, symbols, end, &mut names.offsets, data_sec)?;
     Ok(Some(BtfType::DataSec(DataSec::new(name_offset, entries, size))))
 }
 
-/// The size that a DATASEC has in the end: its own, or that of its section, by its name, where it has none.
+/// The size that a DATASEC has in the end: its own, or that of its section, by its name, where it has none. The size of a
+/// section is remembered in `sizes`, so each name is read once.
 ///
 /// Of one of size 0: `InvalidStringOffset` where the name can't be read; `UnknownSectionSize` of the name where the
 /// size isn't known or has more than 32 bits.
 fn final_size(
     btf: &Btf,
     sections: &HashMap<String, (SectionIndex, u64)>,
+    sizes: &mut BTreeMap<u32, u32>,
     data_sec: &DataSec,
 ) -> Result<u32, BtfError>
+    requires { AreFound btf.now.strings (sizes_of sections.now) sizes.old }
     ensures own { (data_sec.now.third == 0) ≡ false → result ≡ Ok data_sec.now.third }
     ensures section { (data_sec.now.third == 0) ≡ true → (p : Pass) → p.table ≡ btf.now
         → p.layout.sections ≡ sizes_of sections.now
@@ -105,12 +119,19 @@ fn final_size(
         ∷ is_sized (size_by_name p (text_at btf.now.strings data_sec.now.name))
         (text_at btf.now.strings data_sec.now.name) ∷ []))
         (unwrap_or (size_by_name p (text_at btf.now.strings data_sec.now.name)) 0)) }
+    ensures found { OnOk result (AreFound btf.now.strings (sizes_of sections.now) sizes.new) }
 {
     if data_sec.size() != 0 {
         return Ok(data_sec.size());
     }
-    let name = btf.string_at(data_sec.name_offset())?;
-    section_size(btf.allocator(), sections, name.as_str())
+    let name_offset = data_sec.name_offset();
+    if let Some(size) = sizes.get(&name_offset) {
+        return Ok(*size);
+    }
+    let name = btf.string_at(name_offset)?;
+    let size = section_size(btf.allocator(), sections, name.as_str())?;
+    sizes.insert(name_offset, size)?;
+    Ok(size)
 }
 
 /// Whether a DATASEC of this size in the end gets the filler for its entry: it has none, and that size is 0, or the
@@ -192,9 +213,11 @@ impl Made {
         symbols: &HashMap<String, u64>,
         data_sec: &DataSec,
         policy: FillPolicy,
+        names: &mut ReadNames,
         resolver: &mut BtfFeatureResolver<F>,
     ) -> Result<Option<BtfType>, BtfError>
         requires room { HasRoom btf.now self.old.changes }
+        requires read { AreRead btf.now.strings (layout_of sections.now symbols.now) names.old }
         requires callable { F.IsAlwaysCallable resolver.old.0 }
         ensures callable { F.IsAlwaysCallable resolver.new.0 }
         ensures called { (first : F) → Called F.step first resolver.old.1 resolver.old.0
@@ -219,22 +242,24 @@ impl Made {
             → MeetsOrNoMemory (λ new. unwrap_or new (BtfType.DataSec data_sec.now)) result
             (Steps (pass_on btf.now given (answers_of resolver.old.1)) id resolver.new.1
             (BtfType.DataSec data_sec.now) self.old self.new) }
+        ensures read { OnOk result
+            (AreRead btf.now.strings (layout_of sections.now symbols.now) names.new) }
     {
         // The contract speaks of the kind in the info word, and of the words, which a use of them shows.
         let _ = data_sec.info();
         let _ = data_sec.entries();
         let granted = resolver.is_supported(BtfFeature::DataSec);
-        let name_offset = new_name(btf, &mut self.changes, data_sec, granted)?;
+        let name_offset = new_name(btf, &mut self.changes, &mut names.kept, data_sec, granted)?;
         if !granted {
             return as_struct(btf, &self.names, data_sec, name_offset);
         }
-        let size = final_size(btf, sections, data_sec)?;
+        let size = final_size(btf, sections, &mut names.sizes, data_sec)?;
         if wants_filler(data_sec, size, policy, resolver) {
             return self.filled(btf, name_offset, size);
         }
         if data_sec.size() != 0 {
             return renamed(data_sec, name_offset);
         }
-        with_symbol_offsets(btf, symbols, data_sec, name_offset, size)
+        with_symbol_offsets(btf, symbols, names, data_sec, name_offset, size)
     }
 }

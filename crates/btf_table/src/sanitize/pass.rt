@@ -1,6 +1,6 @@
 //! The pass of a rewrite over all types of a table.
 
-ghost use Rattle.std.specs.Prelude.{◌≡◌, ℕ, List, [], Some, true};
+ghost use Rattle.std.specs.Prelude.{◌≡◌, ℕ, List, [], Some, OnOk, true};
 ghost use Rattle.btf_model.specs.Record.{kind_of};
 ghost use Rattle.btf_rewrite_model.specs.Feature.{Feature};
 ghost use Rattle.btf_rewrite_model.specs.Pass.{asks_below};
@@ -14,11 +14,12 @@ ghost use Rattle.btf_rules.specs.Layout.{sizes_of, offsets_of, layout_of};
 ghost use Rattle.btf_rules.specs.SoleFeature as step;
 ghost use Rattle.btf_table.specs.PassStep.{Given, pass_on, under, IsType, IsHere, AsksUpTo, Steps, Passes, BeginsAsked, made_of};
 ghost use Rattle.btf_rules.specs.SoleFeature.{asks_one, IsGranted};
-ghost use Rattle.btf_table.specs.Readable.{IsReadableEnd};
+ghost use Rattle.btf_table.specs.ReadNames.{AreRead};
 
 use crate::sanitize::func::rewrite_func;
 use crate::sanitize::made::Made;
 use crate::sanitize::outcome::{Outcome, placed};
+use crate::sanitize::read_names::ReadNames;
 use crate::table::{Btf, Changes};
 use btf_plain::{BtfError, SectionIndex};
 use btf_records::BtfType;
@@ -55,7 +56,7 @@ fn has_sole_feature<F: FnMut(BtfFeature) -> bool>(
 }
 
 impl Made {
-    /// The rule of a type, by its kind. Names can be read at the offsets below `readable_end`.
+    /// The rule of a type, by its kind. `names` are those that the pass has read.
     ///
     /// `InvalidStringOffset` where the name of a FUNC or a DATASEC can't be read, or strings have no room for what is
     /// appended; `InvalidTypeInfo` where types have no room for it; and of a DATASEC, `UnknownBtfType`,
@@ -67,11 +68,11 @@ impl Made {
         symbols: &HashMap<String, u64>,
         btf_type: &BtfType,
         policy: FillPolicy,
-        readable_end: usize,
+        names: &mut ReadNames,
         resolver: &mut BtfFeatureResolver<F>,
     ) -> Result<Outcome, BtfError>
         requires room { HasRoom btf.now self.old.changes }
-        requires readable { IsReadableEnd btf.now.strings readable_end }
+        requires read { AreRead btf.now.strings (layout_of sections.now symbols.now) names.old }
         requires callable { F.IsAlwaysCallable resolver.old.0 }
         ensures callable { F.IsAlwaysCallable resolver.new.0 }
         ensures called { (first : F) → Called F.step first resolver.old.1 resolver.old.0
@@ -94,13 +95,17 @@ impl Made {
             → MeetsOrNoMemory (λ o. made_of o btf_type.now) result
             (Steps (pass_on btf.now given (answers_of resolver.old.1)) id resolver.new.1
             btf_type.now self.old self.new) }
+        ensures read { OnOk result
+            (AreRead btf.now.strings (layout_of sections.now symbols.now) names.new) }
     {
         // The contract speaks of the kind in the info word, which a use of it shows.
         let _ = btf_type.info();
         match btf_type {
-            BtfType::Func(func) => rewrite_func(btf, func, readable_end, resolver),
+            BtfType::Func(func) => rewrite_func(btf, func, names.readable_end, resolver),
             BtfType::DataSec(data_sec) => {
-                placed(self.rewrite_section(btf, sections, symbols, data_sec, policy, resolver))
+                placed(self.rewrite_section(
+                    btf, sections, symbols, data_sec, policy, names, resolver,
+                ))
             }
             _ => {
                 let granted = has_sole_feature(btf_type, resolver);
@@ -140,17 +145,11 @@ pub fn pass_changes<F: FnMut(BtfFeature) -> bool>(
     let types = btf.as_slice();
     let mut made = Made::new(btf)?;
     let mut denied = Vec::new(btf.allocator());
-    let readable_end = btf.readable_end();
+    let mut names = ReadNames::new(btf);
     for id in 1..types.len() {
         let btf_type = &types[id];
         let outcome = made.rewrite(
-            btf,
-            sections,
-            symbols,
-            btf_type,
-            policy,
-            readable_end,
-            resolver,
+            btf, sections, symbols, btf_type, policy, &mut names, resolver,
         )?;
         made.keep(&mut denied, id as u32, btf_type, outcome)?;
     }

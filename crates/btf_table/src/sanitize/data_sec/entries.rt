@@ -1,27 +1,28 @@
 //! What becomes of a DATASEC's entries.
 
-ghost use Rattle.std.specs.Prelude.{◌≡◌, ◌+◌, List, [], ◌∷◌, length, map, IfOk, OnOk, Some, Ok};
+ghost use Rattle.std.specs.Prelude.{◌≡◌, List, [], ◌∷◌, length, map, IfOk, OnOk};
 ghost use Rattle.std.specs.List.{flat_map};
 ghost use Rattle.std.specs.Option.{unwrap_or};
 ghost use Rattle.btf_model.specs.Record.{Record, vlen};
-ghost use Rattle.btf_rewrite_model.specs.Made.{entries, byte_int, static_var};
-ghost use Rattle.btf_rewrite_model.specs.Checks.{first_fault, has_room, fits, record_len, in_a_word};
-ghost use Rattle.btf_rewrite_model.specs.Pass.{Pass, filler_type_text, filler_text, filler};
+ghost use Rattle.btf_rewrite_model.specs.Made.{entries};
+ghost use Rattle.btf_model.specs.Text.{text_at};
+ghost use Rattle.btf_rewrite_model.specs.Checks.{first_fault, is_read};
+ghost use Rattle.btf_rewrite_model.specs.Pass.{Pass, symbol_by_name};
 ghost use Rattle.btf_rewrite_model.specs.Rule.{entry_members, placed};
-ghost use Rattle.btf_rewrite_model.specs.Fault.{member_checks, entry_checks, is_sized};
+ghost use Rattle.btf_rewrite_model.specs.Fault.{member_checks, entry_checks, is_placed};
 ghost use Rattle.btf_words.specs.Error.{IsOrNoMemory};
 ghost use Rattle.btf_items.specs.Items.{member_words};
-ghost use Rattle.btf_table.specs.Adding.{strings_end, next_id, HasRoom, Adds};
 ghost use Rattle.btf_rules.specs.Checked.{checked};
 ghost use Rattle.btf_table.specs.KsymsStep.{entry as entry_of};
-ghost use Rattle.btf_rules.specs.Layout.{sizes_of, offsets_of};
+ghost use Rattle.btf_rules.specs.Layout.{offsets_of};
+ghost use Rattle.btf_table.specs.ReadNames.{AreFound};
+ghost use Rattle.btf_table.specs.Readable.{IsReadableEnd};
 
-use crate::table::{Btf, Changes};
-use btf_plain::{BtfError, Int, IntEncoding, SectionIndex, Var, VarLinkage};
+use crate::table::Btf;
+use btf_plain::{BtfError, VarLinkage};
 use btf_records::{BtfMember, BtfType, DataSec, DataSecEntry};
 use btf_rules::known_offset;
-use std::alloc::Global;
-use std::collections::HashMap;
+use std::collections::{BTreeMap, HashMap};
 
 /// The member that an entry becomes, of its type, at the bit of its offset. `names` are the string offsets of the names
 /// that all lower ids have by now; a later id has the name of the table.
@@ -68,33 +69,67 @@ pub fn members(btf: &Btf, names: &[u32], data_sec: &DataSec) -> Result<Vec<BtfMe
     Ok(members)
 }
 
-/// The entry of a variable, at the offset of its symbol; as it is, where the variable is Static.
+/// The offset of the symbol of the name at a string offset. It is remembered in `offsets`, so each name is read once.
+///
+/// `InvalidStringOffset` where the name can't be read; `SymbolOffsetNotFound` where no symbol has that name, or its
+/// offset has more than 32 bits.
+fn symbol_offset(
+    btf: &Btf,
+    symbols: &HashMap<String, u64>,
+    offsets: &mut BTreeMap<u32, u32>,
+    name_offset: u32,
+) -> Result<u32, BtfError>
+    requires { AreFound btf.now.strings (offsets_of symbols.now) offsets.old }
+    ensures answer { (p : Pass) → p.layout.symbols ≡ offsets_of symbols.now
+        → IsOrNoMemory (λ n. n) result
+        (checked (first_fault (is_read (text_at btf.now.strings name_offset)
+        ∷ is_placed (symbol_by_name p (text_at btf.now.strings name_offset))
+        (text_at btf.now.strings name_offset) ∷ []))
+        (unwrap_or (symbol_by_name p (text_at btf.now.strings name_offset)) 0)) }
+    ensures found { OnOk result (AreFound btf.now.strings (offsets_of symbols.now) offsets.new) }
+{
+    if let Some(offset) = offsets.get(&name_offset) {
+        return Ok(*offset);
+    }
+    let name = btf.string_at(name_offset)?;
+    let Some(offset) = known_offset(symbols, name.as_str()) else {
+        return Err(BtfError::SymbolOffsetNotFound {
+            symbol_name: name.as_str().to_string(btf.allocator())?,
+        });
+    };
+    offsets.insert(name_offset, offset)?;
+    Ok(offset)
+}
+
+/// The entry of a variable, at the offset of its symbol; as it is, where the variable is Static, whose name is not read.
 ///
 /// `UnknownBtfType` of an id that has no type, and `InvalidDatasec` where it is no VAR; `InvalidStringOffset` where its
 /// name can't be read; `SymbolOffsetNotFound` where no symbol has that name, or its offset has more than 32 bits.
 fn placed_entry(
     btf: &Btf,
     symbols: &HashMap<String, u64>,
+    readable_end: usize,
+    offsets: &mut BTreeMap<u32, u32>,
     entry: &DataSecEntry,
 ) -> Result<DataSecEntry, BtfError>
-    ensures { (p : Pass) → p.table ≡ btf.now → p.layout.symbols ≡ offsets_of symbols.now
+    requires readable { IsReadableEnd btf.now.strings readable_end }
+    requires found { AreFound btf.now.strings (offsets_of symbols.now) offsets.old }
+    ensures answer { (p : Pass) → p.table ≡ btf.now → p.layout.symbols ≡ offsets_of symbols.now
         → IsOrNoMemory entry_of result
         (checked (first_fault (entry_checks p (entry_of entry.now)))
         (placed p (entry_of entry.now))) }
+    ensures found { OnOk result (AreFound btf.now.strings (offsets_of symbols.now) offsets.new) }
 {
     let btf_type = btf.type_by_id(entry.btf_type)?;
     let BtfType::Var(var) = btf_type else {
         return Err(BtfError::InvalidDatasec);
     };
-    let name = btf.string_at(var.name_offset())?;
+    let name_offset = var.name_offset();
     if matches!(var.linkage(), VarLinkage::Static) {
+        btf.check_name(name_offset, readable_end)?;
         return Ok(entry.clone()?);
     }
-    let Some(offset) = known_offset(symbols, name.as_str()) else {
-        return Err(BtfError::SymbolOffsetNotFound {
-            symbol_name: name.as_str().to_string(btf.allocator())?,
-        });
-    };
+    let offset = symbol_offset(btf, symbols, offsets, name_offset)?;
     Ok(DataSecEntry {
         btf_type: entry.btf_type,
         offset,
@@ -110,17 +145,23 @@ fn placed_entry(
 pub fn placed_entries(
     btf: &Btf,
     symbols: &HashMap<String, u64>,
+    readable_end: usize,
+    offsets: &mut BTreeMap<u32, u32>,
     data_sec: &DataSec,
 ) -> Result<Vec<DataSecEntry>, BtfError>
+    requires readable { IsReadableEnd btf.now.strings readable_end }
+    requires found { AreFound btf.now.strings (offsets_of symbols.now) offsets.old }
     ensures answer { (p : Pass) → p.table ≡ btf.now → p.layout.symbols ≡ offsets_of symbols.now
         → IsOrNoMemory (λ v. map entry_of v.items) result
         (checked (first_fault (flat_map (entry_checks p) (entries data_sec.now.tail)))
         (map (placed p) (entries data_sec.now.tail))) }
     ensures count { IfOk result (λ v. length v.items ≡ vlen data_sec.now.info) }
+    ensures found { OnOk result (AreFound btf.now.strings (offsets_of symbols.now) offsets.new) }
 {
     let mut placed_entries = Vec::new(btf.allocator());
     for entry in data_sec.entries() {
-        placed_entries.push(placed_entry(btf, symbols, entry)?)?;
+        let placed = placed_entry(btf, symbols, readable_end, offsets, entry)?;
+        placed_entries.push(placed)?;
     }
     Ok(placed_entries)
 }

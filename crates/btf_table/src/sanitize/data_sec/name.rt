@@ -1,6 +1,8 @@
 //! The names that DATASECs get in a rewrite.
 
-ghost use Rattle.std.specs.Prelude.{◌≡◌, [], ◌∷◌, if◌then◌else◌, IfOk, OnOk, string_bytes};
+ghost use Rattle.std.specs.Prelude.{◌≡◌, [], ◌∷◌, if◌then◌else◌, Some, IfOk, OnOk, IsTrue, string_bytes};
+ghost use Rattle.std.specs.BTreeMap.{get};
+ghost use Rattle.std.specs.Ordering.{nat_cmp};
 ghost use Rattle.btf_rewrite_model.specs.Feature as features;
 ghost use Rattle.btf_model.specs.Text.{text_at};
 ghost use Rattle.btf_rewrite_model.specs.Checks.{first_fault, is_read, have_room};
@@ -9,24 +11,39 @@ ghost use Rattle.btf_rewrite_model.specs.Rule.{name_or};
 ghost use Rattle.btf_words.specs.Error.{IsOrNoMemory};
 ghost use Rattle.btf_table.specs.Adding.{strings_end, HasRoom, Adds};
 ghost use Rattle.btf_rules.specs.Checked.{checked};
+ghost use Rattle.btf_table.specs.ReadNames.{AreKept};
 
 use crate::table::{Btf, Changes};
 use btf_plain::BtfError;
 use btf_records::DataSec;
 use btf_rules::section_name;
 use std::alloc::{AllocError, Global};
+use std::collections::BTreeMap;
+
+/// Whether a DATASEC is known to keep the name at this offset, where the kernel takes DATASECs or takes none.
+fn is_kept(kept: &BTreeMap<u32, bool>, offset: u32, granted: bool) -> bool
+    ensures { IsTrue result → get nat_cmp kept.now offset ≡ Some granted }
+{
+    match kept.get(&offset) {
+        Some(known) => *known == granted,
+        None => false,
+    }
+}
 
 /// The string offset of the name that a DATASEC gets: as a DATASEC, where the kernel takes one, with `.` for each `/`,
-/// or else as a STRUCT, with `_` for each `.`. A text is appended only where the name changes.
+/// or else as a STRUCT, with `_` for each `.`. A text is appended only where the name changes. The names that stay are
+/// remembered in `kept`, and read once.
 ///
 /// `InvalidStringOffset` where the name can't be read, or the new one has no room.
 pub fn new_name(
     btf: &Btf,
     changes: &mut Changes,
+    kept: &mut BTreeMap<u32, bool>,
     data_sec: &DataSec,
     granted: bool,
 ) -> Result<u32, BtfError>
-    requires { HasRoom btf.now changes.old }
+    requires room { HasRoom btf.now changes.old }
+    requires kept { AreKept btf.now.strings kept.old }
     ensures answer { (p : Pass) → p.table ≡ btf.now → has p features.DataSec ≡ granted
         → IsOrNoMemory (λ o. o) result (checked
         (first_fault (is_read (text_at btf.now.strings data_sec.now.name)
@@ -37,11 +54,17 @@ pub fn new_name(
     ensures adds { (p : Pass) → p.table ≡ btf.now → has p features.DataSec ≡ granted
         → OnOk result (Adds btf.now changes.old changes.new
         (renaming p (text_at btf.now.strings data_sec.now.name)) []) }
+    ensures kept { OnOk result (AreKept btf.now.strings kept.new) }
 {
-    let name = btf.string_at(data_sec.name_offset())?;
+    let offset = data_sec.name_offset();
+    if is_kept(kept, offset, granted) {
+        return Ok(offset);
+    }
+    let name = btf.string_at(offset)?;
     let renamed = section_name(btf.allocator(), name.as_str(), granted)?;
     if renamed.as_str() == name.as_str() {
-        return Ok(data_sec.name_offset());
+        kept.insert(offset, granted)?;
+        return Ok(offset);
     }
     changes.append_text(btf, renamed.as_str())
 }

@@ -43,7 +43,7 @@ loop-id-init g c =
       placeholder = c.in_ok-made.ensures.placeholder;
       filler = c.in_ok-made.ensures.filler;
     }) in
-    (c.requires.callable, subst (λ answers. Called (words g.row.F g.F.FnMut).step c.args.resolver.now.0 answers c.args.resolver.now.0) (sym none) refl, start.0, subst (IsMade p 1 c.in_ok-made.made) (sym c.new-denied.ensures.items) start.1)
+    (c.requires.callable, subst (λ answers. Called (words g.row.F g.F.FnMut).step c.args.resolver.now.0 answers c.args.resolver.now.0) (sym none) refl, start.0, subst (IsMade p 1 c.in_ok-made.made) (sym c.new-denied.ensures.items) start.1, c.new-names.ensures p.layout)
 
 -- ---- an id, once it is asked what its type becomes
 
@@ -121,7 +121,7 @@ loop-id-preserved g c =
       filler = c.keep.ensures.filler;
     }) in
     let one_on : suc id ≡ id + 1 = omega arith in
-    (c.rewrite.ensures.callable, c.rewrite.ensures.called c.args.resolver.now.0 c.loop-id.invariant.1, subst (IsAt (after g s)) one_on next.0, subst (λ n. IsMade (after g s) n c.keep.new.self c.keep.new.denied.items) one_on next.1)
+    (c.rewrite.ensures.callable, c.rewrite.ensures.called c.args.resolver.now.0 c.loop-id.invariant.1, subst (IsAt (after g s)) one_on next.0, subst (λ n. IsMade (after g s) n c.keep.new.self c.keep.new.denied.items) one_on next.1, c.in_ok-outcome.ensures.read)
 
 pub returns-clause-asks : goal.returns-clause-asks
 returns-clause-asks g c =
@@ -144,3 +144,6 @@ returns-clause-passes g c =
     let end : id ≡ length t.records = omega (arith, c.loop-id-test.false, c.loop-id.auto.id-end, ap length c.as_slice-types.ensures.first.1, ap length c.as_slice-types.ensures.records, length-map ts record_of) in
     let many : length t.fallbacks ≡ length t.records = omega (arith, ap length c.as_slice-types.ensures.records, ap length c.as_slice-types.ensures.fallbacks, length-map ts record_of, length-map ts fallback_of) in
     passes_whole p id c.loop-id.made c.loop-id.denied c.as_slice-types.ensures.first.0 end many c.as_slice-types.ensures.first.1 at made
+
+pub rewrite-requires-clause-read : goal.rewrite-requires-clause-read
+rewrite-requires-clause-read g c = c.loop-id.invariant.4

@@ -2,6 +2,7 @@ use Rattle.btf_rewrite_model.specs.Passing.{IsAt}
 use Rattle.btf_rules.specs.Features.{answers_of, Called}
 use Rattle.btf_rules.specs.Layout.{layout_of}
 use Rattle.btf_table.specs.PassStep.{pass_on, under, IsMade}
+use Rattle.btf_table.specs.ReadNames.{AreRead}
 use Rattle.btf_table.specs.contracts.sanitize.pass.pass_changes.F-FnMut.{words}
 use Rattle.btf_table.proofs.sanitize.pass.pass_changes.Given as goal
 
@@ -11,3 +12,4 @@ invariant-loop-id g l =
     × Called (words g.row.F g.F.FnMut).step l.fn.resolver.0 l.resolver.1 l.resolver.0
     × IsAt (pass_on l.btf (under l.policy (layout_of l.sections l.symbols)) (answers_of l.resolver.1)) l.id
     × IsMade (pass_on l.btf (under l.policy (layout_of l.sections l.symbols)) (answers_of l.resolver.1)) l.id l.made l.denied.items
+    × AreRead l.btf.strings (layout_of l.sections l.symbols) l.names

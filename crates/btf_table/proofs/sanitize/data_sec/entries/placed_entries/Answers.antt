@@ -14,25 +14,26 @@ use Rattle.btf_words.proofs.Refused.{handed_on}
 use Rattle.btf_table.proofs.SectionItems.{one_more_passes, this_one_faults, one_more_maps, all_entries}
 use Rattle.btf_table.proofs.sanitize.data_sec.entries.placed_entries.Goals as goal
 
-pub returns-in_err-placed_entry-clause-answer : goal.returns-in_err-placed_entry-clause-answer
-returns-in_err-placed_entry-clause-answer c = λ p same symbols.
+pub returns-in_err-placed-clause-answer : goal.returns-in_err-placed-clause-answer
+returns-in_err-placed-clause-answer c = λ p same symbols.
     let tail : List ℕ = c.args.data_sec.now.tail in
     let answer : List Entry = map (placed p) (entries tail) in
-    handed_on (λ v. map entry v.items) c.in_err-placed_entry.field-0.0 c.from_residual.result (λ a. a ≡ checked (first_fault (flat_map (entry_checks p) (entries tail))) answer) c.from_residual.ensures.1
-    (IfSome_then _ (c.in_err-placed_entry.ensures p same symbols) (λ refusal is.
+    handed_on (λ v. map entry v.items) c.in_err-placed.field-0.0 c.from_residual.result (λ a. a ≡ checked (first_fault (flat_map (entry_checks p) (entries tail))) answer) c.from_residual.ensures.1
+    (IfSome_then _ (c.in_err-placed.ensures.answer p same symbols) (λ refusal is.
     sym (ap (λ (f : Option Refusal). checked f answer) (this_one_faults (entry_checks p) tail c.entries-entry-items.result.now c.loop-entry.entry-index refusal c.entries-entry-items.ensures.words c.loop-entry-test.true
-    (c.loop-entry.invariant.1 p same symbols).0 (checked_err _ _ refusal is)))))
+    (c.loop-entry.invariant.2 p same symbols).0 (checked_err _ _ refusal is)))))
 
 pub loop-entry-preserved : goal.loop-entry-preserved
 loop-entry-preserved c =
     let es : _ = c.entries-entry-items.result.now in
     let i : ℕ = c.loop-entry.entry-index in
     let old : _ = c.loop-entry.placed_entries.items in
-    let e : _ = c.in_ok-placed_entry.field-0 in (
+    let e : _ = c.in_ok-placed.placed in (
       omega (arith, ap length c.in_ok-push.ensures.items, length-append old (e ∷ []), c.loop-entry.invariant.0),
+      c.in_ok-placed.ensures.found,
       λ p same symbols.
-          let is : _ = checked_ok _ _ _ (c.in_ok-placed_entry.ensures p same symbols) in
-          let before : _ = c.loop-entry.invariant.1 p same symbols in (
+          let is : _ = checked_ok _ _ _ (c.in_ok-placed.ensures.answer p same symbols) in
+          let before : _ = c.loop-entry.invariant.2 p same symbols in (
             one_more_passes (entry_checks p) es i c.loop-entry-test.true before.0 is.0,
             ap (map entry) c.in_ok-push.ensures.items ∙ map-append entry old (e ∷ [])
                 ∙ one_more_maps (placed p) es i (map entry old) (entry e) c.loop-entry-test.true before.1 is.1,
@@ -42,7 +43,7 @@ loop-entry-preserved c =
 pub returns-clause-answer : goal.returns-clause-answer
 returns-clause-answer c = λ p same symbols.
     let tail : List ℕ = c.args.data_sec.now.tail in
-    let here : _ = c.loop-entry.invariant.1 p same symbols in
+    let here : _ = c.loop-entry.invariant.2 p same symbols in
     let all : _ = all_entries tail c.entries-entry-items.result.now c.loop-entry.entry-index c.entries-entry-items.ensures.words c.loop-entry-test.false in
     let passed : first_fault (flat_map (entry_checks p) (entries tail)) ≡ _ = ap (λ (es : List Entry). first_fault (flat_map (entry_checks p) es)) (sym all) ∙ here.0 in
     ap (λ (es : List Entry). Ok es) (here.1 ∙ ap (map (placed p)) all) ∙ sym (ap (λ (f : Option Refusal). checked f (map (placed p) (entries tail))) passed)

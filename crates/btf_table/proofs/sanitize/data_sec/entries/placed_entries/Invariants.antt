@@ -5,12 +5,14 @@ use Rattle.btf_rewrite_model.specs.Pass.{Pass}
 use Rattle.btf_rewrite_model.specs.Rule.{placed}
 use Rattle.btf_rewrite_model.specs.Fault.{entry_checks}
 use Rattle.btf_table.specs.KsymsStep.{entry}
+use Rattle.btf_table.specs.ReadNames.{AreFound}
 use Rattle.btf_rules.specs.Layout.{offsets_of}
 use Rattle.btf_table.proofs.sanitize.data_sec.entries.placed_entries.Given as goal
 
 abbrev pub invariant-loop-entry : goal.invariant-loop-entry
 invariant-loop-entry l =
     (length l.placed_entries.items ≡ l.entry-index)
+    × AreFound l.btf.strings (offsets_of l.symbols) l.offsets
     × ((p : Pass) → p.table ≡ l.btf → p.layout.symbols ≡ offsets_of l.symbols
     → (first_fault (flat_map (entry_checks p) (map entry (take l.entry-index l.entry-items))) ≡ None)
     × (map entry l.placed_entries.items ≡ map (placed p) (map entry (take l.entry-index l.entry-items))))

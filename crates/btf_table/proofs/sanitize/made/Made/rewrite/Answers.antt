@@ -10,6 +10,7 @@ use Rattle.btf_table.proofs.PassOne.{one_type}
 use Rattle.btf_words.proofs.Refused.{with_fact}
 use Rattle.btf_table.proofs.sanitize.made.Made.rewrite.Given.{Over}
 use Rattle.btf_table.proofs.sanitize.made.Made.rewrite.Goals as goal
+use Rattle.btf_table.proofs.sanitize.made.Made.rewrite.Goals.{After-rewrite_by}
 
 pub returns-in-Func-clause-steps : goal.returns-in-Func-clause-steps
 returns-in-Func-clause-steps g c = λ given id policy sections symbols there below here.
@@ -17,18 +18,18 @@ returns-in-Func-clause-steps g c = λ given id policy sections symbols there bel
     → MeetsOrNoMemory (λ o. made_of o b) c.rewrite_func.result (Steps (pass_on c.args.btf.now given (answers_of c.args.resolver.now.1)) id c.rewrite_func.new.resolver.1 b c.args.self.now c.args.self.now)) (sym c.in-Func.is)
     (λ is. c.rewrite_func.ensures.steps given id c.args.self.now is below here) there
 
-one : (g : Over) (c : goal.After-rewrite_by g) → asks_one (kind_of (record_of c.args.btf_type.now).info) ≡ true
+one : (g : Over) (c : After-rewrite_by g) → asks_one (kind_of (record_of c.args.btf_type.now).info) ≡ true
 one g c = ap (λ i. asks_one (kind_of i)) (sym c.info.ensures.value) ∙ ap asks_one c.info.ensures.kind ∙ one_type c.args.btf_type.now c.in_default.not-Func c.in_default.not-DataSec
 
-pub returns-in_default : goal.returns-in_default
-returns-in_default g c = record {
-  callable = c.has_sole_feature-granted.ensures.callable;
-  called = c.has_sole_feature-granted.ensures.called;
-  further = c.has_sole_feature-granted.ensures.further;
-  asks = λ given id policy sections there here below. ([], c.has_sole_feature-granted.ensures.asks c.args.btf.now given id there (one g c) below);
-  steps = λ given id policy sections symbols there below here.
-      with_fact (λ o. made_of o c.args.btf_type.now) c.rewrite_by.result (AsksUpTo (pass_on c.args.btf.now given (answers_of c.args.resolver.now.1)) id (answers_of c.has_sole_feature-granted.new.resolver.1) [])
-      (Rules (pass_on c.args.btf.now given (answers_of c.has_sole_feature-granted.new.resolver.1)) id c.args.btf_type.now c.args.self.now c.rewrite_by.new.self)
-      (c.has_sole_feature-granted.ensures.asks c.args.btf.now given id there (one g c) below)
-      (c.rewrite_by.ensures given (answers_of c.has_sole_feature-granted.new.resolver.1) id there here (one g c) (c.has_sole_feature-granted.ensures.granted c.args.btf.now given id below));
-}
+pub returns-in_default-clause-asks : goal.returns-in_default-clause-asks
+returns-in_default-clause-asks g c = λ given id policy sections there here below.
+    let s = (goal.at.returns-in_default-clause-asks g c).After-rewrite_by in
+    ([], c.has_sole_feature-granted.ensures.asks c.args.btf.now given id there (one g s) below)
+
+pub returns-in_default-clause-steps : goal.returns-in_default-clause-steps
+returns-in_default-clause-steps g c = λ given id policy sections symbols there below here.
+    let s = (goal.at.returns-in_default-clause-steps g c).After-rewrite_by in
+    with_fact (λ o. made_of o c.args.btf_type.now) c.rewrite_by.result (AsksUpTo (pass_on c.args.btf.now given (answers_of c.args.resolver.now.1)) id (answers_of c.has_sole_feature-granted.new.resolver.1) [])
+    (Rules (pass_on c.args.btf.now given (answers_of c.has_sole_feature-granted.new.resolver.1)) id c.args.btf_type.now c.args.self.now c.rewrite_by.new.self)
+    (c.has_sole_feature-granted.ensures.asks c.args.btf.now given id there (one g s) below)
+    (c.rewrite_by.ensures given (answers_of c.has_sole_feature-granted.new.resolver.1) id there here (one g s) (c.has_sole_feature-granted.ensures.granted c.args.btf.now given id below))

@@ -1,0 +1,29 @@
+-- Names that a pass has read, and what it has found under them, by their string offsets.
+use Rattle.std.specs.Prelude.{◌≡◌, ℕ, Bool, if◌then◌else◌, List, Option, Some, Ok}
+use Rattle.std.specs.BTreeMap.{BTreeMap, get}
+use Rattle.std.specs.Ordering.{nat_cmp}
+use Rattle.btf_model.specs.Text.{text_at}
+use Rattle.btf_rewrite_model.specs.Checks.{in_a_word}
+use Rattle.btf_rewrite_model.specs.Pass.{Layout, replaced, slash, dot, underscore}
+use Rattle.btf_table.specs.Readable.{IsReadableEnd}
+use Rattle.btf_table.specs.declared.sanitize.read_names.ReadNames.{ReadNames}
+
+-- Each number is found under the name at its string offset.
+abbrev pub AreFound : List ℕ → (List ℕ → Option ℕ) → BTreeMap ℕ ℕ → Type 0
+AreFound strings find found =
+    (offset n : ℕ) → get nat_cmp found offset ≡ Some n
+    → (name : List ℕ) × (text_at strings offset ≡ Ok name) × (in_a_word (find name) ≡ Some n)
+
+-- A DATASEC of the name at each of these string offsets keeps it, where the kernel takes DATASECs (true) or takes none.
+abbrev pub AreKept : List ℕ → BTreeMap ℕ Bool → Type 0
+AreKept strings kept =
+    (offset : ℕ) (granted : Bool) → get nat_cmp kept offset ≡ Some granted
+    → (name : List ℕ) × (text_at strings offset ≡ Ok name)
+    × ((if granted then replaced slash dot name else replaced dot underscore name) ≡ name)
+
+-- What a pass has read is in the strings, and what it has found is in the layout.
+pub record AreRead (strings : List ℕ) (layout : Layout) (names : ReadNames) : Type 0 where
+  pub end : IsReadableEnd strings names.readable_end
+  pub kept : AreKept strings names.kept
+  pub sizes : AreFound strings layout.sections names.sizes
+  pub offsets : AreFound strings layout.symbols names.offsets
