@@ -8,3 +8,5 @@ pub mod Layouts
 pub mod Kernel
 pub mod Rewritings
 pub mod Listings
+pub mod Taken
+pub mod Named

@@ -1,5 +1,5 @@
 -- A command has one outcome: what it writes something of, it does not refuse.
-use Rattle.std.proofs.Common.{◌≡◌, ◌∙◌, ℕ, Bool, List, [], Ok, Err, refl, sym, ap, subst, ⊎_elim, Result, Option, Some, None, inr, Vec, Global}
+use Rattle.std.proofs.Common.{◌≡◌, ◌∙◌, ℕ, Bool, List, [], Ok, Err, refl, sym, ap, subst, ⊎_elim, Result, Option, Some, None, inr}
 use Rattle.std.specs.Prelude.{slice_get, IfOk, IfErr, IfSome, IsErr, IsErrAnd}
 use Rattle.std.specs.Result.{is_ok, result_ok}
 use Rattle.std.proofs.lemmas.Bool.{false≢true}
@@ -30,6 +30,8 @@ use Rattle.btf_cli.specs.declared.line.Command.{Command}
 use Rattle.btf_cli.specs.declared.line.Command.TheVariants.{Ask, Rewrite}
 use Rattle.btf_cli.specs.Answer.{Compares, Rewrites, Writes, Declines, IsAnswer, IsDeclined}
 use Rattle.btf_cli.specs.Fault.{fault_refusal}
+use Rattle.btf_cli.specs.Output.{output_bytes}
+use Rattle.btf_cli.specs.declared.output.Output.{Output}
 use Rattle.btf_cli.specs.declared.fault.Fault.{Fault}
 use Rattle.btf_cli.specs.declared.fault.Fault.TheVariants as faults
 use Rattle.btf_cli.proofs.Told.{said_once}
@@ -65,19 +67,19 @@ answered_not_declined line bytes written refusal answer declined =
 -- ---- results
 
 -- what is declined fails, where what succeeds is an answer
-pub declined_fails : (line : Line) (bytes : List ℕ) (r : Result (Vec ℕ Global) BtfError) → IfOk r (λ v. IsAnswer line bytes v.items) → (refusal : Refusal) → IsDeclined line bytes refusal → IsErr r
-declined_fails line bytes (Ok v) made refusal declined = absurd (answered_not_declined line bytes v.items refusal made declined)
+pub declined_fails : (line : Line) (bytes : List ℕ) (r : Result Output BtfError) → IfOk r (λ output. IsAnswer line bytes (output_bytes output)) → (refusal : Refusal) → IsDeclined line bytes refusal → IsErr r
+declined_fails line bytes (Ok output) made refusal declined = absurd (answered_not_declined line bytes (output_bytes output) refusal made declined)
 declined_fails line bytes (Err e) made refusal declined = refl
 
 -- the answer to a query of a line
-pub query_made : (line : Line) (bytes : List ℕ) (query : Query) (t : Table) (r : Result (Vec ℕ Global) BtfError) → line.command ≡ Ask query → IsTable (order_of line.endianness) bytes t → IfOk r (λ v. Writes (Ask query) t v.items)
-    → IfOk r (λ v. IsAnswer line bytes v.items)
-query_made line bytes query t (Ok v) is parsed made = (t, parsed, subst (λ (command : Command). Writes command t v.items) (sym is) made)
+pub query_made : (line : Line) (bytes : List ℕ) (query : Query) (t : Table) (r : Result Output BtfError) → line.command ≡ Ask query → IsTable (order_of line.endianness) bytes t → IfOk r (λ output. Writes (Ask query) t (output_bytes output))
+    → IfOk r (λ output. IsAnswer line bytes (output_bytes output))
+query_made line bytes query t (Ok output) is parsed made = (t, parsed, subst (λ (command : Command). Writes command t (output_bytes output)) (sym is) made)
 query_made line bytes query t (Err e) is parsed made = tt
 
-pub query_told : (line : Line) (bytes : List ℕ) (query : Query) (t : Table) (r : Result (Vec ℕ Global) BtfError) → line.command ≡ Ask query → IsTable (order_of line.endianness) bytes t → IfErr r (λ e. IfSome (refusal_of e) (Declines (Ask query) t))
+pub query_told : (line : Line) (bytes : List ℕ) (query : Query) (t : Table) (r : Result Output BtfError) → line.command ≡ Ask query → IsTable (order_of line.endianness) bytes t → IfErr r (λ e. IfSome (refusal_of e) (Declines (Ask query) t))
     → IfErr r (λ e. IfSome (refusal_of e) (IsDeclined line bytes))
-query_told line bytes query t (Ok v) is parsed told = tt
+query_told line bytes query t (Ok output) is parsed told = tt
 query_told line bytes query t (Err e) is parsed told =
     elim (refusal_of e) as (λ (o : Option Refusal). IfSome o (Declines (Ask query) t) → IfSome o (IsDeclined line bytes))
     [ Some refusal ↦ λ declines. record { cause = inr (t, parsed, subst (λ (command : Command). Declines command t refusal) (sym is) declines) } | None ↦ λ none. tt ] told
@@ -85,6 +87,13 @@ query_told line bytes query t (Err e) is parsed told =
 -- a line by its command
 pub line_of : (line : Line) (command : Command) → line.command ≡ command → line ≡ record { endianness = line.endianness; command = command }
 line_of line command is = ap (λ (x : Command). record { endianness = line.endianness; command = x }) is
+
+-- an error that is passed on is reported for the same cause
+pub same_told : {X : Type 0} (line : Line) (bytes : List ℕ) (e : BtfError) (r : Result X BtfError) → IfSome (refusal_of e) (IsDeclined line bytes) → IsErrAnd r (λ other. other ≡ e)
+    → IfErr r (λ other. IfSome (refusal_of other) (IsDeclined line bytes))
+same_told {X} line bytes e r told err =
+    let q = err_from_is_err_and r err in
+    subst (λ (x : Result X BtfError). IfErr x (λ other. IfSome (refusal_of other) (IsDeclined line bytes))) (sym (q.1 ∙ ap (λ (x : BtfError). Err x) q.2)) told
 
 -- ---- faults
 

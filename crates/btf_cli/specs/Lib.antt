@@ -4,5 +4,7 @@ pub mod Sayings
 pub mod Request
 pub mod Line
 pub mod Listing
+pub mod Buffered
+pub mod Output
 pub mod Answer
 pub mod Fault

@@ -1,80 +1,101 @@
-//! What the commands print of a table.
+//! What the commands print of a table. The listing of its types is written as it is made.
 
-ghost use Rattle.std.specs.Prelude.{◌≡◌, ◌++◌, map, Ok, OnOk, string_bytes};
-ghost use Rattle.btf_model.specs.Text.{text_at};
+ghost use Rattle.std.specs.Prelude.{◌≡◌, ◌++◌, map, Ok, IsOk, OnOk};
+ghost use Rattle.std.specs.Io.KnownBytes.{Appends};
+ghost use Rattle.btf_model.specs.Text.{lossy, text_at};
 ghost use Rattle.btf_words.specs.Error.{IsOrNoMemory};
 ghost use Rattle.btf_records.specs.BtfType.{record_of};
+ghost use Rattle.btf_cli.specs.Buffered.{Takes, HasRoom};
 ghost use Rattle.btf_cli.specs.Listing.{name_part, type_line, lines_from};
 ghost use Rattle.btf_cli.specs.Listing as spec;
 
+use crate::buffered::Buffered;
 use btf_plain::BtfError;
 use btf_records::BtfType;
+use btf_table::name_bytes;
 use btf_types::Btf;
-use std::alloc::{AllocError, Global};
+use std::alloc::Global;
 use std::fmt::Write;
+use std::{fmt, io};
 
-/// Adds a space and a name that is not empty.
-fn push_text(out: &mut String, name: &str) -> Result<(), AllocError>
-    ensures { OnOk result (string_bytes out.new ≡ string_bytes out.old ++ name_part (Ok name.now)) }
+/// Writes the text of bytes: U+FFFD takes the place of each longest piece that is not UTF-8.
+fn write_lossy<W: io::Write>(lines: &mut Buffered<'_, W>, bytes: &[u8]) -> fmt::Result
+    ensures taken { OnOk result (Takes W.contents lines.old (lossy bytes.now) lines.new) }
+    ensures room { HasRoom lines.old (lossy bytes.now) → IsOk result }
 {
-    if !name.is_empty() {
-        out.push(' ')?;
-        out.push_str(name)?;
+    for chunk in bytes.utf8_chunks() {
+        lines.put(chunk.valid())?;
+        if !chunk.invalid().is_empty() {
+            lines.put("\u{FFFD}")?;
+        }
     }
     Ok(())
 }
 
-/// Adds a space and the name of a type, where it can be read and is not empty.
-fn push_name(out: &mut String, table: &Btf, btf_type: &BtfType) -> Result<(), BtfError>
-    ensures text { OnOk result (string_bytes out.new ≡ string_bytes out.old
-        ++ name_part (text_at table.now.strings (record_of btf_type.now).name)) }
-    ensures only_memory { IsOrNoMemory (λ done. done) result (Ok tt) }
+/// Writes a space and the name of a type, where it can be read and is not empty. The name is not copied, however long
+/// its text is.
+fn write_name<W: io::Write>(
+    lines: &mut Buffered<'_, W>,
+    table: &Btf,
+    btf_type: &BtfType,
+) -> fmt::Result
+    ensures taken { OnOk result (Takes W.contents lines.old
+        (name_part (text_at table.now.strings (record_of btf_type.now).name)) lines.new) }
+    // So a name that can't be read is no error.
+    ensures room { HasRoom lines.old
+        (name_part (text_at table.now.strings (record_of btf_type.now).name)) → IsOk result }
 {
-    let name = match table.type_name(btf_type) {
-        Ok(name) => name,
-        Err(BtfError::OutOfMemory) => return Err(BtfError::OutOfMemory),
-        Err(_) => return Ok(()),
-    };
-    push_text(out, name.as_str())?;
+    let bytes = name_bytes(table, btf_type).unwrap_or(&[]);
+    if !bytes.is_empty() {
+        lines.put(" ")?;
+        write_lossy(lines, bytes)?;
+    }
     Ok(())
 }
 
-/// Adds the line of a type: its id, its kind, and its name where it can be read and is not empty.
-fn push_line(out: &mut String, table: &Btf, id: usize, btf_type: &BtfType) -> Result<(), BtfError>
-    ensures text { OnOk result (string_bytes out.new ≡ string_bytes out.old
-        ++ type_line table.now.strings id (record_of btf_type.now)) }
-    ensures only_memory { IsOrNoMemory (λ done. done) result (Ok tt) }
+/// Writes the line of a type: its id, its kind, and its name where it can be read and is not empty.
+fn write_line<W: io::Write>(
+    lines: &mut Buffered<'_, W>,
+    table: &Btf,
+    id: usize,
+    btf_type: &BtfType,
+) -> fmt::Result
+    ensures { OnOk result (Takes W.contents lines.old
+        (type_line table.now.strings id (record_of btf_type.now)) lines.new) }
 {
     // The contract speaks of the kind in the info word, which a use of it shows.
     let _ = btf_type.info();
     let kind = btf_type.kind();
-    write!(out, "{id} {kind}")?;
-    push_name(out, table, btf_type)?;
-    out.push('\n')?;
-    Ok(())
+    write!(lines, "{id} {kind}")?;
+    write_name(lines, table, btf_type)?;
+    lines.put("\n")
 }
 
-/// Adds a line for each of these types, of which the first has id 1.
-fn push_lines(out: &mut String, table: &Btf, types: &[BtfType]) -> Result<(), BtfError>
-    ensures text { OnOk result (string_bytes out.new ≡ string_bytes out.old
-        ++ lines_from table.now.strings 1 (map record_of types.now)) }
-    ensures only_memory { IsOrNoMemory (λ done. done) result (Ok tt) }
+/// Writes a line for each of these types, of which the first has id 1.
+fn write_lines<W: io::Write>(
+    lines: &mut Buffered<'_, W>,
+    table: &Btf,
+    types: &[BtfType],
+) -> fmt::Result
+    ensures { OnOk result (Takes W.contents lines.old
+        (lines_from table.now.strings 1 (map record_of types.now)) lines.new) }
 {
     for (place, btf_type) in types.iter().enumerate() {
-        push_line(out, table, place + 1, btf_type)?;
+        write_line(lines, table, place + 1, btf_type)?;
     }
     Ok(())
 }
 
-/// A line for each type from id 1 on.
-pub fn listing(alloc: Global, table: &Btf) -> Result<Vec<u8>, BtfError>
-    ensures { IsOrNoMemory (λ v. v.items) result (Ok (spec.listing table.now)) }
+/// Writes a line for each type from id 1 on. No memory is taken, so only the writer can fail.
+pub fn write_listing<W: io::Write>(table: &Btf, out: &mut W) -> fmt::Result
+    ensures { OnOk result (Appends (W.contents out.old) (W.contents out.new)
+        (spec.listing table.now)) }
 {
-    let mut out = String::new(alloc);
+    let mut lines = Buffered::new(out);
     if let Some((_, types)) = table.types().as_slice().split_first() {
-        push_lines(&mut out, table, types)?;
+        write_lines(&mut lines, table, types)?;
     }
-    Ok(out.into_bytes())
+    lines.flush()
 }
 
 /// The line that says a size.

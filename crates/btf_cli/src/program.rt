@@ -1,19 +1,22 @@
 //! The program over any streams.
 
-ghost use Rattle.std.specs.Prelude.{◌≡◌, ℕ, List, ◌↔◌, None, Some, IfOk, IfErr, OnOk, IfSome, IsErr};
+ghost use Rattle.std.specs.Prelude.{◌≡◌, ◌≢◌, ℕ, List, ◌↔◌, None, Some, IfOk, IfErr, OnOk, IfSome, IsErr};
 ghost use Rattle.std.specs.Io.KnownBytes.{IsAtEnd, Keeps};
 ghost use Rattle.btf_model.specs.Refusal.{Refusal};
 ghost use Rattle.btf_words.specs.Error.{refusal_of};
 ghost use Rattle.btf_cli.specs.declared.line.Command.TheVariants.{Ask};
 ghost use Rattle.btf_cli.specs.declared.line.Line.{Line};
+ghost use Rattle.btf_cli.specs.declared.fault.Fault.TheVariants as faults;
 ghost use Rattle.btf_cli.specs.Fault.{fault_refusal};
 ghost use Rattle.btf_cli.specs.Line.{Asks, IsAsked};
 ghost use Rattle.btf_cli.specs.Answer.{Writes, Declines, IsAnswer, IsDeclined, IsWritten};
+ghost use Rattle.btf_cli.specs.Output.{output_bytes};
 
 use crate::comparison::compared;
 use crate::fault::Fault;
 use crate::line::{Command, Line, Query};
-use crate::listing::{comparison_lines, listing, size_line};
+use crate::listing::{comparison_lines, size_line};
+use crate::output::Output;
 use crate::rewrite::rewritten;
 use btf_plain::{BtfError, Endianness};
 use btf_types::Btf;
@@ -37,25 +40,28 @@ fn read_input<R: Read>(alloc: Global, input: &mut R) -> Result<Vec<u8>, Fault>
 }
 
 /// The answer to a query about a table.
-fn asked(alloc: Global, query: Query, table: &Btf) -> Result<Vec<u8>, BtfError>
-    ensures made { IfOk result (λ v. Writes (Ask query) table.now v.items) }
-    ensures told { IfErr result (λ e. IfSome (refusal_of e) (Declines (Ask query) table.now)) }
+fn asked(alloc: Global, query: Query, table: Btf) -> Result<Output, BtfError>
+    ensures made { IfOk result (λ output. Writes (Ask query) table (output_bytes output)) }
+    ensures told { IfErr result (λ e. IfSome (refusal_of e) (Declines (Ask query) table)) }
 {
     match query {
-        Query::Copy => table.to_bytes(),
-        Query::Types => listing(alloc, table),
-        Query::Size(id) => size_line(alloc, table.type_size(id)?),
+        Query::Copy => Ok(Output::Bytes(table.to_bytes()?)),
+        Query::Types => Ok(Output::Listing(table)),
+        Query::Size(id) => {
+            let size = table.type_size(id)?;
+            Ok(Output::Bytes(size_line(alloc, size)?))
+        }
         Query::Compat(id, other) => {
-            let (answer, starts) = compared(alloc, table, id, other)?;
-            comparison_lines(alloc, answer, starts)
+            let (answer, starts) = compared(alloc, &table, id, other)?;
+            Ok(Output::Bytes(comparison_lines(alloc, answer, starts)?))
         }
     }
 }
 
 /// What the command makes of a blob.
-fn answer(alloc: Global, line: Line, blob: &[u8]) -> Result<Vec<u8>, BtfError>
+fn answer(alloc: Global, line: Line, blob: &[u8]) -> Result<Output, BtfError>
     requires { IsAsked line }
-    ensures made { IfOk result (λ v. IsAnswer line.entry blob.now v.items) }
+    ensures made { IfOk result (λ output. IsAnswer line.entry blob.now (output_bytes output)) }
     ensures refused { (f : Refusal) → IsDeclined line.entry blob.now f → IsErr result }
     // A refusal is reported for its cause alone.
     ensures told { IfErr result (λ e. IfSome (refusal_of e) (IsDeclined line.entry blob.now)) }
@@ -63,9 +69,12 @@ fn answer(alloc: Global, line: Line, blob: &[u8]) -> Result<Vec<u8>, BtfError>
     match line.command {
         Command::Ask(query) => {
             let table = Btf::parse(alloc, blob, line.endianness)?;
-            asked(alloc, query, &table)
+            asked(alloc, query, table)
         }
-        Command::Rewrite(request) => rewritten(alloc, line.endianness, request, blob),
+        Command::Rewrite(request) => {
+            let bytes = rewritten(alloc, line.endianness, request, blob)?;
+            Ok(Output::Bytes(bytes))
+        }
     }
 }
 
@@ -85,11 +94,14 @@ fn carry_out<R: Read, W: Write>(
     // A refusal is reported for its cause alone.
     ensures told { IfErr result (λ fault. IfSome (R.remaining input.old) (λ bytes.
         IfSome (fault_refusal fault) (IsDeclined line.entry bytes))) }
+    // What can be refused is refused before the first byte is written.
+    ensures untouched { IfErr result (λ fault. fault ≢ faults.Write
+        → Keeps (W.contents out.old) (W.contents out.new)) }
     ensures end { OnOk result (IsAtEnd (R.remaining input.new)) }
 {
     let blob = read_input(alloc, input)?;
-    let bytes = answer(alloc, line, &blob)?;
-    out.write_all(&bytes).map_err(|_| Fault::Write)
+    let output = answer(alloc, line, &blob)?;
+    output.write_to(out)
 }
 
 /// The program: reads what the words ask for, then the input to its end, and writes the answer.

@@ -5,4 +5,4 @@ mod sanitize;
 mod table;
 
 pub use sanitize::{KsymsIds, rewrite_bytes, rewrite_bytes_with};
-pub use table::{Btf, BtfStr, WALK_LIMIT, allocator_of};
+pub use table::{Btf, BtfStr, WALK_LIMIT, allocator_of, name_bytes};

@@ -36,7 +36,7 @@ pub(crate) use crate::table::changes::Changes;
 use crate::table::header::{HEADER_LEN, Header, section};
 pub(crate) use crate::table::limits::{record_fits, text_fits};
 pub use crate::table::text::BtfStr;
-use crate::table::text::{find_named, readable_end, strings_from, text_at};
+use crate::table::text::{bytes_at, find_named, readable_end, strings_from, text_at};
 use crate::table::types::{append_types, clone_types, read_types};
 pub use crate::table::walk::WALK_LIMIT;
 use crate::table::walk::{resolve, size};
@@ -385,6 +385,15 @@ pub fn allocator_of(table: &Btf) -> Global
     ensures { HaveKinds table.now }
 {
     table.allocator()
+}
+
+/// The bytes of a type's name, which need not be UTF-8: those from its offset up to the first zero byte. None where no
+/// zero byte is at the offset or after it.
+pub fn name_bytes<'a>(table: &'a Btf, btf_type: &BtfType) -> Option<&'a [u8]>
+    ensures { option_map (λ b. b.now) result
+        ≡ model.bytes_at table.now.strings (record_of btf_type.now).name }
+{
+    bytes_at(&table.strings, btf_type.name_offset(), 0)
 }
 
 /// The table that a blob stands for, or the first cause of refusal.

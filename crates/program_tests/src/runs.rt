@@ -280,6 +280,19 @@ fn names_are_listed_where_they_are_read(rt: HostRuntime) -> Result<(), Fail> {
     Ok(())
 }
 
+/// An INT whose name is not UTF-8: a character of three bytes that is cut after two, and two bytes that begin none.
+static NAME_IN_PIECES: [u8; 48] = [
+    0x9f, 0xeb, 1, 0, 0x18, 0, 0, 0, 0, 0, 0, 0, 0x10, 0, 0, 0, 0x10, 0, 0, 0, 8, 0, 0, 0, 1, 0, 0,
+    0, 0, 0, 0, 1, 4, 0, 0, 0, 0x20, 0, 0, 1, 0, 0x61, 0xe2, 0x82, 0x62, 0xff, 0xff, 0,
+];
+
+#[test]
+fn names_are_read_piece_by_piece(rt: HostRuntime) -> Result<(), Fail> {
+    let told = "0 1 [INT] a\u{fffd}b\u{fffd}\u{fffd}\n";
+    assert!(rt; comes_to(rt.alloc(), "little types", &NAME_IN_PIECES, told)?);
+    Ok(())
+}
+
 static SIZES: [(&str, &str); 8] = [
     ("little size 1", "0 8\n"),
     ("little size 2", "0 24\n"),

@@ -168,13 +168,18 @@ fn begins(alloc: Global, taken: &[u8], wanted: &str) -> Result<bool, Fail> {
     Ok(wanted.starts_with(&*text))
 }
 
-/// How many calls of a writer fail in turn, each with the fault's text, until one run ends well; none where another
-/// comes out, or the writer took something else than a beginning of the output.
-fn failing_writes(alloc: Global, line: &str, wanted: &str) -> Result<usize, Fail> {
-    let blob = int(alloc)?;
+/// How many calls of a writer that takes so many bytes at once fail in turn, each with the fault's text, until one run
+/// ends well; none where another comes out, or the writer took something else than a beginning of the output.
+fn failing_writes(
+    alloc: Global,
+    line: &str,
+    blob: &[u8],
+    wanted: &str,
+    at_once: usize,
+) -> Result<usize, Fail> {
     for before in 0..64 {
-        let way = Way(3, Some(before), ErrorKind::Other);
-        let (taken, said) = write_slowly(alloc, line, &blob, way)?;
+        let way = Way(at_once, Some(before), ErrorKind::Other);
+        let (taken, said) = write_slowly(alloc, line, blob, way)?;
         if !begins(alloc, &taken, wanted)? {
             return Ok(0);
         }
@@ -190,9 +195,30 @@ fn failing_writes(alloc: Global, line: &str, wanted: &str) -> Result<usize, Fail
 
 #[test]
 fn each_write_fails_in_turn(rt: HostRuntime) -> Result<(), Fail> {
+    let blob = int(rt.alloc())?;
     for &(line, wanted) in &LINES {
-        assert!(rt; failing_writes(rt.alloc(), line, wanted)? > 0, "{line}");
+        let failing = failing_writes(rt.alloc(), line, &blob, wanted, 3)?;
+        assert!(rt; failing > 0, "{line}");
     }
+    Ok(())
+}
+
+/// A table of INTs whose listing is longer than the buffer that it is written through, and this listing.
+fn ints(alloc: Global) -> Result<(Vec<u8>, String), Fail> {
+    let mut records = String::new(alloc);
+    let mut listing = String::new(alloc);
+    for id in 1..901 {
+        records.push_str("1 1000000 4 1000020 ")?;
+        writeln!(listing, "{id} [INT] int")?;
+    }
+    Ok((blob_of(alloc, &records, "\0int\0")?, listing))
+}
+
+#[test]
+fn each_write_of_a_long_listing_fails_in_turn(rt: HostRuntime) -> Result<(), Fail> {
+    let (blob, listing) = ints(rt.alloc())?;
+    let failing = failing_writes(rt.alloc(), "little types", &blob, &listing, 4096)?;
+    assert!(rt; failing == 4);
     Ok(())
 }
 

@@ -45,7 +45,7 @@ impl<'a> BtfStr<'a> {
 
 /// The bytes from an offset up to the first zero byte; None where there is none. The first `ascii` bytes there are known
 /// to be ASCII, and not zero, so the search begins after them.
-fn bytes_at(strings: &[u8], offset: u32, ascii: usize) -> Option<&[u8]>
+pub fn bytes_at(strings: &[u8], offset: u32, ascii: usize) -> Option<&[u8]>
     requires { BeginsAscii (drop offset strings.now) ascii }
     ensures bytes { option_map (λ b. b.now) result ≡ model.bytes_at strings.now offset }
     ensures ascii { IfSome result (λ b. BeginsAscii b.now ascii) }

@@ -1,0 +1,18 @@
+-- What a buffer in front of a writer has taken.
+use Rattle.std.specs.Prelude.{◌≡◌, ◌+◌, ◌≤◌, ℕ, List, length, Option}
+use Rattle.std.specs.Io.KnownBytes.{append_known, Appends}
+use Rattle.btf_cli.specs.declared.buffered.Buffered.{Buffered}
+
+-- the bytes of the writer, and then those of the buffer, where the writer's are known
+abbrev pub buffered_contents : {W : Type 0} → (W → Option (List ℕ)) → Buffered W → Option (List ℕ)
+buffered_contents contents b = append_known (contents b.out.now) b.pending.bytes
+
+-- The buffer has taken these bytes, and nothing else, for the same writer.
+abbrev pub Takes : {W : Type 0} → (W → Option (List ℕ)) → Buffered W → List ℕ → Buffered W → Type 0
+Takes contents old bytes new =
+    (new.out.ghost_name ≡ old.out.ghost_name)
+    × Appends (buffered_contents contents old) (buffered_contents contents new) bytes
+
+-- The buffer has room for these bytes.
+abbrev pub HasRoom : {W : Type 0} → Buffered W → List ℕ → Type 0
+HasRoom b bytes = length b.pending.bytes + length bytes ≤ 8192

@@ -1,0 +1,80 @@
+//! A buffer of fixed size in front of a writer of text.
+
+ghost use Rattle.std.specs.Prelude.{◌≡◌, [], ◌++◌, IsOk, OnOk};
+ghost use Rattle.std.specs.Io.KnownBytes.{Appends, Keeps};
+ghost use Rattle.btf_cli.specs.Buffered.{buffered_contents, Takes, HasRoom};
+
+use arrayvec::ArrayString;
+use std::fmt;
+use std::io::Write;
+
+/// The number of bytes that the buffer holds at most.
+const CAPACITY: usize = 8192;
+
+/// A writer, and the text that is still to be written to it. No memory is allocated.
+#[derive(Drop)]
+pub struct Buffered<'a, W> {
+    out: &'a mut W,
+    pending: ArrayString<CAPACITY>,
+}
+
+impl<'a, W: Write> Buffered<'a, W> {
+    /// An empty buffer in front of a writer.
+    pub fn new(out: &'a mut W) -> Buffered<'a, W>
+        ensures same_reference { result.out.ghost_name ≡ out.entry.ghost_name }
+        ensures out { result.out.now ≡ out.old }
+        ensures empty { result.pending.bytes ≡ [] }
+    {
+        Buffered {
+            out,
+            pending: ArrayString::new(),
+        }
+    }
+
+    /// Adds a text. The buffer is written out first where it has no room for the text, and a text that is longer than
+    /// the buffer goes to the writer at once.
+    pub fn put(&mut self, text: &str) -> fmt::Result
+        ensures taken { OnOk result (Takes W.contents self.old text.now self.new) }
+        // Where there is room, the writer is not called, so nothing fails.
+        ensures room { HasRoom self.old text.now → IsOk result
+            × (self.new.pending.bytes ≡ self.old.pending.bytes ++ text.now) }
+    {
+        if self.pending.try_push_str(text).is_ok() {
+            return Ok(());
+        }
+        self.flush()?;
+        if self.pending.try_push_str(text).is_ok() {
+            return Ok(());
+        }
+        write_text(&mut *self.out, text)
+    }
+
+    /// Writes the buffer out. What is still in it when it is dropped is lost.
+    pub fn flush(&mut self) -> fmt::Result
+        ensures same_reference { self.new.out.ghost_name ≡ self.old.out.ghost_name }
+        ensures bytes { OnOk result (Keeps (buffered_contents W.contents self.old)
+            (buffered_contents W.contents self.new)) }
+        ensures empty { OnOk result (self.new.pending.bytes ≡ []) }
+    {
+        write_text(&mut *self.out, self.pending.as_str())?;
+        self.pending.clear();
+        Ok(())
+    }
+}
+
+/// Writes the whole text to a writer.
+fn write_text<W: Write>(out: &mut W, text: &str) -> fmt::Result
+    ensures { OnOk result (Appends (W.contents out.old) (W.contents out.new) text.now) }
+{
+    out.write_all(text.as_bytes()).map_err(|_| fmt::Error)
+}
+
+impl<W: Write> fmt::Write for Buffered<'_, W> {
+    ghost use Rattle.btf_cli.specs.Buffered.{Takes};
+
+    ghost write_str_gives = { Takes W.contents };
+
+    fn write_str(&mut self, text: &str) -> fmt::Result {
+        self.put(text)
+    }
+}
