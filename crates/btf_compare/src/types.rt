@@ -29,7 +29,8 @@ use btf_table::Btf;
 ///   met again while it is still compared, as in a cycle;
 /// - `OutOfMemory` where memory is refused.
 ///
-/// No call stack is used beside this call's own, however deep the types nest, and a pair of ids is walked once.
+/// No call stack is used beside this call's own, however deep the types nest. No pair of ids is walked twice, which the
+/// form of the code shows and a test measures; the list of the traced call has each pair once, which is proved.
 pub fn types_are_compatible(
     local: &Btf,
     local_id: u32,

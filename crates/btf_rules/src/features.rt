@@ -70,6 +70,7 @@ impl<F> Model for BtfFeatureResolver<F> {
 
 impl<F: FnMut(BtfFeature) -> bool> BtfFeatureResolver<F> {
     ghost use Rattle.std.specs.Prelude.{[]};
+    ghost use Rattle.btf_rules.specs.Features.{AreDistinct};
 
     /// A resolver that has called its predicate for no feature yet.
     pub fn new(predicate: F) -> Self
@@ -95,9 +96,10 @@ impl<F: FnMut(BtfFeature) -> bool> BtfFeatureResolver<F> {
         granted
     }
 
-    /// What the predicate has said so far, in the order in which it was asked.
+    /// What the predicate has said so far, in the order in which it was asked. No feature is asked for twice.
     pub fn answers(&self) -> &[FeatureAnswer]
-        ensures { result.now ≡ self.now.1 }
+        ensures answers { result.now ≡ self.now.1 }
+        ensures distinct { AreDistinct result.now }
     {
         self.answers.as_slice()
     }
