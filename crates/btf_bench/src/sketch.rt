@@ -85,6 +85,14 @@ impl Sketch {
         Ok(offset)
     }
 
+    /// Appends this string, and returns its offset.
+    pub fn text(&mut self, text: &str) -> Result<u32, Fail> {
+        let offset = u32::try_from(self.strings.len())?;
+        self.strings.extend_from_slice(text.as_bytes())?;
+        self.strings.push(0)?;
+        Ok(offset)
+    }
+
     /// The table.
     pub fn parsed(&self) -> Result<Btf, Fail> {
         let bytes = blob(self.alloc, &self.types, &self.strings, Endianness::Little)?;

@@ -25,13 +25,13 @@ abbrev pub line_records : LineSecInfo → Records
 line_records s = record { count = s.num_info; words = map line_words s.line_info.items }
 
 -- the records under each name, where this is what those of a section say
-abbrev pub by_name : {S : Type 0} → (S → Records) → BySection S → List ℕ → Option Records
+abbrev pub by_name : {S H Hasher : Type 0} → (S → Records) → BySection S H Hasher → List ℕ → Option Records
 by_name records b name = option_map records (get_by_text b.sections name)
 
-abbrev pub funcs_by_name : BySection FuncSecInfo → List ℕ → Option Records
+abbrev pub funcs_by_name : {H Hasher : Type 0} → BySection FuncSecInfo H Hasher → List ℕ → Option Records
 funcs_by_name = by_name func_records
 
-abbrev pub lines_by_name : BySection LineSecInfo → List ℕ → Option Records
+abbrev pub lines_by_name : {H Hasher : Type 0} → BySection LineSecInfo H Hasher → List ℕ → Option Records
 lines_by_name = by_name line_records
 
 -- What is found under each name, before and after records are added under this one: what was found stays, and a name

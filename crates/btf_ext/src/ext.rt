@@ -17,15 +17,16 @@ pub use crate::ext::sections::{SecInfo, SecInfoIter};
 use crate::info::{FuncInfo, LineInfo};
 use btf_plain::{BtfError, Endianness};
 use btf_table::{Btf, allocator_of};
+use std::hash::{BuildHasher, BuildHasherDefault, FoldHasher};
 
 /// What `.BTF.ext` says of a program: function and line records under the names of the program's sections, and
 /// relocation records.
 #[derive(Debug, Drop)]
-pub struct BtfExt {
+pub struct BtfExt<H: BuildHasher = BuildHasherDefault<FoldHasher>> {
     func_info_rec_size: usize,
-    func_info: FuncInfo,
+    func_info: FuncInfo<H>,
     line_info_rec_size: usize,
-    line_info: LineInfo,
+    line_info: LineInfo<H>,
     relocations: Vec<(u32, Vec<[u32; 4]>)>,
 }
 
@@ -45,13 +46,34 @@ impl BtfExt {
         ensures { MeetsOrNoMemory ext result
             (IsExt (order_of endianness) «data».now btf.now.strings) }
     {
+        BtfExt::parse_with_hasher(data, endianness, btf, BuildHasherDefault::new())
+    }
+}
+
+impl<H: BuildHasher> BtfExt<H> {
+    ghost use Rattle.btf_ext.specs.BtfExt.{ext};
+
+    /// What `BtfExt::parse` returns, in maps whose hashers are this one and a clone of it. The hasher of
+    /// `BtfExt::parse` has a fixed seed, so an attacker can choose names that collide, and n of them take time in
+    /// proportion to n squared. For a section from such a source, pass a hasher with random keys, such as `RandomState`.
+    pub fn parse_with_hasher(
+        data: &[u8],
+        endianness: Endianness,
+        btf: &Btf,
+        hash_builder: H,
+    ) -> Result<BtfExt<H>, BtfError>
+    where
+        H: Clone,
+        ensures { MeetsOrNoMemory ext result
+            (IsExt (order_of endianness) «data».now btf.now.strings) }
+    {
         let alloc = allocator_of(btf);
         let header = Header::read(data, endianness)?;
         let func = header.func.read(data, endianness)?;
         let line = header.line.read(data, endianness)?;
         let core = header.core.read(data, endianness)?;
-        let func_info = FuncInfo::read(alloc, &func, endianness, btf)?;
-        let line_info = LineInfo::read(alloc, &line, endianness, btf)?;
+        let func_info = FuncInfo::read(alloc, &func, endianness, btf, hash_builder.clone()?)?;
+        let line_info = LineInfo::read(alloc, &line, endianness, btf, hash_builder)?;
         let relocations = read_sections(alloc, &core, endianness)?;
         Ok(BtfExt {
             func_info_rec_size: func.rec_size,
@@ -63,14 +85,14 @@ impl BtfExt {
     }
 
     /// The function records.
-    pub fn func_info(&self) -> &FuncInfo
+    pub fn func_info(&self) -> &FuncInfo<H>
         ensures { funcs_by_name result.now ≡ (ext self.now).func }
     {
         &self.func_info
     }
 
     /// The line records.
-    pub fn line_info(&self) -> &LineInfo
+    pub fn line_info(&self) -> &LineInfo<H>
         ensures { lines_by_name result.now ≡ (ext self.now).line }
     {
         &self.line_info
@@ -100,6 +122,8 @@ impl BtfExt {
 
     /// An equal value. `OutOfMemory` is the only error.
     pub fn try_clone(&self) -> Result<Self, BtfError>
+    where
+        H: Clone,
         ensures { IsOrNoMemory ext result (Ok (ext self.now)) }
     {
         Ok(Self {

@@ -7,6 +7,7 @@ use btf_samples::program::{program_ext, program_table};
 use btf_samples::spelled::ORDERS;
 use btf_types::{Btf, BtfExt, FuncSecInfo, LineSecInfo, bpf_func_info, bpf_line_info};
 use std::alloc::Global;
+use std::hash::{BuildHasher, RandomState};
 use std::test::Fail;
 
 /// These bytes, parsed under the table of the program.
@@ -22,7 +23,7 @@ fn parsed(alloc: Global, order: Endianness) -> Result<BtfExt, Fail> {
 }
 
 /// Whether the section has its record sizes, and no relocations.
-fn has_sizes(ext: &BtfExt) -> bool {
+fn has_sizes<H: BuildHasher>(ext: &BtfExt<H>) -> bool {
     ext.func_info_rec_size() == 8 && ext.line_info_rec_size() == 16 && ext.relocations().is_empty()
 }
 
@@ -40,7 +41,7 @@ fn are_the_func(section: &FuncSecInfo) -> bool {
 }
 
 /// Whether the one function record of the program has its fields.
-fn has_func(ext: &BtfExt) -> Result<bool, Fail> {
+fn has_func<H: BuildHasher>(ext: &BtfExt<H>) -> Result<bool, Fail> {
     let section = ext.func_info().get("xdp/pass")?;
     Ok(are_the_func(&section))
 }
@@ -50,13 +51,13 @@ fn are_the_line(section: &LineSecInfo) -> bool {
 }
 
 /// Whether the one line record of the program has its fields.
-fn has_line(ext: &BtfExt) -> Result<bool, Fail> {
+fn has_line<H: BuildHasher>(ext: &BtfExt<H>) -> Result<bool, Fail> {
     let section = ext.line_info().get("xdp/pass")?;
     Ok(are_the_line(&section))
 }
 
 /// Whether a section has the sizes and the records of the program's.
-fn is_program(alloc: Global, ext: &BtfExt) -> Result<bool, Fail> {
+fn is_program<H: BuildHasher>(alloc: Global, ext: &BtfExt<H>) -> Result<bool, Fail> {
     Ok(
         has_sizes(ext)
             && has_funcs(alloc, ext.func_info(), "xdp/pass", 1, "0 7")?
@@ -76,6 +77,27 @@ fn is_whole(alloc: Global, order: Endianness) -> Result<bool, Fail> {
 fn section_of_program_is_read(rt: HostRuntime) -> Result<(), Fail> {
     for &order in &ORDERS {
         assert!(rt; is_whole(rt.alloc(), order)?);
+    }
+    Ok(())
+}
+
+/// Whether the section is read whole with this hasher, and so is its clone.
+fn is_whole_with<H: BuildHasher + Clone>(
+    alloc: Global,
+    order: Endianness,
+    hash_builder: H,
+) -> Result<bool, Fail> {
+    let bytes = program_ext(alloc, order)?;
+    let table = program_table(alloc, order)?;
+    let ext = BtfExt::parse_with_hasher(&bytes, order, &table, hash_builder)?;
+    let clone = ext.try_clone()?;
+    Ok(is_program(alloc, &ext)? && is_program(alloc, &clone)?)
+}
+
+#[test]
+fn section_of_program_is_read_with_random_keys(rt: HostRuntime) -> Result<(), Fail> {
+    for &order in &ORDERS {
+        assert!(rt; is_whole_with(rt.alloc(), order, RandomState::new(&rt)?)?);
     }
     Ok(())
 }

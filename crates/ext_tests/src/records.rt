@@ -5,6 +5,7 @@ use btf_plain::Endianness;
 use btf_samples::spelled::{ORDERS, spelled_decimals};
 use btf_types::{BtfExt, FuncInfo, FuncSecInfo, LineInfo, LineSecInfo};
 use std::alloc::Global;
+use std::hash::BuildHasher;
 use std::test::Fail;
 
 fn are_equal(bytes: &[u8], wanted: &[u8]) -> bool {
@@ -54,9 +55,9 @@ fn both_have_funcs(
 }
 
 /// Whether the section of a name has so many function records, with these words.
-pub fn has_funcs(
+pub fn has_funcs<H: BuildHasher>(
     alloc: Global,
-    funcs: &FuncInfo,
+    funcs: &FuncInfo<H>,
     name: &str,
     count: u32,
     words: &str,
@@ -102,9 +103,9 @@ fn both_have_lines(
 }
 
 /// Whether the section of a name has so many line records, with these words.
-pub fn has_lines(
+pub fn has_lines<H: BuildHasher>(
     alloc: Global,
-    lines: &LineInfo,
+    lines: &LineInfo<H>,
     name: &str,
     count: u32,
     words: &str,

@@ -6,6 +6,7 @@ use btf_records::BtfType;
 use btf_types::{Btf, BtfExt, BtfStr};
 use std::alloc::{AllocError, Global};
 use std::fmt::Write;
+use std::hash::BuildHasher;
 use std::test::Fail;
 
 /// The lines, in memory that is there before the call.
@@ -106,7 +107,7 @@ impl Show for Vec<BtfType> {
     }
 }
 
-impl Show for BtfExt {
+impl<H: BuildHasher> Show for BtfExt<H> {
     fn show(&self, out: &mut String) -> Result<(), Fail> {
         self.func_info()
             .get("xdp/pass")?

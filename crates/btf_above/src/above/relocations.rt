@@ -11,6 +11,7 @@ use btf_ext::BtfExt;
 use btf_plain::BtfError;
 use btf_table::Btf;
 use std::alloc::Global;
+use std::hash::BuildHasher;
 
 /// The relocation records of the sections of this name, in order: of each record the first four words, as
 /// [`BtfExt::relocations`] has them. The records of two sections of one name follow one another; where no section has
@@ -26,9 +27,9 @@ use std::alloc::Global;
 ///
 /// - `InvalidStringOffset` of the first name that cannot be read.
 /// - `OutOfMemory` where there is no memory for the records, or for a name that is not UTF-8.
-pub fn relocations_of(
+pub fn relocations_of<H: BuildHasher>(
     alloc: Global,
-    ext: &BtfExt,
+    ext: &BtfExt<H>,
     btf: &Btf,
     name: &str,
 ) -> Result<Vec<[u32; 4]>, BtfError>

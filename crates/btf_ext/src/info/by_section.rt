@@ -16,6 +16,7 @@ use btf_plain::{BtfError, Endianness};
 use btf_table::Btf;
 use std::alloc::{AllocError, Global};
 use std::collections::{BTreeSet, HashMap};
+use std::hash::{BuildHasher, BuildHasherDefault, FoldHasher};
 
 /// The records of one section of a program: its function records, or its line records.
 pub trait SectionRecords: Sized + Drop {
@@ -46,27 +47,28 @@ pub trait SectionRecords: Sized + Drop {
         ensures { IsOrNoMemory records result (Ok (records self.now)) };
 }
 
-/// The records of a program, by the names of its sections.
+/// The records of a program, by the names of its sections. Names are hashed by an `H`; the default has a fixed seed.
 #[derive(Debug, Drop)]
-pub struct BySection<S> {
+pub struct BySection<S, H: BuildHasher = BuildHasherDefault<FoldHasher>> {
     /// The records of each section, under its name.
-    pub sections: HashMap<String, S>,
+    pub sections: HashMap<String, S, H>,
     /// The map does not lend its own.
     alloc: Global,
 }
 
-impl<S: SectionRecords> BySection<S> {
-    /// No section. No memory is taken.
-    fn new(alloc: Global) -> Self
+impl<S: SectionRecords, H: BuildHasher> BySection<S, H> {
+    /// No section, in a map with this hasher. No memory is taken.
+    fn with_hasher(alloc: Global, hash_builder: H) -> Self
         ensures { (name : List ℕ) → by_name S.records result name ≡ None }
     {
         Self {
-            sections: HashMap::new(alloc),
+            sections: HashMap::with_hasher(alloc, hash_builder),
             alloc,
         }
     }
 
-    /// The records of a part's sections, under their names. Of a name the last section counts.
+    /// The records of a part's sections, under their names, in a map with this hasher. Of a name the last section
+    /// counts.
     ///
     /// Of each section in turn: `InvalidInfo` as `SecInfoIter` has it, and `InvalidStringOffset` where its name can't
     /// be read.
@@ -75,13 +77,16 @@ impl<S: SectionRecords> BySection<S> {
         part: &Part<'_>,
         endianness: Endianness,
         btf: &Btf,
+        hash_builder: H,
     ) -> Result<Self, BtfError>
+    where
+        H: Drop,
         requires { 0 < part.now.rec_size → 4 * S.width ≤ part.now.rec_size }
         ensures { MeetsOrNoMemory (by_name S.records) result
             (AreByName (order_of endianness) S.width btf.now.strings (part_of part.now)) }
     {
         let sections = readable_sections(alloc, part, endianness, btf)?;
-        let mut info = Self::new(alloc);
+        let mut info = Self::with_hasher(alloc, hash_builder);
         let mut taken = BTreeSet::new(alloc);
         // The last section of a name counts, so at an offset that was met its name has records already.
         for section in sections.iter().rev() {
@@ -132,11 +137,14 @@ impl<S: SectionRecords> BySection<S> {
         }
     }
 
-    /// Equal records under equal names. `OutOfMemory` is the only error.
+    /// Equal records under equal names, in a map with a clone of the hasher. `OutOfMemory` is the only error.
     pub fn try_clone(&self) -> Result<Self, BtfError>
+    where
+        H: Clone,
         ensures { IsOrNoMemory (by_name S.records) result (Ok (by_name S.records self.now)) }
     {
-        let mut copy = Self::new(self.alloc);
+        let hash_builder = self.sections.hasher().clone()?;
+        let mut copy = Self::with_hasher(self.alloc, hash_builder);
         for (name, section) in &self.sections {
             copy.sections.insert(name.clone()?, section.copied()?)?;
         }

@@ -11,6 +11,7 @@ use crate::info::records::{INSTRUCTION_LEN, Record, read_records};
 use crate::words::{push_little, split_word};
 use btf_plain::{BtfError, Endianness};
 use std::alloc::{AllocError, Global};
+use std::hash::{BuildHasherDefault, FoldHasher};
 
 /// The number of bytes that a function record is written in.
 const FUNC_LEN: usize = 8;
@@ -125,4 +126,4 @@ impl SectionRecords for FuncSecInfo {
 }
 
 /// The function records of a program, by the names of its sections.
-pub type FuncInfo = BySection<FuncSecInfo>;
+pub type FuncInfo<H = BuildHasherDefault<FoldHasher>> = BySection<FuncSecInfo, H>;

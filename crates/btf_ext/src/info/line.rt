@@ -11,6 +11,7 @@ use crate::info::records::{INSTRUCTION_LEN, Record, read_records};
 use crate::words::{four_words, push_little};
 use btf_plain::{BtfError, Endianness};
 use std::alloc::{AllocError, Global};
+use std::hash::{BuildHasherDefault, FoldHasher};
 
 /// The number of bytes that a line record is written in.
 const LINE_LEN: usize = 16;
@@ -137,4 +138,4 @@ impl SectionRecords for LineSecInfo {
 }
 
 /// The line records of a program, by the names of its sections.
-pub type LineInfo = BySection<LineSecInfo>;
+pub type LineInfo<H = BuildHasherDefault<FoldHasher>> = BySection<LineSecInfo, H>;

@@ -10,7 +10,7 @@ use Rattle.btf_above.proofs.above.relocations.relocations_of.Goals as goal
 use Rattle.btf_above.proofs.above.relocations.relocations_of.Goals.{then-branch+in_ok-extend_from_slice, else-branch}
 
 pub returns-in_err-is_named : goal.returns-in_err-is_named
-returns-in_err-is_named c =
+returns-in_err-is_named g c =
     let ss : _ = c.relocations-offset-items.result.now in
     let i : ℕ = c.loop-offset.offset-index in
     let e : _ = c.in_err-is_named.field-0.0 in
@@ -21,14 +21,14 @@ returns-in_err-is_named c =
     rw (← c.relocations-offset-items.ensures) (record { words = words; only = only_words (λ v. v.items) c.args.btf.now.strings c.args.name.now (map relocation ss) c.from_residual.result words })
 
 pub returns-clause-only : goal.returns-clause-only
-returns-clause-only c =
+returns-clause-only g c =
     let ss : _ = c.relocations-offset-items.result.now in
     let end : length (map relocation ss) ≤ c.loop-offset.offset-index = omega (arith, length-map ss relocation, c.loop-offset-test.false) in
     rw (← c.relocations-offset-items.ensures) (only_words (λ v. v.items) c.args.btf.now.strings c.args.name.now (map relocation ss) (Ok c.loop-offset.found)
     (all_read c.args.btf.now.strings c.args.name.now (map relocation ss) c.loop-offset.offset-index c.loop-offset.found.items end c.loop-offset.invariant.names c.loop-offset.invariant.words))
 
 pub loop-offset-preserved : goal.loop-offset-preserved
-loop-offset-preserved c =
+loop-offset-preserved g c =
     let ss : _ = c.relocations-offset-items.result.now in
     let i : ℕ = c.loop-offset.offset-index in
     let s : RelocationSection = relocation c.loop-offset-item.result in

@@ -10,8 +10,8 @@ use Rattle.btf_ext.proofs.info.by_section.BySection.read.Goals as goal
 
 pub loop-section-init : goal.loop-section-init
 loop-section-init g c =
-    none_taken (order_of c.args.endianness) g.S.SectionRecords.width c.args.btf.now.strings (part c.args.part.now) c.in_ok-sections.sections.items (iter_rest (rev_source c.into_iter-section-iterator.result)) c.new-taken.result (by_name g.S.SectionRecords.records c.new-info.result) c.in_ok-sections.ensures
-    (ap (λ i. iter_rest (rev_source i)) c.into_iter-section-iterator.ensures.into_iter_gives ∙ ap iter_rest c.rev-section-items.ensures.source ∙ c.iter.ensures.rest ∙ c.deref.ensures.value) c.new-taken.ensures.empty c.new-info.ensures
+    none_taken (order_of c.args.endianness) g.S.SectionRecords.width c.args.btf.now.strings (part c.args.part.now) c.in_ok-sections.sections.items (iter_rest (rev_source c.into_iter-section-iterator.result)) c.new-taken.result (by_name g.S.SectionRecords.records c.with_hasher-info.result) c.in_ok-sections.ensures
+    (ap (λ i. iter_rest (rev_source i)) c.into_iter-section-iterator.ensures.into_iter_gives ∙ ap iter_rest c.rev-section-items.ensures.source ∙ c.iter.ensures.rest ∙ c.deref.ensures.value) c.new-taken.ensures.empty c.with_hasher-info.ensures
 
 pub add-requires-clause-whole : goal.add-requires-clause-whole
 add-requires-clause-whole g c =
