@@ -53,9 +53,10 @@ impl BtfExt {
 impl<H: BuildHasher> BtfExt<H> {
     ghost use Rattle.btf_ext.specs.BtfExt.{ext};
 
-    /// What `BtfExt::parse` returns, in maps whose hashers are this one and a clone of it. The hasher of
-    /// `BtfExt::parse` has a fixed seed, so an attacker can choose names that collide, and n of them take time in
-    /// proportion to n squared. For a section from such a source, pass a hasher with random keys, such as `RandomState`.
+    /// What `BtfExt::parse` returns, in maps whose hashers are this one and a clone of it.
+    ///
+    /// The hasher of `BtfExt::parse` has a fixed seed, so an attacker can choose names that collide, and n of them take
+    /// time in proportion to n squared. For an untrusted section, pass a hasher with random keys, as `RandomState`.
     pub fn parse_with_hasher(
         data: &[u8],
         endianness: Endianness,
