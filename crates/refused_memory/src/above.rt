@@ -15,7 +15,7 @@ const RELOCATIONS: &str = "32 0 0 0 0 0 52  16  1 1 1 2 3 4  1 1 5 6 7 8";
 /// The value of the variant "B" of the last type.
 pub fn value(probe: &Probe, blob: &[u8], report: &mut Report) -> Result<(), Fail> {
     let btf = Btf::parse(probe.alloc, blob, probe.order)?;
-    probe.twice(report, || variant_value(&btf, 1, "B"))
+    probe.twice(&btf, report, || variant_value(&btf, 1, "B"))
 }
 
 /// The number of relocations of the sections named "\u{fffd}A".
@@ -39,5 +39,5 @@ fn read(probe: &Probe, btf: &Btf) -> Result<BtfExt, Fail> {
 pub fn relocations(probe: &Probe, blob: &[u8], report: &mut Report) -> Result<(), Fail> {
     let btf = Btf::parse(probe.alloc, blob, probe.order)?;
     let ext = read(probe, &btf)?;
-    probe.twice(report, || count(probe, &ext, &btf))
+    probe.twice(&ext, report, || count(probe, &ext, &btf))
 }

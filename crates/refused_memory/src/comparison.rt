@@ -18,15 +18,15 @@ fn compare(work: &str, btf: &Btf, starts: &mut Vec<(u32, u32)>) -> Result<bool, 
 
 fn compare_first(work: &str, probe: &Probe, btf: &Btf, report: &mut Report) -> Result<(), Fail> {
     let mut starts = Vec::new(probe.alloc);
-    probe.begin(report)?;
+    probe.begin_on(btf, report)?;
     let first = compare(work, btf, &mut starts);
-    probe.end(&first, report)?;
+    probe.end_on(&first, btf, report)?;
     report.pairs("starts", &starts)
 }
 
 fn compare_again(work: &str, probe: &Probe, btf: &Btf, report: &mut Report) -> Result<(), Fail> {
     let mut all = Vec::new(probe.alloc);
-    report.result("again", &compare(work, btf, &mut all))?;
+    report.last(&compare(work, btf, &mut all), btf)?;
     report.pairs("all", &all)
 }
 

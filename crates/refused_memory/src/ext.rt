@@ -1,20 +1,15 @@
-//! The `.BTF.ext` section of the program of the kernel's documentation.
+//! The `.BTF.ext` section of the program of the kernel's documentation, and sections of too short records.
 
 use crate::probe::Probe;
-use crate::report::Report;
+use crate::report::{Report, Show};
 use btf_plain::{BtfError, Endianness};
+use btf_samples::blobs::front;
 use btf_samples::program::program_ext;
-use btf_types::{Btf, BtfExt};
+use btf_samples::spelled::push_words;
+use btf_types::{Btf, BtfExt, SecInfoIter};
+use std::fmt::Write;
 use std::hash::{BuildHasherDefault, DefaultHasher};
 use std::test::Fail;
-
-/// The records of a section, as bytes for the kernel.
-fn bytes_of(work: &str, ext: &BtfExt) -> Result<Vec<u8>, BtfError> {
-    match work {
-        "func_bytes" => ext.func_info().get("xdp/pass")?.func_info_bytes(),
-        _ => ext.line_info().get("xdp/pass")?.line_info_bytes(),
-    }
-}
 
 /// The section, parsed with a hasher that is not the default one.
 fn parse_with_hasher(
@@ -25,7 +20,29 @@ fn parse_with_hasher(
     BtfExt::parse_with_hasher(data, order, btf, BuildHasherDefault::new())
 }
 
-/// Does the work on a section that was parsed.
+/// A parsed section, and its bytes from the first section of functions on.
+#[derive(Drop)]
+struct Section<'a> {
+    ext: &'a BtfExt,
+    functions: &'a [u8],
+    order: Endianness,
+}
+
+impl Show for Section<'_> {
+    fn show(&self, out: &mut String) -> Result<(), Fail> {
+        self.ext.show(out)?;
+        for section in SecInfoIter::new(self.functions, 8, self.order) {
+            match section {
+                Ok(section) => write!(out, " {}:{}", section.name_offset, section.num_info)?,
+                Err(error) => write!(out, " {error}")?,
+            }
+        }
+        Ok(())
+    }
+}
+
+/// Does the work on a section that was parsed. The bytes of a section's records are made of a copy of it, so that the
+/// copy's memory is requested before.
 fn done_on(
     work: &str,
     probe: &Probe,
@@ -34,15 +51,87 @@ fn done_on(
     report: &mut Report,
 ) -> Result<(), Fail> {
     let ext = BtfExt::parse(data, probe.order, btf)?;
+    let section = Section {
+        ext: &ext,
+        functions: data.get(28..).unwrap_or(&[]),
+        order: probe.order,
+    };
+    let functions = ext.func_info().get("xdp/pass")?;
+    let lines = ext.line_info().get("xdp/pass")?;
     match work {
-        "parse_ext" => probe.twice(report, || BtfExt::parse(data, probe.order, btf)),
+        "parse_ext" => probe.twice(&section, report, || BtfExt::parse(data, probe.order, btf)),
         "parse_ext_with_hasher" => probe.twice(
+            &section,
             report,
             || parse_with_hasher(data, probe.order, btf),
         ),
-        "clone_ext" => probe.twice(report, || ext.try_clone()),
-        _ => probe.twice(report, || bytes_of(work, &ext)),
+        "clone_ext" => probe.twice(&section, report, || ext.try_clone()),
+        "func_get" => probe.twice(&section, report, || {
+            let found = ext.func_info().get("xdp/pass")?;
+            Ok(found.len() as u64)
+        }),
+        "line_get" => probe.twice(&section, report, || {
+            let found = ext.line_info().get("xdp/pass")?;
+            Ok(found.len() as u64)
+        }),
+        "func_bytes" => probe.twice(&section, report, || functions.func_info_bytes()),
+        _ => probe.twice(&section, report, || lines.line_info_bytes()),
     }
+}
+
+/// A `.BTF.ext` section with one record of so many bytes, of functions, lines or relocations, in a section whose name
+/// is at offset 1.
+fn one_record(probe: &Probe, part: &str, rec_size: u32, least: u32) -> Result<Vec<u8>, Fail> {
+    let len = least.wrapping_add(12);
+    let (func, line, core) = match part {
+        "func" => (len, 0, 0),
+        "line" => (0, len, 0),
+        _ => (0, 0, len),
+    };
+    let mut data = Vec::from_slice(probe.alloc, &front(probe.order))?;
+    push_words(&mut data, &[32, 0, func, 0, line, 0, core], probe.order)?;
+    push_words(&mut data, &[rec_size, 1, 1, 0, 0], probe.order)?;
+    if least == 16 {
+        push_words(&mut data, &[0, 0], probe.order)?;
+    }
+    Ok(data)
+}
+
+/// Sections of one record each, whose sizes go from 0 to the least of the part.
+fn sizes_to_least(probe: &Probe, part: &str) -> Result<Vec<Vec<u8>>, Fail> {
+    let least = if part == "func" { 8u32 } else { 16 };
+    let mut sections = Vec::new(probe.alloc);
+    for rec_size in 0..17u32 {
+        if rec_size <= least {
+            sections.push(one_record(probe, part, rec_size, least)?)?;
+        }
+    }
+    Ok(sections)
+}
+
+/// How many sections are refused for what they are.
+fn refused(sections: &[Vec<u8>], order: Endianness, btf: &Btf) -> Result<u64, BtfError> {
+    let mut count = 0u64;
+    for data in sections {
+        match BtfExt::parse(data, order, btf) {
+            Err(BtfError::OutOfMemory) => return Err(BtfError::OutOfMemory),
+            Err(_) => count = count.wrapping_add(1),
+            Ok(_) => {}
+        }
+    }
+    Ok(count)
+}
+
+/// Parses sections whose records have each size from 0 to the least, in the part of this name.
+pub fn least_sizes(
+    part: &str,
+    probe: &Probe,
+    blob: &[u8],
+    report: &mut Report,
+) -> Result<(), Fail> {
+    let btf = Btf::parse(probe.alloc, blob, probe.order)?;
+    let sections = sizes_to_least(probe, part)?;
+    probe.twice(&btf, report, || refused(&sections, probe.order, &btf))
 }
 
 pub fn done(work: &str, probe: &Probe, blob: &[u8], report: &mut Report) -> Result<(), Fail> {

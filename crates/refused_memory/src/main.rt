@@ -59,10 +59,11 @@ fn done(work: &str, probe: &Probe, blob: &[u8], report: &mut Report) -> Result<(
         "variant_value" => above::value(probe, blob, report),
         "relocations_of" => above::relocations(probe, blob, report),
         "ksyms" | "ksyms_alone" => rewrite::step(work, probe, blob, report),
-        "rewrite_bytes" => rewrite::bytes(probe, blob, report),
-        "rewrite" | "rewrite_ksyms" | "rewrite_again" | "rewrite_granted" | "rewrite_sections" => {
-            rewrite::whole(work, probe, blob, report)
-        }
+        "parse_func_sizes" => ext::least_sizes("func", probe, blob, report),
+        "parse_line_sizes" => ext::least_sizes("line", probe, blob, report),
+        "parse_core_sizes" => ext::least_sizes("core", probe, blob, report),
+        _ if work.starts_with("rewrite_bytes") => rewrite::bytes(work, probe, blob, report),
+        _ if work.starts_with("rewrite") => rewrite::whole(work, probe, blob, report),
         _ => ext::done(work, probe, blob, report),
     }
 }

@@ -35,18 +35,22 @@ impl Probe {
         }
     }
 
-    /// Makes a call, which changes nothing, and makes it again; writes down what it returns.
-    pub fn twice<T: Show + Drop, F: Fn() -> Result<T, BtfError>>(
+    /// Makes a call that changes nothing of this value, and makes it again if it fails; writes down what it returns, and
+    /// what the calls that take no memory say of the value before it and after it.
+    pub fn twice<S: Show, T: Show + Drop, F: Fn() -> Result<T, BtfError>>(
         &self,
+        value: &S,
         report: &mut Report,
         call: F,
     ) -> Result<(), Fail>
         requires { F.IsAlwaysCallable call }
     {
-        self.begin(report)?;
+        self.begin_on(value, report)?;
         let first = call();
-        self.end(&first, report)?;
-        report.result("again", &call())
+        if self.end_on(&first, value, report)? {
+            report.last(&call(), value)?;
+        }
+        Ok(())
     }
 
     /// Makes a call that changes a table, and makes it again if it is refused; writes down what it returns, and what the
@@ -73,9 +77,9 @@ impl Probe {
         report.count("before", granted)
     }
 
-    /// The same, after the table that the call changes is written down.
-    pub fn begin_on(&self, btf: &Btf, report: &mut Report) -> Result<(), Fail> {
-        report.value("table", btf)?;
+    /// The same, after the value that the call works on is written down.
+    pub fn begin_on<S: Show>(&self, value: &S, report: &mut Report) -> Result<(), Fail> {
+        report.value("table", value)?;
         self.begin(report)
     }
 
@@ -90,15 +94,15 @@ impl Probe {
         report.result("first", first)
     }
 
-    /// The same, with what the table is then. Whether the call is to be made again, since it was refused.
-    pub fn end_on<T: Show>(
+    /// The same, with what the value is then. Whether the call is to be made again, since it failed.
+    pub fn end_on<S: Show, T: Show>(
         &self,
         first: &Result<T, BtfError>,
-        btf: &Btf,
+        value: &S,
         report: &mut Report,
     ) -> Result<bool, Fail> {
         self.end(first, report)?;
-        report.value("then", btf)?;
+        report.value("then", value)?;
         Ok(first.is_err())
     }
 }

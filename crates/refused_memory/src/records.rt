@@ -82,9 +82,9 @@ fn first(
     report: &mut Report,
 ) -> Result<(), Fail> {
     let mut made = Made::new(probe.alloc)?;
-    probe.begin(report)?;
+    probe.begin_on(btf, report)?;
     let outcome = made.make(work, probe, blob, btf);
-    probe.end(&outcome, report)?;
+    probe.end_on(&outcome, btf, report)?;
     made.report("made", report)
 }
 
@@ -96,7 +96,7 @@ fn again(
     report: &mut Report,
 ) -> Result<(), Fail> {
     let mut made = Made::new(probe.alloc)?;
-    report.result("again", &made.make(work, probe, blob, btf))?;
+    report.last(&made.make(work, probe, blob, btf), btf)?;
     made.report("all", report)
 }
 

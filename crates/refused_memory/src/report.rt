@@ -3,7 +3,7 @@
 use btf_items::Enum64VariantFallback;
 use btf_plain::{BtfError, Endianness};
 use btf_records::BtfType;
-use btf_types::{Btf, BtfExt, BtfStr};
+use btf_types::{Btf, BtfExt, BtfFeature, BtfStr, FeatureAnswer};
 use std::alloc::{AllocError, Global};
 use std::fmt::Write;
 use std::hash::BuildHasher;
@@ -97,6 +97,24 @@ impl Show for BtfType {
     }
 }
 
+impl Show for Vec<BtfFeature> {
+    fn show(&self, out: &mut String) -> Result<(), Fail> {
+        for feature in self {
+            write!(out, "{feature:?} ")?;
+        }
+        Ok(())
+    }
+}
+
+impl Show for Vec<FeatureAnswer> {
+    fn show(&self, out: &mut String) -> Result<(), Fail> {
+        for answer in self {
+            write!(out, "{:?}={} ", answer.feature, answer.granted)?;
+        }
+        Ok(())
+    }
+}
+
 impl Show for Vec<BtfType> {
     fn show(&self, out: &mut String) -> Result<(), Fail> {
         for record in self {
@@ -107,8 +125,26 @@ impl Show for Vec<BtfType> {
     }
 }
 
+/// Writes down the relocation records of a section.
+fn show_relocations(section: &(u32, Vec<[u32; 4]>), out: &mut String) -> Result<(), Fail> {
+    write!(out, " {}", section.0)?;
+    for words in &section.1 {
+        write!(out, "-{}-{}-{}-{}", words[0], words[1], words[2], words[3])?;
+    }
+    Ok(())
+}
+
 impl<H: BuildHasher> Show for BtfExt<H> {
     fn show(&self, out: &mut String) -> Result<(), Fail> {
+        write!(
+            out,
+            "{} {} ",
+            self.func_info_rec_size(),
+            self.line_info_rec_size()
+        )?;
+        for section in self.relocations() {
+            show_relocations(section, out)?;
+        }
         self.func_info()
             .get("xdp/pass")?
             .func_info_bytes()?
@@ -142,7 +178,7 @@ fn show_fallback(record: &BtfType, out: &mut String) -> Result<(), Fail> {
     Ok(())
 }
 
-/// Writes down what the calls that take no memory say of an id.
+/// Writes down what walks say of an id.
 fn show_walks(btf: &Btf, id: u32, out: &mut String) -> Result<(), Fail> {
     let resolved = btf.resolve_type(id).unwrap_or(u32::MAX);
     let size = btf.type_size(id).unwrap_or(usize::MAX);
@@ -150,12 +186,26 @@ fn show_walks(btf: &Btf, id: u32, out: &mut String) -> Result<(), Fail> {
     Ok(())
 }
 
-/// Writes down the fallbacks of a table, and what walks say of its types.
+/// Writes down the name of an id where it is UTF-8, as both calls return it that take no memory then.
+fn show_name(btf: &Btf, id: u32, out: &mut String) -> Result<(), Fail> {
+    let record = btf.type_by_id(id)?;
+    if let Ok(BtfStr::Borrowed(name)) = btf.type_name(record) {
+        write!(out, ":{name}")?;
+    }
+    if let Ok(BtfStr::Borrowed(name)) = btf.string_at(record.name_offset()) {
+        write!(out, ":{name}")?;
+    }
+    Ok(())
+}
+
+/// Writes down the fallbacks of a table, and what the calls that take no memory say of its types.
 fn show_types(btf: &Btf, out: &mut String) -> Result<(), Fail> {
+    write!(out, " {}", btf.is_empty())?;
     let mut id = 0u32;
     for record in btf.types() {
         show_fallback(record, out)?;
         show_walks(btf, id, out)?;
+        show_name(btf, id, out)?;
         id = id.wrapping_add(1);
     }
     Ok(())
@@ -208,10 +258,14 @@ impl Report {
         }
     }
 
-    /// Lines of what a call returned that was made again, and of what the table is then.
-    pub fn last<T: Show>(&mut self, outcome: &Result<T, BtfError>, btf: &Btf) -> Result<(), Fail> {
+    /// Lines of what a call returned that was made again, and of what the value is then.
+    pub fn last<S: Show, T: Show>(
+        &mut self,
+        outcome: &Result<T, BtfError>,
+        value: &S,
+    ) -> Result<(), Fail> {
         self.result("again", outcome)?;
-        self.value("last", btf)
+        self.value("last", value)
     }
 
     /// A line of pairs of ids.

@@ -4,7 +4,9 @@ use crate::probe::Probe;
 use crate::report::Report;
 use crate::tables::last_id;
 use btf_plain::{BtfError, SectionIndex};
-use btf_types::{Btf, BtfFeature, BtfFeatureResolver, FillPolicy, KsymsIds, rewrite_bytes_with};
+use btf_types::{
+    Btf, BtfFeature, BtfFeatureResolver, FeatureAnswer, FillPolicy, KsymsIds, rewrite_bytes_with,
+};
 use std::alloc::{AllocError, Global};
 use std::collections::HashMap;
 use std::test::Fail;
@@ -44,66 +46,158 @@ fn known(alloc: Global) -> Result<Program, AllocError> {
     })
 }
 
-/// The last type is the DATASEC of the kernel's symbols, and the one before it the placeholder of functions.
-fn ksyms_of(work: &str, btf: &Btf) -> Option<KsymsIds> {
-    let last = last_id(btf);
-    (work == "rewrite_ksyms").then(|| KsymsIds {
-        datasec_id: last,
-        placeholder_id: Some(last.wrapping_sub(1)),
-    })
+/// What a kernel has, and whether its symbols are named.
+#[derive(Clone, Copy)]
+struct Kernel {
+    has_symbols: bool,
+    features: &'static [BtfFeature],
 }
 
-/// Rewrites a table, and counts in `asked` how often the predicate is called.
-fn rewrite(work: &str, program: &Program, btf: &mut Btf, asked: &mut u32) -> Result<(), BtfError> {
-    let ksyms = ksyms_of(work, btf);
-    let has_all = work == "rewrite_granted";
-    let has_sections = work == "rewrite_sections";
+static ALL: [BtfFeature; 8] = [
+    BtfFeature::Func,
+    BtfFeature::FuncGlobal,
+    BtfFeature::DataSec,
+    BtfFeature::DataSecZero,
+    BtfFeature::Float,
+    BtfFeature::DeclTag,
+    BtfFeature::TypeTag,
+    BtfFeature::Enum64,
+];
+
+static SOME: [BtfFeature; 3] = [
+    BtfFeature::Func,
+    BtfFeature::FuncGlobal,
+    BtfFeature::DataSec,
+];
+
+static SECTIONS_ALONE: [BtfFeature; 1] = [BtfFeature::DataSec];
+
+impl Kernel {
+    /// The kernel of a work.
+    fn of(work: &str) -> Kernel {
+        let features: &'static [BtfFeature] = match work {
+            "rewrite_granted" | "rewrite_bytes_granted" => &ALL,
+            "rewrite_linked" | "rewrite_bytes_linked" => &SOME,
+            "rewrite_sections" => &SECTIONS_ALONE,
+            _ => &[],
+        };
+        let has_symbols = matches!(
+            work,
+            "rewrite_ksyms" | "rewrite_linked" | "rewrite_bytes_ksyms" | "rewrite_bytes_linked"
+        );
+        Kernel {
+            has_symbols,
+            features,
+        }
+    }
+
+    fn has(&self, feature: BtfFeature) -> bool {
+        self.features.iter().any(|granted| *granted == feature)
+    }
+
+    /// The last type is the DATASEC of the kernel's symbols, and the one before it the placeholder of functions.
+    fn symbols(&self, last: u32) -> Option<KsymsIds> {
+        self.has_symbols.then(|| KsymsIds {
+            datasec_id: last,
+            placeholder_id: Some(last.wrapping_sub(1)),
+        })
+    }
+}
+
+/// What a rewrite asked of its predicate, and what the resolver remembers of it. There is room for all.
+#[derive(Drop)]
+struct Asked {
+    calls: Vec<BtfFeature>,
+    answers: Vec<FeatureAnswer>,
+    /// What the resolver says when it is asked again for the features that it remembers.
+    again: Vec<FeatureAnswer>,
+}
+
+impl Asked {
+    fn new(alloc: Global) -> Result<Self, AllocError> {
+        Ok(Asked {
+            calls: Vec::with_capacity(alloc, 16)?,
+            answers: Vec::with_capacity(alloc, 16)?,
+            again: Vec::with_capacity(alloc, 16)?,
+        })
+    }
+}
+
+/// Rewrites a table, and writes down what was asked.
+fn rewrite(
+    kernel: Kernel,
+    program: &Program,
+    btf: &mut Btf,
+    asked: &mut Asked,
+) -> Result<(), BtfError> {
+    let ksyms = kernel.symbols(last_id(btf));
+    let Asked {
+        calls,
+        answers,
+        again,
+    } = asked;
     let mut resolver = BtfFeatureResolver::new(|feature| {
-        *asked = asked.wrapping_add(1);
-        has_all || has_sections && feature == BtfFeature::DataSec
+        let _ = calls.push(feature);
+        kernel.has(feature)
     });
-    let answers = btf.fixup_and_sanitize_with(
+    let rewritten = btf.fixup_and_sanitize_with(
         &program.sections,
         &program.symbols,
         ksyms,
         FillPolicy::FillSized,
         &mut resolver,
     );
-    answers.map(|_| ())
+    answers.extend_from_slice(resolver.answers())?;
+    for answer in answers.iter() {
+        let granted = resolver.is_supported(answer.feature);
+        again.push(FeatureAnswer {
+            feature: answer.feature,
+            granted,
+        })?;
+    }
+    rewritten.map(|_| ())
 }
 
 /// Rewrites a table for a kernel that has none of the features.
 pub fn deny_all(alloc: Global, btf: &mut Btf) -> Result<(), Fail> {
     let program = known(alloc)?;
-    rewrite("rewrite", &program, btf, &mut 0)?;
+    rewrite(
+        Kernel::of("rewrite"),
+        &program,
+        btf,
+        &mut Asked::new(alloc)?,
+    )?;
     Ok(())
 }
 
 fn rewritten_twice(
-    work: &str,
+    kernel: Kernel,
     probe: &Probe,
     program: &Program,
     btf: &mut Btf,
     report: &mut Report,
 ) -> Result<(), Fail> {
-    let mut asked = 0;
+    let mut asked = Asked::new(probe.alloc)?;
+    let mut asked_again = Asked::new(probe.alloc)?;
     probe.begin_on(btf, report)?;
-    let first = rewrite(work, program, btf, &mut asked);
+    let first = rewrite(kernel, program, btf, &mut asked);
     if probe.end_on(&first, btf, report)? {
-        let mut asked = 0;
-        report.last(&rewrite(work, program, btf, &mut asked), btf)?;
-        report.value("asked again", &asked)?;
+        report.last(&rewrite(kernel, program, btf, &mut asked_again), btf)?;
+        report.value("asked again", &asked_again.calls)?;
     }
-    report.value("asked", &asked)
+    report.value("asked", &asked.calls)?;
+    report.value("remembered", &asked.answers)?;
+    report.value("told", &asked.again)
 }
 
 pub fn whole(work: &str, probe: &Probe, blob: &[u8], report: &mut Report) -> Result<(), Fail> {
+    let kernel = Kernel::of(work);
     let program = known(probe.alloc)?;
     let mut btf = Btf::parse(probe.alloc, blob, probe.order)?;
     if work == "rewrite_again" {
-        rewrite(work, &program, &mut btf, &mut 0)?;
+        rewrite(kernel, &program, &mut btf, &mut Asked::new(probe.alloc)?)?;
     }
-    rewritten_twice(work, probe, &program, &mut btf, report)
+    rewritten_twice(kernel, probe, &program, &mut btf, report)
 }
 
 /// The step of the kernel's symbols alone, with a placeholder of functions or without.
@@ -118,23 +212,36 @@ pub fn step(work: &str, probe: &Probe, blob: &[u8], report: &mut Report) -> Resu
     probe.twice_on(&mut btf, report, |btf| fixup(work, btf))
 }
 
-/// The bytes of the rewritten table.
-fn rewritten(probe: &Probe, program: &Program, blob: &[u8]) -> Result<Vec<u8>, BtfError> {
-    let mut resolver = BtfFeatureResolver::new(|_| false);
+/// The bytes of the rewritten table, whose last id is this one.
+fn rewritten(
+    kernel: Kernel,
+    probe: &Probe,
+    program: &Program,
+    blob: &[u8],
+    last: u32,
+) -> Result<Vec<u8>, BtfError> {
+    let mut resolver = BtfFeatureResolver::new(|feature| kernel.has(feature));
     let (bytes, _) = rewrite_bytes_with(
         probe.alloc,
         blob,
         probe.order,
         &program.sections,
         &program.symbols,
-        None,
+        kernel.symbols(last),
         FillPolicy::KeepSized,
         &mut resolver,
     )?;
     Ok(bytes)
 }
 
-pub fn bytes(probe: &Probe, blob: &[u8], report: &mut Report) -> Result<(), Fail> {
+pub fn bytes(work: &str, probe: &Probe, blob: &[u8], report: &mut Report) -> Result<(), Fail> {
+    let kernel = Kernel::of(work);
     let program = known(probe.alloc)?;
-    probe.twice(report, || rewritten(probe, &program, blob))
+    let btf = Btf::parse(probe.alloc, blob, probe.order)?;
+    let last = last_id(&btf);
+    probe.twice(
+        &btf,
+        report,
+        || rewritten(kernel, probe, &program, blob, last),
+    )
 }

@@ -25,9 +25,9 @@ pub fn made(work: &str, probe: &Probe, blob: &[u8], report: &mut Report) -> Resu
         deny_all(probe.alloc, &mut btf)?;
     }
     if work == "to_bytes" {
-        probe.twice(report, || btf.to_bytes())
+        probe.twice(&btf, report, || btf.to_bytes())
     } else {
-        probe.twice(report, || make(work, probe, blob, &btf))
+        probe.twice(&btf, report, || make(work, probe, blob, &btf))
     }
 }
 
@@ -49,11 +49,11 @@ pub fn named(work: &str, probe: &Probe, blob: &[u8], report: &mut Report) -> Res
     let btf = Btf::parse(probe.alloc, blob, probe.order)?;
     let last = btf.type_by_id(last_id(&btf))?;
     match work {
-        "string_at" => probe.twice(report, || btf.string_at(1)),
-        "type_name" => probe.twice(report, || btf.type_name(last)),
-        "err_type_name" => probe.twice(report, || btf.err_type_name(last)),
+        "string_at" => probe.twice(&btf, report, || btf.string_at(1)),
+        "type_name" => probe.twice(&btf, report, || btf.type_name(last)),
+        "err_type_name" => probe.twice(&btf, report, || btf.err_type_name(last)),
         // A name with U+FFFD is compared with the texts that bytes are read as.
-        _ => probe.twice(report, || {
+        _ => probe.twice(&btf, report, || {
             btf.id_by_type_name_kind("\u{fffd}A", BtfKind::Int)
         }),
     }
@@ -61,5 +61,5 @@ pub fn named(work: &str, probe: &Probe, blob: &[u8], report: &mut Report) -> Res
 
 /// Parses bytes that need not be those of a table.
 pub fn parsed(probe: &Probe, blob: &[u8], report: &mut Report) -> Result<(), Fail> {
-    probe.twice(report, || Btf::parse(probe.alloc, blob, probe.order))
+    probe.twice(&(), report, || Btf::parse(probe.alloc, blob, probe.order))
 }
