@@ -6,8 +6,8 @@
 //!
 //! `btf_bench FAMILY N [REPS] [--csv|--names]` does so for a table that an attacker could make, at the sizes N, 2 N and
 //! 4 N: a step that is not linear shows in the time of a unit. FAMILY is `collide`, `fan`, `rings`, `nest`, `flood`,
-//! `floodrings`, `longname`, `sections`, `collidedsections`, `keyedsections`, `entries`, `symbols` or `datasecs`; the
-//! module `hostile` says what these are.
+//! `floodrings`, `longname`, `listing`, `sections`, `collidedsections`, `keyedsections`, `entries`, `symbols` or
+//! `datasecs`; the module `hostile` says what these are.
 //!
 //! `btf_bench names N [REPS] [--csv|--names]` reads a name N times, for names of several lengths, each as the last of
 //! the string section and as another one.
@@ -16,6 +16,7 @@
 mod data_secs;
 mod flood;
 mod hostile;
+mod listing;
 mod names;
 mod sections;
 mod sketch;

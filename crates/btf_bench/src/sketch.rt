@@ -93,9 +93,13 @@ impl Sketch {
         Ok(offset)
     }
 
+    /// The bytes of the table.
+    pub fn bytes(&self) -> Result<Vec<u8>, Fail> {
+        blob(self.alloc, &self.types, &self.strings, Endianness::Little)
+    }
+
     /// The table.
     pub fn parsed(&self) -> Result<Btf, Fail> {
-        let bytes = blob(self.alloc, &self.types, &self.strings, Endianness::Little)?;
-        Ok(Btf::parse(self.alloc, &bytes, Endianness::Little)?)
+        Ok(Btf::parse(self.alloc, &self.bytes()?, Endianness::Little)?)
     }
 }
