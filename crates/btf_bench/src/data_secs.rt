@@ -1,39 +1,11 @@
-//! Tables whose DATASECs share long names, and what a rewrite is told of their sections and symbols.
+//! Tables whose DATASECs share long names, with the sections and symbols that a rewrite of them is given.
 
 use crate::sketch::Sketch;
-use btf_plain::SectionIndex;
+use btf_samples::layout::Layout;
 use std::alloc::{AllocError, Global};
-use std::collections::HashMap;
 use std::test::Fail;
 
-/// The sizes of sections and the offsets of symbols, by name.
-#[derive(Drop)]
-pub struct Layout {
-    pub sections: HashMap<String, (SectionIndex, u64)>,
-    pub symbols: HashMap<String, u64>,
-}
-
-impl Layout {
-    /// No section and no symbol.
-    pub fn new(alloc: Global) -> Self {
-        Layout {
-            sections: HashMap::new(alloc),
-            symbols: HashMap::new(alloc),
-        }
-    }
-
-    /// The section of this name has a size of 16, and the symbol of this name the offset 8.
-    fn with_name(alloc: Global, name: &str) -> Result<Self, AllocError> {
-        let mut layout = Layout::new(alloc);
-        layout
-            .sections
-            .insert(name.to_string(alloc)?, (SectionIndex(0), 16))?;
-        layout.symbols.insert(name.to_string(alloc)?, 8)?;
-        Ok(layout)
-    }
-}
-
-/// The text that so many bytes are read as, none of which is UTF-8.
+/// The text that `len` bytes are read as, none of which is UTF-8.
 fn replaced(alloc: Global, len: u32) -> Result<String, AllocError> {
     let mut text = String::new(alloc);
     for _ in 0..len {
@@ -42,7 +14,7 @@ fn replaced(alloc: Global, len: u32) -> Result<String, AllocError> {
     Ok(text)
 }
 
-/// One Static VAR of this name, and a DATASEC with so many entries of it.
+/// One Static VAR of this name, and a DATASEC with `size` entries of it.
 fn same_var(alloc: Global, sketch: &mut Sketch, name: u32, size: u32) -> Result<(), Fail> {
     let int = sketch.int()?;
     let var = sketch.var(name, int, 0)?;
@@ -54,7 +26,7 @@ fn same_var(alloc: Global, sketch: &mut Sketch, name: u32, size: u32) -> Result<
     Ok(())
 }
 
-/// So many Global VARs of this name, and a DATASEC with an entry of each.
+/// `size` Global VARs of this name, and a DATASEC with an entry of each.
 fn same_symbols(alloc: Global, sketch: &mut Sketch, name: u32, size: u32) -> Result<(), Fail> {
     let int = sketch.int()?;
     let mut vars = Vec::new(alloc);
@@ -65,7 +37,7 @@ fn same_symbols(alloc: Global, sketch: &mut Sketch, name: u32, size: u32) -> Res
     Ok(())
 }
 
-/// So many DATASECs of this name, each with one entry.
+/// `size` DATASECs of this name, each with one entry.
 fn same_sections(sketch: &mut Sketch, name: u32, size: u32) -> Result<(), Fail> {
     let int = sketch.int()?;
     let var = sketch.var(name, int, 1)?;
@@ -101,5 +73,6 @@ pub fn shared(
         Sharing::DataSecs => same_sections(sketch, name, size)?,
     }
     let text = replaced(alloc, len)?;
-    Ok(Layout::with_name(alloc, text.as_str())?)
+    let name = text.as_str();
+    Ok(Layout::of(alloc, &[(name, 16)], &[(name, 8)])?)
 }

@@ -1,8 +1,8 @@
 //! The works that are timed.
 
-use crate::data_secs::Layout;
 use crate::timing::Timing;
 use btf_plain::{BtfError, BtfKind, Endianness};
+use btf_samples::layout::Layout;
 use btf_types::{Btf, BtfFeatureResolver, FillPolicy, rewrite_bytes_with, types_are_compatible};
 use std::alloc::Global;
 use std::collections::HashMap;

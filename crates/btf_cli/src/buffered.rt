@@ -32,7 +32,7 @@ impl<'a, W: Write> Buffered<'a, W> {
     }
 
     /// Adds a text. The buffer is written out first where it has no room for the text, and a text that is longer than
-    /// the buffer goes to the writer at once.
+    /// the buffer goes straight to the writer.
     pub fn put(&mut self, text: &str) -> fmt::Result
         ensures taken { OnOk result (Takes W.contents self.old text.now self.new) }
         // Where there is room, the writer is not called, so nothing fails.

@@ -64,6 +64,20 @@ impl<T: Blank, const N: usize> ItemList<T, N> {
         Ok(ItemList::Few(count, items))
     }
 
+    /// These items. A few are copied into the list itself, and their vector is freed.
+    pub fn from_vec(items: Vec<T>) -> Self
+        ensures { items_of result ≡ items.items }
+    {
+        if items.len() > N {
+            return ItemList::Many(items);
+        }
+        let mut few: [T; N] = array::from_fn(|_| T::blank());
+        for index in 0..items.len() {
+            few[index] = items[index].copied();
+        }
+        ItemList::Few(items.len(), few)
+    }
+
     /// Equal items.
     pub fn try_clone(&self) -> Result<Self, AllocError>
         ensures { IfOk result (λ v. (flat_map T.item_words (items_of v)

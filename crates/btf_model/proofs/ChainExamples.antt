@@ -15,18 +15,18 @@ use Rattle.btf_model.specs.CompatExamples.{table_of, pair, itself, none_open}
 -- ---- steps
 
 -- a type that is no modifier resolves to itself
-no_modifier : (t : Table) (id : ℕ) (k : Kind) (r : Record) → IsAt t id k r → modified (Some k) r ≡ None → Resolves t.records id (Ok id)
+pub no_modifier : (t : Table) (id : ℕ) (k : Kind) (r : Record) → IsAt t id k r → modified (Some k) r ≡ None → Resolves t.records id (Ok id)
 no_modifier t id k r is plain = itself t id (ap (unmodified_in id) is.0 ∙ ap (λ (x : Option Kind). behind_modifier id (modified x r)) is.1 ∙ ap (behind_modifier id) plain)
 
 owed_itself : (t : Table) (id : ℕ) (k : Kind) (r : Record) → IsAt t id k r → modified (Some k) r ≡ None → ResolvesPair t t (pair id id) (Ok (pair id id))
 owed_itself t id k r is plain = (no_modifier t id k r is plain, no_modifier t id k r is plain)
 
 -- what it finds when it is compared with itself
-on_itself : (t : Table) (id : ℕ) (k : Kind) (r : Record) → IsAt t id k r → modified (Some k) r ≡ None → Finds t t (pair id id) (position_by id k r r)
+pub on_itself : (t : Table) (id : ℕ) (k : Kind) (r : Record) → IsAt t id k r → modified (Some k) r ≡ None → Finds t t (pair id id) (position_by id k r r)
 on_itself t id k r is plain = inr (pair id id, k, k, r, r, owed_itself t id k r is plain, is, is, inr (refl, refl))
 
 -- the start of that, where nothing is open, and where another type is compared with itself
-alone : (t : Table) (id : ℕ) (k : Kind) (r : Record) (answer : Result Bool Refusal) (starts : List Pair) → IsAt t id k r → Walked t t (pair id id ∷ []) walk_limit (pair id id) answer starts → Plain t t [] (pair id id) answer (pair id id ∷ starts)
+pub alone : (t : Table) (id : ℕ) (k : Kind) (r : Record) (answer : Result Bool Refusal) (starts : List Pair) → IsAt t id k r → Walked t t (pair id id ∷ []) walk_limit (pair id id) answer starts → Plain t t [] (pair id id) answer (pair id id ∷ starts)
 alone t id k r answer starts is walk = walked [] (pair id id) k k answer starts (none_open (pair id id)) (r, r, is, is) refl walk
 
 other_open : (above id : ℕ) → above ≢ id → ¬ (Contains (pair above above ∷ []) (pair id id))

@@ -19,6 +19,7 @@ pub mod MirroredFields
 pub mod MirroredPlain
 pub mod ChainExamples
 pub mod FieldsExamples
+pub mod ShiftedInts
 pub mod Sections
 pub mod Firsts
 pub mod Runs

@@ -1,9 +1,9 @@
 -- The laws of the definitions. Each is the contract of a public function of this crate.
-use Rattle.std.specs.Prelude.{All, Contains, ◌≤◌, ◌*◌, ◌^◌, ◌↔◌, ◌≡◌, ℕ, ◌<◌, Bool, List, [], ◌++◌, map, length, Option, Some, Result, Ok, Err, slice_get}
+use Rattle.std.specs.Prelude.{All, Contains, ◌≤◌, ◌*◌, ◌^◌, ◌↔◌, ◌≡◌, ◌≢◌, ℕ, ◌<◌, Bool, false, List, [], ◌∷◌, ◌++◌, map, length, Option, Some, Result, Ok, Err, slice_get}
 use Rattle.btf_model.specs.Word.{Order}
 use Rattle.std.specs.List.{flat_map, AllByRecursion, IsDistinct}
 use Rattle.std.specs.Str.{IsUtf8}
-use Rattle.btf_model.specs.Record.{Kind, Unknown, Fwd, Array, Var, Record, unknown}
+use Rattle.btf_model.specs.Record.{Kind, Unknown, Int, Fwd, Array, Var, Record, unknown}
 use Rattle.btf_model.specs.Spelling.{HasKind, IsRecord, spell}
 use Rattle.btf_model.specs.Refusal.{Refusal}
 use Rattle.btf_model.specs.Table.{Table, Fallback, strip, with_string, with_type}
@@ -11,7 +11,7 @@ use Rattle.btf_model.specs.Text.{text_at, FindsName}
 use Rattle.btf_model.specs.Walk.{Resolves, HasSize}
 use Rattle.btf_model.specs.Value.{Value}
 use Rattle.btf_model.specs.Words.{RelocationSection, Words}
-use Rattle.btf_model.specs.Fields.{Pair, HaveKinds, Fields}
+use Rattle.btf_model.specs.Fields.{Pair, HaveKinds, IsAt, int_offset, Fields}
 use Rattle.btf_model.specs.Compat.{Plain, pair_eq, firsts}
 use Rattle.btf_model.specs.Ext.{Section, Sections}
 use Rattle.btf_model.specs.Blob.{IsTable, IsRefusal, IsValid, canon, header_len, header_of, strings_end, type_section}
@@ -164,3 +164,19 @@ pub record ComparisonsAreSymmetric : Type 0 where
       → (above : List Pair) (p : Pair) (refusal : Refusal) (starts : List Pair)
       → Plain local target above p (Err refusal) starts
       → (f : Refusal) × (others : List Pair) × Plain target local (map exchanged above) (exchanged p) (Err f) others
+
+-- The type of the id is an INT that begins at another bit than 0.
+abbrev pub IsShifted : Table → ℕ → Type 0
+IsShifted t id = (r : Record) × IsAt t id Int r × (int_offset r ≢ 0)
+
+-- the pair of an id with itself
+abbrev pub with_itself : ℕ → Pair
+with_itself id = record { local = id; target = id }
+
+-- Neither comparison is reflexive: an INT that begins at another bit than 0 is not compatible with itself, and a table
+-- that can be written may have one.
+pub record ComparisonsAreNotReflexive : Type 0 where
+  pub fields : (t : Table) (id : ℕ) → IsShifted t id → Fields t id t id (Ok false)
+  pub types : (t : Table) (id : ℕ) → IsShifted t id
+      → Plain t t [] (with_itself id) (Ok false) (with_itself id ∷ [])
+  pub occurs : (t : Table) × (id : ℕ) × IsValid t × IsShifted t id

@@ -3,7 +3,7 @@
 //! The definitions lie in `specs/`. Each law is the contract of a function here that does nothing.
 #![tactic(auto)]
 
-ghost use Rattle.btf_model.specs.Laws.{NoSpellingBeginsAnother, BlobIsDetermined, WrittenParsesBack, ParsedWritesBack, AddedStringReadsBack, NameFindsOne, AddedTypeIsFound, WalksAreDetermined, ResolvingTwiceIsOnce, VariantValuesAreDetermined, RelocationWordsAreDetermined, SectionsAreDetermined, ComparisonsAreDetermined, ComparisonsHaveAnswers, ComparisonsAreSymmetric, StartsAreFew};
+ghost use Rattle.btf_model.specs.Laws.{NoSpellingBeginsAnother, BlobIsDetermined, WrittenParsesBack, ParsedWritesBack, AddedStringReadsBack, NameFindsOne, AddedTypeIsFound, WalksAreDetermined, ResolvingTwiceIsOnce, VariantValuesAreDetermined, RelocationWordsAreDetermined, SectionsAreDetermined, ComparisonsAreDetermined, ComparisonsHaveAnswers, ComparisonsAreSymmetric, ComparisonsAreNotReflexive, StartsAreFew};
 
 /// No record's spelling is a proper beginning of another's, and bytes spell one record: so a row of
 /// spellings is cut in one way.
@@ -83,6 +83,11 @@ pub fn comparisons_have_answers()
 /// refusal is a refusal from there too, perhaps another one.
 pub fn comparisons_are_symmetric()
     ensures { ComparisonsAreSymmetric }
+{}
+
+/// A type need not be compatible with itself, in either comparison: an INT that begins at another bit than 0 is not.
+pub fn comparisons_are_not_reflexive()
+    ensures { ComparisonsAreNotReflexive }
 {}
 
 /// The pairs that a comparison starts have known ids. Without repeats no pair is listed twice, so there are at most as

@@ -2,6 +2,7 @@
 #![tactic(auto)]
 
 pub mod blobs;
+pub mod layout;
 pub mod program;
 pub mod spelled;
 pub mod written;

@@ -288,8 +288,8 @@ static NAME_IN_PIECES: [u8; 48] = [
 
 #[test]
 fn names_are_read_piece_by_piece(rt: HostRuntime) -> Result<(), Fail> {
-    let told = "0 1 [INT] a\u{fffd}b\u{fffd}\u{fffd}\n";
-    assert!(rt; comes_to(rt.alloc(), "little types", &NAME_IN_PIECES, told)?);
+    let wanted = "0 1 [INT] a\u{fffd}b\u{fffd}\u{fffd}\n";
+    assert!(rt; comes_to(rt.alloc(), "little types", &NAME_IN_PIECES, wanted)?);
     Ok(())
 }
 

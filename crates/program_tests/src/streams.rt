@@ -7,7 +7,7 @@ use std::io;
 use std::io::{ErrorKind, Read, Write};
 use std::test::Fail;
 
-/// A reader that moves at most so many bytes at a call, and fails once, after so many calls.
+/// A reader that moves at most `at_once` bytes a call, and fails once, after `before` calls.
 #[derive(Drop)]
 struct Slow<'a> {
     rest: &'a [u8],
@@ -168,7 +168,7 @@ fn begins(alloc: Global, taken: &[u8], wanted: &str) -> Result<bool, Fail> {
     Ok(wanted.starts_with(&*text))
 }
 
-/// How many calls of a writer that takes so many bytes at once fail in turn, each with the fault's text, until one run
+/// How many calls of a writer that takes `at_once` bytes a call fail in turn, each with the fault's text, until one run
 /// ends well; none where another comes out, or the writer took something else than a beginning of the output.
 fn failing_writes(
     alloc: Global,

@@ -79,8 +79,8 @@ fn done_on(
     }
 }
 
-/// A `.BTF.ext` section with one record of so many bytes, of functions, lines or relocations, in a section whose name
-/// is at offset 1.
+/// A `.BTF.ext` section with one record of `rec_size` bytes, of functions, lines or relocations, in a section whose
+/// name is at offset 1.
 fn one_record(probe: &Probe, part: &str, rec_size: u32, least: u32) -> Result<Vec<u8>, Fail> {
     let len = least.wrapping_add(12);
     let (func, line, core) = match part {

@@ -3,47 +3,21 @@
 use crate::probe::Probe;
 use crate::report::Report;
 use crate::tables::last_id;
-use btf_plain::{BtfError, SectionIndex};
+use btf_plain::BtfError;
+use btf_samples::layout::Layout;
 use btf_types::{
     Btf, BtfFeature, BtfFeatureResolver, FeatureAnswer, FillPolicy, KsymsIds, rewrite_bytes_with,
 };
 use std::alloc::{AllocError, Global};
-use std::collections::HashMap;
 use std::test::Fail;
 
 static SECTIONS: [(&str, u64); 4] = [(".a", 0), (".b", 5), (".data/foo", 32), ("license", 4)];
 
 static SYMBOLS: [(&str, u64); 2] = [("foo", 64), ("_license", 0)];
 
-/// The sizes of sections and the offsets of symbols, by name.
-#[derive(Drop)]
-struct Program {
-    sections: HashMap<String, (SectionIndex, u64)>,
-    symbols: HashMap<String, u64>,
-}
-
-fn sections(alloc: Global) -> Result<HashMap<String, (SectionIndex, u64)>, AllocError> {
-    let mut sections = HashMap::new(alloc);
-    for (name, size) in &SECTIONS {
-        sections.insert(String::from_str(alloc, name)?, (SectionIndex(0), *size))?;
-    }
-    Ok(sections)
-}
-
-fn symbols(alloc: Global) -> Result<HashMap<String, u64>, AllocError> {
-    let mut symbols = HashMap::new(alloc);
-    for (name, offset) in &SYMBOLS {
-        symbols.insert(String::from_str(alloc, name)?, *offset)?;
-    }
-    Ok(symbols)
-}
-
-fn known(alloc: Global) -> Result<Program, AllocError> {
-    let sections = sections(alloc)?;
-    Ok(Program {
-        sections,
-        symbols: symbols(alloc)?,
-    })
+/// The sections and symbols of the program.
+fn known(alloc: Global) -> Result<Layout, AllocError> {
+    Layout::of(alloc, &SECTIONS, &SYMBOLS)
 }
 
 /// What a kernel has, and whether its symbols are named.
@@ -126,7 +100,7 @@ impl Asked {
 /// Rewrites a table, and writes down what was asked.
 fn rewrite(
     kernel: Kernel,
-    program: &Program,
+    program: &Layout,
     btf: &mut Btf,
     asked: &mut Asked,
 ) -> Result<(), BtfError> {
@@ -173,7 +147,7 @@ pub fn deny_all(alloc: Global, btf: &mut Btf) -> Result<(), Fail> {
 fn rewritten_twice(
     kernel: Kernel,
     probe: &Probe,
-    program: &Program,
+    program: &Layout,
     btf: &mut Btf,
     report: &mut Report,
 ) -> Result<(), Fail> {
@@ -187,7 +161,7 @@ fn rewritten_twice(
     }
     report.value("asked", &asked.calls)?;
     report.value("remembered", &asked.answers)?;
-    report.value("told", &asked.again)
+    report.value("remembered again", &asked.again)
 }
 
 pub fn whole(work: &str, probe: &Probe, blob: &[u8], report: &mut Report) -> Result<(), Fail> {
@@ -216,7 +190,7 @@ pub fn step(work: &str, probe: &Probe, blob: &[u8], report: &mut Report) -> Resu
 fn rewritten(
     kernel: Kernel,
     probe: &Probe,
-    program: &Program,
+    program: &Layout,
     blob: &[u8],
     last: u32,
 ) -> Result<Vec<u8>, BtfError> {

@@ -63,7 +63,7 @@ impl DataSec {
             name_offset,
             info,
             size,
-            entries: ItemList::Many(entries),
+            entries: ItemList::from_vec(entries),
         }
     }
 

@@ -65,7 +65,7 @@ impl Enum {
             name_offset,
             info,
             size: 4,
-            variants: ItemList::Many(variants),
+            variants: ItemList::from_vec(variants),
         }
     }
 

@@ -65,7 +65,7 @@ impl Enum64 {
             name_offset,
             info,
             size: 8,
-            variants: ItemList::Many(variants),
+            variants: ItemList::from_vec(variants),
         }
     }
 

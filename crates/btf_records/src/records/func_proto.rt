@@ -63,7 +63,7 @@ impl FuncProto {
             name_offset: 0,
             info,
             return_type,
-            params: ItemList::Many(params),
+            params: ItemList::from_vec(params),
         }
     }
 

@@ -62,7 +62,7 @@ impl Struct {
             name_offset,
             info,
             size,
-            members: ItemList::Many(members),
+            members: ItemList::from_vec(members),
         }
     }
 

@@ -49,7 +49,7 @@ impl Members {
     {
         match fallback {
             Some(fallback) => Members::InsteadOf(fallback, members),
-            None => Members::Alone(ItemList::Many(members)),
+            None => Members::Alone(ItemList::from_vec(members)),
         }
     }
 

@@ -32,7 +32,7 @@ ghost use Rattle.btf_table.specs.SectionStep.{HasNewName, final_size, is_fillabl
 use crate::sanitize::data_sec::entries::{members, placed_entries};
 use crate::sanitize::data_sec::name::new_name;
 use crate::sanitize::made::Made;
-use crate::sanitize::read_names::ReadNames;
+use crate::sanitize::read_names::{LONG_NAME, ReadNames};
 use crate::table::{Btf, record_fits};
 use btf_plain::{BtfError, SectionIndex};
 use btf_records::{BtfType, DataSec, DataSecEntry, Struct};
@@ -99,7 +99,7 @@ fn with_symbol_offsets(
 }
 
 /// The size that a DATASEC has in the end: its own, or that of its section, by its name, where it has none. The size of a
-/// section is remembered in `sizes`, so each name is read once.
+/// section with a long name is remembered in `sizes`, so that such a name is read once.
 ///
 /// Of one of size 0: `InvalidStringOffset` where the name can't be read; `UnknownSectionSize` of the name where the
 /// size isn't known or has more than 32 bits.
@@ -130,7 +130,9 @@ fn final_size(
     }
     let name = btf.string_at(name_offset)?;
     let size = section_size(btf.allocator(), sections, name.as_str())?;
-    sizes.insert(name_offset, size)?;
+    if name.as_str().len() > LONG_NAME {
+        sizes.insert(name_offset, size)?;
+    }
     Ok(size)
 }
 

@@ -6,8 +6,11 @@ ghost use Rattle.btf_table.specs.ReadNames.{AreRead};
 use crate::table::Btf;
 use std::collections::BTreeMap;
 
-/// The names that a pass has read, and what it has found under them, by their string offsets. Each is read once, however
-/// many records share it.
+/// The length in bytes above which a name is remembered. A shorter one is read again in less time.
+pub const LONG_NAME: usize = 64;
+
+/// The long names that a pass has read, and what it has found under them, by their string offsets. Each is read once,
+/// however many records share it.
 #[derive(Drop)]
 pub struct ReadNames {
     /// Names can be read at the offsets below this one.

@@ -1,8 +1,9 @@
 //! Rewrites from bytes to bytes.
 
-use crate::rewrite::kernel::{Program, are_answers, known, unknown};
+use crate::rewrite::kernel::{are_answers, known};
 use btf_plain::{BtfError, Endianness};
 use btf_samples::blobs::table_bytes;
+use btf_samples::layout::Layout;
 use btf_samples::program::{STRINGS, TYPE_LEN, program};
 use btf_samples::spelled::ORDERS;
 use btf_types::{BtfFeature, BtfFeatureResolver, FeatureAnswer, KsymsIds, rewrite_bytes};
@@ -23,7 +24,7 @@ static ALL: [(BtfFeature, bool); 3] = [
 /// Bytes rewritten for a kernel that has all features, and whether the answers are `ALL`.
 fn granted_all(
     alloc: Global,
-    program: &Program,
+    program: &Layout,
     data: &[u8],
     order: Endianness,
     ksyms: Option<KsymsIds>,
@@ -45,7 +46,7 @@ fn granted_all(
 /// Whether bytes are rewritten as these for a kernel that has all features.
 fn are_made(
     alloc: Global,
-    program: &Program,
+    program: &Layout,
     data: &[u8],
     order: Endianness,
     ksyms: Option<KsymsIds>,
@@ -65,19 +66,19 @@ fn sized_program(alloc: Global) -> Result<Vec<u8>, Fail> {
 }
 
 /// Whether bytes are rewritten as the program's with its size.
-fn are_sized(alloc: Global, known: &Program, data: &[u8]) -> Result<bool, Fail> {
+fn are_sized(alloc: Global, known: &Layout, data: &[u8]) -> Result<bool, Fail> {
     let wanted = sized_program(alloc)?;
     are_made(alloc, known, data, Endianness::Little, None, &wanted)
 }
 
 /// Whether the program's bytes are.
-fn program_is_sized(alloc: Global, known: &Program) -> Result<bool, Fail> {
+fn program_is_sized(alloc: Global, known: &Layout) -> Result<bool, Fail> {
     let read = program(alloc, Endianness::Little, TYPE_LEN)?;
     are_sized(alloc, known, &read)
 }
 
 /// Whether the program's bytes with the size are, for which there is nothing left to do.
-fn sized_program_stays(alloc: Global, known: &Program) -> Result<bool, Fail> {
+fn sized_program_stays(alloc: Global, known: &Layout) -> Result<bool, Fail> {
     let read = sized_program(alloc)?;
     are_sized(alloc, known, &read)
 }
@@ -110,7 +111,7 @@ const PLAIN_RECORDS: &str = "
 static NONE: [(BtfFeature, bool); 2] = [(BtfFeature::Func, false), (BtfFeature::DataSec, false)];
 
 /// Bytes rewritten for a kernel that has no feature, and whether the answers are `NONE`.
-fn denied_all(alloc: Global, program: &Program, data: &[u8]) -> Result<(Vec<u8>, bool), Fail> {
+fn denied_all(alloc: Global, program: &Layout, data: &[u8]) -> Result<(Vec<u8>, bool), Fail> {
     let mut resolver = BtfFeatureResolver::new(|_| false);
     let (written, answers) = rewrite_bytes(
         alloc,
@@ -128,7 +129,7 @@ fn denied_all(alloc: Global, program: &Program, data: &[u8]) -> Result<(Vec<u8>,
 /// Whether bytes are rewritten as these for a kernel that has no feature.
 fn are_made_plain(
     alloc: Global,
-    program: &Program,
+    program: &Layout,
     data: &[u8],
     wanted: &[u8],
 ) -> Result<bool, Fail> {
@@ -137,20 +138,20 @@ fn are_made_plain(
 }
 
 /// Whether these bytes are rewritten as those of `PLAIN_RECORDS`, 517 too.
-fn are_plain(alloc: Global, program: &Program, data: &[u8]) -> Result<bool, Fail> {
+fn are_plain(alloc: Global, program: &Layout, data: &[u8]) -> Result<bool, Fail> {
     let wanted = table_bytes(alloc, PLAIN_RECORDS, STRINGS, Endianness::Little)?;
     Ok(wanted.len() == 517 && are_made_plain(alloc, program, data, &wanted)?)
 }
 
 /// Whether the program's bytes are.
-fn program_is_plain(alloc: Global, unknown: &Program) -> Result<bool, Fail> {
+fn program_is_plain(alloc: Global, unknown: &Layout) -> Result<bool, Fail> {
     let read = program(alloc, Endianness::Little, TYPE_LEN)?;
     are_plain(alloc, unknown, &read)
 }
 
 #[test]
 fn program_is_rewritten_for_an_old_kernel(rt: HostRuntime) -> Result<(), Fail> {
-    let unknown = unknown(rt.alloc());
+    let unknown = Layout::new(rt.alloc());
     assert!(rt; program_is_plain(rt.alloc(), &unknown)?);
     Ok(())
 }
@@ -173,20 +174,20 @@ const IDS: KsymsIds = KsymsIds {
 };
 
 /// Whether bytes are rewritten as the new words in an order.
-fn are_new(alloc: Global, unknown: &Program, data: &[u8], order: Endianness) -> Result<bool, Fail> {
+fn are_new(alloc: Global, unknown: &Layout, data: &[u8], order: Endianness) -> Result<bool, Fail> {
     let wanted = table_bytes(alloc, NEW_SYMBOL, SYMBOL_STRINGS, order)?;
     are_made(alloc, unknown, data, order, Some(IDS), &wanted)
 }
 
 /// Whether the old words in an order are.
-fn is_symbol_new(alloc: Global, unknown: &Program, order: Endianness) -> Result<bool, Fail> {
+fn is_symbol_new(alloc: Global, unknown: &Layout, order: Endianness) -> Result<bool, Fail> {
     let read = table_bytes(alloc, SYMBOL, SYMBOL_STRINGS, order)?;
     are_new(alloc, unknown, &read, order)
 }
 
 #[test]
 fn symbols_are_rewritten_in_the_order_of_the_bytes(rt: HostRuntime) -> Result<(), Fail> {
-    let unknown = unknown(rt.alloc());
+    let unknown = Layout::new(rt.alloc());
     for &order in &ORDERS {
         assert!(rt; is_symbol_new(rt.alloc(), &unknown, order)?);
     }
@@ -206,7 +207,7 @@ fn is_refusal(error: &BtfError, answers: &[FeatureAnswer], is_table: bool) -> bo
 }
 
 /// Whether bytes are refused so.
-fn are_refused(alloc: Global, program: &Program, data: &[u8], is_table: bool) -> bool {
+fn are_refused(alloc: Global, program: &Layout, data: &[u8], is_table: bool) -> bool {
     let mut resolver = BtfFeatureResolver::new(|_| true);
     match &rewrite_bytes(
         alloc,
@@ -223,20 +224,20 @@ fn are_refused(alloc: Global, program: &Program, data: &[u8], is_table: bool) ->
 }
 
 /// Whether bytes are refused, and the first 23 of them.
-fn are_refused_and_cut(alloc: Global, program: &Program, data: &[u8]) -> Result<bool, Fail> {
+fn are_refused_and_cut(alloc: Global, program: &Layout, data: &[u8]) -> Result<bool, Fail> {
     let cut = data.get(..23).ok_or("cut")?;
     Ok(are_refused(alloc, program, cut, false) && are_refused(alloc, program, data, true))
 }
 
 /// Whether a table with a section of no known size is refused, and its beginning.
-fn section_is_refused(alloc: Global, unknown: &Program) -> Result<bool, Fail> {
+fn section_is_refused(alloc: Global, unknown: &Layout) -> Result<bool, Fail> {
     let bytes = table_bytes(alloc, "1 f000000 0", "\0.x\0", Endianness::Little)?;
     are_refused_and_cut(alloc, unknown, &bytes)
 }
 
 #[test]
 fn refused_bytes_are_reported(rt: HostRuntime) -> Result<(), Fail> {
-    let unknown = unknown(rt.alloc());
+    let unknown = Layout::new(rt.alloc());
     assert!(rt; section_is_refused(rt.alloc(), &unknown)?);
     Ok(())
 }

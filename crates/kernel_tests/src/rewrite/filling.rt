@@ -1,8 +1,9 @@
 //! DATASECs that have a size and no entries, under both policies.
 
-use crate::rewrite::kernel::{Case, Program, are_answers, is_new, new_bytes, unknown};
+use crate::rewrite::kernel::{Case, are_answers, is_new, new_bytes};
 use btf_plain::{Endianness, SectionIndex};
 use btf_samples::blobs::{table_bytes, table_of};
+use btf_samples::layout::Layout;
 use btf_types::{Btf, BtfFeature, BtfFeatureResolver, FillPolicy, rewrite_bytes_with};
 use std::alloc::{AllocError, Global};
 use std::collections::HashMap;
@@ -74,15 +75,15 @@ static BESIDE: Case = Case {
 };
 
 /// The section of the second DATASEC, of size 0.
-fn empty_section(alloc: Global) -> Result<Program, AllocError> {
-    let mut program = unknown(alloc);
+fn empty_section(alloc: Global) -> Result<Layout, AllocError> {
+    let mut program = Layout::new(alloc);
     let name = String::from_str(alloc, ".b")?;
     program.sections.insert(name, (SectionIndex(0), 0))?;
     Ok(program)
 }
 
 /// Whether the rewrite of a case's table under a policy asks for what the case says.
-fn asks(program: &Program, table: &mut Btf, policy: FillPolicy, case: &Case) -> Result<bool, Fail> {
+fn asks(program: &Layout, table: &mut Btf, policy: FillPolicy, case: &Case) -> Result<bool, Fail> {
     let granted = case.granted;
     let mut resolver = BtfFeatureResolver::new(|feature| granted.contains(&feature));
     let answers = table.fixup_and_sanitize_with(
@@ -98,7 +99,7 @@ fn asks(program: &Program, table: &mut Btf, policy: FillPolicy, case: &Case) -> 
 /// Whether the rewrite of a case's table under a policy asks for and makes what the case says.
 fn is_filled(
     alloc: Global,
-    program: &Program,
+    program: &Layout,
     policy: FillPolicy,
     case: &Case,
 ) -> Result<bool, Fail> {
@@ -109,7 +110,7 @@ fn is_filled(
 /// The bytes that a case's bytes are rewritten as under a policy, and whether the answers are the case's.
 fn rewritten(
     alloc: Global,
-    program: &Program,
+    program: &Layout,
     policy: FillPolicy,
     case: &Case,
     data: &[u8],
@@ -137,7 +138,7 @@ fn are_equal(bytes: &[u8], wanted: &[u8]) -> bool {
 /// Whether a case's bytes are rewritten under a policy as the case says.
 fn are_filled(
     alloc: Global,
-    program: &Program,
+    program: &Layout,
     policy: FillPolicy,
     case: &Case,
     data: &[u8],
@@ -149,7 +150,7 @@ fn are_filled(
 /// The same of the bytes that its words make.
 fn bytes_are_filled(
     alloc: Global,
-    program: &Program,
+    program: &Layout,
     policy: FillPolicy,
     case: &Case,
 ) -> Result<bool, Fail> {
@@ -159,7 +160,7 @@ fn bytes_are_filled(
 
 #[test]
 fn sized_sections_are_filled(rt: HostRuntime) -> Result<(), Fail> {
-    let program = unknown(rt.alloc());
+    let program = Layout::new(rt.alloc());
     for case in &FILLED {
         let filled = is_filled(rt.alloc(), &program, FillPolicy::FillSized, case)?;
         assert!(rt; filled, "{}", case.new_words);
@@ -169,7 +170,7 @@ fn sized_sections_are_filled(rt: HostRuntime) -> Result<(), Fail> {
 
 #[test]
 fn bytes_of_sized_sections_are_filled(rt: HostRuntime) -> Result<(), Fail> {
-    let program = unknown(rt.alloc());
+    let program = Layout::new(rt.alloc());
     for case in &FILLED {
         let filled = bytes_are_filled(rt.alloc(), &program, FillPolicy::FillSized, case)?;
         assert!(rt; filled, "{}", case.new_words);
@@ -187,7 +188,7 @@ fn both_sections_get_one_filler(rt: HostRuntime) -> Result<(), Fail> {
 
 #[test]
 fn sized_sections_are_kept_by_default(rt: HostRuntime) -> Result<(), Fail> {
-    let program = unknown(rt.alloc());
+    let program = Layout::new(rt.alloc());
     assert!(rt; is_filled(rt.alloc(), &program, FillPolicy::default(), &KEPT)?);
     assert!(rt; bytes_are_filled(rt.alloc(), &program, FillPolicy::KeepSized, &KEPT)?);
     Ok(())

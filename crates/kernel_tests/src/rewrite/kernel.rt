@@ -1,11 +1,11 @@
 //! What the tests of rewrites share: what a kernel has, and what a rewrite for it makes.
 
-use btf_plain::{Endianness, SectionIndex};
+use btf_plain::Endianness;
 use btf_samples::blobs::{table_bytes, table_of};
+use btf_samples::layout::Layout;
 use btf_samples::written::has_table_bytes;
 use btf_types::{Btf, BtfFeature, BtfFeatureResolver, FeatureAnswer, KsymsIds};
 use std::alloc::{AllocError, Global};
-use std::collections::HashMap;
 use std::test::Fail;
 
 /// The sizes of all sections that the tests know.
@@ -22,44 +22,9 @@ static SECTIONS: [(&str, u64); 7] = [
 /// The offsets of all symbols that the tests know.
 static SYMBOLS: [(&str, u64); 3] = [("foo", 64), ("wide", 0x1_0000_0000), ("_license", 0)];
 
-/// What a rewrite takes besides the table: the sizes of sections and the offsets of symbols, by name.
-#[derive(Drop)]
-pub struct Program {
-    pub sections: HashMap<String, (SectionIndex, u64)>,
-    pub symbols: HashMap<String, u64>,
-}
-
-fn sections(alloc: Global) -> Result<HashMap<String, (SectionIndex, u64)>, AllocError> {
-    let mut sections = HashMap::new(alloc);
-    for (name, size) in &SECTIONS {
-        sections.insert(String::from_str(alloc, name)?, (SectionIndex(0), *size))?;
-    }
-    Ok(sections)
-}
-
-fn symbols(alloc: Global) -> Result<HashMap<String, u64>, AllocError> {
-    let mut symbols = HashMap::new(alloc);
-    for (name, offset) in &SYMBOLS {
-        symbols.insert(String::from_str(alloc, name)?, *offset)?;
-    }
-    Ok(symbols)
-}
-
 /// All sections and symbols that the tests know.
-pub fn known(alloc: Global) -> Result<Program, AllocError> {
-    let sections = sections(alloc)?;
-    Ok(Program {
-        sections,
-        symbols: symbols(alloc)?,
-    })
-}
-
-/// No sections or symbols.
-pub fn unknown(alloc: Global) -> Program {
-    Program {
-        sections: HashMap::new(alloc),
-        symbols: HashMap::new(alloc),
-    }
+pub fn known(alloc: Global) -> Result<Layout, AllocError> {
+    Layout::of(alloc, &SECTIONS, &SYMBOLS)
 }
 
 /// A table, what a kernel has, and what a rewrite for that kernel makes of the table.
@@ -110,7 +75,7 @@ pub fn are_answers(answers: &[FeatureAnswer], wanted: &[(BtfFeature, bool)]) -> 
 
 /// Whether a rewrite of a case's table returns the answers that the case says, and its resolver keeps them.
 fn asks(
-    program: &Program,
+    program: &Layout,
     table: &mut Btf,
     ksyms: Option<KsymsIds>,
     case: &Case,
@@ -130,7 +95,7 @@ fn asks(
 /// Whether the rewrite of a case's table asks for and makes what the case says.
 fn makes(
     alloc: Global,
-    program: &Program,
+    program: &Layout,
     table: &mut Btf,
     ksyms: Option<KsymsIds>,
     case: &Case,
@@ -140,7 +105,7 @@ fn makes(
 
 fn is_rewritten_under(
     alloc: Global,
-    program: &Program,
+    program: &Layout,
     ksyms: Option<KsymsIds>,
     case: &Case,
 ) -> Result<bool, Fail> {

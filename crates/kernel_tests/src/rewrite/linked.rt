@@ -1,9 +1,10 @@
 //! Rewrites of types that look at others: functions, sections, ENUM64, and the kernel's symbols.
 
-use crate::rewrite::kernel::{Case, Program, is_new, is_rewritten, new_bytes, unknown};
+use crate::rewrite::kernel::{Case, is_new, is_rewritten, new_bytes};
 use btf_plain::Endianness;
 use btf_records::{BtfType, Enum64Fallback};
 use btf_samples::blobs::{parsed_blob, table_of};
+use btf_samples::layout::Layout;
 use btf_types::{Btf, BtfFeature, BtfFeatureResolver, KsymsIds};
 use std::alloc::Global;
 use std::test::Fail;
@@ -296,14 +297,14 @@ fn first_values_held(table: &Btf) -> Result<Option<bool>, Fail> {
 }
 
 /// Rewrites a table for a kernel that has no feature, and returns the number of features that were asked for.
-fn rewrite_for_none(program: &Program, table: &mut Btf) -> Result<usize, Fail> {
+fn rewrite_for_none(program: &Layout, table: &mut Btf) -> Result<usize, Fail> {
     let mut resolver = BtfFeatureResolver::new(|_| false);
     table.fixup_and_sanitize(&program.sections, &program.symbols, None, &mut resolver)?;
     Ok(resolver.answers().len())
 }
 
 /// Whether a rewrite of a table asks for so many features, and the values are held after it.
-fn holds_values(program: &Program, table: &mut Btf, asked: usize) -> Result<bool, Fail> {
+fn holds_values(program: &Layout, table: &mut Btf, asked: usize) -> Result<bool, Fail> {
     Ok(rewrite_for_none(program, table)? == asked && first_values_held(table)? == Some(true))
 }
 
@@ -320,7 +321,7 @@ fn loses_values(alloc: Global, table: &Btf) -> Result<bool, Fail> {
 }
 
 /// Whether a table holds the values once it is rewritten, and once it is rewritten again, which asks for nothing.
-fn keeps_values(alloc: Global, program: &Program, table: &mut Btf) -> Result<bool, Fail> {
+fn keeps_values(alloc: Global, program: &Layout, table: &mut Btf) -> Result<bool, Fail> {
     Ok(
         holds_values(program, table, 1)?
             && holds_values(program, table, 0)?
@@ -330,14 +331,14 @@ fn keeps_values(alloc: Global, program: &Program, table: &mut Btf) -> Result<boo
 }
 
 /// Whether the table of `WIDE_ENUM` does.
-fn wide_enum_keeps_values(alloc: Global, program: &Program) -> Result<bool, Fail> {
+fn wide_enum_keeps_values(alloc: Global, program: &Layout) -> Result<bool, Fail> {
     let mut table = table_of(alloc, WIDE_ENUM.words, WIDE_ENUM.strings)?;
     keeps_values(alloc, program, &mut table)
 }
 
 #[test]
 fn values_of_wide_enums_are_held(rt: HostRuntime) -> Result<(), Fail> {
-    let program = unknown(rt.alloc());
+    let program = Layout::new(rt.alloc());
     assert!(rt; wide_enum_keeps_values(rt.alloc(), &program)?);
     Ok(())
 }

@@ -1,7 +1,8 @@
 //! What a resolver asks of its predicate, in rewrites and alone.
 
-use crate::rewrite::kernel::{Program, are_answers, unknown};
+use crate::rewrite::kernel::are_answers;
 use btf_samples::blobs::table_of;
+use btf_samples::layout::Layout;
 use btf_samples::written::is_table;
 use btf_types::{Btf, BtfFeature, BtfFeatureResolver, FeatureAnswer};
 use std::alloc::Global;
@@ -41,7 +42,7 @@ fn a_new_answer_is_no(rt: HostRuntime) {
 const FLOATS: &str = "0 10000000 4  0 10000000 8";
 
 /// Whether a rewrite under a predicate that says yes once and no from then on asks once.
-fn asks_first(program: &Program, table: &mut Btf) -> Result<bool, Fail> {
+fn asks_first(program: &Layout, table: &mut Btf) -> Result<bool, Fail> {
     let mut is_first = true;
     let mut resolver = BtfFeatureResolver::new(move |_| mem::replace(&mut is_first, false));
     let answers = table.fixup_and_sanitize(
@@ -54,18 +55,18 @@ fn asks_first(program: &Program, table: &mut Btf) -> Result<bool, Fail> {
 }
 
 /// Whether it does, and leaves a table of FLOATs.
-fn keeps_floats(alloc: Global, program: &Program, table: &mut Btf) -> Result<bool, Fail> {
+fn keeps_floats(alloc: Global, program: &Layout, table: &mut Btf) -> Result<bool, Fail> {
     Ok(asks_first(program, table)? && is_table(alloc, table, FLOATS, "\0")?)
 }
 
-fn first_answer_holds(alloc: Global, program: &Program) -> Result<bool, Fail> {
+fn first_answer_holds(alloc: Global, program: &Layout) -> Result<bool, Fail> {
     let mut table = table_of(alloc, FLOATS, "\0")?;
     keeps_floats(alloc, program, &mut table)
 }
 
 #[test]
 fn the_first_answer_holds(rt: HostRuntime) -> Result<(), Fail> {
-    let program = unknown(rt.alloc());
+    let program = Layout::new(rt.alloc());
     assert!(rt; first_answer_holds(rt.alloc(), &program)?);
     Ok(())
 }
@@ -77,7 +78,7 @@ const TAGS: &str = "0 10000000 4  0 12000000 1  0 10000000 8  0 11000000 1 fffff
 const NEW_TAGS: &str = "0 10000000 4  0 a000000 1  0 10000000 8  0 11000000 1 ffffffff";
 
 /// Whether a rewrite under a predicate that says yes at its first and third call makes three.
-fn asks_three_times(program: &Program, table: &mut Btf) -> Result<bool, Fail> {
+fn asks_three_times(program: &Layout, table: &mut Btf) -> Result<bool, Fail> {
     let mut calls = 0u32;
     let mut resolver = BtfFeatureResolver::new(|_| {
         calls = calls.wrapping_add(1);
@@ -98,18 +99,18 @@ fn asks_three_times(program: &Program, table: &mut Btf) -> Result<bool, Fail> {
 }
 
 /// Whether it does, and rewrites the table of tags.
-fn rewrites_tags(alloc: Global, program: &Program, table: &mut Btf) -> Result<bool, Fail> {
+fn rewrites_tags(alloc: Global, program: &Layout, table: &mut Btf) -> Result<bool, Fail> {
     Ok(asks_three_times(program, table)? && is_table(alloc, table, NEW_TAGS, "\0")?)
 }
 
-fn each_feature_is_asked_once(alloc: Global, program: &Program) -> Result<bool, Fail> {
+fn each_feature_is_asked_once(alloc: Global, program: &Layout) -> Result<bool, Fail> {
     let mut table = table_of(alloc, TAGS, "\0")?;
     rewrites_tags(alloc, program, &mut table)
 }
 
 #[test]
 fn the_predicate_is_called_once_for_a_feature(rt: HostRuntime) -> Result<(), Fail> {
-    let program = unknown(rt.alloc());
+    let program = Layout::new(rt.alloc());
     assert!(rt; each_feature_is_asked_once(rt.alloc(), &program)?);
     Ok(())
 }

@@ -1,8 +1,9 @@
 //! Rewrites that are refused.
 
-use crate::rewrite::kernel::{Program, are_answers, known};
+use crate::rewrite::kernel::{are_answers, known};
 use btf_plain::BtfError;
 use btf_samples::blobs::table_of;
+use btf_samples::layout::Layout;
 use btf_samples::written::is_table;
 use btf_types::{Btf, BtfFeature, BtfFeatureResolver, FeatureAnswer, KsymsIds};
 use std::alloc::Global;
@@ -153,7 +154,7 @@ fn is_refusal(
 }
 
 /// Whether the rewrite of a case's table is refused as the case says.
-fn refuses(alloc: Global, program: &Program, table: &mut Btf, case: &Case) -> Result<bool, Fail> {
+fn refuses(alloc: Global, program: &Layout, table: &mut Btf, case: &Case) -> Result<bool, Fail> {
     let granted = case.granted;
     let mut resolver = BtfFeatureResolver::new(|feature| granted.contains(&feature));
     match &table.fixup_and_sanitize(
@@ -170,14 +171,14 @@ fn refuses(alloc: Global, program: &Program, table: &mut Btf, case: &Case) -> Re
 /// Whether it is, and the table is then written as before.
 fn refuses_and_stays(
     alloc: Global,
-    program: &Program,
+    program: &Layout,
     table: &mut Btf,
     case: &Case,
 ) -> Result<bool, Fail> {
     Ok(refuses(alloc, program, table, case)? && is_table(alloc, table, case.words, case.strings)?)
 }
 
-fn is_refused_under(alloc: Global, program: &Program, case: &Case) -> Result<bool, Fail> {
+fn is_refused_under(alloc: Global, program: &Layout, case: &Case) -> Result<bool, Fail> {
     let mut table = table_of(alloc, case.words, case.strings)?;
     refuses_and_stays(alloc, program, &mut table, case)
 }

@@ -18,6 +18,7 @@ ghost use Rattle.btf_rules.specs.Layout.{offsets_of};
 ghost use Rattle.btf_table.specs.ReadNames.{AreFound};
 ghost use Rattle.btf_table.specs.Readable.{IsReadableEnd};
 
+use crate::sanitize::read_names::LONG_NAME;
 use crate::table::Btf;
 use btf_plain::{BtfError, VarLinkage};
 use btf_records::{BtfMember, BtfType, DataSec, DataSecEntry};
@@ -69,7 +70,8 @@ pub fn members(btf: &Btf, names: &[u32], data_sec: &DataSec) -> Result<Vec<BtfMe
     Ok(members)
 }
 
-/// The offset of the symbol of the name at a string offset. It is remembered in `offsets`, so each name is read once.
+/// The offset of the symbol of the name at a string offset. That of a long name is remembered in `offsets`, so
+/// that such a name is read once.
 ///
 /// `InvalidStringOffset` where the name can't be read; `SymbolOffsetNotFound` where no symbol has that name, or its
 /// offset has more than 32 bits.
@@ -97,7 +99,9 @@ fn symbol_offset(
             symbol_name: name.as_str().to_string(btf.allocator())?,
         });
     };
-    offsets.insert(name_offset, offset)?;
+    if name.as_str().len() > LONG_NAME {
+        offsets.insert(name_offset, offset)?;
+    }
     Ok(offset)
 }
 

@@ -1,6 +1,6 @@
 //! The names that DATASECs get in a rewrite.
 
-ghost use Rattle.std.specs.Prelude.{◌≡◌, [], ◌∷◌, if◌then◌else◌, Some, IfOk, OnOk, IsTrue, string_bytes};
+ghost use Rattle.std.specs.Prelude.{◌≡◌, ◌↔◌, [], ◌∷◌, if◌then◌else◌, Some, IfOk, OnOk, IsTrue, string_bytes};
 ghost use Rattle.std.specs.BTreeMap.{get};
 ghost use Rattle.std.specs.Ordering.{nat_cmp};
 ghost use Rattle.btf_rewrite_model.specs.Feature as features;
@@ -13,6 +13,7 @@ ghost use Rattle.btf_table.specs.Adding.{strings_end, HasRoom, Adds};
 ghost use Rattle.btf_rules.specs.Checked.{checked};
 ghost use Rattle.btf_table.specs.ReadNames.{AreKept};
 
+use crate::sanitize::read_names::LONG_NAME;
 use crate::table::{Btf, Changes};
 use btf_plain::BtfError;
 use btf_records::DataSec;
@@ -22,7 +23,7 @@ use std::collections::BTreeMap;
 
 /// Whether a DATASEC is known to keep the name at this offset, where the kernel takes DATASECs or takes none.
 fn is_kept(kept: &BTreeMap<u32, bool>, offset: u32, granted: bool) -> bool
-    ensures { IsTrue result → get nat_cmp kept.now offset ≡ Some granted }
+    ensures { IsTrue result ↔ (get nat_cmp kept.now offset ≡ Some granted) }
 {
     match kept.get(&offset) {
         Some(known) => *known == granted,
@@ -31,8 +32,8 @@ fn is_kept(kept: &BTreeMap<u32, bool>, offset: u32, granted: bool) -> bool
 }
 
 /// The string offset of the name that a DATASEC gets: as a DATASEC, where the kernel takes one, with `.` for each `/`,
-/// or else as a STRUCT, with `_` for each `.`. A text is appended only where the name changes. The names that stay are
-/// remembered in `kept`, and read once.
+/// or else as a STRUCT, with `_` for each `.`. A text is appended only where the name changes. Long names that
+/// stay are remembered in `kept`, and read once.
 ///
 /// `InvalidStringOffset` where the name can't be read, or the new one has no room.
 pub fn new_name(
@@ -63,7 +64,9 @@ pub fn new_name(
     let name = btf.string_at(offset)?;
     let renamed = section_name(btf.allocator(), name.as_str(), granted)?;
     if renamed.as_str() == name.as_str() {
-        kept.insert(offset, granted)?;
+        if name.as_str().len() > LONG_NAME {
+            kept.insert(offset, granted)?;
+        }
         return Ok(offset);
     }
     changes.append_text(btf, renamed.as_str())
