@@ -1,0 +1,18 @@
+-- How a call ends in which an allocation failed, or that was refused.
+use Rattle.std.proofs.Common.{◌≡◌, ◌⊎◌, inl, inr, ℕ}
+use Rattle.std.specs.Prelude.{Option, Some, None, Result, Err, IfSome}
+use Rattle.btf_model.specs.Refusal.{Refusal}
+use Rattle.vbtf.specs.declared.fault.Fault.{Fault}
+use Rattle.vbtf.specs.Status.{Reports, ReportsError, EndsOrNoMemory, no_memory}
+
+-- by the refusal of an error: an allocation failed, or the refusal meets P
+pub refused : {Y : Type 0} (status : ℕ) (fault : Fault) (o : Option Refusal) (P : Result Y Refusal → Type 0)
+    → IfSome o (λ r. P (Err r)) → ReportsError status fault o
+    → (status ≡ no_memory) ⊎ ((refusal : Refusal) × Reports status fault refusal × P (Err refusal))
+refused status fault (Some r) P holds told = inr (r, told, holds)
+refused status fault None P holds told = inl told.0
+
+pub ends_refused : {Y : Type 0} (status : ℕ) (value : Y) (fault : Fault) (o : Option Refusal) (P : Result Y Refusal → Type 0)
+    → IfSome o (λ r. P (Err r)) → ReportsError status fault o → EndsOrNoMemory status value fault P
+ends_refused status value fault (Some r) P holds told = inl (inr (r, told, holds))
+ends_refused status value fault None P holds told = inr told.0

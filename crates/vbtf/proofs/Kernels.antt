@@ -1,0 +1,55 @@
+-- The answers that a rewrite gets are what the bits of a kernel say.
+use Rattle.std.proofs.Common.{◌≡◌, ℕ, List, [], ◌∷◌, Bool, Option, None, Some, Result, Ok, Err, IfOk, sym, subst, inl, inr}
+use Rattle.std.specs.Prelude.{IfSome, ◌⊎◌}
+use Rattle.arrayvec.specs.declared.array_vec.ArrayVec.{ArrayVec}
+use Rattle.btf_model.specs.Refusal.{Refusal}
+use Rattle.btf_model.specs.Table.{Table}
+use Rattle.btf_rewrite_model.specs.Feature.{FillPolicy}
+use Rattle.btf_rewrite_model.specs.Ksyms.{KsymsIds}
+use Rattle.btf_rewrite_model.specs.Pass.{Layout}
+use Rattle.btf_rules.specs.declared.features.BtfFeature.{BtfFeature}
+use Rattle.btf_rules.specs.declared.features.FeatureAnswer.{FeatureAnswer}
+use Rattle.btf_table.specs.Rewrites.{RewritesWith}
+use Rattle.btf_types.specs.Features.{feature_of, answers_of, Called}
+use Rattle.btf_words.specs.declared.error.BtfError.{BtfError}
+use Rattle.btf_words.specs.Error.{MeetsOrNoMemory, refusal_of}
+use Rattle.vbtf.specs.declared.fault.Fault.{Fault}
+use Rattle.vbtf.specs.Status.{Reports, ReportsError, no_memory}
+use Rattle.vbtf.specs.Kernel.{has_bit, AreOf, RewritesFor}
+
+-- a predicate that answers so, whatever it is called for
+pub all_of : {F : Type 0} (step : F → BtfFeature → Bool → F → Type 0) (features : ℕ) (Is : F → Type 0)
+    → ((f g : F) (feature : BtfFeature) (granted : Bool) → Is f → step f feature granted g → (granted ≡ has_bit features (feature_of feature)) × Is g)
+    → (before : F) (answers : List FeatureAnswer) (after : F) → Is before → Called step before answers after → AreOf features (answers_of answers)
+all_of step features Is each before [] after is called = tt
+all_of step features Is each before (a ∷ answers) after is called =
+    let one = each before called.0 a.feature a.granted is called.1 in (one.0, all_of step features Is each called.0 answers after one.1 called.2)
+
+some_map : {P Q : Refusal → Type 0} (o : Option Refusal) → ((r : Refusal) → P r → Q r) → IfSome o P → IfSome o Q
+some_map None f p = p
+some_map (Some r) f p = f r p
+
+-- a rewrite with these answers is one for the kernel
+pub for_kernel : (features : ℕ) (policy : FillPolicy) (old : Table) (ids : Option KsymsIds) (layout : Layout) (new : Table) (asked : List FeatureAnswer) (r : Result (ArrayVec FeatureAnswer 8 (Unit {0})) BtfError)
+    → AreOf features (answers_of asked) → IfOk r (λ a. a.items ≡ asked) → MeetsOrNoMemory (λ a. a.items) r (RewritesWith policy old ids layout (answers_of asked) new)
+    → MeetsOrNoMemory (λ a. a.items) r (RewritesFor features policy old ids layout new)
+for_kernel features policy old ids layout new asked (Ok a) of is rewrites =
+    (subst (λ xs. AreOf features (answers_of xs)) (sym is) of, subst (λ xs. RewritesWith {X = List FeatureAnswer} policy old ids layout (answers_of xs) new (Ok a.items)) (sym is) rewrites)
+for_kernel features policy old ids layout new asked (Err e) of is refused =
+    some_map (refusal_of e) (λ r found. (answers_of asked, of, found)) refused
+
+-- the same of tables and layouts that are equal
+pub for_handle : (features : ℕ) (policy : FillPolicy) (ids : Option KsymsIds) (t old : Table) (l layout : Layout) (n new : Table) (r : Result (List FeatureAnswer) Refusal)
+    → t ≡ old → l ≡ layout → new ≡ n → RewritesFor features policy t ids l n r → RewritesFor features policy old ids layout new r
+for_handle features policy ids t old l layout n new r same_old same_layout same_new rewrites =
+    subst (λ x. RewritesFor features policy x ids layout new r) same_old
+    (subst (λ x. RewritesFor features policy t ids x new r) same_layout (subst (λ x. RewritesFor features policy t ids l x r) (sym same_new) rewrites))
+
+pub carried : (R : Table → Table → Type 0) (t old n new : Table) → t ≡ old → new ≡ n → R t n → R old new
+carried R t old n new same_old same_new r = subst (λ x. R x new) same_old (subst (λ x. R t x) (sym same_new) r)
+
+-- an error that is told is a refusal, or a failed allocation
+pub refused_or_no_memory : (status : ℕ) (fault : Fault) (o : Option Refusal) (P : Refusal → Type 0) → ReportsError status fault o → IfSome o P
+    → (status ≡ no_memory) ⊎ ((refusal : Refusal) × Reports status fault refusal × P refusal)
+refused_or_no_memory status fault None P told p = inl told.0
+refused_or_no_memory status fault (Some refusal) P told p = inr (refusal, told, p)

@@ -1,0 +1,10 @@
+pub mod Ending
+pub mod HandleSteps
+pub mod LoanFields
+pub mod Names
+pub mod SameKind
+pub mod Sharing
+pub mod Steps
+pub mod Values
+pub mod Kernels
+pub mod Layouts

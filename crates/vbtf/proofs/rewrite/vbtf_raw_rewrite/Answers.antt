@@ -1,0 +1,73 @@
+use Rattle.std.proofs.Common.{◌≡◌, ℕ, List, Some, Ok, Err, refl, sym, ap, subst, ◌∙◌, inl, inr}
+use Rattle.std.specs.Prelude.{IfSome}
+use Rattle.btf_rules.specs.declared.features.FeatureAnswer.{FeatureAnswer}
+use Rattle.btf_table.specs.Rewrites.{KeepsSizes, KeepsResolutions, KeepsValues}
+use Rattle.btf_types.specs.Features.{answers_of}
+use Rattle.btf_types.specs.Layout.{layout_of}
+use Rattle.btf_words.specs.Error.{refusal_of}
+use Rattle.vbtf.specs.Kernel.{RewritesFor, ListsAnswers, policy_chosen, ids_chosen}
+use Rattle.vbtf.specs.Program.{layout_named, AreReadable}
+use Rattle.vbtf.proofs.Kernels.{carried, for_handle, refused_or_no_memory}
+use Rattle.vbtf.proofs.rewrite.vbtf_raw_rewrite.Goals as goal
+use Rattle.vbtf.proofs.rewrite.vbtf_raw_rewrite.Goals.{After-owner}
+
+-- the table that is rewritten is the handle's
+same_old : (c : After-owner) → c.deref_mut.result.now ≡ c.args.table.now.table
+same_old c = c.deref_mut.ensures.value ∙ c.in-Some.ensures.2 ∙ ap (λ h. h.table) c.seen.ensures.1
+
+-- the maps have what the entries say
+same_layout : (c : After-owner) → layout_of c.in-Ok-Some.program.sections c.in-Ok-Some.program.symbols ≡ layout_named c.args.section_names.now c.args.sections.now c.args.symbol_names.now c.args.symbols.now
+same_layout c = subst (λ o. IfSome o (λ p. layout_of p.sections p.symbols ≡ layout_named c.args.section_names.now c.args.sections.now c.args.symbol_names.now c.args.symbols.now)) c.in-Ok-Some.field-0-is c.in-Ok-Some.ensures.some
+
+readable : (c : After-owner) → AreReadable c.args.section_names.now c.args.sections.now × AreReadable c.args.symbol_names.now c.args.symbols.now
+readable c = subst (λ o. IfSome o (λ _. AreReadable c.args.section_names.now c.args.sections.now × AreReadable c.args.symbol_names.now c.args.symbols.now)) c.in-Ok-Some.field-0-is c.in-Ok-Some.ensures.readable
+
+pub returns-in-Ok-clause-sizes : goal.returns-in-Ok-clause-sizes
+returns-in-Ok-clause-sizes c = λ zero. carried KeepsSizes _ _ _ _ (same_old (goal.at.returns-in-Ok-clause-sizes c).After-owner) c.owner.ensures.1 c.in-Ok.ensures.sizes
+
+pub returns-in-Ok-clause-resolutions : goal.returns-in-Ok-clause-resolutions
+returns-in-Ok-clause-resolutions c = λ zero. carried KeepsResolutions _ _ _ _ (same_old (goal.at.returns-in-Ok-clause-resolutions c).After-owner) c.owner.ensures.1 c.in-Ok.ensures.resolutions
+
+pub returns-in-Ok-clause-values : goal.returns-in-Ok-clause-values
+returns-in-Ok-clause-values c = λ zero. carried KeepsValues _ _ _ _ (same_old (goal.at.returns-in-Ok-clause-values c).After-owner) c.owner.ensures.1 c.in-Ok.ensures.values
+
+pub returns-in-Ok-clause-rewritten : goal.returns-in-Ok-clause-rewritten
+returns-in-Ok-clause-rewritten c = λ owned sections symbols.
+    let w = (goal.at.returns-in-Ok-clause-rewritten c).After-owner in
+    let kernel = c.args.kernel.now in
+    let listed : List FeatureAnswer = c.in-Ok.answers.items in (
+      c.owner.ensures.0,
+      inl (
+        refl,
+        listed,
+        subst (λ xs. ListsAnswers c.list.new.self (answers_of xs)) c.deref.ensures.0 c.list.ensures,
+        for_handle kernel.features (policy_chosen kernel) (ids_chosen kernel) c.deref_mut.result.now c.args.table.now.table _ (layout_named c.args.section_names.now c.args.sections.now c.args.symbol_names.now c.args.symbols.now) c.rewritten-answer.new.btf c.owner.result.table (Ok listed) (same_old w) (same_layout w) c.owner.ensures.1 c.in-Ok.ensures.rewrites,
+      ),
+    )
+
+pub returns-clause-rewritten : goal.returns-clause-rewritten
+returns-clause-rewritten c = λ owned sections symbols.
+    let w = (goal.at.returns-clause-rewritten c).After-owner in
+    let kernel = c.args.kernel.now in
+    let refused = refused_or_no_memory c.report-in-Err-answer.result c.report-in-Err-answer.new.fault (refusal_of c.in-Err-answer.error)
+    (λ refusal. RewritesFor kernel.features (policy_chosen kernel) c.deref_mut.result.now (ids_chosen kernel) (layout_of c.in-Ok-Some.program.sections c.in-Ok-Some.program.symbols) c.rewritten-answer.new.btf (Err refusal))
+    c.report-in-Err-answer.ensures c.in-Err-answer.ensures.rewrites in (
+      c.owner.ensures.0,
+      inr (
+        c.owner.ensures.1 ∙ c.in-Err-answer.ensures.err ∙ same_old w,
+        elim refused [
+          | inl full ↦ inl full
+          | inr (refusal, told, found) ↦ inr (
+            refusal,
+            told,
+            for_handle kernel.features (policy_chosen kernel) (ids_chosen kernel) c.deref_mut.result.now c.args.table.now.table _ (layout_named c.args.section_names.now c.args.sections.now c.args.symbol_names.now c.args.symbols.now) c.rewritten-answer.new.btf c.owner.result.table (Err refusal) (same_old w) (same_layout w) c.owner.ensures.1 found,
+          )
+        ],
+      ),
+    )
+
+pub returns-clause-unreadable : goal.returns-clause-unreadable
+returns-clause-unreadable c = λ owned unreadable. absurd (unreadable (readable (goal.at.returns-clause-unreadable c).After-owner))
+
+pub returns-in-Ok-clause-unreadable : goal.returns-in-Ok-clause-unreadable
+returns-in-Ok-clause-unreadable c = λ owned unreadable. absurd (unreadable (readable (goal.at.returns-in-Ok-clause-unreadable c).After-owner))

@@ -1,0 +1,5 @@
+pub mod Held
+pub mod Status
+pub mod Words
+pub mod Kernel
+pub mod Program

@@ -1,0 +1,137 @@
+-- The status that an exported call returns, and what the fault reports of a refusal.
+use Rattle.std.specs.Prelude.{◌≡◌, ◌⊎◌, ◌<◌, ◌≤◌, ℕ, zero, suc, List, ◌++◌, take, drop, length, Option, Some, None, Result, Ok, Err}
+use Rattle.btf_model.specs.Word as orders
+use Rattle.btf_model.specs.Word.{Order}
+use Rattle.btf_model.specs.Refusal as refusals
+use Rattle.btf_model.specs.Refusal.{Refusal}
+use Rattle.btf_model.specs.Table.{Table}
+use Rattle.vbtf.specs.declared.fault.Fault.{Fault}
+use Rattle.vbtf.specs.declared.handle.Handle.{Handle}
+
+-- The status of a refusal: its place among the errors, from 1 on.
+abbrev pub status_of : Refusal → ℕ
+status_of refusals.InvalidHeader = 1
+status_of refusals.InvalidTypeInfo = 2
+status_of refusals.InvalidRelocationInfo = 3
+status_of (refusals.InvalidTypeKind kind) = 4
+status_of (refusals.InvalidRelocationKind kind) = 5
+status_of (refusals.InvalidStringOffset offset) = 6
+status_of (refusals.InvalidInfo offset len section_len) = 7
+status_of (refusals.InvalidLineInfo offset len section_len) = 8
+status_of (refusals.UnknownBtfType type_id) = 9
+status_of (refusals.UnexpectedBtfType type_id) = 10
+status_of (refusals.UnknownBtfTypeName type_name) = 11
+status_of (refusals.MaximumTypeDepthReached type_id) = 12
+status_of (refusals.SymbolOffsetNotFound symbol_name) = 13
+status_of refusals.InvalidDatasec = 14
+status_of (refusals.UnknownSectionSize section_name) = 15
+status_of refusals.InvalidSymbolName = 16
+status_of (refusals.InnerMapCannotBePinned name) = 17
+status_of (refusals.MultiLevelMapInMapNotSupported name) = 18
+status_of (refusals.InvalidValuesSpec name) = 19
+
+-- The status of a call in which an allocation failed.
+abbrev pub no_memory : ℕ
+no_memory = 20
+
+-- The bytes of a name that a fault has room for.
+abbrev pub name_room : ℕ
+name_room = 255
+
+-- The fault has the beginning of a name, as long as there is room.
+abbrev pub HasName : Fault → List ℕ → Type 0
+HasName fault name = (fault.name_len ≡ length (take name_room name)) × (take fault.name_len fault.name ≡ take name_room name)
+
+-- The fault has the id, or the kind, of the refusal.
+abbrev pub HasId : Fault → ℕ → Type 0
+HasId fault id = fault.id ≡ id
+
+-- The fault has a place in the bytes.
+abbrev pub HasPlace : Fault → ℕ → ℕ → ℕ → Type 0
+HasPlace fault offset len section_len =
+    (fault.offset ≡ offset) × (fault.len ≡ len) × (fault.section_len ≡ section_len)
+
+-- The fault has what the refusal says beside its status.
+abbrev pub Describes : Fault → Refusal → Type 0
+Describes fault refusals.InvalidHeader = Unit {0}
+Describes fault refusals.InvalidTypeInfo = Unit {0}
+Describes fault refusals.InvalidRelocationInfo = Unit {0}
+Describes fault (refusals.InvalidTypeKind kind) = HasId fault kind
+Describes fault (refusals.InvalidRelocationKind kind) = HasId fault kind
+Describes fault (refusals.InvalidStringOffset offset) = fault.offset ≡ offset
+Describes fault (refusals.InvalidInfo offset len section_len) = HasPlace fault offset len section_len
+Describes fault (refusals.InvalidLineInfo offset len section_len) = HasPlace fault offset len section_len
+Describes fault (refusals.UnknownBtfType type_id) = HasId fault type_id
+Describes fault (refusals.UnexpectedBtfType type_id) = HasId fault type_id
+Describes fault (refusals.UnknownBtfTypeName type_name) = HasName fault type_name
+Describes fault (refusals.MaximumTypeDepthReached type_id) = HasId fault type_id
+Describes fault (refusals.SymbolOffsetNotFound symbol_name) = HasName fault symbol_name
+Describes fault refusals.InvalidDatasec = Unit {0}
+Describes fault (refusals.UnknownSectionSize section_name) = HasName fault section_name
+Describes fault refusals.InvalidSymbolName = Unit {0}
+Describes fault (refusals.InnerMapCannotBePinned name) = HasName fault name
+Describes fault (refusals.MultiLevelMapInMapNotSupported name) = HasName fault name
+Describes fault (refusals.InvalidValuesSpec name) = HasName fault name
+
+-- The status and the fault report the refusal.
+abbrev pub Reports : ℕ → Fault → Refusal → Type 0
+Reports status fault refusal =
+    (status ≡ status_of refusal) × (fault.number ≡ status_of refusal) × Describes fault refusal
+
+-- They report the refusal, or that an allocation failed.
+abbrev pub ReportsError : ℕ → Fault → Option Refusal → Type 0
+ReportsError status fault (Some refusal) = Reports status fault refusal
+ReportsError status fault None = (status ≡ no_memory) × (fault.number ≡ no_memory)
+
+-- How a call ends that allocates nothing: with status 0 and a value that meets P, or with a refusal that meets P.
+abbrev pub Ends : {Y : Type 0} → ℕ → Y → Fault → (Result Y Refusal → Type 0) → Type 0
+Ends status value fault P =
+    ((status ≡ 0) × P (Ok value)) ⊎ ((refusal : Refusal) × Reports status fault refusal × P (Err refusal))
+
+-- The same of a call that allocates: an allocation may also fail.
+abbrev pub EndsOrNoMemory : {Y : Type 0} → ℕ → Y → Fault → (Result Y Refusal → Type 0) → Type 0
+EndsOrNoMemory status value fault P = Ends status value fault P ⊎ (status ≡ no_memory)
+
+-- How a call ends that opens a handle: with status 0, and the handle owns a table that meets P; or with a refusal that
+-- meets P, or a failed allocation, and the handle is unchanged.
+abbrev pub Opens : ℕ → Handle → Handle → Fault → (Result Table Refusal → Type 0) → Type 0
+Opens status old new fault P =
+    ((status ≡ 0) × (new.state ≡ 1) × P (Ok new.table))
+    ⊎ ((new ≡ old) × ((status ≡ no_memory) ⊎ ((refusal : Refusal) × Reports status fault refusal × P (Err refusal))))
+
+-- The byte order of a number: 0 for the little one, 1 for the big one.
+abbrev pub order_named : ℕ → Order
+order_named zero = orders.Little
+order_named (suc n) = orders.Big
+
+-- A call that only reads leaves the handle unchanged.
+pub record Keeps (old new : Handle) : Type 0 where
+  pub at : new.at ≡ old.at
+  pub state : new.state ≡ old.state
+  pub table : new.table ≡ old.table
+  pub life : new.life ≡ old.life
+  pub share : new.share ≡ old.share
+
+-- How bytes are written to a buffer: 'needed' is their number. With status 0 the buffer begins with them, and the rest
+-- of it is unchanged. With status 100 it is too small for them, and unchanged.
+abbrev pub Fills : List ℕ → List ℕ → List ℕ → ℕ → ℕ → Type 0
+Fills bytes old new needed status =
+    (needed ≡ length bytes)
+    × (((status ≡ 0) × (length bytes ≤ length old) × (new ≡ bytes ++ drop (length bytes) old))
+    ⊎ ((status ≡ 100) × (length old < length bytes) × (new ≡ old)))
+
+-- How a call ends that writes bytes to a buffer: with bytes that meet P; or with a refusal that meets P, or a failed
+-- allocation, and the buffer is unchanged.
+abbrev pub EndsFilling : ℕ → List ℕ → List ℕ → ℕ → Fault → (Result (List ℕ) Refusal → Type 0) → Type 0
+EndsFilling status old new needed fault P =
+    ((bytes : List ℕ) × Fills bytes old new needed status × P (Ok bytes))
+    ⊎ ((new ≡ old) × ((status ≡ no_memory) ⊎ ((refusal : Refusal) × Reports status fault refusal × P (Err refusal))))
+
+-- How a call ends that adds to the table of a handle: with status 0 and the place, and the handle owns the new table; or
+-- with a refusal, or a failed allocation, and the handle owns the unchanged table.
+abbrev pub Adds : ℕ → Handle → Handle → ℕ → Fault → Result ℕ Refusal → Table → Type 0
+Adds status old new value fault place table =
+    (new.state ≡ 1)
+    × (((status ≡ 0) × (Ok value ≡ place) × (new.table ≡ table))
+    ⊎ ((new.table ≡ old.table)
+    × ((status ≡ no_memory) ⊎ ((refusal : Refusal) × Reports status fault refusal × (Err refusal ≡ place)))))

@@ -1,0 +1,89 @@
+//! Comparing types of two tables.
+
+ghost use Rattle.std.specs.Prelude.{◌≡◌, ◌≢◌, ◌⊎◌, [], List};
+ghost use Rattle.btf_model.specs.Fields.{Fields, Pair};
+ghost use Rattle.btf_model.specs.Compat.{Plain};
+ghost use Rattle.btf_compare.specs.Pairs.{pair};
+ghost use Rattle.vbtf.specs.Status.{EndsOrNoMemory, Keeps};
+
+use crate::fault::{CLOSED, Fault, report};
+use crate::handle::{Handle, lent};
+use btf::{fields_are_compatible, types_are_compatible};
+
+/// Whether the types of two fields are compatible, as a relocation of a field wants them.
+///
+/// Status 6, 9, 10 or 12 with the first cause of refusal, 20 where an allocation fails, and 101 where the state of one
+/// of the handles is not 2.
+#[unsafe(no_mangle)]
+pub extern "C" fn vbtf_lent_fields_compatible(
+    local: &mut Handle,
+    local_id: u32,
+    target: &mut Handle,
+    target_id: u32,
+    answer: &mut bool,
+    fault: &mut Fault,
+) -> u32
+    ensures compared { local.old.state ≡ 2 → target.old.state ≡ 2
+        → EndsOrNoMemory result answer.new fault.new
+        (Fields local.old.table local_id target.old.table target_id) }
+    ensures closed { (local.old.state ≢ 2) ⊎ (target.old.state ≢ 2) → result ≡ CLOSED }
+    ensures kept_local { Keeps local.old local.new }
+    ensures kept_target { Keeps target.old target.new }
+{
+    let Some(first) = lent(local) else {
+        return CLOSED;
+    };
+    let Some(second) = lent(target) else {
+        *local = Handle::from_loan(first);
+        return CLOSED;
+    };
+    let found = fields_are_compatible(first.get(), local_id, second.get(), target_id);
+    *local = Handle::from_loan(first);
+    *target = Handle::from_loan(second);
+    match found {
+        Ok(yes) => {
+            *answer = yes;
+            0
+        }
+        Err(error) => report(error, fault),
+    }
+}
+
+/// Whether two types are compatible, as a relocation of a type wants them.
+///
+/// Status 9, 10 or 12 with the first cause of refusal, 20 where an allocation fails, and 101 where the state of one of
+/// the handles is not 2.
+#[unsafe(no_mangle)]
+pub extern "C" fn vbtf_lent_types_compatible(
+    local: &mut Handle,
+    local_id: u32,
+    target: &mut Handle,
+    target_id: u32,
+    answer: &mut bool,
+    fault: &mut Fault,
+) -> u32
+    ensures compared { local.old.state ≡ 2 → target.old.state ≡ 2
+        → EndsOrNoMemory result answer.new fault.new (λ found. (listed : List Pair)
+        × Plain local.old.table target.old.table [] (pair local_id target_id) found listed) }
+    ensures closed { (local.old.state ≢ 2) ⊎ (target.old.state ≢ 2) → result ≡ CLOSED }
+    ensures kept_local { Keeps local.old local.new }
+    ensures kept_target { Keeps target.old target.new }
+{
+    let Some(first) = lent(local) else {
+        return CLOSED;
+    };
+    let Some(second) = lent(target) else {
+        *local = Handle::from_loan(first);
+        return CLOSED;
+    };
+    let found = types_are_compatible(first.get(), local_id, second.get(), target_id);
+    *local = Handle::from_loan(first);
+    *target = Handle::from_loan(second);
+    match found {
+        Ok(yes) => {
+            *answer = yes;
+            0
+        }
+        Err(error) => report(error, fault),
+    }
+}

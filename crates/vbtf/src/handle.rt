@@ -1,0 +1,137 @@
+//! The handle that C keeps of a table.
+
+ghost use Rattle.std.specs.Prelude.{◌≡◌, ◌≢◌, ℕ};
+ghost use Rattle.std.specs.Option.{MatchOption};
+ghost use base.Fml.{Share};
+ghost use Rattle.btf_model.specs.Table.{Table};
+ghost use Rattle.vbtf.specs.Held.{held, coded_share};
+
+use crate::loan::Loan;
+use crate::parts::Parts;
+use btf::Btf;
+use std::alloc::Global;
+use std::marker::{Model, Send};
+use std::mem::replace;
+use std::ptr::null_mut;
+
+/// The state of a handle that owns its table.
+pub(crate) const OWNED: u32 = 1;
+
+/// The state of a handle that holds a share of a loan.
+pub(crate) const LENT: u32 = 2;
+
+/// What C keeps of a table: a pointer and a state. A handle of zeroes is closed.
+///
+/// In state 1 the handle owns the table, and `vbtf_close` frees it. In state 2 it holds a share of a loan of the table:
+/// the table can be read through it, and stays as it is for as long as such a handle is in use.
+#[repr(C)]
+#[derive(Drop)]
+pub struct Handle {
+    at: *mut u8,
+    state: u32,
+    /// The table behind the handle, where it is not closed.
+    pub ghost table: { Table },
+    /// The lifetime of the loan, and the share of its token, in state 2.
+    pub ghost life: { ℕ },
+    pub ghost share: { Share } by { coded_share },
+}
+
+impl Model for Handle {
+    ghost also_owns = { λ h. held h.at h.state h.table h.life h.share };
+}
+
+impl Handle {
+    /// A closed handle.
+    pub(crate) fn none() -> Handle
+        ensures { result.state ≡ 0 }
+    {
+        Handle {
+            at: null_mut(),
+            state: 0,
+        }
+    }
+
+    /// The state.
+    pub(crate) fn seen(&mut self) -> u32
+        ensures { (result ≡ self.old.state) × (self.new ≡ self.old) }
+    {
+        self.state
+    }
+
+    /// The handle that owns the table of a box.
+    pub(crate) fn from_parts(parts: Parts<Btf, Global>) -> Handle
+        ensures { (result.state ≡ 1) × (result.table ≡ parts.value) }
+    {
+        let Parts { at, alloc: _ } = parts;
+        Handle {
+            at: at as *mut u8,
+            state: 1,
+        }
+    }
+
+    /// The box of the table that the handle owns.
+    pub(crate) fn to_parts(self, alloc: Global) -> Parts<Btf, Global>
+        requires { self.state ≡ 1 }
+        ensures { result.value ≡ self.table }
+    {
+        let Handle { at, state: _ } = self;
+        Parts {
+            at: at as *mut Btf,
+            alloc,
+        }
+    }
+
+    /// The handle that holds a share of a loan.
+    pub(crate) fn from_loan(loan: Loan<Btf>) -> Handle
+        ensures { (result.at ≡ loan.at) × (result.state ≡ 2) × (result.table ≡ loan.value)
+            × (result.life ≡ loan.life) × (result.share ≡ loan.share) }
+    {
+        let Loan { at } = loan;
+        Handle {
+            at: at as *mut u8,
+            state: 2,
+        }
+    }
+
+    /// The share of a loan that the handle holds.
+    pub(crate) fn to_loan(self) -> Loan<Btf>
+        requires { self.state ≡ 2 }
+        ensures { (result.at ≡ self.at) × (result.value ≡ self.table) × (result.life ≡ self.life)
+            × (result.share ≡ self.share) }
+    {
+        let Handle { at, state: _ } = self;
+        Loan { at: at as *mut Btf }
+    }
+}
+
+unsafe impl Send for Handle {}
+
+/// The share of a loan that a handle holds; the handle is then closed. None where its state is another.
+pub(crate) fn lent(table: &mut Handle) -> Option<Loan<Btf>>
+    ensures { MatchOption result ((table.old.state ≢ 2) × (table.new ≡ table.old))
+        (λ loan. (table.old.state ≡ 2) × (loan.at ≡ table.old.at) × (loan.value ≡ table.old.table)
+        × (loan.life ≡ table.old.life) × (loan.share ≡ table.old.share)) }
+{
+    if table.seen() != LENT {
+        return None;
+    }
+    Some(replace(table, Handle::none()).to_loan())
+}
+
+/// The table that a handle owns; the handle is then closed. None where its state is another.
+pub(crate) fn taken(alloc: Global, table: &mut Handle) -> Option<Box<Btf>>
+    ensures { MatchOption result ((table.old.state ≢ 1) × (table.new ≡ table.old))
+        (λ whole. (table.old.state ≡ 1) × (table.new.state ≡ 0) × (whole.value ≡ table.old.table)) }
+{
+    if table.seen() != OWNED {
+        return None;
+    }
+    Some(replace(table, Handle::none()).to_parts(alloc).into_box())
+}
+
+/// The handle that owns a table.
+pub(crate) fn owner(whole: Box<Btf>) -> Handle
+    ensures { (result.state ≡ 1) × (result.table ≡ whole.value) }
+{
+    Handle::from_parts(Parts::of(whole))
+}

@@ -1,0 +1,88 @@
+//! What C says of a kernel, and what a rewrite asked about it.
+
+ghost use Rattle.std.specs.Prelude.{◌≡◌, ◌≤◌, List, length};
+ghost use Rattle.btf_types.specs.Features.{feature_of, policy_of, answers_of};
+ghost use Rattle.btf_table.specs.Rewrites.{ids_of};
+ghost use Rattle.vbtf.specs.Kernel.{has_bit, policy_chosen, ids_chosen, ListsAnswers};
+
+use btf::{BtfFeature, FeatureAnswer, FillPolicy, KsymsIds};
+
+/// The kernel that a table is rewritten for, and the ids of `.ksyms` in the table.
+#[repr(C)]
+#[derive(Drop)]
+pub struct Kernel {
+    /// A bit for each feature that the kernel has, by its number from 0 on: Func, FuncGlobal, DataSec, DataSecZero,
+    /// Float, DeclTag, TypeTag, Enum64.
+    pub features: u32,
+    /// Whether a DATASEC that has a size and no entries gets one where the kernel takes none without: not where this is
+    /// 0.
+    pub fill_sized: u32,
+    /// The id of the DATASEC `.ksyms`, or 0 where there is none.
+    pub ksyms: u32,
+    /// The id of the variable that takes the place of functions in it, or 0 where there is none.
+    pub placeholder: u32,
+}
+
+/// What a rewrite asked, in order.
+#[repr(C)]
+#[derive(Drop)]
+pub struct Asked {
+    /// How many features it asked about.
+    pub count: u32,
+    /// Their numbers.
+    pub features: [u8; 8],
+    /// 1 for each that the kernel has, and 0 for one that it lacks.
+    pub granted: [u8; 8],
+}
+
+impl Kernel {
+    /// Whether the kernel has a feature.
+    pub(crate) fn has(&self, feature: BtfFeature) -> bool
+        ensures { result ≡ has_bit self.now.features (feature_of feature) }
+    {
+        (self.features >> (feature as u32)) % 2 == 1
+    }
+
+    /// What becomes of DATASECs that have a size and no entries.
+    pub(crate) fn policy(&self) -> FillPolicy
+        ensures { policy_of result ≡ policy_chosen self.now }
+    {
+        if self.fill_sized == 0 {
+            FillPolicy::KeepSized
+        } else {
+            FillPolicy::FillSized
+        }
+    }
+
+    /// The ids of `.ksyms`.
+    pub(crate) fn ksyms_ids(&self) -> Option<KsymsIds>
+        ensures { ids_of result ≡ ids_chosen self.now }
+    {
+        if self.ksyms == 0 {
+            return None;
+        }
+        let placeholder_id = match self.placeholder {
+            0 => None,
+            id => Some(id),
+        };
+        Some(KsymsIds {
+            datasec_id: self.ksyms,
+            placeholder_id,
+        })
+    }
+}
+
+impl Asked {
+    /// ListsAnswers what was asked.
+    pub(crate) fn list(&mut self, answers: &[FeatureAnswer])
+        requires { length answers.now ≤ 8 }
+        ensures { ListsAnswers self.new (answers_of answers.now) }
+    {
+        for index in 0..answers.len() {
+            let answer = answers[index];
+            self.features[index] = answer.feature as u8;
+            self.granted[index] = answer.granted as u8;
+        }
+        self.count = answers.len() as u32;
+    }
+}

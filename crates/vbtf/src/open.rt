@@ -1,0 +1,102 @@
+//! Opening a table, and closing it.
+
+ghost use Rattle.std.specs.Prelude.{◌≡◌, ◌≢◌, ◌⊎◌, ◌<◌, ◌≤◌, Ok, Err, MatchResult};
+ghost use Rattle.std.specs.Option.{MatchOption};
+ghost use Rattle.btf_model.specs.Table.{Table, empty_table};
+ghost use Rattle.btf_model.specs.Blob.{IsTable, Parses};
+ghost use Rattle.btf_words.specs.Endianness.{order_of};
+ghost use Rattle.btf_words.specs.declared.error.BtfError.TheVariants.{OutOfMemory};
+ghost use Rattle.vbtf.specs.Status.{Opens, ReportsError, order_named};
+
+use crate::fault::{Fault, INVALID_ARGUMENT, report};
+use crate::handle::{Handle, owner, taken};
+use btf::{Btf, BtfError, Endianness};
+use std::alloc::Global;
+
+/// Opens a handle with an empty table in little-endian order.
+///
+/// Status 20 where an allocation fails, and 102 where the handle is not closed; it stays as it was.
+#[unsafe(no_mangle)]
+pub extern "C" fn vbtf_new(alloc: Global, table: &mut Handle, fault: &mut Fault) -> u32
+    ensures opened { table.old.state ≡ 0
+        → Opens result table.old table.new fault.new (λ answer. answer ≡ Ok empty_table) }
+    ensures refused { table.old.state ≢ 0 → (result ≡ INVALID_ARGUMENT) × (table.new ≡ table.old) }
+{
+    if table.seen() != 0 {
+        return INVALID_ARGUMENT;
+    }
+    match boxed(alloc, Btf::new(alloc)) {
+        Ok(whole) => {
+            *table = owner(whole);
+            0
+        }
+        Err(error) => report(error, fault),
+    }
+}
+
+/// Opens a handle with the table that a blob stands for. `order` is the byte order: 0 for little, 1 for big.
+///
+/// Status 1, 2 or 4 with the first cause of refusal, 20 where an allocation fails, and 102 where the handle is not
+/// closed or the order is another number; the handle then stays as it was.
+#[unsafe(no_mangle)]
+pub extern "C" fn vbtf_raw_parse(
+    alloc: Global,
+    table: &mut Handle,
+    data: &[u8],
+    order: u32,
+    fault: &mut Fault,
+) -> u32
+    ensures opened { table.old.state ≡ 0 → order ≤ 1
+        → Opens result table.old table.new fault.new (Parses (order_named order) «data».now) }
+    // Bytes that are a table are not refused.
+    ensures only_table { table.old.state ≡ 0 → order ≤ 1
+        → (t : Table) → IsTable (order_named order) «data».now t
+        → Opens result table.old table.new fault.new (λ answer. answer ≡ Ok t) }
+    ensures open { table.old.state ≢ 0 → (result ≡ INVALID_ARGUMENT) × (table.new ≡ table.old) }
+    ensures order { 1 < order → (result ≡ INVALID_ARGUMENT) × (table.new ≡ table.old) }
+{
+    let Some(endianness) = endianness_of(order) else {
+        return INVALID_ARGUMENT;
+    };
+    if table.seen() != 0 {
+        return INVALID_ARGUMENT;
+    }
+    match boxed(alloc, Btf::parse(alloc, data, endianness)) {
+        Ok(whole) => {
+            *table = owner(whole);
+            0
+        }
+        Err(error) => report(error, fault),
+    }
+}
+
+/// Frees the table that a handle owns, and closes the handle. A handle in another state stays as it is.
+#[unsafe(no_mangle)]
+pub extern "C" fn vbtf_close(alloc: Global, table: &mut Handle)
+    ensures closed { table.old.state ≡ 1 → table.new.state ≡ 0 }
+    ensures other { table.old.state ≢ 1 → table.new ≡ table.old }
+{
+    if let Some(whole) = taken(alloc, table) {
+        drop(whole);
+    }
+}
+
+/// The byte order of a number.
+fn endianness_of(order: u32) -> Option<Endianness>
+    ensures { MatchOption result (1 < order)
+        (λ endianness. (order ≤ 1) × (order_of endianness ≡ order_named order)) }
+{
+    match order {
+        0 => Some(Endianness::Little),
+        1 => Some(Endianness::Big),
+        _ => None,
+    }
+}
+
+/// The table of an answer, in a box.
+fn boxed(alloc: Global, answer: Result<Btf, BtfError>) -> Result<Box<Btf>, BtfError>
+    ensures { MatchResult result (λ whole. answer ≡ Ok whole.value)
+        (λ error. (answer ≡ Err error) ⊎ (error ≡ OutOfMemory)) }
+{
+    Ok(Box::new(alloc, answer?)?)
+}

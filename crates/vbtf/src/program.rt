@@ -1,0 +1,113 @@
+//! The sections and symbols of a program, as C names them.
+
+ghost use Rattle.std.specs.Prelude.{◌≡◌, ℕ, List, IfOk, IfSome, IfNone};
+ghost use Rattle.btf_types.specs.Layout.{sizes_of, offsets_of, layout_of};
+ghost use Rattle.vbtf.specs.Program.{name_in, number_named, layout_named, IsReadable, AreReadable};
+
+use btf::SectionIndex;
+use std::alloc::{AllocError, Global};
+use std::collections::HashMap;
+use std::str;
+
+/// A name in a buffer of names, and its number: the size of a section, or the offset of a symbol.
+#[repr(C)]
+#[derive(Drop)]
+pub struct Named {
+    /// Where the name begins in the buffer, in bytes.
+    pub at: u32,
+    /// The length of the name in bytes.
+    pub len: u32,
+    /// The size of the section, or the offset of the symbol.
+    pub number: u64,
+}
+
+/// The sizes of sections and the offsets of symbols, by name.
+#[derive(Drop)]
+pub(crate) struct Program {
+    pub(crate) sections: HashMap<String, (SectionIndex, u64)>,
+    pub(crate) symbols: HashMap<String, u64>,
+}
+
+impl Program {
+    /// The sections and symbols of these entries; of a name that is there several times, the last one. None where a
+    /// name is not in its buffer, or is not UTF-8.
+    pub(crate) fn read(
+        alloc: Global,
+        section_names: &[u8],
+        sections: &[Named],
+        symbol_names: &[u8],
+        symbols: &[Named],
+    ) -> Result<Option<Program>, AllocError>
+        ensures some { IfOk result (λ found. IfSome found (λ p. layout_of p.sections p.symbols
+            ≡ layout_named section_names.now sections.now symbol_names.now symbols.now)) }
+        ensures readable { IfOk result (λ found. IfSome found
+            (λ _. AreReadable section_names.now sections.now
+            × AreReadable symbol_names.now symbols.now)) }
+        ensures none { IfOk result (λ found. IfNone found
+            (AreReadable section_names.now sections.now
+            × AreReadable symbol_names.now symbols.now → ⊥)) }
+    {
+        let Some(sections) = read_sections(alloc, section_names, sections)? else {
+            return Ok(None);
+        };
+        let Some(symbols) = read_symbols(alloc, symbol_names, symbols)? else {
+            return Ok(None);
+        };
+        Ok(Some(Program { sections, symbols }))
+    }
+}
+
+/// The name of an entry. None where it is not in the buffer, or is not UTF-8.
+fn name_of<'a>(names: &'a [u8], entry: &Named) -> Option<&'a str>
+    ensures some { IfSome result (λ name. (name.now ≡ name_in names.now entry.now)
+        × IsReadable names.now entry.now) }
+    ensures none { IfNone result (IsReadable names.now entry.now → ⊥) }
+{
+    let at = entry.at as usize;
+    let bytes = names.get(at..at + entry.len as usize)?;
+    str::from_utf8(bytes).ok()
+}
+
+/// The sizes of the sections of these entries, each with an index that is not read. None where a name cannot be read.
+fn read_sections(
+    alloc: Global,
+    names: &[u8],
+    entries: &[Named],
+) -> Result<Option<HashMap<String, (SectionIndex, u64)>>, AllocError>
+    ensures some { IfOk result (λ found. IfSome found (λ map. (name : List ℕ)
+        → sizes_of map name ≡ number_named names.now entries.now name)) }
+    ensures readable { IfOk result (λ found. IfSome found
+        (λ _. AreReadable names.now entries.now)) }
+    ensures none { IfOk result (λ found. IfNone found (AreReadable names.now entries.now → ⊥)) }
+{
+    let mut map = HashMap::new(alloc);
+    for entry in entries {
+        let Some(name) = name_of(names, entry) else {
+            return Ok(None);
+        };
+        map.insert(name.to_string(alloc)?, (SectionIndex(0), entry.number))?;
+    }
+    Ok(Some(map))
+}
+
+/// The offsets of the symbols of these entries. None where a name cannot be read.
+fn read_symbols(
+    alloc: Global,
+    names: &[u8],
+    entries: &[Named],
+) -> Result<Option<HashMap<String, u64>>, AllocError>
+    ensures some { IfOk result (λ found. IfSome found (λ map. (name : List ℕ)
+        → offsets_of map name ≡ number_named names.now entries.now name)) }
+    ensures readable { IfOk result (λ found. IfSome found
+        (λ _. AreReadable names.now entries.now)) }
+    ensures none { IfOk result (λ found. IfNone found (AreReadable names.now entries.now → ⊥)) }
+{
+    let mut map = HashMap::new(alloc);
+    for entry in entries {
+        let Some(name) = name_of(names, entry) else {
+            return Ok(None);
+        };
+        map.insert(name.to_string(alloc)?, entry.number)?;
+    }
+    Ok(Some(map))
+}

@@ -1,0 +1,161 @@
+//! Reading a table.
+
+ghost use Rattle.std.specs.Prelude.{◌≡◌, ◌≢◌, ◌⊎◌, length, slice_get, Some, None};
+ghost use Rattle.std.specs.Option.{MatchOption};
+ghost use Rattle.std.specs.Str.{IsUtf8};
+ghost use Rattle.btf_model.specs.Record.{Kind, kinds};
+ghost use Rattle.btf_model.specs.Text.{FindsName};
+ghost use Rattle.btf_words.specs.Error.{Meets, MeetsOrNoMemory};
+ghost use Rattle.btf_records.specs.BtfType.{record_of, type_kind};
+ghost use Rattle.vbtf.specs.Status.{Ends, EndsOrNoMemory, Keeps};
+ghost use Rattle.vbtf.specs.Words.{WordsOf, size_or_target};
+
+use crate::fault::{CLOSED, Fault, INVALID_ARGUMENT, report};
+use crate::handle::{Handle, lent};
+use btf::{Btf, BtfError, BtfKind, BtfType};
+
+/// How many types a table has, the type of id 0 among them.
+///
+/// Status 101 where the handle's state is not 2.
+#[unsafe(no_mangle)]
+pub extern "C" fn vbtf_lent_count(table: &mut Handle, count: &mut u64) -> u32
+    ensures counted { table.old.state ≡ 2
+        → (result ≡ 0) × (count.new ≡ length table.old.table.records) }
+    ensures closed { table.old.state ≢ 2 → result ≡ CLOSED }
+    ensures kept { Keeps table.old table.new }
+{
+    let Some(loan) = lent(table) else {
+        return CLOSED;
+    };
+    *count = count_of(loan.get());
+    *table = Handle::from_loan(loan);
+    0
+}
+
+/// How many types a table has.
+fn count_of(table: &Btf) -> u64
+    ensures { result ≡ length table.now.records }
+{
+    table.types().as_slice().len() as u64
+}
+
+/// The first words of a type: what it is, and how it is named.
+#[repr(C)]
+#[derive(Drop)]
+pub struct TypeWords {
+    /// The number of the kind, from 0 to 19.
+    pub kind: u32,
+    /// The string offset of the name.
+    pub name: u32,
+    /// The info word.
+    pub info: u32,
+    /// The id of another type, or the size in bytes, by the kind; 0 for a kind that has neither.
+    pub size_or_type: u32,
+}
+
+/// The first words of a type.
+///
+/// Status 9 where no type has the id, and 101 where the handle's state is not 2.
+#[unsafe(no_mangle)]
+pub extern "C" fn vbtf_lent_type(
+    table: &mut Handle,
+    id: u32,
+    out: &mut TypeWords,
+    fault: &mut Fault,
+) -> u32
+    ensures found { table.old.state ≡ 2 → Ends result out.new fault.new
+        (WordsOf table.old.table.records id) }
+    ensures closed { table.old.state ≢ 2 → result ≡ CLOSED }
+    ensures kept { Keeps table.old table.new }
+{
+    let Some(loan) = lent(table) else {
+        return CLOSED;
+    };
+    let answer = words_of(loan.get(), id);
+    *table = Handle::from_loan(loan);
+    match answer {
+        Ok(words) => {
+            *out = words;
+            0
+        }
+        Err(error) => report(error, fault),
+    }
+}
+
+/// The least id of a type of this kind and name. The kind is a number from 0 to 19, and the name has no zero byte at
+/// its end.
+///
+/// Status 6 where a type of the kind with a lower id has a name that cannot be read, 11 where no type has the kind and
+/// the name, 20 where an allocation fails, 101 where the handle's state is not 2, and 102 where the name is not UTF-8
+/// or no kind has the number.
+#[unsafe(no_mangle)]
+pub extern "C" fn vbtf_lent_find(
+    table: &mut Handle,
+    name: &[u8],
+    kind: u32,
+    id: &mut u32,
+    fault: &mut Fault,
+) -> u32
+    ensures found { table.old.state ≡ 2 → IsUtf8 name.now
+        → (k : Kind) → slice_get kinds kind ≡ Some k → EndsOrNoMemory result id.new fault.new
+        (FindsName table.old.table.strings table.old.table.records k name.now) }
+    ensures not_utf8 { table.old.state ≡ 2 → (IsUtf8 name.now → ⊥) → result ≡ INVALID_ARGUMENT }
+    ensures no_kind { table.old.state ≡ 2 → slice_get kinds kind ≡ None → result ≡ INVALID_ARGUMENT }
+    ensures closed { table.old.state ≢ 2 → result ≡ CLOSED }
+    ensures kept { Keeps table.old table.new }
+{
+    let Some(loan) = lent(table) else {
+        return CLOSED;
+    };
+    let answer = find(loan.get(), name, kind);
+    *table = Handle::from_loan(loan);
+    match answer {
+        None => INVALID_ARGUMENT,
+        Some(Ok(found)) => {
+            *id = found;
+            0
+        }
+        Some(Err(error)) => report(error, fault),
+    }
+}
+
+/// The first words of the type of an id.
+fn words_of(table: &Btf, id: u32) -> Result<TypeWords, BtfError>
+    ensures { Meets (λ words. words) result (WordsOf table.now.records id) }
+{
+    let btf_type = table.type_by_id(id)?;
+    let info = btf_type.info();
+    Ok(TypeWords {
+        kind: info / 0x100_0000 % 32,
+        name: btf_type.name_offset(),
+        info,
+        size_or_type: size_or_type(btf_type),
+    })
+}
+
+/// The type that a type leads to, or the size that it says, or 0.
+fn size_or_type(btf_type: &BtfType) -> u32
+    ensures { result ≡ size_or_target (type_kind btf_type.now) (record_of btf_type.now) }
+{
+    match (btf_type.btf_type(), btf_type.size()) {
+        (Some(target), _) => target,
+        (None, Some(size)) => size,
+        (None, None) => 0,
+    }
+}
+
+/// The id of a kind and a name; None where the name is not UTF-8, or no kind has the number.
+fn find(table: &Btf, name: &[u8], kind: u32) -> Option<Result<u32, BtfError>>
+    ensures { MatchOption result ((IsUtf8 name.now → ⊥) ⊎ (slice_get kinds kind ≡ None))
+        (λ answer. IsUtf8 name.now × (k : Kind) × (slice_get kinds kind ≡ Some k)
+        × MeetsOrNoMemory (λ id. id) answer
+        (FindsName table.now.strings table.now.records k name.now)) }
+{
+    let Ok(name) = str::from_utf8(name) else {
+        return None;
+    };
+    let Ok(kind) = BtfKind::try_from(kind) else {
+        return None;
+    };
+    Some(table.id_by_type_name_kind(name, kind))
+}

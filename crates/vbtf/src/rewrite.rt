@@ -1,0 +1,99 @@
+//! The rewrite of a table for a kernel that lacks some features.
+
+ghost use Rattle.std.specs.Prelude.{◌≡◌, ◌≢◌, ◌⊎◌, OnOk, OnErr};
+ghost use Rattle.btf_types.specs.Features.{feature_of};
+ghost use Rattle.btf_types.specs.Layout.{layout_of};
+ghost use Rattle.btf_table.specs.Rewrites.{KeepsSizes, KeepsResolutions, KeepsValues, AppendsAtMost};
+ghost use Rattle.btf_words.specs.Error.{MeetsOrNoMemory};
+ghost use Rattle.vbtf.specs.Kernel.{has_bit, policy_chosen, ids_chosen, RewritesFor, EndsRewriting};
+ghost use Rattle.vbtf.specs.Program.{layout_named, AreReadable};
+ghost use Rattle.vbtf.specs.Status.{no_memory};
+
+use crate::fault::{CLOSED, Fault, INVALID_ARGUMENT, report};
+use crate::handle::{Handle, OWNED, owner, taken};
+use crate::kernel::{Asked, Kernel};
+use crate::program::{Named, Program};
+use arrayvec::ArrayVec;
+use btf::{Btf, BtfError, BtfFeature, BtfFeatureResolver, FeatureAnswer};
+use std::alloc::Global;
+
+/// Rewrites the table that a handle owns for a kernel, and reports what was asked about that. `sections` has the sizes
+/// of the program's sections and `symbols` the offsets of its symbols; their names are in `section_names` and
+/// `symbol_names`, which can be the string tables of an object.
+///
+/// Status 2, 6, 9, 10, 13, 14 or 15 with the first cause of refusal, 20 where an allocation fails, 101 where the
+/// handle's state is not 1, and 102 where a name is not in its buffer, or is not UTF-8; the table then stays as it was.
+#[unsafe(no_mangle)]
+pub extern "C" fn vbtf_raw_rewrite(
+    alloc: Global,
+    table: &mut Handle,
+    section_names: &[u8],
+    sections: &[Named],
+    symbol_names: &[u8],
+    symbols: &[Named],
+    kernel: &Kernel,
+    asked: &mut Asked,
+    fault: &mut Fault,
+) -> u32
+    ensures rewritten { table.old.state ≡ 1 → AreReadable section_names.now sections.now
+        → AreReadable symbol_names.now symbols.now → EndsRewriting result kernel.now
+        (layout_named section_names.now sections.now symbol_names.now symbols.now)
+        table.old table.new asked.new fault.new }
+    ensures closed { table.old.state ≢ 1 → (result ≡ CLOSED) × (table.new ≡ table.old) }
+    ensures unreadable { table.old.state ≡ 1 → (AreReadable section_names.now sections.now
+        × AreReadable symbol_names.now symbols.now → ⊥)
+        → ((result ≡ INVALID_ARGUMENT) ⊎ (result ≡ no_memory)) × (table.new ≡ table.old) }
+    // A walk that meets no VAR, FUNC, FUNC_PROTO, DATASEC or DECL_TAG finds the size that it found.
+    ensures sizes { result ≡ 0 → KeepsSizes table.old.table table.new.table }
+    // What an id stands for, but for a FUNC, it stands for still.
+    ensures resolutions { result ≡ 0 → KeepsResolutions table.old.table table.new.table }
+    // The value that a name stands for in an ENUM or ENUM64 it stands for still.
+    ensures values { result ≡ 0 → KeepsValues table.old.table table.new.table }
+    // No type is taken away, and at most four are appended.
+    ensures appended { result ≡ 0 → AppendsAtMost 4 table.old.table table.new.table }
+{
+    if table.seen() != OWNED {
+        return CLOSED;
+    }
+    let program = match Program::read(alloc, section_names, sections, symbol_names, symbols) {
+        Ok(Some(program)) => program,
+        Ok(None) => return INVALID_ARGUMENT,
+        Err(_) => return report(BtfError::OutOfMemory, fault),
+    };
+    let Some(mut whole) = taken(alloc, table) else {
+        return CLOSED;
+    };
+    let answer = rewritten(&mut whole, &program, kernel);
+    *table = owner(whole);
+    match answer {
+        Ok(answers) => {
+            asked.list(&answers);
+            0
+        }
+        Err(error) => report(error, fault),
+    }
+}
+
+/// Rewrites a table for a kernel, and returns what was asked. An error leaves the table as it was.
+fn rewritten(
+    btf: &mut Btf,
+    program: &Program,
+    kernel: &Kernel,
+) -> Result<ArrayVec<FeatureAnswer, 8>, BtfError>
+    ensures rewrites { MeetsOrNoMemory (λ a. a.items) result
+        (RewritesFor kernel.now.features (policy_chosen kernel.now) btf.old
+        (ids_chosen kernel.now) (layout_of program.now.sections program.now.symbols) btf.new) }
+    ensures err { OnErr result (btf.new ≡ btf.old) }
+    ensures sizes { OnOk result (KeepsSizes btf.old btf.new) }
+    ensures resolutions { OnOk result (KeepsResolutions btf.old btf.new) }
+    ensures values { OnOk result (KeepsValues btf.old btf.new) }
+    ensures appended { OnOk result (AppendsAtMost 4 btf.old btf.new) }
+{
+    let is_granted = |feature: BtfFeature| -> bool
+        ensures { result ≡ has_bit kernel.entry.now.features (feature_of feature) }
+    { kernel.has(feature) };
+    let mut resolver = BtfFeatureResolver::new(is_granted);
+    let Program { sections, symbols } = program;
+    let ids = kernel.ksyms_ids();
+    btf.fixup_and_sanitize_with(sections, symbols, ids, kernel.policy(), &mut resolver)
+}

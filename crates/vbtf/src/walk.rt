@@ -1,0 +1,66 @@
+//! Walks from type to type.
+
+ghost use Rattle.std.specs.Prelude.{◌≡◌, ◌≢◌};
+ghost use Rattle.btf_model.specs.Walk.{Resolves, HasSize};
+ghost use Rattle.vbtf.specs.Status.{Ends, Keeps};
+
+use crate::fault::{CLOSED, Fault, report};
+use crate::handle::{Handle, lent};
+
+/// The size of a type in bytes.
+///
+/// Status 2, 9, 10 or 12 with the first cause on the walk, and 101 where the handle's state is not 2.
+#[unsafe(no_mangle)]
+pub extern "C" fn vbtf_lent_size(
+    table: &mut Handle,
+    id: u32,
+    size: &mut u64,
+    fault: &mut Fault,
+) -> u32
+    ensures sized { table.old.state ≡ 2
+        → Ends result size.new fault.new (HasSize table.old.table.records id) }
+    ensures closed { table.old.state ≢ 2 → result ≡ CLOSED }
+    ensures kept { Keeps table.old table.new }
+{
+    let Some(loan) = lent(table) else {
+        return CLOSED;
+    };
+    let answer = loan.get().type_size(id);
+    *table = Handle::from_loan(loan);
+    match answer {
+        Ok(found) => {
+            *size = found as u64;
+            0
+        }
+        Err(error) => report(error, fault),
+    }
+}
+
+/// The id of the first type that is no modifier, where modifiers lead from each to the next.
+///
+/// Status 9 or 12 with the first cause on the walk, and 101 where the handle's state is not 2.
+#[unsafe(no_mangle)]
+pub extern "C" fn vbtf_lent_resolve(
+    table: &mut Handle,
+    id: u32,
+    to: &mut u32,
+    fault: &mut Fault,
+) -> u32
+    ensures resolved { table.old.state ≡ 2
+        → Ends result to.new fault.new (Resolves table.old.table.records id) }
+    ensures closed { table.old.state ≢ 2 → result ≡ CLOSED }
+    ensures kept { Keeps table.old table.new }
+{
+    let Some(loan) = lent(table) else {
+        return CLOSED;
+    };
+    let answer = loan.get().resolve_type(id);
+    *table = Handle::from_loan(loan);
+    match answer {
+        Ok(found) => {
+            *to = found;
+            0
+        }
+        Err(error) => report(error, fault),
+    }
+}
