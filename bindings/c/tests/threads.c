@@ -1,0 +1,60 @@
+/* Four threads read one table, and two change tables of their own, at the same time. */
+#include "table.h"
+
+#include <pthread.h>
+
+#define ROUNDS 20000
+
+static struct vbtf_table shared = VBTF_TABLE_INIT;
+
+/* How many calls of a reader come out otherwise than alone. */
+static void *reader(void *unused)
+{
+	struct vbtf_error error;
+	uintptr_t wrong = 0;
+	for (unsigned i = 0; i < ROUNDS; i++) {
+		uint64_t size = 0, needed = 0;
+		uint32_t id = 0;
+		bool answer = false;
+		char text[8];
+		wrong += vbtf_size(&shared, 5, &size, &error) != VBTF_OK || size != 80;
+		wrong += vbtf_find(&shared, "run", 3, VBTF_KIND_FUNC, &id, &error) != VBTF_OK || id != 7;
+		wrong += vbtf_text_at(&shared, 26, text, sizeof text, &needed, &error) != VBTF_OK || needed != 6;
+		wrong += vbtf_types_are_compatible(&shared, 6, &shared, 6, &answer, &error) != VBTF_OK || !answer;
+	}
+	(void)unused;
+	return (void *)wrong;
+}
+
+static void *writer(void *unused)
+{
+	struct vbtf_error error;
+	uintptr_t wrong = 0;
+	for (unsigned i = 0; i < ROUNDS / 100; i++) {
+		struct vbtf_table table = VBTF_TABLE_INIT;
+		uint32_t offset = 0;
+		wrong += vbtf_new(&table, &error) != VBTF_OK;
+		for (unsigned j = 0; j < 100; j++)
+			wrong += vbtf_add_string(&table, "text", 4, &offset, &error) != VBTF_OK || offset != 1 + 5 * j;
+		vbtf_close(&table);
+	}
+	(void)unused;
+	return (void *)wrong;
+}
+
+int main(void)
+{
+	struct vbtf_error error;
+	uint8_t bytes[TABLE_LEN];
+	pthread_t threads[6];
+	table_bytes(bytes, VBTF_LITTLE);
+	check(vbtf_parse(&shared, bytes, sizeof bytes, VBTF_LITTLE, &error) == VBTF_OK);
+	for (unsigned i = 0; i < 6; i++)
+		check(pthread_create(&threads[i], NULL, i < 4 ? reader : writer, NULL) == 0);
+	for (unsigned i = 0; i < 6; i++) {
+		void *wrong = NULL;
+		check(pthread_join(threads[i], &wrong) == 0 && wrong == NULL);
+	}
+	vbtf_close(&shared);
+	return counted("threads");
+}

@@ -1,0 +1,156 @@
+//! The calls of the C library `vbtf`, as they are in its archive. `bindings/c/vbtf.h` says what each does, and what its
+//! caller has to uphold; the crate `vbtf` has them as methods.
+#![no_std]
+#![allow(non_camel_case_types)]
+
+use core::ffi::c_void;
+
+/// A table that C keeps. All zero is closed.
+#[repr(C)]
+#[derive(Debug)]
+pub struct vbtf_table {
+    pub at: *mut c_void,
+    pub state: u32,
+}
+
+/// What is wrong. Fields that an error does not have are 0.
+#[repr(C)]
+#[derive(Debug, Clone, Copy)]
+pub struct vbtf_error {
+    pub number: u32,
+    pub id: u32,
+    pub offset: u64,
+    pub len: u64,
+    pub section_len: u64,
+    pub name_len: u32,
+    pub name: [u8; 255],
+}
+
+/// The kind and the first words of a record.
+#[repr(C)]
+#[derive(Debug, Clone, Copy, Default)]
+pub struct vbtf_type {
+    pub kind: u32,
+    pub name_offset: u32,
+    pub info: u32,
+    pub size_or_type: u32,
+}
+
+/// A kernel that a table is rewritten for. `bindings/c/vbtf.h` has the bits of `features`.
+#[repr(C)]
+#[derive(Debug, Clone, Copy, Default)]
+pub struct vbtf_kernel {
+    pub features: u32,
+    pub fill_sized: u32,
+    pub ksyms: u32,
+    pub placeholder: u32,
+}
+
+/// A name in a buffer, and the size of the section or the offset of the symbol that has it.
+#[repr(C)]
+#[derive(Debug, Clone, Copy, Default)]
+pub struct vbtf_named {
+    pub at: u32,
+    pub len: u32,
+    pub number: u64,
+}
+
+/// The features that a rewrite asked about, in order, and whether the kernel has them.
+#[repr(C)]
+#[derive(Debug, Clone, Copy, Default)]
+pub struct vbtf_asked {
+    pub count: u32,
+    pub features: [u8; 8],
+    pub granted: [u8; 8],
+}
+
+extern "C" {
+    pub fn vbtf_raw_rewrite(
+        table: *mut vbtf_table,
+        section_names: *const u8,
+        section_names_len: usize,
+        sections: *const vbtf_named,
+        section_count: usize,
+        symbol_names: *const u8,
+        symbol_names_len: usize,
+        symbols: *const vbtf_named,
+        symbol_count: usize,
+        kernel: *const vbtf_kernel,
+        asked: *mut vbtf_asked,
+        error: *mut vbtf_error,
+    ) -> u32;
+    pub fn vbtf_new(table: *mut vbtf_table, error: *mut vbtf_error) -> u32;
+    pub fn vbtf_close(table: *mut vbtf_table);
+    pub fn vbtf_raw_parse(
+        table: *mut vbtf_table,
+        data: *const u8,
+        len: usize,
+        order: u32,
+        error: *mut vbtf_error,
+    ) -> u32;
+    pub fn vbtf_raw_add_string(
+        table: *mut vbtf_table,
+        text: *const u8,
+        len: usize,
+        offset: *mut u32,
+        error: *mut vbtf_error,
+    ) -> u32;
+    pub fn vbtf_lent_count(table: *mut vbtf_table, count: *mut u64) -> u32;
+    pub fn vbtf_lent_type(
+        table: *mut vbtf_table,
+        id: u32,
+        out: *mut vbtf_type,
+        error: *mut vbtf_error,
+    ) -> u32;
+    pub fn vbtf_lent_find(
+        table: *mut vbtf_table,
+        name: *const u8,
+        len: usize,
+        kind: u32,
+        id: *mut u32,
+        error: *mut vbtf_error,
+    ) -> u32;
+    pub fn vbtf_lent_resolve(
+        table: *mut vbtf_table,
+        id: u32,
+        to: *mut u32,
+        error: *mut vbtf_error,
+    ) -> u32;
+    pub fn vbtf_lent_size(
+        table: *mut vbtf_table,
+        id: u32,
+        size: *mut u64,
+        error: *mut vbtf_error,
+    ) -> u32;
+    pub fn vbtf_lent_text(
+        table: *mut vbtf_table,
+        offset: u32,
+        out: *mut u8,
+        room: usize,
+        needed: *mut u64,
+        error: *mut vbtf_error,
+    ) -> u32;
+    pub fn vbtf_lent_bytes(
+        table: *mut vbtf_table,
+        out: *mut u8,
+        room: usize,
+        needed: *mut u64,
+        error: *mut vbtf_error,
+    ) -> u32;
+    pub fn vbtf_lent_fields_compatible(
+        local: *mut vbtf_table,
+        id: u32,
+        target: *mut vbtf_table,
+        other: u32,
+        answer: *mut bool,
+        error: *mut vbtf_error,
+    ) -> u32;
+    pub fn vbtf_lent_types_compatible(
+        local: *mut vbtf_table,
+        id: u32,
+        target: *mut vbtf_table,
+        other: u32,
+        answer: *mut bool,
+        error: *mut vbtf_error,
+    ) -> u32;
+}
