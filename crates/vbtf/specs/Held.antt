@@ -7,7 +7,8 @@ use base.Fml.{Share, Fml, ftrue, fsep, flft}
 use denote.RattleType.{RattleType}
 use denote.RawPtr.{Ptr}
 use denote.Struct.Lending.{lent_at}
-use Rattle.libc.specs.Heap.{chunk}
+use mir.Syntax.{Ty}
+use Rattle.std.specs.contracts.impls.GlobalAllocator.TheImpl.{ghosts}
 use Rattle.btf_model.specs.Table.{Table}
 use Rattle.std.specs.Box.Ownership.{box_owns}
 use Rattle.btf_table.specs.contracts.table.Btf.{the_row}
@@ -48,8 +49,12 @@ coded_share = code_by (List Bool) (coded_list coded_bool) share_bits bits_share 
 abbrev pub loan_owns : (R : RattleType) → Ptr → R.Denot → ℕ → Share → Fml
 loan_owns R p x life share = fsep (flft (life ∷ []) share) (lent_at R p x (life ∷ []))
 
+-- The right to free a block of the C library's heap.
+abbrev pub may_free : Ty → Ptr → Fml
+may_free = ghosts.dealloc_token (record { memory = record { seal = tt } })
+
 -- What a handle owns, by its state: nothing, the table in its box, or a share of a loan of the table.
 abbrev pub held : Ptr → ℕ → Table → ℕ → Share → Fml
 held p zero t life share = ftrue
-held p (suc zero) t life share = box_owns chunk the_row p t
+held p (suc zero) t life share = box_owns may_free the_row p t
 held p (suc (suc n)) t life share = loan_owns the_row p t life share

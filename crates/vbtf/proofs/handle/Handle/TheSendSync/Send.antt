@@ -12,7 +12,7 @@ use denote.RawPtr.{Ptr, block_ptr, null_ptr, block_of, count_of, lies_at, in_blo
 use denote.Struct.Struct.{exits_of}
 use denote.Struct.Owning.{shape, fields, to}
 use denote.Struct.Lending.{lent_at}
-use Rattle.libc.specs.Heap.{chunk-Keyless}
+use Rattle.std.proofs.Crossing.{frees}
 use Rattle.btf_model.specs.Table.{Table}
 use Rattle.btf_table.specs.contracts.table.Btf as btf
 use Rattle.btf_table.proofs.table.Btf.TheSendSync.{the_send, the_sync}
@@ -36,7 +36,7 @@ seen R s p x κ = (inside p ftrue tt, s.shared x (block_of p) (count_of p) κ)
 
 held_keyless : IsSend btf.the_row → IsSync btf.the_row → (p : Ptr) (n : ℕ) (t : Table) (life : ℕ) (share : Share) → Keyless (held p n t life share)
 held_keyless s y p zero t life share = tt
-held_keyless s y p (suc zero) t life share = (lies btf.the_row s p t, chunk-Keyless (raw (lone btf.the_row.mir)) p)
+held_keyless s y p (suc zero) t life share = (lies btf.the_row s p t, frees.frees (record { memory = record { seal = tt } }) (raw (lone btf.the_row.mir)) p)
 held_keyless s y p (suc (suc n)) t life share = (tt, seen btf.the_row y p t (life ∷ []))
 
 pub send : IsSend the_row

@@ -13,7 +13,6 @@ use denote.Memory.{lone}
 use denote.RattleType.{RattleType, owns}
 use denote.Signature.{types_at}
 use denote.RawPtr.{block_ptr, null_ptr}
-use Rattle.libc.specs.Heap.{chunk}
 use Rattle.std.specs.Box.Ownership.{box_owns}
 use Rattle.std.proofs.alloc.Calls.{handle_tells}
 use Rattle.std.proofs.raw_atomic.Walks.{proved_at, leaves}
@@ -24,7 +23,7 @@ use Rattle.vbtf.specs.contracts.handle.Handle.to_parts as f
 use Rattle.vbtf.proofs.handle.Handle.to_parts.Statement.{statement}
 use Rattle.vbtf.proofs.handle.Handle.to_parts.Code as code
 use Rattle.vbtf.specs.contracts.handle.Handle.{the_row as R}
-use Rattle.vbtf.specs.Held.{held}
+use Rattle.vbtf.specs.Held.{held, may_free}
 use Rattle.vbtf.proofs.handle.Handle.TheLaws.{lowers}
 use Rattle.btf_table.specs.contracts.table.Btf as btf
 use Rattle.vbtf.proofs.HandleSteps.{word, handle_good}
@@ -47,7 +46,7 @@ to_parts_spec 𝓤 𝓛 𝓜 𝓡 wired =
     qed 𝓛 ((‵ ftrue ⊛ ‵ (owns (types_at f.ended.signature.params z.0.0) z.0.3 z.0.4)) ∷ raw (fact 𝓤 (h.state ≡ 1)) ∷ []) ∵ split ! $ drop ! $ fsplit3 ! $ move ! (3 ∷ []) $ heard ! (h.state ≡ 1) (λ is_one.
     -- [the handle; the allocator; nothing]
     fsplit ! $ drop ! $ rewrite ! 0 (λ (n : ℕ). ‵ (held h.at n h.table h.life h.share)) is_one refl $
-    in_a_block ! h.at (λ p. box_owns chunk B p h.table) (fst∗ 𝓤 (never 𝓤) (sem 𝓛 (chunk (bare (lone B.mir)) null_ptr))) (λ b o e.
+    in_a_block ! h.at (λ p. box_owns may_free B p h.table) (fst∗ 𝓤 (never 𝓤) (sem 𝓛 (may_free (bare (lone B.mir)) null_ptr))) (λ b o e.
     move ! (1 ∷ []) $ handle_tells (al B Z LZ ghosts) ! a z.0.4.1.0 (λ hv ea fits. keep ! (1 ∷ 0 ∷ []) $
     let w : Val = word (block_ptr b o) h.state in
     let ew : z.0.4.0 ≡ w ∷ [] = lowers.val_is h z.0.4.0 are.0 ∙ ap (λ (p : Ptr). word p h.state ∷ []) e in
