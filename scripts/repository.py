@@ -10,11 +10,21 @@ def kit():
     return os.path.dirname(page.strip())
 
 
+def crates():
+    """The lines of crates.txt: of each crate its name with what stands beside that, and the libraries that it uses."""
+    with open("crates.txt", encoding="utf-8") as file:
+        lines = [line.partition(":") for line in file if ":" in line and not line.startswith("#")]
+    return [(named.split(), uses.split()) for named, _, uses in lines]
+
+
 def uses_of_crates():
     """The libraries that each crate uses, by its name: crates of this repository, and others."""
-    with open("crates.txt", encoding="utf-8") as file:
-        lines = [line.split() for line in file if not line.startswith("#")]
-    return {words[0].rstrip(":"): words[1:] for words in lines if words}
+    return {named[0]: uses for named, uses in crates()}
+
+
+def is_static(crate):
+    """Whether a crate is a static library, for C."""
+    return [crate, "staticlib"] in [named for named, _ in crates()]
 
 
 def below(crate, uses):
@@ -23,3 +33,27 @@ def below(crate, uses):
     for name in [it for it in uses[crate] if it in uses]:
         found += [it for it in [*below(name, uses), name] if it not in found]
     return found
+
+
+def is_program(crate):
+    return os.path.exists(f"crates/{crate}/src/main.rt")
+
+
+def rlib(crate, crates):
+    """Where a library was built in a folder of crates."""
+    return f"{crates}/{crate}/out/rlib/{crate}.rlib"
+
+
+def prover(verb, crate, crates, uses):
+    """The words of a check or a build of a crate in its folder, as `rt` makes them, over what was built in a folder of
+    crates."""
+    at = kit()
+    root = "src/main.rt" if is_program(crate) else "src/lib.rt"
+    words = [f"{at}/bin/rattle", verb, "--crate-name", crate, root, "-L", f"dependency={at}/rlibs"]
+    for name in ["std", *uses[crate]]:
+        words += ["--extern", f"{name}={rlib(name, crates) if name in uses else f'{at}/rlibs/{name}.rlib'}"]
+    for name in sorted(below(crate, uses)):
+        words += ["-L", f"dependency={os.path.dirname(rlib(name, crates))}"]
+    words += ["--antt-project", f"{at}/rattle/logic/antt-project.json", "--logic-built", f"{at}/logic_built"]
+    words += ["--links", f"{crate}=", "--jobs", "1"]
+    return [*words, "--crate-type", "staticlib"] if is_static(crate) else words
