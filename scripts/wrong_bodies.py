@@ -5,7 +5,7 @@ import glob
 import os
 import re
 
-HEAD = re.compile(r"^(\s*)(?:pub(?:\([a-z]+\))? )?(?:const )?fn (\w+)", re.M)
+HEAD = re.compile(r"^(\s*)(?:pub(?:\([a-z]+\))? )?(?:const )?(?:extern \"C\" )?fn (\w+)", re.M)
 IMPL = re.compile(r"^impl\b(.*?)\{?$", re.M)
 CONST = re.compile(r"\s*(?:pub(?:\([a-z]+\))? )?const (\w+):")
 NOTE = re.compile(r"# (refused|unproved) at: (.*)")
