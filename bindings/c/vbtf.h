@@ -178,7 +178,7 @@ static inline struct vbtf_table vbtf_loan(const struct vbtf_table *table)
 	return loan;
 }
 
-/* A pointer to bytes; null stands for none. */
+/* A pointer to bytes, which is not null. */
 static inline const uint8_t *vbtf_bytes_or_none(const void *bytes)
 {
 	return bytes ? (const uint8_t *)bytes : (const uint8_t *)"";
@@ -189,7 +189,7 @@ static inline const uint8_t *vbtf_bytes_or_none(const void *bytes)
 /* Opens a closed table that has no type but that of id 0, in little-endian order: `vbtf_new`, above. */
 
 /*
- * Opens a closed table with what the bytes of a .BTF section stand for, whose words are in this order.
+ * Opens a closed table with the table that the bytes of a .BTF section represent, whose words are in this order.
  *
  * VBTF_INVALID_HEADER, VBTF_INVALID_TYPE_INFO, VBTF_INVALID_TYPE_KIND: the first cause of refusal, in the order that
  * docs/BEHAVIOUR.md states. VBTF_BAD_ARGUMENT where the table is open, or the order is no order. A table that is
@@ -314,7 +314,7 @@ static inline uint32_t vbtf_types_are_compatible(const struct vbtf_table *local,
 
 /*
  * Rewrites a table for a kernel that lacks some features, and reports what was asked about it. `sections` has the sizes
- * of the program's sections and `symbols` the offsets of its symbols; null stands for none. Ids stay, strings are only
+ * of the program's sections and `symbols` the offsets of its symbols; either may be null. Ids stay, strings are only
  * appended, and at most four types are.
  *
  * The first cause of refusal: VBTF_INVALID_STRING_OFFSET, VBTF_UNKNOWN_TYPE, VBTF_UNEXPECTED_TYPE,

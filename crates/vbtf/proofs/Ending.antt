@@ -9,10 +9,10 @@ use Rattle.vbtf.specs.Status.{Reports, ReportsError, EndsOrNoMemory, no_memory}
 pub refused : {Y : Type 0} (status : ℕ) (fault : Fault) (o : Option Refusal) (P : Result Y Refusal → Type 0)
     → IfSome o (λ r. P (Err r)) → ReportsError status fault o
     → (status ≡ no_memory) ⊎ ((refusal : Refusal) × Reports status fault refusal × P (Err refusal))
-refused status fault (Some r) P holds told = inr (r, told, holds)
-refused status fault None P holds told = inl told.0
+refused status fault (Some r) P holds reported = inr (r, reported, holds)
+refused status fault None P holds reported = inl reported.0
 
 pub ends_refused : {Y : Type 0} (status : ℕ) (value : Y) (fault : Fault) (o : Option Refusal) (P : Result Y Refusal → Type 0)
     → IfSome o (λ r. P (Err r)) → ReportsError status fault o → EndsOrNoMemory status value fault P
-ends_refused status value fault (Some r) P holds told = inl (inr (r, told, holds))
-ends_refused status value fault None P holds told = inr told.0
+ends_refused status value fault (Some r) P holds reported = inl (inr (r, reported, holds))
+ends_refused status value fault None P holds reported = inr reported.0

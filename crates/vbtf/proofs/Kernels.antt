@@ -1,6 +1,6 @@
 -- The answers that a rewrite gets are what the bits of a kernel say.
-use Rattle.std.proofs.Common.{◌≡◌, ℕ, List, [], ◌∷◌, Bool, Option, None, Some, Result, Ok, Err, IfOk, sym, subst, inl, inr}
-use Rattle.std.specs.Prelude.{IfSome, ◌⊎◌}
+use Rattle.std.proofs.Common.{◌≡◌, ℕ, List, [], ◌∷◌, Bool, Option, None, Some, Result, Ok, Err, IfOk, sym, subst}
+use Rattle.std.specs.Prelude.{IfSome}
 use Rattle.arrayvec.specs.declared.array_vec.ArrayVec.{ArrayVec}
 use Rattle.btf_model.specs.Refusal.{Refusal}
 use Rattle.btf_model.specs.Table.{Table}
@@ -13,8 +13,6 @@ use Rattle.btf_table.specs.Rewrites.{RewritesWith}
 use Rattle.btf_types.specs.Features.{feature_of, answers_of, Called}
 use Rattle.btf_words.specs.declared.error.BtfError.{BtfError}
 use Rattle.btf_words.specs.Error.{MeetsOrNoMemory, refusal_of}
-use Rattle.vbtf.specs.declared.fault.Fault.{Fault}
-use Rattle.vbtf.specs.Status.{Reports, ReportsError, no_memory}
 use Rattle.vbtf.specs.Kernel.{has_bit, AreOf, RewritesFor}
 
 -- a predicate that answers so, whatever it is called for
@@ -47,9 +45,3 @@ for_handle features policy ids t old l layout n new r same_old same_layout same_
 
 pub carried : (R : Table → Table → Type 0) (t old n new : Table) → t ≡ old → new ≡ n → R t n → R old new
 carried R t old n new same_old same_new r = subst (λ x. R x new) same_old (subst (λ x. R t x) (sym same_new) r)
-
--- an error that is told is a refusal, or a failed allocation
-pub refused_or_no_memory : (status : ℕ) (fault : Fault) (o : Option Refusal) (P : Refusal → Type 0) → ReportsError status fault o → IfSome o P
-    → (status ≡ no_memory) ⊎ ((refusal : Refusal) × Reports status fault refusal × P refusal)
-refused_or_no_memory status fault None P told p = inl told.0
-refused_or_no_memory status fault (Some refusal) P told p = inr (refusal, told, p)

@@ -11,7 +11,7 @@ use Rattle.vbtf.specs.declared.program.Named.{Named}
 use Rattle.btf_rewrite_model.specs.Pass.{Layout}
 use Rattle.vbtf.specs.Program.{name_in, number_named, layout_named, IsReadable, AreReadable}
 
--- what stands for an item past the end
+-- the value of a place past the end
 abbrev pub no_entry : Named
 no_entry = record { at = 0; len = 0; number = 0 }
 

@@ -34,7 +34,7 @@ pub extern "C" fn vbtf_new(alloc: Global, table: &mut Handle, fault: &mut Fault)
     }
 }
 
-/// Opens a handle with the table that a blob stands for. `order` is the byte order: 0 for little, 1 for big.
+/// Opens a handle with the table that a blob represents. `order` is the byte order: 0 for little, 1 for big.
 ///
 /// Status 1, 2 or 4 with the first cause of refusal, 20 where an allocation fails, and 102 where the handle is not
 /// closed or the order is another number; the handle then stays as it was.

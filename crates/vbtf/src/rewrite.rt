@@ -45,9 +45,9 @@ pub extern "C" fn vbtf_raw_rewrite(
         → ((result ≡ INVALID_ARGUMENT) ⊎ (result ≡ no_memory)) × (table.new ≡ table.old) }
     // A walk that meets no VAR, FUNC, FUNC_PROTO, DATASEC or DECL_TAG finds the size that it found.
     ensures sizes { result ≡ 0 → KeepsSizes table.old.table table.new.table }
-    // What an id stands for, but for a FUNC, it stands for still.
+    // An id resolves to what it resolved to, unless that is a FUNC.
     ensures resolutions { result ≡ 0 → KeepsResolutions table.old.table table.new.table }
-    // The value that a name stands for in an ENUM or ENUM64 it stands for still.
+    // A name has the value in an ENUM or ENUM64 that it had, also where a UNION took its place.
     ensures values { result ≡ 0 → KeepsValues table.old.table table.new.table }
     // No type is taken away, and at most four are appended.
     ensures appended { result ≡ 0 → AppendsAtMost 4 table.old.table table.new.table }

@@ -7,7 +7,8 @@ use Rattle.btf_types.specs.Layout.{layout_of}
 use Rattle.btf_words.specs.Error.{refusal_of}
 use Rattle.vbtf.specs.Kernel.{RewritesFor, ListsAnswers, policy_chosen, ids_chosen}
 use Rattle.vbtf.specs.Program.{layout_named, AreReadable}
-use Rattle.vbtf.proofs.Kernels.{carried, for_handle, refused_or_no_memory}
+use Rattle.vbtf.proofs.Ending.{refused}
+use Rattle.vbtf.proofs.Kernels.{carried, for_handle}
 use Rattle.vbtf.proofs.rewrite.vbtf_raw_rewrite.Goals as goal
 use Rattle.vbtf.proofs.rewrite.vbtf_raw_rewrite.Goals.{After-owner}
 
@@ -49,17 +50,17 @@ pub returns-clause-rewritten : goal.returns-clause-rewritten
 returns-clause-rewritten c = λ owned sections symbols.
     let w = (goal.at.returns-clause-rewritten c).After-owner in
     let kernel = c.args.kernel.now in
-    let refused = refused_or_no_memory c.report-in-Err-answer.result c.report-in-Err-answer.new.fault (refusal_of c.in-Err-answer.error)
-    (λ refusal. RewritesFor kernel.features (policy_chosen kernel) c.deref_mut.result.now (ids_chosen kernel) (layout_of c.in-Ok-Some.program.sections c.in-Ok-Some.program.symbols) c.rewritten-answer.new.btf (Err refusal))
-    c.report-in-Err-answer.ensures c.in-Err-answer.ensures.rewrites in (
+    let ended = refused c.report-in-Err-answer.result c.report-in-Err-answer.new.fault (refusal_of c.in-Err-answer.error)
+    (RewritesFor kernel.features (policy_chosen kernel) c.deref_mut.result.now (ids_chosen kernel) (layout_of c.in-Ok-Some.program.sections c.in-Ok-Some.program.symbols) c.rewritten-answer.new.btf)
+    c.in-Err-answer.ensures.rewrites c.report-in-Err-answer.ensures in (
       c.owner.ensures.0,
       inr (
         c.owner.ensures.1 ∙ c.in-Err-answer.ensures.err ∙ same_old w,
-        elim refused [
+        elim ended [
           | inl full ↦ inl full
-          | inr (refusal, told, found) ↦ inr (
+          | inr (refusal, reported, found) ↦ inr (
             refusal,
-            told,
+            reported,
             for_handle kernel.features (policy_chosen kernel) (ids_chosen kernel) c.deref_mut.result.now c.args.table.now.table _ (layout_named c.args.section_names.now c.args.sections.now c.args.symbol_names.now c.args.symbols.now) c.rewritten-answer.new.btf c.owner.result.table (Err refusal) (same_old w) (same_layout w) c.owner.ensures.1 found,
           )
         ],

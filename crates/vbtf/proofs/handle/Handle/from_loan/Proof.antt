@@ -23,7 +23,7 @@ from_loan_spec 𝓤 𝓛 𝓜 𝓡 wired =
     let c = f.clauses 𝓛 𝓜.mem 𝓡.returns in let L = loan.the_row btf.the_row in
     proved 𝓛 f.ended stayed c 𝓜 𝓡 (Goes-dropped 𝓛 0 (plain (λ _. L)) yes (λ κs x w. refl), tt)
     f.Key.name code.function (code.unfolded 𝓤 𝓛.H 𝓜 𝓡 wired)
-    (λ κs. ((λ d. fields.word d.at ∷ []), tt)) (λ κs. ((λ d vs is. fields.told btf.the_row d.at vs is.0), tt)) (λ κs qs bounds a g are.
+    (λ κs. ((λ d. fields.word d.at ∷ []), tt)) (λ κs. ((λ d vs is. fields.word_is btf.the_row d.at vs is.0), tt)) (λ κs qs bounds a g are.
     let d : L.Denot = a.0 in let vs : List Val = fields.word d.at ∷ [] in
     let y : (walk_of 𝓛 f.ended stayed c).Ghost = ((κs, qs, bounds, a, (vs, tt)), g) in
     let made : R.Denot = record { at = d.at; state = 2; table = d.value; life = d.life; share = d.share } in

@@ -28,7 +28,7 @@ use denote.Triple.Walked.{Stays, stay_dropped, walk_of, Goes-dropped}
 use Rattle.std.proofs.VecSteps.Shapes.{after}
 use Rattle.std.proofs.raw_atomic.Walks.{proved, leaves}
 use Rattle.vbtf.specs.contracts.loan.Loan as loan
-use Rattle.vbtf.proofs.LoanFields.{word, Data, told, opened}
+use Rattle.vbtf.proofs.LoanFields.{word, Data, word_is, opened}
 use Rattle.vbtf.specs.contracts.loan.Loan.get.{ended, clauses}
 use Rattle.vbtf.specs.contracts.loan.Loan.get.Key.{name as #self}
 use Rattle.vbtf.proofs.loan.Loan.get.Statement.{statement}
@@ -50,7 +50,7 @@ get_spec 𝓤 𝓛 𝓜 𝓡 wired X L =
     split ! $ move ! (1 ∷ []) $ unhide ! $ fsplit ! $
     use1 𝓛 (raw (fact 𝓤 (InBlock p))) (in_block_says 𝓛 p) $ heard ! (InBlock p) (λ inb. hide ! $ move ! (1 ∷ 2 ∷ []) $
     looks ! tt D (opened R 𝓛) (p, tt) b o (λ q vs. move ! (1 ∷ []) $ peeks ! D (Is D) (shows 𝓛 D) (p, tt) vs (λ so.
-    let ev : vs ≡ word (block_ptr (block_of p) (count_of p)) ∷ [] = told R p vs so ∙ ap (λ (r : Ptr). word r ∷ []) (at_block p inb) in
+    let ev : vs ≡ word (block_ptr (block_of p) (count_of p)) ∷ [] = word_is R p vs so ∙ ap (λ (r : Ptr). word r ∷ []) (at_block p inb) in
     rewrite ! 1 (λ (ws : List Val). ‵ (cell_at q D.mir ws b o)) ev refl $ first ! $ blocks ! $
     sets_last ! (addr ! (through ! refl (fld ! refl (hop ! (look_in ! 1 (sub ! 0 refl (whole !))) (stop !))))) refl (tt, tt) $ exec ! 𝓣.C 𝓣.Λ Ev (after 1 fn.body) (at_ret Ev Post) $ sets ! (of_opd ! (get ! refl)) refl (tt, tt) $
     rewrite ! 1 (λ (ws : List Val). ‵ (cell_at q D.mir ws b o)) (sym ev) refl $ move ! (1 ∷ 0 ∷ 2 ∷ []) $ shuts ! tt D q (p, tt) vs b o $ move ! (0 ∷ 3 ∷ []) $ join ! $
