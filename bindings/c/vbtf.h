@@ -1,11 +1,11 @@
 /*
  * vbtf.h: tables of BTF, the Linux kernel's type metadata for BPF programs.
  *
- * The library behind these calls is proved: each call returns, whatever the bytes are, and its answer is what docs/C.md
- * says. A call returns a status: VBTF_OK, the number of an error of the library, or one of this binding's own. Where
- * the last argument is a struct vbtf_error, an error of the library is described there; it may not be null.
+ * The library below these calls is proved: each call terminates on every input, and docs/C.md has what it returns. A
+ * call returns a status: VBTF_OK, the number of an error of the library, or one of this binding's own. Where the last
+ * argument is a struct vbtf_error, the call describes an error of the library there; the argument may not be null.
  *
- * What the caller has to uphold, and nothing checks:
+ * Nothing checks these duties of the caller:
  *
  *  - A struct vbtf_table is zeroed before its first call, and not copied while it is open. VBTF_TABLE_INIT zeroes it.
  *  - Several threads may read one table at the same time. A call that takes a table without const runs alone: calls on
@@ -30,11 +30,11 @@ enum vbtf_status {
 	VBTF_OK = 0,
 
 	/* errors of the library */
-	VBTF_INVALID_HEADER = 1,         /* the header is cut, or the strings do not lie in the data */
-	VBTF_INVALID_TYPE_INFO = 2,      /* the types do not lie in the data, or a record is cut or too large */
+	VBTF_INVALID_HEADER = 1,         /* the header is cut, or the strings are not within the data */
+	VBTF_INVALID_TYPE_INFO = 2,      /* the types are not within the data, or a record is cut or too large */
 	VBTF_INVALID_TYPE_KIND = 4,      /* a record is of a kind that does not exist; the kind is in id */
 	VBTF_INVALID_STRING_OFFSET = 6,  /* no text is at offset */
-	VBTF_INVALID_INFO = 7,           /* a part of .BTF.ext does not lie where it should: offset, len, section_len */
+	VBTF_INVALID_INFO = 7,           /* a part of .BTF.ext is not where it should be: offset, len, section_len */
 	VBTF_UNKNOWN_TYPE = 9,           /* no type has id */
 	VBTF_UNEXPECTED_TYPE = 10,       /* the type of id is of a kind that has no place there */
 	VBTF_UNKNOWN_TYPE_NAME = 11,     /* no type of the kind has the name */
@@ -42,15 +42,16 @@ enum vbtf_status {
 	VBTF_SYMBOL_NOT_FOUND = 13,      /* the symbol of the name has no known offset, or one past 32 bits */
 	VBTF_INVALID_DATASEC = 14,       /* an entry of a DATASEC is no VAR */
 	VBTF_UNKNOWN_SECTION_SIZE = 15,  /* the section of the name has no known size, or one past 32 bits */
-	VBTF_OUT_OF_MEMORY = 20,         /* memory was refused */
+	VBTF_OUT_OF_MEMORY = 20,         /* an allocation failed */
 
 	/* of this binding */
 	VBTF_NO_ROOM = 100,              /* the buffer is too short; nothing was written to it */
-	VBTF_CLOSED = 101,               /* the table is not open */
-	VBTF_BAD_ARGUMENT = 102          /* an argument that means nothing, or a table that is open already */
+	VBTF_CLOSED = 101,               /* the table, or its .BTF.ext, is not open */
+	VBTF_BAD_ARGUMENT = 102,         /* an argument has no meaning, or what is to be opened is open already */
+	VBTF_NO_ITEM = 103               /* the type has no item of the index, or no variant of the name */
 };
 
-/* What is wrong. Fields that an error does not have are 0. */
+/* An error of the library. Fields that the error does not have are 0. */
 struct vbtf_error {
 	uint32_t number;         /* the status of the call */
 	uint32_t id;             /* the id of a type, or the number of a kind */
@@ -70,7 +71,8 @@ struct vbtf_table {
 
 #define VBTF_TABLE_INIT { 0, 0 }
 
-enum vbtf_order { VBTF_LITTLE = 0, VBTF_BIG = 1 };
+/* The order of the bytes in a word. VBTF_BY_MAGIC is big-endian where the data begins with 0xeb 0x9f, else little. */
+enum vbtf_order { VBTF_LITTLE = 0, VBTF_BIG = 1, VBTF_BY_MAGIC = 2 };
 
 enum vbtf_kind {
 	VBTF_KIND_UNKNOWN, VBTF_KIND_INT, VBTF_KIND_PTR, VBTF_KIND_ARRAY, VBTF_KIND_STRUCT, VBTF_KIND_UNION,
@@ -95,7 +97,111 @@ struct vbtf_type {
 	uint32_t kind;
 	uint32_t name_offset;
 	uint32_t info;           /* vlen in bits 0 to 15, the kind in bits 24 to 28, the kind flag in bit 31 */
-	uint32_t size_or_type;
+	uint32_t size_or_type;   /* the size in bytes, or the id of another type, by the kind; 0 of a kind without both */
+};
+
+/* How many members, variants, parameters or entries a type has. The vlen of a FUNC is its linkage. */
+static inline uint32_t vbtf_vlen(const struct vbtf_type *type)
+{
+	return type->info & 0xffff;
+}
+
+/*
+ * The kind flag. Of a STRUCT or UNION: some members may be bit-fields. Of an ENUM or ENUM64: the values are signed. Of
+ * a FWD: the type is a UNION.
+ */
+static inline bool vbtf_kind_flag(const struct vbtf_type *type)
+{
+	return type->info >> 31 == 1;
+}
+
+/* A member of a STRUCT or UNION. */
+struct vbtf_member {
+	uint32_t name_offset;
+	uint32_t type;
+	uint32_t bit_offset;
+	uint32_t bit_field_size; /* in bits; 0 of a member that is no bit-field */
+};
+
+/* A variant of an ENUM or ENUM64. */
+struct vbtf_variant {
+	uint32_t name_offset;
+	uint32_t bits;           /* how many bits the value has: 32 in an ENUM, 64 in an ENUM64 */
+	bool is_signed;
+	uint64_t value;          /* the bits above those of the value are 0, also where it is signed */
+};
+
+/* A parameter of a FUNC_PROTO. The last one of a variadic function has type 0 and no name. */
+struct vbtf_param {
+	uint32_t name_offset;
+	uint32_t type;
+};
+
+/* An entry of a DATASEC: a variable, and its place in the section in bytes. */
+struct vbtf_entry {
+	uint32_t type;
+	uint32_t offset;
+	uint32_t size;
+};
+
+struct vbtf_array {
+	uint32_t type;           /* the type of an element */
+	uint32_t index_type;
+	uint32_t len;
+};
+
+/* What an INT has beside its size. */
+struct vbtf_int {
+	uint32_t encoding;       /* 1 for signed, 2 for char, 4 for bool, or 0 */
+	uint32_t offset;         /* the bit at which the integer begins */
+	uint32_t bits;
+};
+
+/* The linkage of a VAR or FUNC. VBTF_LINKAGE_UNKNOWN is any other. */
+enum vbtf_linkage {
+	VBTF_LINKAGE_STATIC, VBTF_LINKAGE_GLOBAL, VBTF_LINKAGE_EXTERN, VBTF_LINKAGE_UNKNOWN
+};
+
+/* An item of a type as words of its record, which vbtf_member_at and the calls after it read. */
+struct vbtf_item {
+	uint32_t info;           /* the info word of the type */
+	uint32_t count;          /* how many words the item has */
+	uint32_t words[3];
+};
+
+/* ---- .BTF.ext */
+
+enum vbtf_part { VBTF_PART_FUNC_INFO = 0, VBTF_PART_LINE_INFO = 1 };
+
+/* The sizes of the records in the bytes of a .BTF.ext, 0 where there are none, and how many sections have records. */
+struct vbtf_ext_sizes {
+	uint64_t func_size;
+	uint64_t line_size;
+	uint64_t func_sections;
+	uint64_t line_sections;
+	uint64_t relocation_sections;
+};
+
+/* Where a function begins: the instruction, counted from the first of the section, and the id of the FUNC. */
+struct vbtf_func_info {
+	uint32_t instruction;
+	uint32_t type;
+};
+
+/* The line of source that an instruction is from. */
+struct vbtf_line_info {
+	uint32_t instruction;
+	uint32_t file_name_offset;
+	uint32_t line_offset;    /* of the text of the line */
+	uint32_t line_column;    /* the number of the line in bits 10 to 31, that of the column in bits 0 to 9 */
+};
+
+/* A relocation for the kernel at hand (CO-RE). */
+struct vbtf_relocation {
+	uint32_t offset;         /* of the instruction, in bytes */
+	uint32_t type;
+	uint32_t access_offset;  /* of the text that names the member, as "0:1:2" */
+	uint32_t kind;
 };
 
 /* ---- kernels and programs, for a rewrite */
@@ -149,6 +255,9 @@ uint32_t vbtf_raw_parse(struct vbtf_table *table, const uint8_t *data, size_t le
                         struct vbtf_error *error);
 uint32_t vbtf_raw_add_string(struct vbtf_table *table, const uint8_t *text, size_t len, uint32_t *offset,
                              struct vbtf_error *error);
+uint32_t vbtf_raw_add_type(struct vbtf_table *table, const uint8_t *record, size_t len, uint32_t order, uint32_t *id,
+                           struct vbtf_error *error);
+uint32_t vbtf_raw_error_text(const struct vbtf_error *error, uint8_t *out, size_t room, uint64_t *needed);
 uint32_t vbtf_lent_count(struct vbtf_table *table, uint64_t *count);
 uint32_t vbtf_lent_type(struct vbtf_table *table, uint32_t id, struct vbtf_type *type, struct vbtf_error *error);
 uint32_t vbtf_lent_find(struct vbtf_table *table, const uint8_t *name, size_t len, uint32_t kind, uint32_t *id,
@@ -158,6 +267,10 @@ uint32_t vbtf_lent_size(struct vbtf_table *table, uint32_t id, uint64_t *size, s
 uint32_t vbtf_lent_text(struct vbtf_table *table, uint32_t offset, uint8_t *out, size_t room, uint64_t *needed,
                         struct vbtf_error *error);
 uint32_t vbtf_lent_bytes(struct vbtf_table *table, uint8_t *out, size_t room, uint64_t *needed,
+                         struct vbtf_error *error);
+uint32_t vbtf_lent_item(struct vbtf_table *table, uint32_t id, uint32_t index, struct vbtf_item *item,
+                        struct vbtf_error *error);
+uint32_t vbtf_lent_value(struct vbtf_table *table, uint32_t id, const uint8_t *name, size_t len, uint64_t *value,
                          struct vbtf_error *error);
 uint32_t vbtf_lent_fields_compatible(struct vbtf_table *local, uint32_t id, struct vbtf_table *target, uint32_t other,
                                      bool *answer, struct vbtf_error *error);
@@ -169,7 +282,19 @@ uint32_t vbtf_raw_rewrite(struct vbtf_table *table, const uint8_t *section_names
                           size_t symbol_names_len, const struct vbtf_named *symbols, size_t symbol_count,
                           const struct vbtf_kernel *kernel, struct vbtf_asked *asked, struct vbtf_error *error);
 
-/* The same table, lent for one call, which only reads it. */
+uint32_t vbtf_raw_open_ext(struct vbtf_table *table, const uint8_t *data, size_t len, uint32_t order, uint64_t seed,
+                           struct vbtf_error *error);
+void vbtf_close_ext(struct vbtf_table *table);
+uint32_t vbtf_lent_ext(struct vbtf_table *table, struct vbtf_ext_sizes *ext);
+uint32_t vbtf_lent_ext_names(struct vbtf_table *table, uint32_t part, uint8_t *out, size_t room, uint64_t *needed,
+                             struct vbtf_error *error);
+uint32_t vbtf_lent_ext_section(struct vbtf_table *table, uint32_t index, uint32_t *name_offset);
+uint32_t vbtf_lent_ext_records(struct vbtf_table *table, uint32_t part, const uint8_t *name, size_t len, uint8_t *out,
+                               size_t room, uint64_t *needed, struct vbtf_error *error);
+uint32_t vbtf_lent_ext_relocations(struct vbtf_table *table, const uint8_t *name, size_t len, uint32_t *out,
+                                   size_t room, uint64_t *needed, struct vbtf_error *error);
+
+/* The same table, lent for calls that only read it. */
 static inline struct vbtf_table vbtf_loan(const struct vbtf_table *table)
 {
 	struct vbtf_table loan;
@@ -184,6 +309,58 @@ static inline const uint8_t *vbtf_bytes_or_none(const void *bytes)
 	return bytes ? (const uint8_t *)bytes : (const uint8_t *)"";
 }
 
+/* ---- errors */
+
+/* The room that the text of each error takes, with the zero byte after it. */
+#define VBTF_ERROR_ROOM 400
+
+/*
+ * Writes the text of a status, and of the error that the call described, to the buffer, with a zero byte after it, and
+ * returns the buffer. Where the buffer is too short the text is cut. Where an allocation for the text fails, it is "out
+ * of memory".
+ */
+static inline const char *vbtf_error_text(uint32_t status, const struct vbtf_error *error, char *out, size_t room)
+{
+	static const char *const texts[] = {
+		"buffer too short", "not open", "invalid argument", "no such item",
+	};
+	uint8_t written[1024];
+	const char *text = "unknown error";
+	uint64_t len = 0;
+	uint32_t answer;
+	size_t end = 0;
+	if (status == VBTF_OK) {
+		text = "no error";
+	} else if (status >= VBTF_NO_ROOM) {
+		text = status - VBTF_NO_ROOM < sizeof texts / sizeof *texts ? texts[status - VBTF_NO_ROOM] : text;
+	} else {
+		answer = vbtf_raw_error_text(error, written, sizeof written - 1, &len);
+		written[len < sizeof written ? len : 0] = 0;
+		if (answer == VBTF_OK)
+			text = (const char *)written;
+		else if (answer == VBTF_OUT_OF_MEMORY)
+			text = "out of memory";
+	}
+	if (room == 0)
+		return "";
+	for (; end + 1 < room && text[end]; end++)
+		out[end] = text[end];
+	out[end] = 0;
+	return out;
+}
+
+/* Describes an error that a function of this header found, and returns its status. */
+static inline uint32_t vbtf_describe(struct vbtf_error *error, uint32_t number, uint32_t id)
+{
+	error->number = number;
+	error->id = id;
+	error->offset = 0;
+	error->len = 0;
+	error->section_len = 0;
+	error->name_len = 0;
+	return number;
+}
+
 /* ---- open and write */
 
 /* Opens a closed table that has no type but that of id 0, in little-endian order: `vbtf_new`, above. */
@@ -191,9 +368,9 @@ static inline const uint8_t *vbtf_bytes_or_none(const void *bytes)
 /*
  * Opens a closed table with the table that the bytes of a .BTF section represent, whose words are in this order.
  *
- * VBTF_INVALID_HEADER, VBTF_INVALID_TYPE_INFO, VBTF_INVALID_TYPE_KIND: the first cause of refusal, in the order that
- * docs/BEHAVIOUR.md states. VBTF_BAD_ARGUMENT where the table is open, or the order is no order. A table that is
- * refused stays as it was.
+ * VBTF_INVALID_HEADER, VBTF_INVALID_TYPE_INFO, VBTF_INVALID_TYPE_KIND: the first cause of failure, in the order that
+ * docs/BEHAVIOUR.md states. VBTF_BAD_ARGUMENT where the table is open, or the order is no order. With an error the
+ * table is as it was.
  */
 static inline uint32_t vbtf_parse(struct vbtf_table *table, const void *data, size_t len, uint32_t order,
                                   struct vbtf_error *error)
@@ -201,18 +378,11 @@ static inline uint32_t vbtf_parse(struct vbtf_table *table, const void *data, si
 	return vbtf_raw_parse(table, vbtf_bytes_or_none(data), len, order, error);
 }
 
-/* The order of a table by its magic, which is 0xeb9f: big-endian where its first byte is 0xeb. */
-static inline uint32_t vbtf_order_of(const void *data, size_t len)
-{
-	const uint8_t *bytes = (const uint8_t *)data;
-	return len > 1 && bytes[0] == 0xeb && bytes[1] == 0x9f ? VBTF_BIG : VBTF_LITTLE;
-}
-
-/* Closes a table and frees what it holds: `vbtf_close`, above. A closed one stays closed. */
+/* Closes a table, and its .BTF.ext, and frees what they hold: `vbtf_close`, above. A closed one stays closed. */
 
 /*
- * Writes the bytes of the table, in its own order, and how many they are. VBTF_NO_ROOM where the buffer has fewer:
- * then `needed` says how many it takes, and nothing is written.
+ * Writes the bytes of the table, in its own order, and their number to `needed`. VBTF_NO_ROOM where the buffer has less
+ * room: then only `needed` is written.
  */
 static inline uint32_t vbtf_bytes(const struct vbtf_table *table, void *out, size_t room, uint64_t *needed,
                                   struct vbtf_error *error)
@@ -240,9 +410,9 @@ static inline uint32_t vbtf_type_by_id(const struct vbtf_table *table, uint32_t 
 }
 
 /*
- * The text at a string offset, up to the first zero byte, in UTF-8 and without a zero byte behind it: U+FFFD is in the
+ * The text at a string offset, up to the first zero byte, in UTF-8 and without a zero byte after it: U+FFFD is in the
  * place of each piece that is not UTF-8. VBTF_INVALID_STRING_OFFSET where no zero byte is at the offset or after it.
- * VBTF_NO_ROOM where the buffer is shorter than the text: then `needed` says how long it is, and nothing is written.
+ * VBTF_NO_ROOM where the buffer is shorter than the text: then only `needed` is written, the length of the text.
  */
 static inline uint32_t vbtf_text_at(const struct vbtf_table *table, uint32_t offset, void *out, size_t room,
                                     uint64_t *needed, struct vbtf_error *error)
@@ -250,6 +420,180 @@ static inline uint32_t vbtf_text_at(const struct vbtf_table *table, uint32_t off
 	struct vbtf_table loan = vbtf_loan(table);
 	uint8_t none;
 	return vbtf_lent_text(&loan, offset, out ? (uint8_t *)out : &none, out ? room : 0, needed, error);
+}
+
+/* ---- items of a type, by their index */
+
+/* The first words of a type, whose kind has its bit in `kinds`; else VBTF_UNEXPECTED_TYPE. */
+static inline uint32_t vbtf_type_of_kinds(struct vbtf_table *loan, uint32_t id, uint32_t kinds, struct vbtf_type *type,
+                                          struct vbtf_error *error)
+{
+	uint32_t status = vbtf_lent_type(loan, id, type, error);
+	if (status == VBTF_OK && !(kinds >> type->kind & 1))
+		return vbtf_describe(error, VBTF_UNEXPECTED_TYPE, id);
+	return status;
+}
+
+/* The kind in an info word, and the kind flag. */
+static inline uint32_t vbtf_info_kind(uint32_t info)
+{
+	return info >> 24 & 0x1f;
+}
+
+static inline bool vbtf_info_flag(uint32_t info)
+{
+	return info >> 31 == 1;
+}
+
+/* An item of a type whose kind has its bit in `kinds`. */
+static inline uint32_t vbtf_item_of_kinds(const struct vbtf_table *table, uint32_t id, uint32_t index, uint32_t kinds,
+                                          struct vbtf_item *item, struct vbtf_error *error)
+{
+	struct vbtf_table loan = vbtf_loan(table);
+	struct vbtf_type type;
+	uint32_t wanted, status = vbtf_lent_item(&loan, id, index, item, error);
+	if (status == VBTF_NO_ITEM) {
+		wanted = vbtf_type_of_kinds(&loan, id, kinds, &type, error);
+		return wanted == VBTF_OK ? status : wanted;
+	}
+	if (status == VBTF_OK && !(kinds >> vbtf_info_kind(item->info) & 1))
+		return vbtf_describe(error, VBTF_UNEXPECTED_TYPE, id);
+	return status;
+}
+
+/*
+ * A member of a STRUCT or UNION, a variant of an ENUM or ENUM64, a parameter of a FUNC_PROTO, an entry of a DATASEC.
+ * The indices of a type are those below its vbtf_vlen. VBTF_UNKNOWN_TYPE where no type has the id, VBTF_UNEXPECTED_TYPE
+ * where the type is of another kind, VBTF_NO_ITEM where it has no item of the index.
+ */
+static inline uint32_t vbtf_member_at(const struct vbtf_table *table, uint32_t id, uint32_t index,
+                                      struct vbtf_member *member, struct vbtf_error *error)
+{
+	const uint32_t kinds = 1u << VBTF_KIND_STRUCT | 1u << VBTF_KIND_UNION;
+	struct vbtf_item item;
+	uint32_t status = vbtf_item_of_kinds(table, id, index, kinds, &item, error);
+	if (status != VBTF_OK)
+		return status;
+	member->name_offset = item.words[0];
+	member->type = item.words[1];
+	member->bit_offset = vbtf_info_flag(item.info) ? item.words[2] & 0xffffff : item.words[2];
+	member->bit_field_size = vbtf_info_flag(item.info) ? item.words[2] >> 24 : 0;
+	return VBTF_OK;
+}
+
+static inline uint32_t vbtf_variant_at(const struct vbtf_table *table, uint32_t id, uint32_t index,
+                                       struct vbtf_variant *variant, struct vbtf_error *error)
+{
+	const uint32_t kinds = 1u << VBTF_KIND_ENUM | 1u << VBTF_KIND_ENUM64;
+	struct vbtf_item item;
+	uint32_t status = vbtf_item_of_kinds(table, id, index, kinds, &item, error);
+	if (status != VBTF_OK)
+		return status;
+	variant->name_offset = item.words[0];
+	variant->bits = vbtf_info_kind(item.info) == VBTF_KIND_ENUM64 ? 64 : 32;
+	variant->is_signed = vbtf_info_flag(item.info);
+	variant->value = item.words[1];
+	if (variant->bits == 64)
+		variant->value |= (uint64_t)item.words[2] << 32;
+	return VBTF_OK;
+}
+
+static inline uint32_t vbtf_param_at(const struct vbtf_table *table, uint32_t id, uint32_t index,
+                                     struct vbtf_param *param, struct vbtf_error *error)
+{
+	struct vbtf_item item;
+	uint32_t status = vbtf_item_of_kinds(table, id, index, 1u << VBTF_KIND_FUNC_PROTO, &item, error);
+	if (status != VBTF_OK)
+		return status;
+	param->name_offset = item.words[0];
+	param->type = item.words[1];
+	return VBTF_OK;
+}
+
+static inline uint32_t vbtf_entry_at(const struct vbtf_table *table, uint32_t id, uint32_t index,
+                                     struct vbtf_entry *entry, struct vbtf_error *error)
+{
+	struct vbtf_item item;
+	uint32_t status = vbtf_item_of_kinds(table, id, index, 1u << VBTF_KIND_DATASEC, &item, error);
+	if (status != VBTF_OK)
+		return status;
+	entry->type = item.words[0];
+	entry->offset = item.words[1];
+	entry->size = item.words[2];
+	return VBTF_OK;
+}
+
+/*
+ * What an ARRAY, an INT, a VAR or FUNC, and a DECL_TAG have. The component of a DECL_TAG is the index of a member or
+ * parameter, or -1 for the type as a whole. VBTF_UNKNOWN_TYPE, VBTF_UNEXPECTED_TYPE: as above.
+ */
+static inline uint32_t vbtf_array_of(const struct vbtf_table *table, uint32_t id, struct vbtf_array *array,
+                                     struct vbtf_error *error)
+{
+	struct vbtf_item item;
+	uint32_t status = vbtf_item_of_kinds(table, id, 0, 1u << VBTF_KIND_ARRAY, &item, error);
+	if (status != VBTF_OK)
+		return status;
+	array->type = item.words[0];
+	array->index_type = item.words[1];
+	array->len = item.words[2];
+	return VBTF_OK;
+}
+
+static inline uint32_t vbtf_int_of(const struct vbtf_table *table, uint32_t id, struct vbtf_int *integer,
+                                   struct vbtf_error *error)
+{
+	struct vbtf_item item;
+	uint32_t status = vbtf_item_of_kinds(table, id, 0, 1u << VBTF_KIND_INT, &item, error);
+	if (status != VBTF_OK)
+		return status;
+	integer->encoding = item.words[0] >> 24 & 0xf;
+	integer->offset = item.words[0] >> 16 & 0xff;
+	integer->bits = item.words[0] & 0xff;
+	return VBTF_OK;
+}
+
+static inline uint32_t vbtf_linkage_of(const struct vbtf_table *table, uint32_t id, uint32_t *linkage,
+                                       struct vbtf_error *error)
+{
+	const uint32_t kinds = 1u << VBTF_KIND_VAR | 1u << VBTF_KIND_FUNC;
+	struct vbtf_table loan = vbtf_loan(table);
+	struct vbtf_type type;
+	struct vbtf_item item;
+	uint32_t status = vbtf_type_of_kinds(&loan, id, kinds, &type, error);
+	if (status == VBTF_OK && type.kind == VBTF_KIND_VAR)
+		status = vbtf_lent_item(&loan, id, 0, &item, error);
+	if (status != VBTF_OK)
+		return status;
+	*linkage = type.kind == VBTF_KIND_VAR ? item.words[0] : vbtf_vlen(&type);
+	if (*linkage > VBTF_LINKAGE_UNKNOWN)
+		*linkage = VBTF_LINKAGE_UNKNOWN;
+	return VBTF_OK;
+}
+
+static inline uint32_t vbtf_component_of(const struct vbtf_table *table, uint32_t id, int32_t *component,
+                                         struct vbtf_error *error)
+{
+	struct vbtf_item item;
+	uint32_t status = vbtf_item_of_kinds(table, id, 0, 1u << VBTF_KIND_DECL_TAG, &item, error);
+	if (status == VBTF_OK)
+		*component = (int32_t)item.words[0];
+	return status;
+}
+
+/*
+ * The value of the first variant of this name in the enumeration that `id` resolves to, or in the UNION that a rewrite
+ * of this table put in the place of an ENUM64. The bits above the 32 of an ENUM's value are 0, also where it is signed.
+ *
+ * The errors of vbtf_resolve; VBTF_UNEXPECTED_TYPE where the type is no enumeration; VBTF_INVALID_STRING_OFFSET where a
+ * variant before has a name that cannot be read; VBTF_NO_ITEM where no variant has the name; VBTF_BAD_ARGUMENT where
+ * the name is not UTF-8.
+ */
+static inline uint32_t vbtf_value(const struct vbtf_table *table, uint32_t id, const char *name, size_t len,
+                                  uint64_t *value, struct vbtf_error *error)
+{
+	struct vbtf_table loan = vbtf_loan(table);
+	return vbtf_lent_value(&loan, id, vbtf_bytes_or_none(name), len, value, error);
 }
 
 /* ---- look up and walk */
@@ -290,7 +634,7 @@ static inline uint32_t vbtf_size(const struct vbtf_table *table, uint32_t id, ui
 
 /* ---- compare; both tables may be one */
 
-/* Whether the types of two fields are compatible, as libbpf's bpf_core_fields_are_compat has it. */
+/* Whether the types of two fields are compatible, by the rules of libbpf's bpf_core_fields_are_compat. */
 static inline uint32_t vbtf_fields_are_compatible(const struct vbtf_table *local, uint32_t id,
                                                   const struct vbtf_table *target, uint32_t other, bool *answer,
                                                   struct vbtf_error *error)
@@ -300,7 +644,7 @@ static inline uint32_t vbtf_fields_are_compatible(const struct vbtf_table *local
 	return vbtf_lent_fields_compatible(&here, id, &there, other, answer, error);
 }
 
-/* Whether two types are compatible, as libbpf's bpf_core_types_are_compat has it, on cyclic types too. */
+/* Whether two types are compatible, by the rules of libbpf's bpf_core_types_are_compat, on cyclic types too. */
 static inline uint32_t vbtf_types_are_compatible(const struct vbtf_table *local, uint32_t id,
                                                  const struct vbtf_table *target, uint32_t other, bool *answer,
                                                  struct vbtf_error *error)
@@ -317,9 +661,9 @@ static inline uint32_t vbtf_types_are_compatible(const struct vbtf_table *local,
  * of the program's sections and `symbols` the offsets of its symbols; either may be null. Ids stay, strings are only
  * appended, and at most four types are.
  *
- * The first cause of refusal: VBTF_INVALID_STRING_OFFSET, VBTF_UNKNOWN_TYPE, VBTF_UNEXPECTED_TYPE,
+ * The first cause of failure: VBTF_INVALID_STRING_OFFSET, VBTF_UNKNOWN_TYPE, VBTF_UNEXPECTED_TYPE,
  * VBTF_INVALID_DATASEC, VBTF_UNKNOWN_SECTION_SIZE, VBTF_SYMBOL_NOT_FOUND, VBTF_INVALID_TYPE_INFO. VBTF_BAD_ARGUMENT
- * where a name of an entry is not in its buffer, or is not UTF-8. A refusal leaves the table as it was.
+ * where a name of an entry is not in its buffer, or is not UTF-8. With an error the table is as it was.
  */
 static inline uint32_t vbtf_rewrite(struct vbtf_table *table, const struct vbtf_names *sections,
                                     const struct vbtf_names *symbols, const struct vbtf_kernel *kernel,
@@ -338,12 +682,124 @@ static inline uint32_t vbtf_rewrite(struct vbtf_table *table, const struct vbtf_
 
 /*
  * Adds a text and a zero byte to the strings, and writes its offset. VBTF_INVALID_STRING_OFFSET where the strings
- * would pass 4,294,967,295 bytes; VBTF_BAD_ARGUMENT where the text is not UTF-8. A refusal leaves the table as it was.
+ * would pass 4,294,967,295 bytes; VBTF_BAD_ARGUMENT where the text is not UTF-8. With an error the table is as it was.
  */
 static inline uint32_t vbtf_add_string(struct vbtf_table *table, const char *text, size_t len, uint32_t *offset,
                                        struct vbtf_error *error)
 {
 	return vbtf_raw_add_string(table, vbtf_bytes_or_none(text), len, offset, error);
+}
+
+/*
+ * Adds the type whose record these bytes are, VBTF_LITTLE or VBTF_BIG, and writes its id. VBTF_INVALID_TYPE_INFO where
+ * the record is cut, or the types would pass 4,294,967,295 bytes; VBTF_INVALID_TYPE_KIND; VBTF_BAD_ARGUMENT where bytes
+ * follow the record, or the order is no order. With an error the table is as it was.
+ */
+static inline uint32_t vbtf_add_type(struct vbtf_table *table, const void *record, size_t len, uint32_t order,
+                                     uint32_t *id, struct vbtf_error *error)
+{
+	return vbtf_raw_add_type(table, vbtf_bytes_or_none(record), len, order, id, error);
+}
+
+/* ---- .BTF.ext */
+
+/*
+ * Opens the .BTF.ext that these bytes represent, whose names are in the strings of the table. A table has at most one.
+ * `seed` is a random number, as getrandom draws one: an attacker who knows it can choose names of sections that take
+ * time in proportion to the square of their number. It changes no result.
+ *
+ * VBTF_INVALID_HEADER, VBTF_INVALID_INFO, VBTF_INVALID_STRING_OFFSET: the first cause of failure, in the order that
+ * docs/BEHAVIOUR.md states. VBTF_BAD_ARGUMENT where the table has one already, or the order is no order.
+ */
+static inline uint32_t vbtf_open_ext(struct vbtf_table *table, const void *data, size_t len, uint32_t order,
+                                     uint64_t seed, struct vbtf_error *error)
+{
+	return vbtf_raw_open_ext(table, vbtf_bytes_or_none(data), len, order, seed, error);
+}
+
+/* Closes the .BTF.ext of a table, and frees it: `vbtf_close_ext`, above. The table stays open. */
+
+/* What the .BTF.ext of a table has. VBTF_CLOSED where none is open, here and of the calls below. */
+static inline uint32_t vbtf_ext(const struct vbtf_table *table, struct vbtf_ext_sizes *ext)
+{
+	struct vbtf_table loan = vbtf_loan(table);
+	return vbtf_lent_ext(&loan, ext);
+}
+
+/*
+ * The names of the sections that a part has records for, each once, in no order, and with a zero byte after it.
+ * VBTF_NO_ROOM where the buffer has less room: then only `needed` is written, the length in bytes. VBTF_BAD_ARGUMENT
+ * where the part is no part.
+ */
+static inline uint32_t vbtf_ext_names(const struct vbtf_table *table, uint32_t part, char *out, size_t room,
+                                      uint64_t *needed, struct vbtf_error *error)
+{
+	struct vbtf_table loan = vbtf_loan(table);
+	uint8_t none;
+	return vbtf_lent_ext_names(&loan, part, out ? (uint8_t *)out : &none, out ? room : 0, needed, error);
+}
+
+/*
+ * The string offset of the name of a section of relocations, by the index of the section; several may have one name.
+ * VBTF_NO_ITEM where there are fewer sections.
+ */
+static inline uint32_t vbtf_ext_section(const struct vbtf_table *table, uint32_t index, uint32_t *name_offset)
+{
+	struct vbtf_table loan = vbtf_loan(table);
+	return vbtf_lent_ext_section(&loan, index, name_offset);
+}
+
+/* The words of the records of a section, each of this many words. `room` and `needed` count records. */
+static inline uint32_t vbtf_ext_words(const struct vbtf_table *table, uint32_t part, const char *section, size_t len,
+                                      uint32_t *out, size_t room, uint64_t *needed, size_t words,
+                                      struct vbtf_error *error)
+{
+	struct vbtf_table loan = vbtf_loan(table);
+	uint32_t none = 0, status;
+	uint8_t *bytes = (uint8_t *)(out ? out : &none);
+	uint64_t written = 0;
+	status = vbtf_lent_ext_records(&loan, part, vbtf_bytes_or_none(section), len, bytes, out ? 4 * words * room : 0,
+	                               &written, error);
+	for (uint64_t i = 0; out && status == VBTF_OK && i < written; i += 4)
+		out[i / 4] = (uint32_t)bytes[i] | (uint32_t)bytes[i + 1] << 8 | (uint32_t)bytes[i + 2] << 16
+		             | (uint32_t)bytes[i + 3] << 24;
+	if (status == VBTF_OK || status == VBTF_NO_ROOM)
+		*needed = written / (4 * words);
+	return status;
+}
+
+/*
+ * The records of the section of this name, and their number; there are none where no section has the name. `room` and
+ * `needed` count records. VBTF_NO_ROOM where the buffer has less room: then only `needed` is written.
+ * VBTF_BAD_ARGUMENT where the name is not UTF-8. VBTF_INVALID_STRING_OFFSET where the name of a section of relocations
+ * cannot be read.
+ */
+static inline uint32_t vbtf_ext_func_info(const struct vbtf_table *table, const char *section, size_t len,
+                                          struct vbtf_func_info *out, size_t room, uint64_t *needed,
+                                          struct vbtf_error *error)
+{
+	return vbtf_ext_words(table, VBTF_PART_FUNC_INFO, section, len, (uint32_t *)out, room, needed, 2, error);
+}
+
+static inline uint32_t vbtf_ext_line_info(const struct vbtf_table *table, const char *section, size_t len,
+                                          struct vbtf_line_info *out, size_t room, uint64_t *needed,
+                                          struct vbtf_error *error)
+{
+	return vbtf_ext_words(table, VBTF_PART_LINE_INFO, section, len, (uint32_t *)out, room, needed, 4, error);
+}
+
+static inline uint32_t vbtf_ext_relocations(const struct vbtf_table *table, const char *section, size_t len,
+                                            struct vbtf_relocation *out, size_t room, uint64_t *needed,
+                                            struct vbtf_error *error)
+{
+	struct vbtf_table loan = vbtf_loan(table);
+	uint32_t none = 0, status;
+	uint64_t words = 0;
+	status = vbtf_lent_ext_relocations(&loan, vbtf_bytes_or_none(section), len, out ? (uint32_t *)out : &none,
+	                                   out ? 4 * room : 0, &words, error);
+	if (status == VBTF_OK || status == VBTF_NO_ROOM)
+		*needed = words / 4;
+	return status;
 }
 
 #ifdef __cplusplus

@@ -1,30 +1,5 @@
-/* Lists the types of a table, as `btftool types` does: list < TABLE */
-#include <vbtf.h>
-
-#include <stdio.h>
-#include <stdlib.h>
-
-/* Standard input to its end; null where memory or the input fails. */
-static unsigned char *read_all(size_t *len)
-{
-	size_t room = 1 << 16;
-	unsigned char *bytes = malloc(room);
-	*len = 0;
-	while (bytes) {
-		*len += fread(bytes + *len, 1, room - *len, stdin);
-		if (*len < room)
-			break;
-		unsigned char *more = realloc(bytes, room *= 2);
-		if (!more)
-			free(bytes);
-		bytes = more;
-	}
-	if (bytes && ferror(stdin)) {
-		free(bytes);
-		bytes = NULL;
-	}
-	return bytes;
-}
+/* Lists the types of a table, like `btftool types`: list < TABLE */
+#include "input.h"
 
 /* The name of a type, in a buffer that grows; its length, which is 0 where it cannot be read. */
 static size_t name_of(const struct vbtf_table *table, const struct vbtf_type *type, char **name, size_t *room)
@@ -62,15 +37,9 @@ static void list(const struct vbtf_table *table)
 int main(void)
 {
 	struct vbtf_table table = VBTF_TABLE_INIT;
-	struct vbtf_error error;
-	size_t len;
-	unsigned char *bytes = read_all(&len);
-	uint32_t status = bytes ? vbtf_parse(&table, bytes, len, vbtf_order_of(bytes, len), &error) : VBTF_OUT_OF_MEMORY;
-	free(bytes);
-	if (status != VBTF_OK) {
-		fprintf(stderr, "list: error %u\n", status);
-		return 1;
-	}
+	int failed = open_input("list", &table);
+	if (failed)
+		return failed;
 	list(&table);
 	vbtf_close(&table);
 	return ferror(stdout) != 0;

@@ -1,15 +1,5 @@
-/* Each call with enough memory, each status, and what stays after a refusal. */
+/* Each call where allocation succeeds, each status, and what an error leaves as it was. */
 #include "table.h"
-
-static struct vbtf_table opened(uint32_t order)
-{
-	struct vbtf_table table = VBTF_TABLE_INIT;
-	struct vbtf_error error;
-	uint8_t bytes[TABLE_LEN];
-	table_bytes(bytes, order);
-	check(vbtf_parse(&table, bytes, sizeof bytes, order, &error) == VBTF_OK);
-	return table;
-}
 
 static void new_tables(void)
 {
@@ -28,12 +18,38 @@ static void new_tables(void)
 	check(vbtf_add_string(&table, NULL, 0, &offset, &error) == VBTF_OK && offset == 5);
 	check(vbtf_bytes(&table, bytes, sizeof bytes, &needed, &error) == VBTF_OK && needed == 24 + 6);
 	check(memcmp(bytes + 24, "\0int\0\0", 6) == 0);
-	check(vbtf_order_of(bytes, needed) == VBTF_LITTLE);
 	vbtf_close(&table);
 	vbtf_close(&table);
 	check(vbtf_count(&table, &count) == VBTF_CLOSED);
 	check(vbtf_new(&table, &error) == VBTF_OK);
 	vbtf_close(&table);
+}
+
+/* Tables by their magic, and bytes that have none. */
+static void orders(void)
+{
+	static const struct {
+		uint8_t bytes[2];
+		uint32_t order, by_magic;
+	} cases[] = {
+		{ { 0x9f, 0xeb }, VBTF_LITTLE, VBTF_OK }, { { 0xeb, 0x9f }, VBTF_BIG, VBTF_OK },
+		{ { 0, 0 }, VBTF_LITTLE, VBTF_OK },       { { 0xeb, 0 }, VBTF_LITTLE, VBTF_OK },
+		{ { 0, 0x9f }, VBTF_LITTLE, VBTF_OK },    { { 0x9f, 0xeb }, VBTF_BIG, VBTF_INVALID_HEADER },
+	};
+	for (size_t i = 0; i < sizeof cases / sizeof *cases; i++) {
+		struct vbtf_table table = VBTF_TABLE_INIT;
+		struct vbtf_error error;
+		uint8_t bytes[TABLE_LEN], again[TABLE_LEN];
+		uint64_t needed;
+		table_bytes(bytes, cases[i].order);
+		memcpy(bytes, cases[i].bytes, 2);
+		check(vbtf_parse(&table, bytes, sizeof bytes, VBTF_BY_MAGIC, &error) == cases[i].by_magic);
+		if (cases[i].by_magic == VBTF_OK) {
+			check(vbtf_bytes(&table, again, sizeof again, &needed, &error) == VBTF_OK);
+			check(memcmp(bytes, again, sizeof again) == 0);
+		}
+		vbtf_close(&table);
+	}
 }
 
 static void refused_bytes(void)
@@ -47,7 +63,7 @@ static void refused_bytes(void)
 	check(vbtf_parse(&table, bytes, 23, VBTF_LITTLE, &error) == VBTF_INVALID_HEADER);
 	check(vbtf_parse(&table, bytes, sizeof bytes - 1, VBTF_LITTLE, &error) == VBTF_INVALID_HEADER);
 	check(error.number == VBTF_INVALID_HEADER && error.id == 0 && error.name_len == 0);
-	check(vbtf_parse(&table, bytes, sizeof bytes, 2, &error) == VBTF_BAD_ARGUMENT);
+	check(vbtf_parse(&table, bytes, sizeof bytes, 3, &error) == VBTF_BAD_ARGUMENT);
 	put(bytes + 24 + 4, 0x14000000, 4, VBTF_LITTLE);
 	check(vbtf_parse(&table, bytes, sizeof bytes, VBTF_LITTLE, &error) == VBTF_INVALID_TYPE_KIND && error.id == 20);
 	put(bytes + 12, TYPE_LEN + 1000, 4, VBTF_LITTLE);
@@ -201,12 +217,95 @@ static void denied(void)
 	vbtf_close(&table);
 }
 
+#define AN_ERROR(number, id, offset, len, section_len) { number, id, offset, len, section_len, 0, { 0 } }
+#define NAMED_ERROR(number, name) { number, 0, 0, 0, 0, sizeof name - 1, name }
+
+/* The texts of errors, as crates/btf_words/src/error.rt declares them. */
+static const struct {
+	struct vbtf_error error;
+	const char *text;
+} described[] = {
+	{ AN_ERROR(1, 0, 0, 0, 0), "error parsing BTF header" },
+	{ AN_ERROR(2, 0, 0, 0, 0), "invalid BTF type info segment" },
+	{ AN_ERROR(4, 20, 0, 0, 0), "invalid BTF type kind `20`" },
+	{ AN_ERROR(6, 0, 4294967295u, 0, 0), "invalid BTF string offset: 4294967295" },
+	{ AN_ERROR(7, 0, 8, 12, 16), "invalid BTF info, offset: 8 len: 12 section_len: 16" },
+	{ AN_ERROR(9, 4294967295u, 0, 0, 0), "unknown BTF type id `4294967295`" },
+	{ AN_ERROR(10, 1, 0, 0, 0), "unexpected BTF type id `1`" },
+	{ NAMED_ERROR(11, "pair"), "unknown BTF type `pair`" },
+	{ AN_ERROR(12, 3, 0, 0, 0), "maximum depth reached resolving BTF type" },
+	{ NAMED_ERROR(13, "pair"), "Offset not found for symbol `pair`" },
+	{ AN_ERROR(14, 0, 0, 0, 0), "BTF type that is not VAR was found in DATASEC" },
+	{ NAMED_ERROR(15, "pair"), "Unable to determine the size of section `pair`" },
+	{ AN_ERROR(20, 0, 0, 0, 0), "out of memory" },
+};
+
+/* The texts of statuses that are no errors of the library. */
+static const struct {
+	uint32_t status;
+	const char *text;
+} undescribed[] = {
+	{ VBTF_OK, "no error" },          { VBTF_NO_ROOM, "buffer too short" },
+	{ VBTF_CLOSED, "not open" },      { VBTF_BAD_ARGUMENT, "invalid argument" },
+	{ VBTF_NO_ITEM, "no such item" }, { 21, "unknown error" },
+	{ 99, "unknown error" },          { VBTF_NO_ITEM + 1, "unknown error" },
+};
+
+/* A text in a buffer that has room for it, and in shorter ones. */
+static void text_of(uint32_t status, const struct vbtf_error *error, const char *text)
+{
+	char out[VBTF_ERROR_ROOM];
+	size_t len = strlen(text);
+	check(strcmp(vbtf_error_text(status, error, out, sizeof out), text) == 0);
+	check(strcmp(vbtf_error_text(status, error, out, len + 1), text) == 0);
+	check(strncmp(vbtf_error_text(status, error, out, len), text, len - 1) == 0 && strlen(out) == len - 1);
+	check(strcmp(vbtf_error_text(status, error, out, 1), "") == 0);
+	check(strcmp(vbtf_error_text(status, error, NULL, 0), "") == 0);
+}
+
+static void error_texts(void)
+{
+	uint8_t out[VBTF_ERROR_ROOM];
+	uint64_t needed = 0;
+	for (size_t i = 0; i < sizeof described / sizeof *described; i++) {
+		const struct vbtf_error *error = &described[i].error;
+		size_t len = strlen(described[i].text);
+		text_of(error->number, error, described[i].text);
+		check(vbtf_raw_error_text(error, out, len - 1, &needed) == VBTF_NO_ROOM && needed == len);
+		check(vbtf_raw_error_text(error, out, len, &needed) == VBTF_OK && needed == len);
+		check(memcmp(out, described[i].text, len) == 0);
+	}
+	for (size_t i = 0; i < sizeof undescribed / sizeof *undescribed; i++) {
+		const struct vbtf_error error = AN_ERROR(undescribed[i].status, 0, 0, 0, 0);
+		text_of(error.number, &error, undescribed[i].text);
+		check(vbtf_raw_error_text(&error, out, sizeof out, &needed) == VBTF_BAD_ARGUMENT);
+	}
+}
+
+/* The longest text of an error has room. */
+static void longest_error_text(void)
+{
+	struct vbtf_table table = VBTF_TABLE_INIT;
+	struct vbtf_error error;
+	char name[300], out[VBTF_ERROR_ROOM];
+	uint32_t id;
+	memset(name, 'n', sizeof name);
+	check(vbtf_new(&table, &error) == VBTF_OK);
+	check(vbtf_find(&table, name, sizeof name, VBTF_KIND_INT, &id, &error) == VBTF_UNKNOWN_TYPE_NAME);
+	check(error.name_len == 255);
+	check(strlen(vbtf_error_text(error.number, &error, out, sizeof out)) == strlen("unknown BTF type ``") + 255);
+	vbtf_close(&table);
+}
+
 int main(void)
 {
 	new_tables();
+	orders();
 	refused_bytes();
 	rewritten();
 	denied();
+	error_texts();
+	longest_error_text();
 	struct vbtf_table little = opened(VBTF_LITTLE), big = opened(VBTF_BIG);
 	types(&little);
 	texts(&big);

@@ -1,6 +1,6 @@
 /*
- * The nth allocation of each call fails, for each n: the call returns VBTF_OUT_OF_MEMORY, the table stays as it was,
- * the same call succeeds afterwards, and nothing leaks. Link with -Wl,--wrap=malloc,--wrap=realloc,--wrap=free.
+ * The nth allocation of each call fails, for each n: the call returns VBTF_OUT_OF_MEMORY, the table is as it was, the
+ * same call succeeds afterwards, and nothing leaks. Link with -Wl,--wrap=malloc,--wrap=realloc,--wrap=free.
  */
 #include "table.h"
 
@@ -37,16 +37,14 @@ void __wrap_free(void *at)
 }
 
 static struct vbtf_error error;
-static uint8_t blob[TABLE_LEN];
+static uint8_t blob[TABLE_LEN], ext_blob[EXT_LEN];
 
-static struct vbtf_table opened(void)
-{
-	struct vbtf_table table = VBTF_TABLE_INIT;
-	check(vbtf_parse(&table, blob, sizeof blob, VBTF_LITTLE, &error) == VBTF_OK);
-	return table;
-}
+#define WIDTH 40
 
-/* The bytes of a table, without a failing allocation. */
+/* Tables that no call changes: the one of open_wide, and one that has a .BTF.ext open. */
+static struct vbtf_table wide, with_ext;
+
+/* Whether a table has the bytes that it was opened with. */
 static int is_as_before(const struct vbtf_table *table)
 {
 	uint8_t bytes[TABLE_LEN];
@@ -57,14 +55,19 @@ static int is_as_before(const struct vbtf_table *table)
 
 static uint32_t parse(struct vbtf_table *table)
 {
-	vbtf_close(table);
-	return vbtf_parse(table, blob, sizeof blob, VBTF_LITTLE, &error);
+	struct vbtf_table made = VBTF_TABLE_INIT;
+	uint32_t status = vbtf_parse(&made, blob, sizeof blob, VBTF_LITTLE, &error);
+	check((status == VBTF_OK) == (made.state == 1));
+	(void)table;
+	vbtf_close(&made);
+	return status;
 }
 
 static uint32_t make(struct vbtf_table *table)
 {
 	struct vbtf_table made = VBTF_TABLE_INIT;
 	uint32_t status = vbtf_new(&made, &error);
+	check((status == VBTF_OK) == (made.state == 1));
 	(void)table;
 	vbtf_close(&made);
 	return status;
@@ -91,6 +94,29 @@ static uint32_t missing(struct vbtf_table *table)
 	return status == VBTF_UNKNOWN_TYPE_NAME ? VBTF_OK : status;
 }
 
+/* The first variant's name takes an allocation, since it is not UTF-8. */
+static uint32_t value(struct vbtf_table *table)
+{
+	uint64_t found = 0;
+	uint32_t status = vbtf_value(table, 11, "int", 3, &found, &error);
+	check(status != VBTF_OK || found == 9);
+	return status;
+}
+
+static uint32_t fields(struct vbtf_table *table)
+{
+	bool answer;
+	return vbtf_fields_are_compatible(table, 8, table, 8, &answer, &error);
+}
+
+/* Two prototypes of more parameters than a comparison has room for in its first pairs. */
+static uint32_t types(struct vbtf_table *table)
+{
+	bool answer;
+	(void)table;
+	return vbtf_types_are_compatible(&wide, WIDTH + 1, &wide, WIDTH + 1, &answer, &error);
+}
+
 static uint32_t rewrite(struct vbtf_table *table)
 {
 	static const struct vbtf_named size = { 0, 4, 8 };
@@ -100,36 +126,126 @@ static uint32_t rewrite(struct vbtf_table *table)
 	return vbtf_rewrite(table, &sections, &sections, &all, &asked, &error);
 }
 
+static uint32_t add_string(struct vbtf_table *table)
+{
+	uint32_t offset;
+	return vbtf_add_string(table, "text", 4, &offset, &error);
+}
+
+/* A STRUCT of as many members as a list in the record itself has no room for. */
+static uint32_t add_type(struct vbtf_table *table)
+{
+	uint8_t record[12 + 12 * 8] = { 0 };
+	uint32_t id;
+	put(record + 4, 0x04000008, 4, VBTF_LITTLE);
+	return vbtf_add_type(table, record, sizeof record, VBTF_LITTLE, &id, &error);
+}
+
+static uint32_t open_ext(struct vbtf_table *table)
+{
+	struct vbtf_ext_sizes ext;
+	uint32_t status = vbtf_open_ext(table, ext_blob, sizeof ext_blob, VBTF_LITTLE, 7, &error);
+	check(vbtf_ext(table, &ext) == (status == VBTF_OK ? VBTF_OK : VBTF_CLOSED));
+	vbtf_close_ext(table);
+	return status;
+}
+
+static uint32_t lines(struct vbtf_table *table)
+{
+	struct vbtf_line_info out[3];
+	uint64_t needed;
+	(void)table;
+	return vbtf_ext_line_info(&with_ext, "run", 3, out, 3, &needed, &error);
+}
+
+static uint32_t functions(struct vbtf_table *table)
+{
+	struct vbtf_func_info out[1];
+	uint64_t needed;
+	(void)table;
+	return vbtf_ext_func_info(&with_ext, "run", 3, out, 1, &needed, &error);
+}
+
+static uint32_t relocations(struct vbtf_table *table)
+{
+	struct vbtf_relocation out[2];
+	uint64_t needed;
+	(void)table;
+	return vbtf_ext_relocations(&with_ext, "run", 3, out, 2, &needed, &error);
+}
+
+static uint32_t error_text(struct vbtf_table *table)
+{
+	const struct vbtf_error unknown = { VBTF_UNKNOWN_TYPE_NAME, 0, 0, 0, 0, 4, "name" };
+	char out[64];
+	(void)table;
+	bool is_whole = strcmp(vbtf_error_text(unknown.number, &unknown, out, sizeof out), "unknown BTF type `name`") == 0;
+	check(is_whole || strcmp(out, "out of memory") == 0);
+	return is_whole ? VBTF_OK : VBTF_OUT_OF_MEMORY;
+}
+
 static const struct {
 	const char *name;
 	uint32_t (*call)(struct vbtf_table *table);
-	int closes;
 } calls[] = {
-	{ "vbtf_parse", parse, 1 }, { "vbtf_new", make, 0 },   { "vbtf_bytes", write_out, 0 },
-	{ "vbtf_text_at", text, 0 }, { "vbtf_find", missing, 0 },
-	{ "vbtf_rewrite", rewrite, 0 },
+	{ "vbtf_parse", parse },
+	{ "vbtf_new", make },
+	{ "vbtf_bytes", write_out },
+	{ "vbtf_text_at", text },
+	{ "vbtf_find", missing },
+	{ "vbtf_value", value },
+	{ "vbtf_fields_are_compatible", fields },
+	{ "vbtf_types_are_compatible", types },
+	{ "vbtf_rewrite", rewrite },
+	{ "vbtf_add_string", add_string },
+	{ "vbtf_add_type", add_type },
+	{ "vbtf_open_ext", open_ext },
+	{ "vbtf_ext_func_info", functions },
+	{ "vbtf_ext_line_info", lines },
+	{ "vbtf_ext_relocations", relocations },
+	{ "vbtf_error_text", error_text },
 };
 
 /* A call whose nth allocation fails; whether it made as many. */
 static int failed_at(size_t i, unsigned long n)
 {
-	struct vbtf_table table = opened();
+	struct vbtf_table table = opened(VBTF_LITTLE);
 	requests = 0;
 	failing = n;
 	uint32_t status = calls[i].call(&table);
 	int reached = requests >= n;
 	failing = 0;
 	check(status == (reached ? VBTF_OUT_OF_MEMORY : VBTF_OK));
-	check(reached && calls[i].closes ? table.state == 0 : is_as_before(&table));
+	check(!reached || is_as_before(&table));
 	check(calls[i].call(&table) == VBTF_OK);
 	vbtf_close(&table);
 	return reached;
 }
 
+/* Opens a table of WIDTH INTs, and a FUNC_PROTO that takes one of each. */
+static void open_wide(void)
+{
+	uint32_t records[4 * WIDTH + 3 + 2 * WIDTH] = { 0 }, *proto = records + 4 * WIDTH;
+	uint8_t bytes[24 + sizeof records + 1];
+	proto[1] = 0x0d000000 | WIDTH;
+	for (uint32_t i = 0; i < WIDTH; i++) {
+		records[4 * i + 1] = 0x01000000;
+		records[4 * i + 2] = 4;
+		records[4 * i + 3] = 32;
+		proto[3 + 2 * i + 1] = i + 1;
+	}
+	table_bytes_of(bytes, records, sizeof records, "", 1);
+	check(vbtf_parse(&wide, bytes, sizeof bytes, VBTF_LITTLE, &error) == VBTF_OK);
+}
+
 int main(void)
 {
 	table_bytes(blob, VBTF_LITTLE);
+	ext_bytes(ext_blob, VBTF_LITTLE);
 	long before = live;
+	open_wide();
+	with_ext = opened(VBTF_LITTLE);
+	check(vbtf_open_ext(&with_ext, ext_blob, sizeof ext_blob, VBTF_LITTLE, 7, &error) == VBTF_OK);
 	for (size_t i = 0; i < sizeof calls / sizeof *calls; i++) {
 		unsigned long n = 1;
 		while (failed_at(i, n))
@@ -137,6 +253,8 @@ int main(void)
 		printf("%s: %lu allocations\n", calls[i].name, n - 1);
 		check(n > 1);
 	}
+	vbtf_close(&with_ext);
+	vbtf_close(&wide);
 	check(live == before);
 	return counted("memory");
 }

@@ -7,7 +7,7 @@
 
 static struct vbtf_table shared = VBTF_TABLE_INIT;
 
-/* How many calls of a reader come out otherwise than alone. */
+/* How many calls of a reader return what they would not return alone. */
 static void *reader(void *unused)
 {
 	struct vbtf_error error;
@@ -16,10 +16,15 @@ static void *reader(void *unused)
 		uint64_t size = 0, needed = 0;
 		uint32_t id = 0;
 		bool answer = false;
+		struct vbtf_member member;
+		struct vbtf_line_info lines[3];
 		char text[8];
 		wrong += vbtf_size(&shared, 5, &size, &error) != VBTF_OK || size != 80;
 		wrong += vbtf_find(&shared, "run", 3, VBTF_KIND_FUNC, &id, &error) != VBTF_OK || id != 7;
 		wrong += vbtf_text_at(&shared, 26, text, sizeof text, &needed, &error) != VBTF_OK || needed != 6;
+		wrong += vbtf_member_at(&shared, 4, 1, &member, &error) != VBTF_OK || member.bit_offset != 32;
+		wrong += vbtf_value(&shared, 11, "int", 3, &size, &error) != VBTF_OK || size != 9;
+		wrong += vbtf_ext_line_info(&shared, "run", 3, lines, 3, &needed, &error) != VBTF_OK || needed != 3;
 		wrong += vbtf_types_are_compatible(&shared, 6, &shared, 6, &answer, &error) != VBTF_OK || !answer;
 	}
 	(void)unused;
@@ -45,10 +50,11 @@ static void *writer(void *unused)
 int main(void)
 {
 	struct vbtf_error error;
-	uint8_t bytes[TABLE_LEN];
+	uint8_t ext[EXT_LEN];
 	pthread_t threads[6];
-	table_bytes(bytes, VBTF_LITTLE);
-	check(vbtf_parse(&shared, bytes, sizeof bytes, VBTF_LITTLE, &error) == VBTF_OK);
+	ext_bytes(ext, VBTF_LITTLE);
+	shared = opened(VBTF_LITTLE);
+	check(vbtf_open_ext(&shared, ext, sizeof ext, VBTF_LITTLE, 7, &error) == VBTF_OK);
 	for (unsigned i = 0; i < 6; i++)
 		check(pthread_create(&threads[i], NULL, i < 4 ? reader : writer, NULL) == 0);
 	for (unsigned i = 0; i < 6; i++) {

@@ -35,7 +35,7 @@ handle_good null_ptr n low = (tt, (record { fits = lit< tt }, (record { fits = l
 
 module _ {M : Type 1} {𝓤 : Ura M} {𝓛 : Logic 𝓤} {K : Type 0} {Γ : List (Item 𝓤)} {G : Goal 𝓤 𝓛.H} where
   pub handle_in : K → (h : the_row.Denot) → h.state < 2 ^ 32
-      → Step K 𝓛 (‵ (the_row.own_val h (word h.at h.state ∷ [])) ∷ Γ) G (‵ (held h.at h.state h.table h.life h.share) ∷ Γ) G
+      → Step K 𝓛 (‵ (the_row.own_val h (word h.at h.state ∷ [])) ∷ Γ) G (‵ (held h.at h.state h.opened h.life h.share) ∷ Γ) G
   handle_in t h low = step (λ s. let v : Val = word h.at h.state in
       nothing t $ owned t u32 (Is u32) (uint_Makes 𝓛 w32) h.state (vint w32 h.state ∷ []) (refl, low) $ fjoin t $
       feq_i t (List Val) (ptr_val h.at ∷ []) (ptr_val h.at ∷ []) refl $ fjoin t $ feq_i t (List Val) (v ∷ []) (v ∷ []) refl $ fjoin t $

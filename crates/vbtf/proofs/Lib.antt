@@ -8,3 +8,6 @@ pub mod Steps
 pub mod Values
 pub mod Kernels
 pub mod Layouts
+pub mod Groups
+pub mod SectionNames
+pub mod ExtOpening

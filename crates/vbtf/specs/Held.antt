@@ -9,9 +9,9 @@ use denote.RawPtr.{Ptr}
 use denote.Struct.Lending.{lent_at}
 use mir.Syntax.{Ty}
 use Rattle.std.specs.contracts.impls.GlobalAllocator.TheImpl.{ghosts}
-use Rattle.btf_model.specs.Table.{Table}
 use Rattle.std.specs.Box.Ownership.{box_owns}
-use Rattle.btf_table.specs.contracts.table.Btf.{the_row}
+use Rattle.vbtf.specs.declared.opened.Opened.{Opened}
+use Rattle.vbtf.specs.contracts.opened.Opened.{the_row}
 
 -- A share as a list of bits, and back.
 abbrev bits_of : Below → List Bool
@@ -53,8 +53,12 @@ loan_owns R p x life share = fsep (flft (life ∷ []) share) (lent_at R p x (lif
 abbrev pub may_free : Ty → Ptr → Fml
 may_free = ghosts.dealloc_token (record { memory = record { seal = tt } })
 
--- What a handle owns, by its state: nothing, the table in its box, or a share of a loan of the table.
-abbrev pub held : Ptr → ℕ → Table → ℕ → Share → Fml
-held p zero t life share = ftrue
-held p (suc zero) t life share = box_owns may_free the_row p t
-held p (suc (suc n)) t life share = loan_owns the_row p t life share
+-- What a handle owns, by its state: nothing, what it opened in its box, or a share of a loan of that.
+abbrev pub held : Ptr → ℕ → Opened → ℕ → Share → Fml
+held p zero o life share = ftrue
+held p (suc zero) o life share = box_owns may_free the_row p o
+held p (suc (suc n)) o life share = loan_owns the_row p o life share
+
+-- How what is opened is stored.
+abbrev pub coded_opened : Coded Opened
+coded_opened = the_row.coded

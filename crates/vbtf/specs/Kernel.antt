@@ -58,9 +58,9 @@ RewritesFor features policy old ids layout new (Err refusal) =
 -- a failed allocation, and the handle owns the table as it was.
 abbrev pub EndsRewriting : ℕ → Kernel → Layout → Handle → Handle → Asked → Fault → Type 0
 EndsRewriting status kernel layout old new asked fault =
-    (new.state ≡ 1)
+    (new.state ≡ 1) × (new.opened.ext ≡ old.opened.ext)
     × (((status ≡ 0) × (listed : List FeatureAnswer) × ListsAnswers asked (answers_of listed)
-    × RewritesFor kernel.features (policy_chosen kernel) old.table (ids_chosen kernel) layout new.table (Ok listed))
-    ⊎ ((new.table ≡ old.table)
+    × RewritesFor kernel.features (policy_chosen kernel) old.opened.btf (ids_chosen kernel) layout new.opened.btf (Ok listed))
+    ⊎ ((new.opened.btf ≡ old.opened.btf)
     × ((status ≡ no_memory) ⊎ ((refusal : Refusal) × Reports status fault refusal
-    × RewritesFor kernel.features (policy_chosen kernel) old.table (ids_chosen kernel) layout new.table (Err refusal)))))
+    × RewritesFor kernel.features (policy_chosen kernel) old.opened.btf (ids_chosen kernel) layout new.opened.btf (Err refusal)))))

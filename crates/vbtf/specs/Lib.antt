@@ -3,3 +3,8 @@ pub mod Status
 pub mod Words
 pub mod Kernel
 pub mod Program
+pub mod Orders
+pub mod Items
+pub mod Adding
+pub mod Ext
+pub mod ExtRead

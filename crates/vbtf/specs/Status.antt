@@ -1,7 +1,5 @@
 -- The status that an exported call returns, and what the fault reports of a refusal.
-use Rattle.std.specs.Prelude.{◌≡◌, ◌⊎◌, ◌<◌, ◌≤◌, ℕ, zero, suc, List, ◌++◌, take, drop, length, Option, Some, None, Result, Ok, Err}
-use Rattle.btf_model.specs.Word as orders
-use Rattle.btf_model.specs.Word.{Order}
+use Rattle.std.specs.Prelude.{◌≡◌, ◌⊎◌, ◌<◌, ◌≤◌, ℕ, List, ◌++◌, take, drop, length, Option, Some, None, Result, Ok, Err}
 use Rattle.btf_model.specs.Refusal as refusals
 use Rattle.btf_model.specs.Refusal.{Refusal}
 use Rattle.btf_model.specs.Table.{Table}
@@ -88,7 +86,16 @@ abbrev pub Ends : {Y : Type 0} → ℕ → Y → Fault → (Result Y Refusal →
 Ends status value fault P =
     ((status ≡ 0) × P (Ok value)) ⊎ ((refusal : Refusal) × Reports status fault refusal × P (Err refusal))
 
--- The same of a call that allocates: an allocation may also fail.
+-- How a call ends that looks for a thing and allocates nothing: with status 0 and the thing, with status 103 where there
+-- is none, or with a refusal; each meets P.
+abbrev pub EndsFinding : {Y : Type 0} → ℕ → Y → Fault → (Result (Option Y) Refusal → Type 0) → Type 0
+EndsFinding status value fault P =
+    ((status ≡ 0) × P (Ok (Some value))) ⊎ ((status ≡ 103) × P (Ok None))
+    ⊎ ((refusal : Refusal) × Reports status fault refusal × P (Err refusal))
+
+abbrev pub EndsFindingOrNoMemory : {Y : Type 0} → ℕ → Y → Fault → (Result (Option Y) Refusal → Type 0) → Type 0
+EndsFindingOrNoMemory status value fault P = EndsFinding status value fault P ⊎ (status ≡ no_memory)
+
 abbrev pub EndsOrNoMemory : {Y : Type 0} → ℕ → Y → Fault → (Result Y Refusal → Type 0) → Type 0
 EndsOrNoMemory status value fault P = Ends status value fault P ⊎ (status ≡ no_memory)
 
@@ -96,29 +103,24 @@ EndsOrNoMemory status value fault P = Ends status value fault P ⊎ (status ≡ 
 -- meets P, or a failed allocation, and the handle is unchanged.
 abbrev pub Opens : ℕ → Handle → Handle → Fault → (Result Table Refusal → Type 0) → Type 0
 Opens status old new fault P =
-    ((status ≡ 0) × (new.state ≡ 1) × P (Ok new.table))
+    ((status ≡ 0) × (new.state ≡ 1) × (new.opened.ext ≡ None) × P (Ok new.opened.btf))
     ⊎ ((new ≡ old) × ((status ≡ no_memory) ⊎ ((refusal : Refusal) × Reports status fault refusal × P (Err refusal))))
-
--- The byte order of a number: 0 for the little one, 1 for the big one.
-abbrev pub order_named : ℕ → Order
-order_named zero = orders.Little
-order_named (suc n) = orders.Big
 
 -- A call that only reads leaves the handle unchanged.
 pub record Keeps (old new : Handle) : Type 0 where
   pub at : new.at ≡ old.at
   pub state : new.state ≡ old.state
-  pub table : new.table ≡ old.table
+  pub opened : new.opened ≡ old.opened
   pub life : new.life ≡ old.life
   pub share : new.share ≡ old.share
 
--- How bytes are written to a buffer: 'needed' is their number. With status 0 the buffer begins with them, and the rest
--- of it is unchanged. With status 100 it is too small for them, and unchanged.
-abbrev pub Fills : List ℕ → List ℕ → List ℕ → ℕ → ℕ → Type 0
-Fills bytes old new needed status =
-    (needed ≡ length bytes)
-    × (((status ≡ 0) × (length bytes ≤ length old) × (new ≡ bytes ++ drop (length bytes) old))
-    ⊎ ((status ≡ 100) × (length old < length bytes) × (new ≡ old)))
+-- How bytes or words are written to a buffer: 'needed' is their number. With status 0 the buffer begins with them, and
+-- the rest of it is unchanged. With status 100 it is too small for them, and unchanged.
+abbrev pub Fills : {X : Type 0} → List X → List X → List X → ℕ → ℕ → Type 0
+Fills items old new needed status =
+    (needed ≡ length items)
+    × (((status ≡ 0) × (length items ≤ length old) × (new ≡ items ++ drop (length items) old))
+    ⊎ ((status ≡ 100) × (length old < length items) × (new ≡ old)))
 
 -- How a call ends that writes bytes to a buffer: with bytes that meet P; or with a refusal that meets P, or a failed
 -- allocation, and the buffer is unchanged.
@@ -126,12 +128,3 @@ abbrev pub EndsFilling : ℕ → List ℕ → List ℕ → ℕ → Fault → (Re
 EndsFilling status old new needed fault P =
     ((bytes : List ℕ) × Fills bytes old new needed status × P (Ok bytes))
     ⊎ ((new ≡ old) × ((status ≡ no_memory) ⊎ ((refusal : Refusal) × Reports status fault refusal × P (Err refusal))))
-
--- How a call ends that adds to the table of a handle: with status 0 and the place, and the handle owns the new table; or
--- with a refusal, or a failed allocation, and the handle owns the unchanged table.
-abbrev pub Adds : ℕ → Handle → Handle → ℕ → Fault → Result ℕ Refusal → Table → Type 0
-Adds status old new value fault place table =
-    (new.state ≡ 1)
-    × (((status ≡ 0) × (Ok value ≡ place) × (new.table ≡ table))
-    ⊎ ((new.table ≡ old.table)
-    × ((status ≡ no_memory) ⊎ ((refusal : Refusal) × Reports status fault refusal × (Err refusal ≡ place)))))

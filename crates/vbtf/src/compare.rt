@@ -25,7 +25,7 @@ pub extern "C" fn vbtf_lent_fields_compatible(
 ) -> u32
     ensures compared { local.old.state ≡ 2 → target.old.state ≡ 2
         → EndsOrNoMemory result answer.new fault.new
-        (Fields local.old.table local_id target.old.table target_id) }
+        (Fields local.old.opened.btf local_id target.old.opened.btf target_id) }
     ensures closed { (local.old.state ≢ 2) ⊎ (target.old.state ≢ 2) → result ≡ CLOSED }
     ensures kept_local { Keeps local.old local.new }
     ensures kept_target { Keeps target.old target.new }
@@ -37,7 +37,7 @@ pub extern "C" fn vbtf_lent_fields_compatible(
         *local = Handle::from_loan(first);
         return CLOSED;
     };
-    let found = fields_are_compatible(first.get(), local_id, second.get(), target_id);
+    let found = fields_are_compatible(&first.get().btf, local_id, &second.get().btf, target_id);
     *local = Handle::from_loan(first);
     *target = Handle::from_loan(second);
     match found {
@@ -64,7 +64,7 @@ pub extern "C" fn vbtf_lent_types_compatible(
 ) -> u32
     ensures compared { local.old.state ≡ 2 → target.old.state ≡ 2
         → EndsOrNoMemory result answer.new fault.new (λ found. (listed : List Pair)
-        × Plain local.old.table target.old.table [] (pair local_id target_id) found listed) }
+        × Plain local.old.opened.btf target.old.opened.btf [] (pair local_id target_id) found listed) }
     ensures closed { (local.old.state ≢ 2) ⊎ (target.old.state ≢ 2) → result ≡ CLOSED }
     ensures kept_local { Keeps local.old local.new }
     ensures kept_target { Keeps target.old target.new }
@@ -76,7 +76,7 @@ pub extern "C" fn vbtf_lent_types_compatible(
         *local = Handle::from_loan(first);
         return CLOSED;
     };
-    let found = types_are_compatible(first.get(), local_id, second.get(), target_id);
+    let found = types_are_compatible(&first.get().btf, local_id, &second.get().btf, target_id);
     *local = Handle::from_loan(first);
     *target = Handle::from_loan(second);
     match found {

@@ -6,6 +6,9 @@ ghost use Rattle.vbtf.specs.Status.{ReportsError, HasName, name_room};
 
 use btf::BtfError;
 
+/// An allocation failed.
+pub(crate) const OUT_OF_MEMORY: u32 = 20;
+
 /// The buffer is too small.
 pub(crate) const NO_ROOM: u32 = 100;
 
@@ -14,6 +17,9 @@ pub(crate) const CLOSED: u32 = 101;
 
 /// An argument has no meaning, as a byte order of 2 or a text that is not UTF-8.
 pub(crate) const INVALID_ARGUMENT: u32 = 102;
+
+/// The type has no item of an index, or no variant of a name.
+pub(crate) const NO_ITEM: u32 = 103;
 
 /// The bytes of a name that a fault has room for.
 pub(crate) const NAME_ROOM: usize = 255;

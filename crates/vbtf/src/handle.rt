@@ -3,12 +3,12 @@
 ghost use Rattle.std.specs.Prelude.{◌≡◌, ◌≢◌, ℕ};
 ghost use Rattle.std.specs.Option.{MatchOption};
 ghost use base.Fml.{Share};
-ghost use Rattle.btf_model.specs.Table.{Table};
-ghost use Rattle.vbtf.specs.Held.{held, coded_share};
+ghost use Rattle.vbtf.specs.declared.opened.Opened.{Opened};
+ghost use Rattle.vbtf.specs.Held.{held, coded_opened, coded_share};
 
 use crate::loan::Loan;
+use crate::opened::Opened;
 use crate::parts::Parts;
-use btf::Btf;
 use std::alloc::Global;
 use std::marker::{Model, Send};
 use std::mem::replace;
@@ -29,15 +29,15 @@ pub(crate) const LENT: u32 = 2;
 pub struct Handle {
     at: *mut u8,
     state: u32,
-    /// The table behind the handle, where it is not closed.
-    pub ghost table: { Table },
+    /// What the handle has opened, where it is not closed.
+    pub ghost opened: { Opened } by { coded_opened },
     /// The lifetime of the loan, and the share of its token, in state 2.
     pub ghost life: { ℕ },
     pub ghost share: { Share } by { coded_share },
 }
 
 impl Model for Handle {
-    ghost also_owns = { λ h. held h.at h.state h.table h.life h.share };
+    ghost also_owns = { λ h. held h.at h.state h.opened h.life h.share };
 }
 
 impl Handle {
@@ -59,8 +59,8 @@ impl Handle {
     }
 
     /// The handle that owns the table of a box.
-    pub(crate) fn from_parts(parts: Parts<Btf, Global>) -> Handle
-        ensures { (result.state ≡ 1) × (result.table ≡ parts.value) }
+    pub(crate) fn from_parts(parts: Parts<Opened, Global>) -> Handle
+        ensures { (result.state ≡ 1) × (result.opened ≡ parts.value) }
     {
         let Parts { at, alloc: _ } = parts;
         Handle {
@@ -70,20 +70,20 @@ impl Handle {
     }
 
     /// The box of the table that the handle owns.
-    pub(crate) fn to_parts(self, alloc: Global) -> Parts<Btf, Global>
+    pub(crate) fn to_parts(self, alloc: Global) -> Parts<Opened, Global>
         requires { self.state ≡ 1 }
-        ensures { result.value ≡ self.table }
+        ensures { result.value ≡ self.opened }
     {
         let Handle { at, state: _ } = self;
         Parts {
-            at: at as *mut Btf,
+            at: at as *mut Opened,
             alloc,
         }
     }
 
     /// The handle that holds a share of a loan.
-    pub(crate) fn from_loan(loan: Loan<Btf>) -> Handle
-        ensures { (result.at ≡ loan.at) × (result.state ≡ 2) × (result.table ≡ loan.value)
+    pub(crate) fn from_loan(loan: Loan<Opened>) -> Handle
+        ensures { (result.at ≡ loan.at) × (result.state ≡ 2) × (result.opened ≡ loan.value)
             × (result.life ≡ loan.life) × (result.share ≡ loan.share) }
     {
         let Loan { at } = loan;
@@ -94,22 +94,24 @@ impl Handle {
     }
 
     /// The share of a loan that the handle holds.
-    pub(crate) fn to_loan(self) -> Loan<Btf>
+    pub(crate) fn to_loan(self) -> Loan<Opened>
         requires { self.state ≡ 2 }
-        ensures { (result.at ≡ self.at) × (result.value ≡ self.table) × (result.life ≡ self.life)
+        ensures { (result.at ≡ self.at) × (result.value ≡ self.opened) × (result.life ≡ self.life)
             × (result.share ≡ self.share) }
     {
         let Handle { at, state: _ } = self;
-        Loan { at: at as *mut Btf }
+        Loan {
+            at: at as *mut Opened,
+        }
     }
 }
 
 unsafe impl Send for Handle {}
 
 /// The share of a loan that a handle holds; the handle is then closed. None where its state is another.
-pub(crate) fn lent(table: &mut Handle) -> Option<Loan<Btf>>
+pub(crate) fn lent(table: &mut Handle) -> Option<Loan<Opened>>
     ensures { MatchOption result ((table.old.state ≢ 2) × (table.new ≡ table.old))
-        (λ loan. (table.old.state ≡ 2) × (loan.at ≡ table.old.at) × (loan.value ≡ table.old.table)
+        (λ loan. (table.old.state ≡ 2) × (loan.at ≡ table.old.at) × (loan.value ≡ table.old.opened)
         × (loan.life ≡ table.old.life) × (loan.share ≡ table.old.share)) }
 {
     if table.seen() != LENT {
@@ -119,9 +121,9 @@ pub(crate) fn lent(table: &mut Handle) -> Option<Loan<Btf>>
 }
 
 /// The table that a handle owns; the handle is then closed. None where its state is another.
-pub(crate) fn taken(alloc: Global, table: &mut Handle) -> Option<Box<Btf>>
+pub(crate) fn taken(alloc: Global, table: &mut Handle) -> Option<Box<Opened>>
     ensures { MatchOption result ((table.old.state ≢ 1) × (table.new ≡ table.old))
-        (λ whole. (table.old.state ≡ 1) × (table.new.state ≡ 0) × (whole.value ≡ table.old.table)) }
+        (λ whole. (table.old.state ≡ 1) × (table.new.state ≡ 0) × (whole.value ≡ table.old.opened)) }
 {
     if table.seen() != OWNED {
         return None;
@@ -130,8 +132,8 @@ pub(crate) fn taken(alloc: Global, table: &mut Handle) -> Option<Box<Btf>>
 }
 
 /// The handle that owns a table.
-pub(crate) fn owner(whole: Box<Btf>) -> Handle
-    ensures { (result.state ≡ 1) × (result.table ≡ whole.value) }
+pub(crate) fn owner(whole: Box<Opened>) -> Handle
+    ensures { (result.state ≡ 1) × (result.opened ≡ whole.value) }
 {
     Handle::from_parts(Parts::of(whole))
 }

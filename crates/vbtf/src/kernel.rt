@@ -73,7 +73,7 @@ impl Kernel {
 }
 
 impl Asked {
-    /// ListsAnswers what was asked.
+    /// Writes what was asked, in order.
     pub(crate) fn list(&mut self, answers: &[FeatureAnswer])
         requires { length answers.now ≤ 8 }
         ensures { ListsAnswers self.new (answers_of answers.now) }

@@ -16,15 +16,25 @@
 //! is not the one that the call needs; 102 for an argument that has no meaning. For 1 to 20 the fault says more.
 #![tactic(auto)]
 
+mod add;
 mod compare;
+mod error_text;
+mod ext;
+mod ext_read;
 mod fault;
 mod handle;
+mod item_words;
+mod items;
 mod kernel;
 mod loan;
 mod open;
+mod opened;
+mod orders;
 mod parts;
 mod program;
 mod read;
 mod rewrite;
+mod seed;
+mod value;
 mod walk;
 mod write;

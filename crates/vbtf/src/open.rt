@@ -1,16 +1,17 @@
 //! Opening a table, and closing it.
 
-ghost use Rattle.std.specs.Prelude.{◌≡◌, ◌≢◌, ◌⊎◌, ◌<◌, ◌≤◌, Ok, Err, MatchResult};
-ghost use Rattle.std.specs.Option.{MatchOption};
+ghost use Rattle.std.specs.Prelude.{◌≡◌, ◌≢◌, ◌⊎◌, ◌<◌, ◌≤◌, None, Ok, Err, MatchResult};
 ghost use Rattle.btf_model.specs.Table.{Table, empty_table};
 ghost use Rattle.btf_model.specs.Blob.{IsTable, Parses};
-ghost use Rattle.btf_words.specs.Endianness.{order_of};
 ghost use Rattle.btf_words.specs.declared.error.BtfError.TheVariants.{OutOfMemory};
-ghost use Rattle.vbtf.specs.Status.{Opens, ReportsError, order_named};
+ghost use Rattle.vbtf.specs.Orders.{order_chosen};
+ghost use Rattle.vbtf.specs.Status.{Opens, ReportsError};
 
 use crate::fault::{Fault, INVALID_ARGUMENT, report};
 use crate::handle::{Handle, owner, taken};
-use btf::{Btf, BtfError, Endianness};
+use crate::opened::Opened;
+use crate::orders::chosen_order;
+use btf::{Btf, BtfError};
 use std::alloc::Global;
 
 /// Opens a handle with an empty table in little-endian order.
@@ -34,7 +35,8 @@ pub extern "C" fn vbtf_new(alloc: Global, table: &mut Handle, fault: &mut Fault)
     }
 }
 
-/// Opens a handle with the table that a blob represents. `order` is the byte order: 0 for little, 1 for big.
+/// Opens a handle with the table that a blob represents. `order` is the byte order: 0 for little, 1 for big, 2 for the
+/// one that the magic at the beginning of the blob says.
 ///
 /// Status 1, 2 or 4 with the first cause of refusal, 20 where an allocation fails, and 102 where the handle is not
 /// closed or the order is another number; the handle then stays as it was.
@@ -46,16 +48,17 @@ pub extern "C" fn vbtf_raw_parse(
     order: u32,
     fault: &mut Fault,
 ) -> u32
-    ensures opened { table.old.state ≡ 0 → order ≤ 1
-        → Opens result table.old table.new fault.new (Parses (order_named order) «data».now) }
+    ensures opened { table.old.state ≡ 0 → order ≤ 2
+        → Opens result table.old table.new fault.new
+        (Parses (order_chosen order «data».now) «data».now) }
     // Bytes that are a table are not refused.
-    ensures only_table { table.old.state ≡ 0 → order ≤ 1
-        → (t : Table) → IsTable (order_named order) «data».now t
+    ensures only_table { table.old.state ≡ 0 → order ≤ 2
+        → (t : Table) → IsTable (order_chosen order «data».now) «data».now t
         → Opens result table.old table.new fault.new (λ answer. answer ≡ Ok t) }
     ensures open { table.old.state ≢ 0 → (result ≡ INVALID_ARGUMENT) × (table.new ≡ table.old) }
-    ensures order { 1 < order → (result ≡ INVALID_ARGUMENT) × (table.new ≡ table.old) }
+    ensures order { 2 < order → (result ≡ INVALID_ARGUMENT) × (table.new ≡ table.old) }
 {
-    let Some(endianness) = endianness_of(order) else {
+    let Some(endianness) = chosen_order(order, data) else {
         return INVALID_ARGUMENT;
     };
     if table.seen() != 0 {
@@ -81,22 +84,15 @@ pub extern "C" fn vbtf_close(alloc: Global, table: &mut Handle)
     }
 }
 
-/// The byte order of a number.
-fn endianness_of(order: u32) -> Option<Endianness>
-    ensures { MatchOption result (1 < order)
-        (λ endianness. (order ≤ 1) × (order_of endianness ≡ order_named order)) }
-{
-    match order {
-        0 => Some(Endianness::Little),
-        1 => Some(Endianness::Big),
-        _ => None,
-    }
-}
-
-/// The table of an answer, in a box.
-fn boxed(alloc: Global, answer: Result<Btf, BtfError>) -> Result<Box<Btf>, BtfError>
-    ensures { MatchResult result (λ whole. answer ≡ Ok whole.value)
+/// The table of an answer, in a box, with no `.BTF.ext`.
+fn boxed(alloc: Global, answer: Result<Btf, BtfError>) -> Result<Box<Opened>, BtfError>
+    ensures { MatchResult result
+        (λ whole. (answer ≡ Ok whole.value.btf) × (whole.value.ext ≡ None))
         (λ error. (answer ≡ Err error) ⊎ (error ≡ OutOfMemory)) }
 {
-    Ok(Box::new(alloc, answer?)?)
+    let opened = Opened {
+        btf: answer?,
+        ext: None,
+    };
+    Ok(Box::new(alloc, opened)?)
 }

@@ -6,9 +6,9 @@ ghost use Rattle.std.specs.Str.{IsUtf8};
 ghost use Rattle.btf_model.specs.Record.{Kind, kinds};
 ghost use Rattle.btf_model.specs.Text.{FindsName};
 ghost use Rattle.btf_words.specs.Error.{Meets, MeetsOrNoMemory};
-ghost use Rattle.btf_records.specs.BtfType.{record_of, type_kind};
+ghost use Rattle.btf_records.specs.BtfType.{record_of};
 ghost use Rattle.vbtf.specs.Status.{Ends, EndsOrNoMemory, Keeps};
-ghost use Rattle.vbtf.specs.Words.{WordsOf, size_or_target};
+ghost use Rattle.vbtf.specs.Words.{WordsOf};
 
 use crate::fault::{CLOSED, Fault, INVALID_ARGUMENT, report};
 use crate::handle::{Handle, lent};
@@ -20,14 +20,14 @@ use btf::{Btf, BtfError, BtfKind, BtfType};
 #[unsafe(no_mangle)]
 pub extern "C" fn vbtf_lent_count(table: &mut Handle, count: &mut u64) -> u32
     ensures counted { table.old.state ≡ 2
-        → (result ≡ 0) × (count.new ≡ length table.old.table.records) }
+        → (result ≡ 0) × (count.new ≡ length table.old.opened.btf.records) }
     ensures closed { table.old.state ≢ 2 → result ≡ CLOSED }
     ensures kept { Keeps table.old table.new }
 {
     let Some(loan) = lent(table) else {
         return CLOSED;
     };
-    *count = count_of(loan.get());
+    *count = count_of(&loan.get().btf);
     *table = Handle::from_loan(loan);
     0
 }
@@ -49,7 +49,8 @@ pub struct TypeWords {
     pub name: u32,
     /// The info word.
     pub info: u32,
-    /// The id of another type, or the size in bytes, by the kind; 0 for a kind that has neither.
+    /// The third word of the record: the size in bytes or the id of another type, by the kind; 0 for the kinds that
+    /// have neither.
     pub size_or_type: u32,
 }
 
@@ -64,14 +65,14 @@ pub extern "C" fn vbtf_lent_type(
     fault: &mut Fault,
 ) -> u32
     ensures found { table.old.state ≡ 2 → Ends result out.new fault.new
-        (WordsOf table.old.table.records id) }
+        (WordsOf table.old.opened.btf.records id) }
     ensures closed { table.old.state ≢ 2 → result ≡ CLOSED }
     ensures kept { Keeps table.old table.new }
 {
     let Some(loan) = lent(table) else {
         return CLOSED;
     };
-    let answer = words_of(loan.get(), id);
+    let answer = words_of(&loan.get().btf, id);
     *table = Handle::from_loan(loan);
     match answer {
         Ok(words) => {
@@ -98,7 +99,7 @@ pub extern "C" fn vbtf_lent_find(
 ) -> u32
     ensures found { table.old.state ≡ 2 → IsUtf8 name.now
         → (k : Kind) → slice_get kinds kind ≡ Some k → EndsOrNoMemory result id.new fault.new
-        (FindsName table.old.table.strings table.old.table.records k name.now) }
+        (FindsName table.old.opened.btf.strings table.old.opened.btf.records k name.now) }
     ensures not_utf8 { table.old.state ≡ 2 → (IsUtf8 name.now → ⊥) → result ≡ INVALID_ARGUMENT }
     ensures no_kind { table.old.state ≡ 2 → slice_get kinds kind ≡ None → result ≡ INVALID_ARGUMENT }
     ensures closed { table.old.state ≢ 2 → result ≡ CLOSED }
@@ -107,7 +108,7 @@ pub extern "C" fn vbtf_lent_find(
     let Some(loan) = lent(table) else {
         return CLOSED;
     };
-    let answer = find(loan.get(), name, kind);
+    let answer = find(&loan.get().btf, name, kind);
     *table = Handle::from_loan(loan);
     match answer {
         None => INVALID_ARGUMENT,
@@ -129,19 +130,43 @@ fn words_of(table: &Btf, id: u32) -> Result<TypeWords, BtfError>
         kind: info / 0x100_0000 % 32,
         name: btf_type.name_offset(),
         info,
-        size_or_type: size_or_type(btf_type),
+        size_or_type: third_word(btf_type),
     })
 }
 
-/// The type that a type leads to, or the size that it says, or 0.
-fn size_or_type(btf_type: &BtfType) -> u32
-    ensures { result ≡ size_or_target (type_kind btf_type.now) (record_of btf_type.now) }
+/// The third word of a record.
+fn third_word(btf_type: &BtfType) -> u32
+    ensures { result ≡ (record_of btf_type.now).third }
 {
-    match (btf_type.btf_type(), btf_type.size()) {
-        (Some(target), _) => target,
-        (None, Some(size)) => size,
-        (None, None) => 0,
+    match btf_type {
+        BtfType::Int(t) => t.size(),
+        BtfType::Ptr(t) => t.btf_type(),
+        BtfType::Struct(t) => t.size(),
+        BtfType::Union(t) => t.size(),
+        BtfType::Enum(t) => t.size(),
+        BtfType::Typedef(t) => t.btf_type(),
+        BtfType::Volatile(t) => t.btf_type(),
+        BtfType::Const(t) => t.btf_type(),
+        BtfType::Restrict(t) => t.btf_type(),
+        BtfType::Func(t) => t.btf_type(),
+        BtfType::FuncProto(t) => t.return_type(),
+        BtfType::Var(t) => t.btf_type(),
+        BtfType::DataSec(t) => t.size(),
+        BtfType::Float(t) => t.size(),
+        BtfType::DeclTag(t) => t.btf_type(),
+        BtfType::TypeTag(t) => t.btf_type(),
+        BtfType::Enum64(t) => t.size(),
+        BtfType::Array(t) => unused_word(t.info()),
+        BtfType::Fwd(t) => unused_word(t.info()),
+        BtfType::Unknown => 0,
     }
+}
+
+/// The third word of the kinds that use none. What proves that it is 0 is the call that returns the info word.
+fn unused_word(_info: u32) -> u32
+    ensures { result ≡ 0 }
+{
+    0
 }
 
 /// The id of a kind and a name; None where the name is not UTF-8, or no kind has the number.

@@ -44,13 +44,13 @@ pub extern "C" fn vbtf_raw_rewrite(
         × AreReadable symbol_names.now symbols.now → ⊥)
         → ((result ≡ INVALID_ARGUMENT) ⊎ (result ≡ no_memory)) × (table.new ≡ table.old) }
     // A walk that meets no VAR, FUNC, FUNC_PROTO, DATASEC or DECL_TAG finds the size that it found.
-    ensures sizes { result ≡ 0 → KeepsSizes table.old.table table.new.table }
+    ensures sizes { result ≡ 0 → KeepsSizes table.old.opened.btf table.new.opened.btf }
     // An id resolves to what it resolved to, unless that is a FUNC.
-    ensures resolutions { result ≡ 0 → KeepsResolutions table.old.table table.new.table }
+    ensures resolutions { result ≡ 0 → KeepsResolutions table.old.opened.btf table.new.opened.btf }
     // A name has the value in an ENUM or ENUM64 that it had, also where a UNION took its place.
-    ensures values { result ≡ 0 → KeepsValues table.old.table table.new.table }
+    ensures values { result ≡ 0 → KeepsValues table.old.opened.btf table.new.opened.btf }
     // No type is taken away, and at most four are appended.
-    ensures appended { result ≡ 0 → AppendsAtMost 4 table.old.table table.new.table }
+    ensures appended { result ≡ 0 → AppendsAtMost 4 table.old.opened.btf table.new.opened.btf }
 {
     if table.seen() != OWNED {
         return CLOSED;
@@ -63,7 +63,7 @@ pub extern "C" fn vbtf_raw_rewrite(
     let Some(mut whole) = taken(alloc, table) else {
         return CLOSED;
     };
-    let answer = rewritten(&mut whole, &program, kernel);
+    let answer = rewritten(&mut whole.btf, &program, kernel);
     *table = owner(whole);
     match answer {
         Ok(answers) => {

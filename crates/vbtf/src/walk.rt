@@ -18,14 +18,14 @@ pub extern "C" fn vbtf_lent_size(
     fault: &mut Fault,
 ) -> u32
     ensures sized { table.old.state ≡ 2
-        → Ends result size.new fault.new (HasSize table.old.table.records id) }
+        → Ends result size.new fault.new (HasSize table.old.opened.btf.records id) }
     ensures closed { table.old.state ≢ 2 → result ≡ CLOSED }
     ensures kept { Keeps table.old table.new }
 {
     let Some(loan) = lent(table) else {
         return CLOSED;
     };
-    let answer = loan.get().type_size(id);
+    let answer = loan.get().btf.type_size(id);
     *table = Handle::from_loan(loan);
     match answer {
         Ok(found) => {
@@ -47,14 +47,14 @@ pub extern "C" fn vbtf_lent_resolve(
     fault: &mut Fault,
 ) -> u32
     ensures resolved { table.old.state ≡ 2
-        → Ends result to.new fault.new (Resolves table.old.table.records id) }
+        → Ends result to.new fault.new (Resolves table.old.opened.btf.records id) }
     ensures closed { table.old.state ≢ 2 → result ≡ CLOSED }
     ensures kept { Keeps table.old table.new }
 {
     let Some(loan) = lent(table) else {
         return CLOSED;
     };
-    let answer = loan.get().resolve_type(id);
+    let answer = loan.get().btf.resolve_type(id);
     *table = Handle::from_loan(loan);
     match answer {
         Ok(found) => {

@@ -1,11 +1,11 @@
-//! The calls of the C library `vbtf`, as they are in its archive. `bindings/c/vbtf.h` says what each does, and what its
+//! The calls of the C library `vbtf`, as they are in its archive. `bindings/c/vbtf.h` has what each does, and what its
 //! caller has to uphold; the crate `vbtf` has them as methods.
 #![no_std]
 #![allow(non_camel_case_types)]
 
 use core::ffi::c_void;
 
-/// A table that C keeps. All zero is closed.
+/// A handle of a table. All zero is closed.
 #[repr(C)]
 #[derive(Debug)]
 pub struct vbtf_table {
@@ -13,7 +13,7 @@ pub struct vbtf_table {
     pub state: u32,
 }
 
-/// What is wrong. Fields that an error does not have are 0.
+/// An error of the library. Fields that the error does not have are 0.
 #[repr(C)]
 #[derive(Debug, Clone, Copy)]
 pub struct vbtf_error {
@@ -62,6 +62,26 @@ pub struct vbtf_asked {
     pub count: u32,
     pub features: [u8; 8],
     pub granted: [u8; 8],
+}
+
+/// An item of a type as words of its record.
+#[repr(C)]
+#[derive(Debug, Clone, Copy, Default)]
+pub struct vbtf_item {
+    pub info: u32,
+    pub count: u32,
+    pub words: [u32; 3],
+}
+
+/// The sizes of the records of a `.BTF.ext`, and the numbers of its sections.
+#[repr(C)]
+#[derive(Debug, Clone, Copy, Default)]
+pub struct vbtf_ext_sizes {
+    pub func_size: u64,
+    pub line_size: u64,
+    pub func_sections: u64,
+    pub line_sections: u64,
+    pub relocation_sections: u64,
 }
 
 extern "C" {
@@ -151,6 +171,73 @@ extern "C" {
         target: *mut vbtf_table,
         other: u32,
         answer: *mut bool,
+        error: *mut vbtf_error,
+    ) -> u32;
+    pub fn vbtf_lent_item(
+        table: *mut vbtf_table,
+        id: u32,
+        index: u32,
+        item: *mut vbtf_item,
+        error: *mut vbtf_error,
+    ) -> u32;
+    pub fn vbtf_lent_value(
+        table: *mut vbtf_table,
+        id: u32,
+        name: *const u8,
+        len: usize,
+        value: *mut u64,
+        error: *mut vbtf_error,
+    ) -> u32;
+    pub fn vbtf_raw_add_type(
+        table: *mut vbtf_table,
+        record: *const u8,
+        len: usize,
+        order: u32,
+        id: *mut u32,
+        error: *mut vbtf_error,
+    ) -> u32;
+    pub fn vbtf_raw_error_text(
+        error: *const vbtf_error,
+        out: *mut u8,
+        room: usize,
+        needed: *mut u64,
+    ) -> u32;
+    pub fn vbtf_raw_open_ext(
+        table: *mut vbtf_table,
+        data: *const u8,
+        len: usize,
+        order: u32,
+        seed: u64,
+        error: *mut vbtf_error,
+    ) -> u32;
+    pub fn vbtf_close_ext(table: *mut vbtf_table);
+    pub fn vbtf_lent_ext(table: *mut vbtf_table, ext: *mut vbtf_ext_sizes) -> u32;
+    pub fn vbtf_lent_ext_names(
+        table: *mut vbtf_table,
+        part: u32,
+        out: *mut u8,
+        room: usize,
+        needed: *mut u64,
+        error: *mut vbtf_error,
+    ) -> u32;
+    pub fn vbtf_lent_ext_section(table: *mut vbtf_table, index: u32, name_offset: *mut u32) -> u32;
+    pub fn vbtf_lent_ext_records(
+        table: *mut vbtf_table,
+        part: u32,
+        name: *const u8,
+        len: usize,
+        out: *mut u8,
+        room: usize,
+        needed: *mut u64,
+        error: *mut vbtf_error,
+    ) -> u32;
+    pub fn vbtf_lent_ext_relocations(
+        table: *mut vbtf_table,
+        name: *const u8,
+        len: usize,
+        out: *mut u32,
+        room: usize,
+        needed: *mut u64,
         error: *mut vbtf_error,
     ) -> u32;
 }

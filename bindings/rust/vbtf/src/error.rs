@@ -1,48 +1,88 @@
 //! Why a call failed.
 
+use crate::calls::written;
 use std::fmt;
-use vbtf_sys::vbtf_error;
+use vbtf_sys::{vbtf_error, vbtf_raw_error_text};
 
-/// Why a call failed. The variants are those of the library, under aya's names.
+const CLOSED: u32 = 101;
+const INVALID_ARGUMENT: u32 = 102;
+
+/// Why a call failed. The variants are those of the library, under aya's names, and so are the texts.
 ///
 /// ```
-/// let error = vbtf::Table::parse(&[], vbtf::Endianness::Little).unwrap_err();
-/// assert_eq!(error, vbtf::Error::InvalidHeader);
+/// use vbtf::{Endianness, Error, Table};
+///
+/// let error = Table::parse(&[], Endianness::Little).unwrap_err();
+/// assert_eq!(error, Error::InvalidHeader);
 /// assert_eq!(error.to_string(), "error parsing BTF header");
 /// ```
 #[derive(Debug, Clone, PartialEq, Eq)]
 #[non_exhaustive]
 pub enum Error {
-    /// The header is cut, or the string section does not lie in the data.
+    /// The header is cut, or the string section is not within the data.
     InvalidHeader,
-    /// The type section does not lie in the data, or a record is cut or too large.
+    /// The type section is not within the data, or a record is cut or too large.
     InvalidTypeInfo,
     /// A record is of a kind that does not exist.
-    InvalidTypeKind { kind: u32 },
+    InvalidTypeKind {
+        /// The number of the kind.
+        kind: u32,
+    },
     /// No text is at an offset, or a text would be past the longest string section.
-    InvalidStringOffset { offset: u64 },
-    /// A part of `.BTF.ext` does not lie where it should.
-    InvalidInfo { offset: u64, len: u64, section_len: u64 },
-    /// An id has no type.
-    UnknownBtfType { type_id: u32 },
+    InvalidStringOffset {
+        /// The offset.
+        offset: u64,
+    },
+    /// A part of `.BTF.ext` is not where it should be.
+    InvalidInfo {
+        /// Where the part begins.
+        offset: u64,
+        /// How many bytes it has.
+        len: u64,
+        /// How many bytes there are.
+        section_len: u64,
+    },
+    /// No type has an id.
+    UnknownBtfType {
+        /// The id.
+        type_id: u32,
+    },
     /// A type is of a kind that has no place there.
-    UnexpectedBtfType { type_id: u32 },
-    /// No type of the kind has the name, of which this is the beginning, at most 255 bytes.
-    UnknownBtfTypeName { type_name: String },
+    UnexpectedBtfType {
+        /// The id of the type.
+        type_id: u32,
+    },
+    /// No type of the kind has the name.
+    UnknownBtfTypeName {
+        /// The characters of the name that have room in 255 bytes.
+        type_name: String,
+    },
     /// A walk through types passed its limit of 32.
-    MaximumTypeDepthReached { type_id: u32 },
+    MaximumTypeDepthReached {
+        /// The id of the type at which the walk began, or would go on.
+        type_id: u32,
+    },
     /// A symbol has no known offset, or one past 32 bits.
-    SymbolOffsetNotFound { symbol_name: String },
+    SymbolOffsetNotFound {
+        /// The characters of the symbol's name that have room in 255 bytes.
+        symbol_name: String,
+    },
     /// An entry of a DATASEC is no VAR.
     InvalidDatasec,
     /// A section has no known size, or one past 32 bits.
-    UnknownSectionSize { section_name: String },
-    /// An allocation failed. The value that was to change is as it was.
+    UnknownSectionSize {
+        /// The characters of the section's name that have room in 255 bytes.
+        section_name: String,
+    },
+    /// An allocation failed. The table that the call would change is as it was.
     OutOfMemory,
+    /// An argument has no meaning: bytes follow the record of a type that is added, or the table that gets a `.BTF.ext`
+    /// has one.
+    InvalidArgument,
 }
 
 impl Error {
-    /// The error of a call that returned this status, which is no status of the binding's own.
+    /// The error of a call that returned this status.
     pub(crate) fn of(status: u32, error: &vbtf_error) -> Self {
         let type_id = error.id;
         match status {
@@ -63,43 +103,72 @@ impl Error {
             14 => Error::InvalidDatasec,
             15 => Error::UnknownSectionSize { section_name: name(error) },
             20 => Error::OutOfMemory,
+            CLOSED | INVALID_ARGUMENT => Error::InvalidArgument,
             other => unreachable!("status {other} of a call of vbtf"),
         }
     }
+
+    /// The error as the library describes it to C.
+    fn described(&self) -> vbtf_error {
+        let (number, id, offset, len, section_len, name) = match self {
+            Error::InvalidHeader => (1, 0, 0, 0, 0, ""),
+            Error::InvalidTypeInfo => (2, 0, 0, 0, 0, ""),
+            Error::InvalidTypeKind { kind } => (4, *kind, 0, 0, 0, ""),
+            Error::InvalidStringOffset { offset } => (6, 0, *offset, 0, 0, ""),
+            Error::InvalidInfo { offset, len, section_len } => {
+                (7, 0, *offset, *len, *section_len, "")
+            }
+            Error::UnknownBtfType { type_id } => (9, *type_id, 0, 0, 0, ""),
+            Error::UnexpectedBtfType { type_id } => (10, *type_id, 0, 0, 0, ""),
+            Error::UnknownBtfTypeName { type_name } => (11, 0, 0, 0, 0, type_name.as_str()),
+            Error::MaximumTypeDepthReached { type_id } => (12, *type_id, 0, 0, 0, ""),
+            Error::SymbolOffsetNotFound { symbol_name } => (13, 0, 0, 0, 0, symbol_name.as_str()),
+            Error::InvalidDatasec => (14, 0, 0, 0, 0, ""),
+            Error::UnknownSectionSize { section_name } => (15, 0, 0, 0, 0, section_name.as_str()),
+            Error::OutOfMemory => (20, 0, 0, 0, 0, ""),
+            Error::InvalidArgument => (INVALID_ARGUMENT, 0, 0, 0, 0, ""),
+        };
+        let mut error =
+            vbtf_error { number, id, offset, len, section_len, name_len: 0, name: [0; 255] };
+        let end = end_of_chars(name, error.name.len());
+        error.name[..end].copy_from_slice(&name.as_bytes()[..end]);
+        error.name_len = end as u32;
+        error
+    }
 }
 
-/// The name in an error. It is cut after 255 bytes, perhaps within a character.
+/// Where the last of the characters ends that have room in this many bytes.
+fn end_of_chars(text: &str, room: usize) -> usize {
+    let mut end = text.len().min(room);
+    while !text.is_char_boundary(end) {
+        end -= 1;
+    }
+    end
+}
+
+/// The name in an error, without the part of a character that may be at its end.
 fn name(error: &vbtf_error) -> String {
-    let len = error.name.len().min(error.name_len as usize);
-    String::from_utf8_lossy(&error.name[..len]).into_owned()
+    let bytes = &error.name[..error.name.len().min(error.name_len as usize)];
+    let end = match std::str::from_utf8(bytes) {
+        Ok(name) => name.len(),
+        Err(cut) => cut.valid_up_to(),
+    };
+    String::from_utf8_lossy(&bytes[..end]).into_owned()
 }
 
 impl fmt::Display for Error {
     fn fmt(&self, f: &mut fmt::Formatter<'_>) -> fmt::Result {
-        match self {
-            Error::InvalidHeader => write!(f, "error parsing BTF header"),
-            Error::InvalidTypeInfo => write!(f, "invalid BTF type info segment"),
-            Error::InvalidTypeKind { kind } => write!(f, "invalid BTF type kind `{kind}`"),
-            Error::InvalidStringOffset { offset } => write!(f, "invalid BTF string offset: {offset}"),
-            Error::InvalidInfo { offset, len, section_len } => {
-                write!(f, "invalid BTF info, offset: {offset} len: {len} section_len: {section_len}")
-            }
-            Error::UnknownBtfType { type_id } => write!(f, "unknown BTF type id `{type_id}`"),
-            Error::UnexpectedBtfType { type_id } => write!(f, "unexpected BTF type id `{type_id}`"),
-            Error::UnknownBtfTypeName { type_name } => write!(f, "unknown BTF type `{type_name}`"),
-            Error::MaximumTypeDepthReached { .. } => {
-                write!(f, "maximum depth reached resolving BTF type")
-            }
-            Error::SymbolOffsetNotFound { symbol_name } => {
-                write!(f, "Offset not found for symbol `{symbol_name}`")
-            }
-            Error::InvalidDatasec => {
-                write!(f, "BTF type that is not VAR was found in DATASEC")
-            }
-            Error::UnknownSectionSize { section_name } => {
-                write!(f, "Unable to determine the size of section `{section_name}`")
-            }
-            Error::OutOfMemory => write!(f, "out of memory"),
+        let error = self.described();
+        if error.number == INVALID_ARGUMENT {
+            return f.write_str("invalid argument");
+        }
+        // SAFETY: the error and the buffer live as long as the call.
+        let text = written(400, |out, room, needed, _| unsafe {
+            vbtf_raw_error_text(&error, out, room, needed)
+        });
+        match text {
+            Ok(text) => f.write_str(&String::from_utf8_lossy(&text)),
+            Err(_) => f.write_str("out of memory"),
         }
     }
 }

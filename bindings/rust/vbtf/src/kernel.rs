@@ -2,7 +2,15 @@
 
 use vbtf_sys::{vbtf_asked, vbtf_kernel, vbtf_named};
 
-/// What older kernels refuse in BTF: a kind, or a use of one.
+/// What an older kernel may lack: a kind of BTF, or a use of one.
+///
+/// ```
+/// use vbtf::{Feature, Kernel};
+///
+/// let old = Kernel::with(&[Feature::Func, Feature::DataSec]);
+/// let lacks: Vec<Feature> = Feature::ALL.into_iter().filter(|it| !old.has(*it)).collect();
+/// assert_eq!(lacks[0], Feature::FuncGlobal);
+/// ```
 #[derive(Debug, Clone, Copy, PartialEq, Eq, Hash)]
 pub enum Feature {
     /// FUNC and FUNC_PROTO.
@@ -38,13 +46,27 @@ impl Feature {
 }
 
 /// A feature that a rewrite asked about, and whether the kernel has it.
+///
+/// ```
+/// use vbtf::{Endianness, Feature, FeatureAnswer, Kernel, Table};
+///
+/// let mut table = Table::new()?;
+/// let float = [table.add_string("double")?, 0x1000_0000, 8];
+/// table.add_type(&float.map(u32::to_le_bytes).concat(), Endianness::Little)?;
+///
+/// let answers = table.rewrite(&Kernel::with(&[]))?;
+/// assert_eq!(answers, [FeatureAnswer { feature: Feature::Float, granted: false }]);
+/// # Ok::<(), vbtf::Error>(())
+/// ```
 #[derive(Debug, Clone, Copy, PartialEq, Eq)]
 pub struct FeatureAnswer {
+    /// The feature.
     pub feature: Feature,
+    /// Whether the kernel has it.
     pub granted: bool,
 }
 
-/// What a kernel has, and what a program says of its sections and symbols.
+/// What a kernel has, and the sizes of the sections and the offsets of the symbols of a program.
 ///
 /// ```
 /// use vbtf::{Feature, Kernel};
@@ -82,8 +104,21 @@ impl Kernel {
         Self::probed(|feature| features.contains(&feature))
     }
 
-    /// A kernel that has the features for which the closure returns true. It is called once for each of the eight, before
-    /// a rewrite: a rewrite in Rattle calls its predicate for those alone that it needs.
+    /// A kernel that has the features for which the closure returns true. This function calls it for each of the eight
+    /// features, once, and before the rewrite; the rewrite in Rattle calls its predicate only for what it needs. So a
+    /// probe that is slow, or that loads a program, is better cached from one rewrite to the next.
+    ///
+    /// ```
+    /// use vbtf::{Feature, Kernel};
+    ///
+    /// let mut probed = Vec::new();
+    /// let kernel = Kernel::probed(|feature| {
+    ///     probed.push(feature);
+    ///     feature != Feature::Enum64
+    /// });
+    /// assert_eq!(probed, Feature::ALL);
+    /// assert!(kernel.has(Feature::Func) && !kernel.has(Feature::Enum64));
+    /// ```
     pub fn probed(mut has: impl FnMut(Feature) -> bool) -> Self {
         let mut kernel = Self::default();
         for feature in Feature::ALL {

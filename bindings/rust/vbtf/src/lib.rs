@@ -1,28 +1,37 @@
-//! BTF, the Linux kernel's type metadata for BPF programs: tables that are read, looked into, compared and written by a
-//! library whose answers are proved. Every call returns, whatever the bytes are, and fails for the documented reasons
-//! alone, the first in a fixed order.
+//! BTF, the Linux kernel's type metadata for BPF programs: tables that are read, looked into, compared, rewritten and
+//! written by a library whose results are proved. Every call terminates on every input, and fails only for the
+//! documented reasons, checked in a fixed order.
 //!
-//! The size of a structure that a table has by name:
+//! The size and the members of a structure by its name:
 //!
 //! ```
 //! use vbtf::{Endianness, Kind, Table};
 //!
-//! let mut table = Table::new()?;
-//! table.add_string("task_struct")?;
-//! let bytes = table.to_bytes()?;
-//!
-//! let table = Table::parse(&bytes, Endianness::Little)?;
-//! let missing = table.id_by_type_name_kind("task_struct", Kind::Struct);
-//! assert_eq!(missing.unwrap_err().to_string(), "unknown BTF type `task_struct`");
+//! # let mut table = Table::new()?;
+//! # let words = [table.add_string("pair")?, 0x0400_0001, 8, table.add_string("left")?, 0, 0];
+//! # table.add_type(&words.map(u32::to_le_bytes).concat(), Endianness::Little)?;
+//! # let bytes = table.to_bytes()?;
+//! let table = Table::parse_by_magic(&bytes)?;
+//! let id = table.id_by_type_name_kind("pair", Kind::Struct)?;
+//! assert_eq!(table.type_size(id), Ok(8));
+//! for member in table.type_by_id(id)?.members().into_iter().flatten() {
+//!     println!("{}: from bit {}", table.string_at(member.name_offset)?, member.bit_offset);
+//! }
 //! # Ok::<(), vbtf::Error>(())
 //! ```
+#![deny(missing_docs)]
 
+mod calls;
 mod error;
+mod ext;
 mod kernel;
 mod kind;
 mod table;
+mod types;
 
 pub use error::Error;
+pub use ext::{Ext, FuncInfo, LineInfo, Part, Relocation};
 pub use kernel::{Feature, FeatureAnswer, Kernel};
 pub use kind::{Endianness, Kind};
-pub use table::{fields_are_compatible, types_are_compatible, Table, Type, Types};
+pub use table::{fields_are_compatible, types_are_compatible, Table};
+pub use types::{Array, Entry, Int, Items, Linkage, Member, Param, Type, Types, Variant};

@@ -1,48 +1,17 @@
 //! A table, and what is read of it.
 
+use crate::calls::{called, found, written};
 use crate::error::Error;
+use crate::ext::Ext;
 use crate::kernel::{answers_of, FeatureAnswer, Kernel};
 use crate::kind::{Endianness, Kind};
-use std::iter::FusedIterator;
-use std::mem::{zeroed, MaybeUninit};
+use crate::types::{Type, Types};
+use std::collections::hash_map::RandomState;
+use std::hash::{BuildHasher, Hasher};
 use vbtf_sys::*;
 
-const OK: u32 = 0;
-const NO_ROOM: u32 = 100;
-
-/// The value that a call of the library wrote where it returned 0, or its error.
-fn called<T>(call: impl FnOnce(*mut T, *mut vbtf_error) -> u32) -> Result<T, Error> {
-    let mut value = MaybeUninit::<T>::zeroed();
-    // SAFETY: all its fields are numbers, for which zero bits are a value.
-    let mut error: vbtf_error = unsafe { zeroed() };
-    match call(value.as_mut_ptr(), &mut error) {
-        // SAFETY: a call that returns 0 has written its value.
-        OK => Ok(unsafe { value.assume_init() }),
-        status => Err(Error::of(status, &error)),
-    }
-}
-
-/// The bytes that a call writes into a buffer, which it is given again where it is too short.
-fn written(
-    room: usize,
-    call: impl Fn(*mut u8, usize, *mut u64, *mut vbtf_error) -> u32,
-) -> Result<Vec<u8>, Error> {
-    let mut bytes = vec![0; room];
-    loop {
-        let mut needed = 0;
-        // SAFETY: as above.
-        let mut error: vbtf_error = unsafe { zeroed() };
-        let status = call(bytes.as_mut_ptr(), bytes.len(), &mut needed, &mut error);
-        match status {
-            OK => bytes.truncate(needed as usize),
-            NO_ROOM => bytes.resize(needed as usize, 0),
-            _ => return Err(Error::of(status, &error)),
-        }
-        if status == OK {
-            return Ok(bytes);
-        }
-    }
-}
+/// The number of the order that the magic at the beginning of the data has.
+const BY_MAGIC: u32 = 2;
 
 /// A table of types. Several threads may read one at the same time.
 ///
@@ -53,16 +22,20 @@ fn written(
 /// # Ok::<(), vbtf::Error>(())
 /// ```
 #[derive(Debug)]
-pub struct Table(vbtf_table);
+pub struct Table {
+    handle: vbtf_table,
+    /// How many bytes the written table is expected to have. More take a second call.
+    room: usize,
+}
 
-// SAFETY: the library proves `Send` of the handle, and a reading call changes nothing that it lends.
+// SAFETY: the library proves `Send` of the handle, and the calls that take `&Table` only read.
 unsafe impl Send for Table {}
 unsafe impl Sync for Table {}
 
 impl Drop for Table {
     fn drop(&mut self) {
         // SAFETY: the table is open, and nobody reads it any more.
-        unsafe { vbtf_close(&mut self.0) }
+        unsafe { vbtf_close(&mut self.handle) }
     }
 }
 
@@ -73,33 +46,51 @@ impl Table {
     }
 
     /// The same table, lent for one call, which only reads it.
-    fn loan(&self) -> vbtf_table {
-        vbtf_table { at: self.0.at, state: 2 }
+    pub(crate) fn loan(&self) -> vbtf_table {
+        vbtf_table { at: self.handle.at, state: 2 }
     }
 
     /// An empty table in little-endian order: one string byte, which is zero, and the type of id 0.
     pub fn new() -> Result<Self, Error> {
-        let mut table = Self::closed();
+        let mut handle = Self::closed();
         // SAFETY: the table is closed.
-        called::<()>(|_, error| unsafe { vbtf_new(&mut table, error) })?;
-        Ok(Self(table))
+        called::<()>(|_, error| unsafe { vbtf_new(&mut handle, error) })?;
+        Ok(Self { handle, room: 256 })
     }
 
-    /// What the bytes of a `.BTF` section are in this order, or the first cause of refusal.
-    pub fn parse(data: &[u8], endianness: Endianness) -> Result<Self, Error> {
-        let mut table = Self::closed();
-        let order = endianness as u32;
+    /// The table that bytes represent, whose order has this number.
+    fn parse_as(data: &[u8], order: u32) -> Result<Self, Error> {
+        let mut handle = Self::closed();
         // SAFETY: the table is closed, and the slice lives as long as the call.
         called::<()>(|_, error| unsafe {
-            vbtf_raw_parse(&mut table, data.as_ptr(), data.len(), order, error)
+            vbtf_raw_parse(&mut handle, data.as_ptr(), data.len(), order, error)
         })?;
-        Ok(Self(table))
+        Ok(Self { handle, room: data.len() + 256 })
+    }
+
+    /// The table that the bytes of a `.BTF` section in this order represent.
+    pub fn parse(data: &[u8], endianness: Endianness) -> Result<Self, Error> {
+        Self::parse_as(data, endianness as u32)
+    }
+
+    /// The table that the bytes of a `.BTF` section represent, in the order of their magic: big-endian where they begin
+    /// with 0xeb 0x9f, else little-endian.
+    ///
+    /// ```
+    /// use vbtf::Table;
+    ///
+    /// let bytes = Table::new()?.to_bytes()?;
+    /// assert_eq!(Table::parse_by_magic(&bytes)?.to_bytes(), Ok(bytes));
+    /// # Ok::<(), vbtf::Error>(())
+    /// ```
+    pub fn parse_by_magic(data: &[u8]) -> Result<Self, Error> {
+        Self::parse_as(data, BY_MAGIC)
     }
 
     /// The bytes of the table, in its own order.
     pub fn to_bytes(&self) -> Result<Vec<u8>, Error> {
         // SAFETY: the loan lives as long as the call.
-        written(0, |out, room, needed, error| unsafe {
+        written(self.room, |out, room, needed, error| unsafe {
             vbtf_lent_bytes(&mut self.loan(), out, room, needed, error)
         })
     }
@@ -117,22 +108,17 @@ impl Table {
         self.len() < 2
     }
 
-    /// The type of an id; `UnknownBtfType` where there is none.
-    pub fn type_by_id(&self, type_id: u32) -> Result<Type, Error> {
+    /// The type of an id; [`Error::UnknownBtfType`] where there is none.
+    pub fn type_by_id(&self, type_id: u32) -> Result<Type<'_>, Error> {
         // SAFETY: as above.
-        let words: vbtf_type =
+        let words =
             called(|out, error| unsafe { vbtf_lent_type(&mut self.loan(), type_id, out, error) })?;
-        Ok(Type {
-            kind: Kind::from_number(words.kind).expect("each record has a kind"),
-            name_offset: words.name_offset,
-            info: words.info,
-            size_or_type: words.size_or_type,
-        })
+        Ok(Type::new(self, type_id, words))
     }
 
     /// The types in the order of their ids, id 0 first.
     pub fn types(&self) -> Types<'_> {
-        Types { table: self, next: 0, end: self.len() }
+        Types::new(self)
     }
 
     /// The text at a string offset, with U+FFFD in the place of each piece that is not UTF-8.
@@ -165,12 +151,81 @@ impl Table {
         called(|size, error| unsafe { vbtf_lent_size(&mut self.loan(), type_id, size, error) })
     }
 
+    /// The value of the first variant of a name, in the ENUM or ENUM64 that an id resolves to, or in the UNION that a
+    /// rewrite of this table put in the place of an ENUM64. The bits above the 32 of an ENUM's value are 0, also where
+    /// it is signed. `None` where no variant has the name.
+    ///
+    /// ```
+    /// use vbtf::{Endianness, Table};
+    ///
+    /// let mut table = Table::new()?;
+    /// let words = [0, 0x0600_0001, 4, table.add_string("DROP")?, 2];
+    /// let id = table.add_type(&words.map(u32::to_le_bytes).concat(), Endianness::Little)?;
+    /// assert_eq!(table.variant_value(id, "DROP"), Ok(Some(2)));
+    /// assert_eq!(table.variant_value(id, "PASS"), Ok(None));
+    /// # Ok::<(), vbtf::Error>(())
+    /// ```
+    pub fn variant_value(&self, type_id: u32, name: &str) -> Result<Option<u64>, Error> {
+        let (at, len) = (name.as_ptr(), name.len());
+        // SAFETY: as above.
+        found(|value, error| unsafe {
+            vbtf_lent_value(&mut self.loan(), type_id, at, len, value, error)
+        })
+    }
+
     /// Adds a text and a zero byte to the strings, and returns the offset of the text.
     pub fn add_string(&mut self, text: &str) -> Result<u32, Error> {
         // SAFETY: the table is open, and nobody reads it meanwhile.
         called(|offset, error| unsafe {
-            vbtf_raw_add_string(&mut self.0, text.as_ptr(), text.len(), offset, error)
+            vbtf_raw_add_string(&mut self.handle, text.as_ptr(), text.len(), offset, error)
         })
+    }
+
+    /// Adds the type whose record these bytes are, and returns its id; [`Error::InvalidArgument`] where bytes follow
+    /// the record.
+    pub fn add_type(&mut self, record: &[u8], endianness: Endianness) -> Result<u32, Error> {
+        let order = endianness as u32;
+        // SAFETY: as above.
+        called(|id, error| unsafe {
+            vbtf_raw_add_type(&mut self.handle, record.as_ptr(), record.len(), order, id, error)
+        })
+    }
+}
+
+/// `.BTF.ext`, which a table has at most one of.
+impl Table {
+    /// Opens the `.BTF.ext` that bytes represent, whose order has this number.
+    fn open_ext_as(&mut self, data: &[u8], order: u32) -> Result<(), Error> {
+        // Random keys, so that nobody can choose names of sections that collide.
+        let seed = RandomState::new().build_hasher().finish();
+        // SAFETY: the table is open, and nobody reads it meanwhile; the slice lives as long as the call.
+        called(|_, error| unsafe {
+            vbtf_raw_open_ext(&mut self.handle, data.as_ptr(), data.len(), order, seed, error)
+        })
+    }
+
+    /// Opens the `.BTF.ext` that these bytes in an order represent, whose names are in the strings of the table;
+    /// [`Error::InvalidArgument`] where the table has one.
+    pub fn open_ext(&mut self, data: &[u8], endianness: Endianness) -> Result<(), Error> {
+        self.open_ext_as(data, endianness as u32)
+    }
+
+    /// The same in the order of the bytes' magic: big-endian where they begin with 0xeb 0x9f, else little-endian.
+    pub fn open_ext_by_magic(&mut self, data: &[u8]) -> Result<(), Error> {
+        self.open_ext_as(data, BY_MAGIC)
+    }
+
+    /// Closes the `.BTF.ext` of the table, and frees it.
+    pub fn close_ext(&mut self) {
+        // SAFETY: the table is open, and nobody reads it meanwhile.
+        unsafe { vbtf_close_ext(&mut self.handle) }
+    }
+
+    /// The `.BTF.ext` that is open over the table.
+    pub fn ext(&self) -> Option<Ext<'_>> {
+        // SAFETY: the loan lives as long as the call.
+        let sizes = called(|out, _| unsafe { vbtf_lent_ext(&mut self.loan(), out) });
+        Some(Ext::new(self, sizes.ok()?))
     }
 }
 
@@ -191,7 +246,7 @@ impl Table {
         // SAFETY: the table is open, and nobody reads it meanwhile; the slices live as long as the call.
         let asked = called(|asked, error| unsafe {
             vbtf_raw_rewrite(
-                &mut self.0,
+                &mut self.handle,
                 sections.names.as_ptr(),
                 sections.names.len(),
                 sections.entries.as_ptr(),
@@ -208,48 +263,6 @@ impl Table {
         Ok(answers_of(&asked))
     }
 }
-
-/// The kind and the first words of a type.
-#[derive(Debug, Clone, Copy, PartialEq, Eq)]
-pub struct Type {
-    /// The kind.
-    pub kind: Kind,
-    /// The string offset of the name.
-    pub name_offset: u32,
-    /// The info word: vlen in bits 0 to 15, the kind in bits 24 to 28, the kind flag in bit 31.
-    pub info: u32,
-    /// The size in bytes, or the id of another type, by the kind.
-    pub size_or_type: u32,
-}
-
-/// The types of a table, in the order of their ids.
-#[derive(Debug, Clone)]
-pub struct Types<'a> {
-    table: &'a Table,
-    next: u32,
-    end: u32,
-}
-
-impl Iterator for Types<'_> {
-    type Item = Type;
-
-    fn next(&mut self) -> Option<Type> {
-        if self.next == self.end {
-            return None;
-        }
-        let found = self.table.type_by_id(self.next).ok();
-        self.next += 1;
-        found
-    }
-
-    fn size_hint(&self) -> (usize, Option<usize>) {
-        let rest = (self.end - self.next) as usize;
-        (rest, Some(rest))
-    }
-}
-
-impl ExactSizeIterator for Types<'_> {}
-impl FusedIterator for Types<'_> {}
 
 /// Whether the types of two fields are compatible, each in its own table.
 pub fn fields_are_compatible(

@@ -2,17 +2,44 @@
 
 use std::thread;
 use vbtf::{
-    fields_are_compatible, types_are_compatible, Endianness, Error, Feature, FeatureAnswer, Kernel,
-    Kind, Table,
+    fields_are_compatible, types_are_compatible, Endianness, Error, Ext, Feature, FeatureAnswer,
+    Items, Kernel, Kind, Member, Table, Type, Types,
 };
 
 const STRINGS: &[u8] = b"\0char\0_license\0license\0f\0caf\xff\0";
 
-/// INT 1 of a byte, VAR 2 `_license` of it, DATASEC 3 `license` of size 0 with it, FUNC_PROTO 4, FUNC 5 `f`, CONST 6 of 1,
-/// FWD 7.
+/// INT 1 of a byte, VAR 2 `_license` of it, DATASEC 3 `license` of size 0 with it, FUNC_PROTO 4, FUNC 5 `f`, CONST 6 of
+/// 1, FWD 7, PTR 8 to 1.
 const WORDS: [u32; 29] = [
-    1, 0x0100_0000, 1, 8, 6, 0x0e00_0000, 1, 1, 15, 0x0f00_0001, 0, 2, 0, 1, 0, 0x0d00_0000, 0, 23,
-    0x0c00_0001, 4, 0, 0x0a00_0000, 1, 25, 0x0700_0000, 0, 0, 0x0200_0000, 1,
+    1,
+    0x0100_0000,
+    1,
+    8,
+    6,
+    0x0e00_0000,
+    1,
+    1,
+    15,
+    0x0f00_0001,
+    0,
+    2,
+    0,
+    1,
+    0,
+    0x0d00_0000,
+    0,
+    23,
+    0x0c00_0001,
+    4,
+    0,
+    0x0a00_0000,
+    1,
+    25,
+    0x0700_0000,
+    0,
+    0,
+    0x0200_0000,
+    1,
 ];
 
 fn bytes(endianness: Endianness) -> Vec<u8> {
@@ -39,7 +66,7 @@ fn table(endianness: Endianness) -> Table {
 #[test]
 fn types_are_read() {
     let table = table(Endianness::Big);
-    let kinds: Vec<Kind> = table.types().map(|it| it.kind).collect();
+    let kinds: Vec<Kind> = table.types().map(|it| it.kind()).collect();
     let wanted = [
         Kind::Unknown,
         Kind::Int,
@@ -59,6 +86,27 @@ fn types_are_read() {
     assert_eq!(table.type_size(6), Ok(1));
     assert_eq!(table.type_size(7), Err(Error::UnexpectedBtfType { type_id: 7 }));
     assert_eq!(table.type_by_id(9), Err(Error::UnknownBtfType { type_id: 9 }));
+    assert_eq!(table.types().rev().map(|it| it.id()).nth(1), Some(7));
+}
+
+#[test]
+fn orders_are_read_in_the_magic() {
+    for endianness in [Endianness::Little, Endianness::Big] {
+        let bytes = bytes(endianness);
+        assert_eq!(Table::parse_by_magic(&bytes).and_then(|it| it.to_bytes()), Ok(bytes));
+    }
+}
+
+#[test]
+fn values_move_to_other_threads_and_are_shared() {
+    fn is_send_and_sync<T: Send + Sync>() {}
+    is_send_and_sync::<Table>();
+    is_send_and_sync::<Type<'_>>();
+    is_send_and_sync::<Types<'_>>();
+    is_send_and_sync::<Items<'_, Member>>();
+    is_send_and_sync::<Ext<'_>>();
+    is_send_and_sync::<Kernel>();
+    is_send_and_sync::<Error>();
 }
 
 #[test]
@@ -89,11 +137,7 @@ fn a_table_is_rewritten_for_a_kernel() {
     assert_eq!(table.rewrite(&kernel), Err(missing));
     assert_eq!(table.to_bytes(), Ok(bytes(Endianness::Little)));
     kernel.section("license", 13).symbol("_license", 40);
-    let wanted = [
-        (Feature::DataSec, true),
-        (Feature::Func, true),
-        (Feature::FuncGlobal, false),
-    ];
+    let wanted = [(Feature::DataSec, true), (Feature::Func, true), (Feature::FuncGlobal, false)];
     let wanted = wanted.map(|(feature, granted)| FeatureAnswer { feature, granted });
     assert_eq!(table.rewrite(&kernel), Ok(wanted.to_vec()));
     assert_eq!(table.type_size(3), Ok(13));

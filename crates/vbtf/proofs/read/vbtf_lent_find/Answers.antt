@@ -1,29 +1,29 @@
 use Rattle.std.proofs.Common.{◌≡◌, ◌∙◌, refl, sym, subst, inl, ℕ}
 use Rattle.std.specs.Prelude.{Result}
 use Rattle.btf_model.specs.Record.{Kind}
-use Rattle.btf_model.specs.Table.{Table}
 use Rattle.btf_model.specs.Text.{FindsName}
 use Rattle.btf_words.specs.declared.error.BtfError.{BtfError}
 use Rattle.btf_words.specs.Error.{MeetsOrNoMemory, refusal_of}
+use Rattle.vbtf.specs.declared.opened.Opened.{Opened}
 use Rattle.vbtf.proofs.Ending.{ends_refused}
 use Rattle.vbtf.proofs.SameKind.{same_kind}
 use Rattle.vbtf.proofs.read.vbtf_lent_find.Goals as goal
 
 pub returns-in-Some-Ok-clause-found : goal.returns-in-Some-Ok-clause-found
 returns-in-Some-Ok-clause-found c two utf8 k is =
-    let e : c.get.result.now ≡ c.args.table.now.table = c.get.ensures ∙ c.in-Some.ensures.2 in
+    let e : c.get.result.now ≡ c.args.table.now.opened = c.get.ensures ∙ c.in-Some.ensures.2 in
     let m = c.in-Some-Ok.ensures in let same : m.1 ≡ k = same_kind m.1 k (sym m.2 ∙ is) in
     inl (inl (
       refl,
-      subst (λ (p : Table × Kind × Result ℕ BtfError). MeetsOrNoMemory (λ (n : ℕ). n) p.2 (FindsName p.0.strings p.0.records p.1 c.args.name.now))
+      subst (λ (p : Opened × Kind × Result ℕ BtfError). MeetsOrNoMemory (λ (n : ℕ). n) p.2 (FindsName p.0.btf.strings p.0.btf.records p.1 c.args.name.now))
           (λ i. (e i, same i, c.in-Some-Ok.field-0-is i)) m.3,
     ))
 
 pub returns-in-Some-Err-clause-found : goal.returns-in-Some-Err-clause-found
 returns-in-Some-Err-clause-found c two utf8 k is =
-    let e : c.get.result.now ≡ c.args.table.now.table = c.get.ensures ∙ c.in-Some.ensures.2 in
+    let e : c.get.result.now ≡ c.args.table.now.opened = c.get.ensures ∙ c.in-Some.ensures.2 in
     let m = c.in-Some-Err.ensures in let same : m.1 ≡ k = same_kind m.1 k (sym m.2 ∙ is) in
     let o = refusal_of c.in-Some-Err.error in
-    ends_refused c.report.result c.args.id.now c.report.new.fault o (FindsName c.args.table.now.table.strings c.args.table.now.table.records k c.args.name.now)
-    (subst (λ (p : Table × Kind × Result ℕ BtfError). MeetsOrNoMemory (λ (n : ℕ). n) p.2 (FindsName p.0.strings p.0.records p.1 c.args.name.now))
+    ends_refused c.report.result c.args.id.now c.report.new.fault o (FindsName c.args.table.now.opened.btf.strings c.args.table.now.opened.btf.records k c.args.name.now)
+    (subst (λ (p : Opened × Kind × Result ℕ BtfError). MeetsOrNoMemory (λ (n : ℕ). n) p.2 (FindsName p.0.btf.strings p.0.btf.records p.1 c.args.name.now))
     (λ i. (e i, same i, c.in-Some-Err.field-0-is i)) m.3) c.report.ensures

@@ -1,4 +1,4 @@
-use Rattle.std.proofs.Common.{◌≡◌, ℕ, List, Some, Ok, Err, refl, sym, ap, subst, ◌∙◌, inl, inr}
+use Rattle.std.proofs.Common.{◌≡◌, List, Ok, Err, refl, ap, subst, ◌∙◌, inl, inr}
 use Rattle.std.specs.Prelude.{IfSome}
 use Rattle.btf_rules.specs.declared.features.FeatureAnswer.{FeatureAnswer}
 use Rattle.btf_table.specs.Rewrites.{KeepsSizes, KeepsResolutions, KeepsValues}
@@ -12,9 +12,21 @@ use Rattle.vbtf.proofs.Kernels.{carried, for_handle}
 use Rattle.vbtf.proofs.rewrite.vbtf_raw_rewrite.Goals as goal
 use Rattle.vbtf.proofs.rewrite.vbtf_raw_rewrite.Goals.{After-owner}
 
+-- what is rewritten is what the handle has opened
+same_opened : (c : After-owner) → c.deref_mut.result.now ≡ c.args.table.now.opened
+same_opened c = c.deref_mut.ensures.value ∙ c.in-Some.ensures.2 ∙ ap (λ h. h.opened) c.seen.ensures.1
+
 -- the table that is rewritten is the handle's
-same_old : (c : After-owner) → c.deref_mut.result.now ≡ c.args.table.now.table
-same_old c = c.deref_mut.ensures.value ∙ c.in-Some.ensures.2 ∙ ap (λ h. h.table) c.seen.ensures.1
+same_old : (c : After-owner) → c.deref_mut.result.now.btf ≡ c.args.table.now.opened.btf
+same_old c = ap (λ o. o.btf) (same_opened c)
+
+-- the rewritten table is the handle's
+same_new : (c : After-owner) → c.owner.result.opened.btf ≡ c.rewritten-answer.new.btf
+same_new c = ap (λ o. o.btf) c.owner.ensures.1
+
+-- the .BTF.ext is the one that was open
+same_ext : (c : After-owner) → c.owner.result.opened.ext ≡ c.args.table.now.opened.ext
+same_ext c = ap (λ o. o.ext) c.owner.ensures.1 ∙ ap (λ o. o.ext) (same_opened c)
 
 -- the maps have what the entries say
 same_layout : (c : After-owner) → layout_of c.in-Ok-Some.program.sections c.in-Ok-Some.program.symbols ≡ layout_named c.args.section_names.now c.args.sections.now c.args.symbol_names.now c.args.symbols.now
@@ -24,13 +36,19 @@ readable : (c : After-owner) → AreReadable c.args.section_names.now c.args.sec
 readable c = subst (λ o. IfSome o (λ _. AreReadable c.args.section_names.now c.args.sections.now × AreReadable c.args.symbol_names.now c.args.symbols.now)) c.in-Ok-Some.field-0-is c.in-Ok-Some.ensures.readable
 
 pub returns-in-Ok-clause-sizes : goal.returns-in-Ok-clause-sizes
-returns-in-Ok-clause-sizes c = λ zero. carried KeepsSizes _ _ _ _ (same_old (goal.at.returns-in-Ok-clause-sizes c).After-owner) c.owner.ensures.1 c.in-Ok.ensures.sizes
+returns-in-Ok-clause-sizes c = λ zero.
+    let w = (goal.at.returns-in-Ok-clause-sizes c).After-owner in
+    carried KeepsSizes _ _ _ _ (same_old w) (same_new w) c.in-Ok.ensures.sizes
 
 pub returns-in-Ok-clause-resolutions : goal.returns-in-Ok-clause-resolutions
-returns-in-Ok-clause-resolutions c = λ zero. carried KeepsResolutions _ _ _ _ (same_old (goal.at.returns-in-Ok-clause-resolutions c).After-owner) c.owner.ensures.1 c.in-Ok.ensures.resolutions
+returns-in-Ok-clause-resolutions c = λ zero.
+    let w = (goal.at.returns-in-Ok-clause-resolutions c).After-owner in
+    carried KeepsResolutions _ _ _ _ (same_old w) (same_new w) c.in-Ok.ensures.resolutions
 
 pub returns-in-Ok-clause-values : goal.returns-in-Ok-clause-values
-returns-in-Ok-clause-values c = λ zero. carried KeepsValues _ _ _ _ (same_old (goal.at.returns-in-Ok-clause-values c).After-owner) c.owner.ensures.1 c.in-Ok.ensures.values
+returns-in-Ok-clause-values c = λ zero.
+    let w = (goal.at.returns-in-Ok-clause-values c).After-owner in
+    carried KeepsValues _ _ _ _ (same_old w) (same_new w) c.in-Ok.ensures.values
 
 pub returns-in-Ok-clause-rewritten : goal.returns-in-Ok-clause-rewritten
 returns-in-Ok-clause-rewritten c = λ owned sections symbols.
@@ -38,11 +56,12 @@ returns-in-Ok-clause-rewritten c = λ owned sections symbols.
     let kernel = c.args.kernel.now in
     let listed : List FeatureAnswer = c.in-Ok.answers.items in (
       c.owner.ensures.0,
+      same_ext w,
       inl (
         refl,
         listed,
         subst (λ xs. ListsAnswers c.list.new.self (answers_of xs)) c.deref.ensures.0 c.list.ensures,
-        for_handle kernel.features (policy_chosen kernel) (ids_chosen kernel) c.deref_mut.result.now c.args.table.now.table _ (layout_named c.args.section_names.now c.args.sections.now c.args.symbol_names.now c.args.symbols.now) c.rewritten-answer.new.btf c.owner.result.table (Ok listed) (same_old w) (same_layout w) c.owner.ensures.1 c.in-Ok.ensures.rewrites,
+        for_handle kernel.features (policy_chosen kernel) (ids_chosen kernel) c.deref_mut.result.now.btf c.args.table.now.opened.btf _ (layout_named c.args.section_names.now c.args.sections.now c.args.symbol_names.now c.args.symbols.now) c.rewritten-answer.new.btf c.owner.result.opened.btf (Ok listed) (same_old w) (same_layout w) (same_new w) c.in-Ok.ensures.rewrites,
       ),
     )
 
@@ -51,17 +70,18 @@ returns-clause-rewritten c = λ owned sections symbols.
     let w = (goal.at.returns-clause-rewritten c).After-owner in
     let kernel = c.args.kernel.now in
     let ended = refused c.report-in-Err-answer.result c.report-in-Err-answer.new.fault (refusal_of c.in-Err-answer.error)
-    (RewritesFor kernel.features (policy_chosen kernel) c.deref_mut.result.now (ids_chosen kernel) (layout_of c.in-Ok-Some.program.sections c.in-Ok-Some.program.symbols) c.rewritten-answer.new.btf)
+    (RewritesFor kernel.features (policy_chosen kernel) c.deref_mut.result.now.btf (ids_chosen kernel) (layout_of c.in-Ok-Some.program.sections c.in-Ok-Some.program.symbols) c.rewritten-answer.new.btf)
     c.in-Err-answer.ensures.rewrites c.report-in-Err-answer.ensures in (
       c.owner.ensures.0,
+      same_ext w,
       inr (
-        c.owner.ensures.1 ∙ c.in-Err-answer.ensures.err ∙ same_old w,
+        same_new w ∙ c.in-Err-answer.ensures.err ∙ same_old w,
         elim ended [
           | inl full ↦ inl full
           | inr (refusal, reported, found) ↦ inr (
             refusal,
             reported,
-            for_handle kernel.features (policy_chosen kernel) (ids_chosen kernel) c.deref_mut.result.now c.args.table.now.table _ (layout_named c.args.section_names.now c.args.sections.now c.args.symbol_names.now c.args.symbols.now) c.rewritten-answer.new.btf c.owner.result.table (Err refusal) (same_old w) (same_layout w) c.owner.ensures.1 found,
+            for_handle kernel.features (policy_chosen kernel) (ids_chosen kernel) c.deref_mut.result.now.btf c.args.table.now.opened.btf _ (layout_named c.args.section_names.now c.args.sections.now c.args.symbol_names.now c.args.symbols.now) c.rewritten-answer.new.btf c.owner.result.opened.btf (Err refusal) (same_old w) (same_layout w) (same_new w) found,
           )
         ],
       ),

@@ -13,9 +13,9 @@ use denote.Struct.Struct.{exits_of}
 use denote.Struct.Owning.{shape, fields, to}
 use denote.Struct.Lending.{lent_at}
 use Rattle.std.proofs.Crossing.{frees}
-use Rattle.btf_model.specs.Table.{Table}
-use Rattle.btf_table.specs.contracts.table.Btf as btf
-use Rattle.btf_table.proofs.table.Btf.TheSendSync.{the_send, the_sync}
+use Rattle.vbtf.specs.declared.opened.Opened.{Opened}
+use Rattle.vbtf.specs.contracts.opened.Opened as opened
+use Rattle.vbtf.proofs.opened.Opened.TheSendSync.{the_send, the_sync}
 use Rattle.vbtf.specs.Held.{held}
 use Rattle.vbtf.specs.contracts.handle.Handle.{the_row, the_type}
 
@@ -34,13 +34,13 @@ inside null_ptr F k = tt
 seen : (R : RattleType) → IsSync R → (p : Ptr) (x : R.Denot) → Common (lent_at R p x)
 seen R s p x κ = (inside p ftrue tt, s.shared x (block_of p) (count_of p) κ)
 
-held_keyless : IsSend btf.the_row → IsSync btf.the_row → (p : Ptr) (n : ℕ) (t : Table) (life : ℕ) (share : Share) → Keyless (held p n t life share)
+held_keyless : IsSend opened.the_row → IsSync opened.the_row → (p : Ptr) (n : ℕ) (t : Opened) (life : ℕ) (share : Share) → Keyless (held p n t life share)
 held_keyless s y p zero t life share = tt
-held_keyless s y p (suc zero) t life share = (lies btf.the_row s p t, frees.frees (record { memory = record { seal = tt } }) (raw (lone btf.the_row.mir)) p)
-held_keyless s y p (suc (suc n)) t life share = (tt, seen btf.the_row y p t (life ∷ []))
+held_keyless s y p (suc zero) t life share = (lies opened.the_row s p t, frees.frees (record { memory = record { seal = tt } }) (raw (lone opened.the_row.mir)) p)
+held_keyless s y p (suc (suc n)) t life share = (tt, seen opened.the_row y p t (life ∷ []))
 
 pub send : IsSend the_row
 send =
     let all : AllSend (fields the_type) = (search sendable, (search sendable, tt)) in
-    owning_send the_type all (λ d. held_keyless the_send the_sync d.at d.state d.table d.life d.share)
+    owning_send the_type all (λ d. held_keyless the_send the_sync d.at d.state d.opened d.life d.share)
     (λ k. quiet (to the_type) (exits_of k (fields the_type)) ((struct_send (shape the_type) all).leaving k))

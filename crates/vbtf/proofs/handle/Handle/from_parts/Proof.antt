@@ -19,12 +19,12 @@ use Rattle.vbtf.specs.contracts.handle.Handle.from_parts as f
 use Rattle.vbtf.proofs.handle.Handle.from_parts.Statement.{statement}
 use Rattle.vbtf.proofs.handle.Handle.from_parts.Code as code
 use Rattle.vbtf.specs.contracts.handle.Handle.{the_row as R}
-use Rattle.btf_table.specs.contracts.table.Btf as btf
+use Rattle.vbtf.specs.contracts.opened.Opened as opened
 use Rattle.vbtf.proofs.HandleSteps.{word, handle_good, handle_in}
 use Rattle.vbtf.proofs.Values.{both, Parts, parts_good, parts_out}
 
 abbrev P : RattleType
-P = Parts btf.the_row heap.the_row heap_laws.the_row_laws ghosts
+P = Parts opened.the_row heap.the_row heap_laws.the_row_laws ghosts
 
 abbrev stayed : Stays f.ended.signature.params f.ended.kept
 stayed = (stay_dropped (plain (λ _. P)) yes, tt)
@@ -37,11 +37,11 @@ from_parts_spec 𝓤 𝓛 𝓜 𝓡 wired =
     f.Key.name fn (code.unfolded 𝓤 𝓛.H 𝓜 𝓡 wired) (λ z are.
     let v : P.Denot = z.0.3.0 in let Post : Val → SProp 𝓤 = (walk_of 𝓛 f.ended stayed c).post z in let Run : List Val → SProp 𝓤 = λ ws. WpFn 𝓤 𝓛.H 𝓣.C 𝓣.Λ fn ws Post in
     let Same : Type 0 = (1 ≡ 1) × (v.value ≡ v.value) in
-    qed 𝓛 ((‵ ftrue ⊛ ‵ (owns (types_at f.ended.signature.params z.0.0) z.0.3 z.0.4)) ∷ ‵ ftrue ∷ []) ∵ split ! $ drop ! $ fsplit ! $ parts_out btf.the_row Z LZ ghosts ! v z.0.4.0 (λ b o h e ws fits.
+    qed 𝓛 ((‵ ftrue ⊛ ‵ (owns (types_at f.ended.signature.params z.0.0) z.0.3 z.0.4)) ∷ ‵ ftrue ∷ []) ∵ split ! $ drop ! $ fsplit ! $ parts_out opened.the_row Z LZ ghosts ! v z.0.4.0 (λ b o h e ws fits.
     let w : Val = both (vptr b o) h in
-    let made : R.Denot = record { at = block_ptr b o; state = 1; table = v.value; life = 0; share = full_share } in
+    let made : R.Denot = record { at = block_ptr b o; state = 1; opened = v.value; life = 0; share = full_share } in
     suffices ! (Run (w ∷ [])) (subst (λ (us : List Val). ent 𝓤 (Run (w ∷ [])) (Run us)) (sym (λ i. ws i ++ [])) (id⊢ 𝓤 (Run (w ∷ [])))) $ keep ! (0 ∷ []) $
-    enter ! 𝓣.C 𝓣.Λ fn (w ∷ []) Post $ alloc_all ! (λ l. pass_all ! refl (parts_good btf.the_row Z LZ ghosts b o h fits, tt) $
+    enter ! 𝓣.C 𝓣.Λ fn (w ∷ []) Post $ alloc_all ! (λ l. pass_all ! refl (parts_good opened.the_row Z LZ ghosts b o h fits, tt) $
     sets ! (of_opd ! (get_in ! (fld ! refl (stop !)) (sub ! 0 refl (whole !)))) refl (tt, tt) $
     sets ! (of_opd ! (get ! refl)) refl (tt, tt) $
     sets ! (agg ! (and_then ! (get ! refl) (and_then ! (lit ! tt) (no_more !)))) refl (handle_good (block_ptr b o) 1 (lit< tt)) $

@@ -11,7 +11,7 @@ use Rattle.vbtf.proofs.handle.Handle.to_loan.Statement.{statement}
 use Rattle.vbtf.proofs.handle.Handle.to_loan.Code as code
 use Rattle.vbtf.specs.contracts.handle.Handle.{the_row as R}
 use Rattle.vbtf.specs.contracts.loan.Loan as loan
-use Rattle.btf_table.specs.contracts.table.Btf as btf
+use Rattle.vbtf.specs.contracts.opened.Opened as opened
 use Rattle.vbtf.specs.Held.{held}
 use Rattle.vbtf.proofs.handle.Handle.TheLaws.{lowers, the_row_laws}
 use Rattle.vbtf.proofs.HandleSteps.{ptr_good, loan_good, loan_in}
@@ -28,13 +28,13 @@ to_loan_spec 𝓤 𝓛 𝓜 𝓡 wired =
     (λ κs. ((λ h. lowers.lowered h ∷ []), tt)) (λ κs. (lowers.val_is, tt)) (λ κs qs bounds a g are.
     let h : R.Denot = a.0 in let vs : List Val = lowers.lowered h ∷ [] in
     let y : (walk_of 𝓛 f.ended stayed c).Ghost = ((κs, qs, bounds, a, (vs, tt)), g) in
-    let made : (loan.the_row btf.the_row).Denot = record { at = h.at; value = h.table; life = h.life; share = h.share } in
-    let Same : Type 0 = (h.at ≡ h.at) × (h.table ≡ h.table) × (h.life ≡ h.life) × (h.share ≡ h.share) in
+    let made : (loan.the_row opened.the_row).Denot = record { at = h.at; value = h.opened; life = h.life; share = h.share } in
+    let Same : Type 0 = (h.at ≡ h.at) × (h.opened ≡ h.opened) × (h.life ≡ h.life) × (h.share ≡ h.share) in
     qed 𝓛 ((‵ ftrue ⊛ ‵ (fsep (R.own_val h vs) ftrue)) ∷ raw (fact 𝓤 (h.state ≡ 2)) ∷ []) ∵ split ! $ drop ! $ fsplit ! $ move ! (2 ∷ []) $ heard ! (h.state ≡ 2) (λ two.
-    fsplit ! $ drop ! $ rewrite ! 0 (λ (n : ℕ). ‵ (held h.at n h.table h.life h.share)) two refl $ keep ! (0 ∷ []) $
+    fsplit ! $ drop ! $ rewrite ! 0 (λ (n : ℕ). ‵ (held h.at n h.opened h.life h.share)) two refl $ keep ! (0 ∷ []) $
     enter ! _ _ _ _ _ $ alloc_all ! (λ l. pass_all ! refl ((the_row_laws.lawful 𝓛).typed h vs are.0) $
     sets ! (of_opd ! (get_in ! (fld ! refl (stop !)) (sub ! 0 refl (whole !)))) refl (ptr_good h.at) $
     sets ! (of_opd ! (get ! refl)) refl (ptr_good h.at) $
     sets ! (agg ! (and_then ! (get ! refl) (no_more !))) refl (loan_good h.at) $
-    loan_in ! btf.the_row made $ use0 𝓛 (raw (fact 𝓤 Same)) (fact_i 𝓤 Same (emp 𝓤) (refl, refl, refl, refl)) $ nothing ! $ nothing ! $ fjoin ! $ nothing ! $
+    loan_in ! opened.the_row made $ use0 𝓛 (raw (fact 𝓤 Same)) (fact_i 𝓤 Same (emp 𝓤) (refl, refl, refl, refl)) $ nothing ! $ nothing ! $ fjoin ! $ nothing ! $
     returns ! (look_at ! 0 refl) $ free_all ! refl $ keep ! (0 ∷ 1 ∷ 3 ∷ 2 ∷ []) $ by ! (leaves 𝓛 f.ended stayed c y (fields.word h.at) made (tt, tt) (tt, tt)))))

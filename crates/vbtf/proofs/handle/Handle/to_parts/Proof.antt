@@ -25,12 +25,12 @@ use Rattle.vbtf.proofs.handle.Handle.to_parts.Code as code
 use Rattle.vbtf.specs.contracts.handle.Handle.{the_row as R}
 use Rattle.vbtf.specs.Held.{held, may_free}
 use Rattle.vbtf.proofs.handle.Handle.TheLaws.{lowers}
-use Rattle.btf_table.specs.contracts.table.Btf as btf
+use Rattle.vbtf.specs.contracts.opened.Opened as opened
 use Rattle.vbtf.proofs.HandleSteps.{word, handle_good}
 use Rattle.vbtf.proofs.Values.{both, al, Parts, parts_good, parts_in}
 
 abbrev P : RattleType
-P = Parts btf.the_row heap.the_row heap_laws.the_row_laws ghosts
+P = Parts opened.the_row heap.the_row heap_laws.the_row_laws ghosts
 
 abbrev stayed : Stays f.ended.signature.params f.ended.kept
 stayed = (stay_dropped (plain (λ _. R)) yes, (stay_dropped (plain (λ _. heap.the_row)) yes, tt))
@@ -38,24 +38,24 @@ stayed = (stay_dropped (plain (λ _. R)) yes, (stay_dropped (plain (λ _. heap.t
 pub to_parts_spec : {M : Type 1} → statement M
 to_parts_spec 𝓤 𝓛 𝓜 𝓡 wired =
     let c = f.clauses 𝓛 𝓜.mem 𝓡.returns in let 𝓣 = tables 𝓤 𝓛.H 𝓜 𝓡 𝓡.env in let fn = code.function in
-    let Z : RattleType = heap.the_row in let LZ = heap_laws.the_row_laws in let B : RattleType = btf.the_row in
+    let Z : RattleType = heap.the_row in let LZ = heap_laws.the_row_laws in let B : RattleType = opened.the_row in
     proved_at 𝓛 f.ended stayed c 𝓜 𝓡 (Goes-dropped 𝓛 0 (plain (λ _. R)) yes (λ κs x w. refl), (Goes-dropped 𝓛 0 (plain (λ _. Z)) yes (λ κs x w. refl), tt))
     f.Key.name fn (code.unfolded 𝓤 𝓛.H 𝓜 𝓡 wired) (λ z are.
     let h : R.Denot = z.0.3.0 in let a : Z.Denot = z.0.3.1.0 in let Post : Val → SProp 𝓤 = (walk_of 𝓛 f.ended stayed c).post z in let Run : List Val → SProp 𝓤 = λ ws. WpFn 𝓤 𝓛.H 𝓣.C 𝓣.Λ fn ws Post in
-    let Same : Type 0 = h.table ≡ h.table in let low : h.state < 2 ^ 32 = are.0.0.1.1.1.0.1 in
+    let Same : Type 0 = h.opened ≡ h.opened in let low : h.state < 2 ^ 32 = are.0.0.1.1.1.0.1 in
     qed 𝓛 ((‵ ftrue ⊛ ‵ (owns (types_at f.ended.signature.params z.0.0) z.0.3 z.0.4)) ∷ raw (fact 𝓤 (h.state ≡ 1)) ∷ []) ∵ split ! $ drop ! $ fsplit3 ! $ move ! (3 ∷ []) $ heard ! (h.state ≡ 1) (λ is_one.
     -- [the handle; the allocator; nothing]
-    fsplit ! $ drop ! $ rewrite ! 0 (λ (n : ℕ). ‵ (held h.at n h.table h.life h.share)) is_one refl $
-    in_a_block ! h.at (λ p. box_owns may_free B p h.table) (fst∗ 𝓤 (never 𝓤) (sem 𝓛 (may_free (bare (lone B.mir)) null_ptr))) (λ b o e.
+    fsplit ! $ drop ! $ rewrite ! 0 (λ (n : ℕ). ‵ (held h.at n h.opened h.life h.share)) is_one refl $
+    in_a_block ! h.at (λ p. box_owns may_free B p h.opened) (fst∗ 𝓤 (never 𝓤) (sem 𝓛 (may_free (bare (lone B.mir)) null_ptr))) (λ b o e.
     move ! (1 ∷ []) $ handle_tells (al B Z LZ ghosts) ! a z.0.4.1.0 (λ hv ea fits. keep ! (1 ∷ 0 ∷ []) $
     let w : Val = word (block_ptr b o) h.state in
     let ew : z.0.4.0 ≡ w ∷ [] = lowers.val_is h z.0.4.0 are.0 ∙ ap (λ (p : Ptr). word p h.state ∷ []) e in
     let us : List Val = w ∷ hv ∷ [] in
-    let made : P.Denot = record { at = block_ptr b o; alloc = a; value = h.table } in
+    let made : P.Denot = record { at = block_ptr b o; alloc = a; value = h.opened } in
     suffices ! (Run us) (subst (λ (ws : List Val). ent 𝓤 (Run us) (Run ws)) (sym (λ i. ew i ++ (ea i ++ []))) (id⊢ 𝓤 (Run us))) $
     enter ! 𝓣.C 𝓣.Λ fn us Post $ alloc_all ! (λ l. pass_all ! refl (handle_good (block_ptr b o) h.state low, (fits, tt)) $
     sets ! (of_opd ! (get_in ! (fld ! refl (stop !)) (sub ! 0 refl (whole !)))) refl (tt, tt) $
     sets ! (of_opd ! (get ! refl)) refl (tt, tt) $
     sets ! (agg ! (and_then ! (get ! refl) (and_then ! (get ! refl) (no_more !)))) refl (parts_good B Z LZ ghosts b o hv fits) $
-    parts_in B Z LZ ghosts ! b o hv a h.table $ use0 𝓛 (raw (fact 𝓤 Same)) (fact_i 𝓤 Same (emp 𝓤) refl) $ nothing ! $ nothing ! $ fjoin ! $ nothing ! $ fjoin ! $ nothing ! $
+    parts_in B Z LZ ghosts ! b o hv a h.opened $ use0 𝓛 (raw (fact 𝓤 Same)) (fact_i 𝓤 Same (emp 𝓤) refl) $ nothing ! $ nothing ! $ fjoin ! $ nothing ! $ fjoin ! $ nothing ! $
     returns ! (look_at ! 0 refl) $ free_all ! refl $ keep ! (0 ∷ 1 ∷ 3 ∷ 2 ∷ []) $ by ! (leaves 𝓛 f.ended stayed c z (both (vptr b o) hv) made (tt, (tt, tt)) (tt, (tt, tt))))))))

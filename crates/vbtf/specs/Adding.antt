@@ -1,0 +1,46 @@
+-- How a call ends that adds to a table.
+use Rattle.std.specs.Prelude.{◌≡◌, ◌≢◌, ◌⊎◌, ◌+◌, ◌*◌, ℕ, List, length, Option, Some, None, Result, Ok, Err}
+use Rattle.btf_model.specs.Blob.{ReadsFront}
+use Rattle.btf_model.specs.Record.{Record}
+use Rattle.btf_model.specs.Refusal.{Refusal}
+use Rattle.btf_model.specs.Table.{Table, with_type, type_place}
+use Rattle.btf_model.specs.Word.{Order}
+use Rattle.vbtf.specs.declared.fault.Fault.{Fault}
+use Rattle.vbtf.specs.declared.handle.Handle.{Handle}
+use Rattle.vbtf.specs.Status.{Reports, no_memory}
+
+-- How a call ends that adds to the table of a handle: with status 0 and the place, and the handle owns the new table; or
+-- with a refusal, or a failed allocation, and the handle owns the unchanged table.
+abbrev pub Adds : ℕ → Handle → Handle → ℕ → Fault → Result ℕ Refusal → Table → Type 0
+Adds status old new value fault place table =
+    (new.state ≡ 1)
+    × (((status ≡ 0) × (Ok value ≡ place) × (new.opened ≡ record old.opened { btf = table }))
+    ⊎ ((new.opened ≡ old.opened)
+    × ((status ≡ no_memory) ⊎ ((refusal : Refusal) × Reports status fault refusal × (Err refusal ≡ place)))))
+
+-- the length of a record in bytes: three words, and the tail
+abbrev pub record_len : Record → ℕ
+record_len r = 12 + 4 * length r.tail
+
+-- What adding the type of a record that bytes are returns: its id, and the table has it; none where bytes follow the
+-- record; or why no record begins the bytes, or why it has no room. In these two cases the table is unchanged.
+abbrev pub AddsRecord : Order → List ℕ → Table → Table → Result (Option ℕ) Refusal → Type 0
+AddsRecord order bytes old new (Ok (Some id)) =
+    (r : Record) × ReadsFront order bytes (Ok r) × (record_len r ≡ length bytes) × (Ok id ≡ type_place r old)
+    × (new ≡ with_type r None old)
+AddsRecord order bytes old new (Ok None) =
+    (r : Record) × ReadsFront order bytes (Ok r) × (record_len r ≢ length bytes) × (new ≡ old)
+AddsRecord order bytes old new (Err refusal) =
+    (new ≡ old) × (ReadsFront order bytes (Err refusal) ⊎ ((r : Record) × ReadsFront order bytes (Ok r)
+    × (record_len r ≡ length bytes) × (Err refusal ≡ type_place r old)))
+
+-- How a call ends that adds a type: with status 0 and its id, with status 102 where bytes follow the record, with a
+-- refusal, or with a failed allocation. What was opened beside the table is unchanged.
+abbrev pub EndsAddingType : ℕ → Order → List ℕ → Handle → Handle → ℕ → Fault → Type 0
+EndsAddingType status order bytes old new id fault =
+    (new.state ≡ 1) × (new.opened.ext ≡ old.opened.ext)
+    × (((status ≡ 0) × AddsRecord order bytes old.opened.btf new.opened.btf (Ok (Some id)))
+    ⊎ ((status ≡ 102) × AddsRecord order bytes old.opened.btf new.opened.btf (Ok None))
+    ⊎ ((status ≡ no_memory) × (new.opened.btf ≡ old.opened.btf))
+    ⊎ ((refusal : Refusal) × Reports status fault refusal
+    × AddsRecord order bytes old.opened.btf new.opened.btf (Err refusal)))

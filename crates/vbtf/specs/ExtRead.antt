@@ -1,0 +1,42 @@
+-- What C reads of a .BTF.ext.
+use Rattle.std.specs.Prelude.{◌≡◌, ℕ, zero, suc, List, [], ◌∷◌, ◌++◌, Option, Some, None, unwrap_or, Result, Ok, Err}
+use Rattle.std.specs.List.{flat_map}
+use Rattle.btf_ext.specs.BtfExt.{ext as said}
+use Rattle.btf_model.specs.Ext.{Records, little_bytes, no_records}
+use Rattle.btf_model.specs.Refusal.{Refusal}
+use Rattle.btf_model.specs.Words.{RelocationSection, Words}
+use Rattle.vbtf.specs.Ext.{OpenedExt, AreNames}
+
+-- texts, each with a zero byte after it
+abbrev pub zero_ended : List (List ℕ) → List ℕ
+zero_ended texts = flat_map (λ text. text ++ 0 ∷ []) texts
+
+-- The names under which something is found, each once, in any order and with a zero byte after it; never a refusal.
+abbrev pub ListsNames : {X : Type 0} → (List ℕ → Option X) → Result (List ℕ) Refusal → Type 0
+ListsNames found answer = (names : List (List ℕ)) × AreNames found names × (answer ≡ Ok (zero_ended names))
+
+-- The names of the sections of a part: 0 for functions, 1 for lines.
+abbrev pub NamesOf : OpenedExt → ℕ → Result (List ℕ) Refusal → Type 0
+NamesOf ext zero = ListsNames (said ext).func
+NamesOf ext (suc n) = ListsNames (said ext).line
+
+-- A section of relocations has the name at this string offset, with status 0; or status 103 says that there is none.
+abbrev pub IsNamed : ℕ → ℕ → Option RelocationSection → Type 0
+IsNamed status name (Some section) = (status ≡ 0) × (name ≡ section.0)
+IsNamed status name None = status ≡ 103
+
+-- the bytes of the records of a section, as little-endian words
+abbrev pub record_bytes : Option Records → List ℕ
+record_bytes found = little_bytes (unwrap_or found no_records).words
+
+-- The records of a section of a part: 0 for functions, 1 for lines.
+abbrev pub RecordsOf : OpenedExt → ℕ → List ℕ → Result (List ℕ) Refusal → Type 0
+RecordsOf ext zero name answer = answer ≡ Ok (record_bytes ((said ext).func name))
+RecordsOf ext (suc n) name answer = answer ≡ Ok (record_bytes ((said ext).line name))
+
+-- the relocations of a section, one word after another
+abbrev pub RelocationsOf : List ℕ → OpenedExt → List ℕ → Result (List ℕ) Refusal → Type 0
+RelocationsOf strings ext name (Ok words) =
+    (records : List (List ℕ)) × Words strings (said ext).relocations name (Ok records)
+    × (words ≡ flat_map (λ r. r) records)
+RelocationsOf strings ext name (Err refusal) = Words strings (said ext).relocations name (Err refusal)

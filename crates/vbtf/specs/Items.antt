@@ -1,0 +1,38 @@
+-- The items of a type, as C reads them.
+-- Source: the kernel's BTF documentation, "Type Encoding": what follows `struct btf_type` for each kind.
+use Rattle.std.specs.Prelude.{◌≡◌, ◌<◌, ◌≤◌, ◌*◌, ℕ, List, [], ◌∷◌, take, drop, length, Option, Some, None, Result, Ok, Err, slice_get}
+use Rattle.btf_model.specs.Record.{Kind, Record, kind_of, tail_words, vlen}
+use Rattle.btf_model.specs.Refusal.{Refusal, UnknownBtfType}
+use Rattle.btf_plain.specs.declared.btf_array.BtfArray.{BtfArray}
+use Rattle.vbtf.specs.declared.items.Item.{Item}
+use Rattle.vbtf.specs.declared.item_words.Words.{Words}
+
+abbrev pub array_words : BtfArray → List ℕ
+array_words a = a.element_type ∷ a.index_type ∷ a.len ∷ []
+
+-- As many words as are counted, at the front of these, are the words of an item.
+abbrev pub HasWords : ℕ → List ℕ → List ℕ → Type 0
+HasWords count words item = (count ≡ length item) × (take count words ≡ item)
+
+-- Words are cut into groups of a width, up to a number of words. The group of an index, or that there is none.
+abbrev pub IsGroup : ℕ → ℕ → List ℕ → ℕ → Option Words → Type 0
+IsGroup width total words index (Some found) =
+    (width * index < total) × HasWords found.count found.words (take width (drop (width * index) words))
+IsGroup width total words index None = total ≤ width * index
+
+-- The item of an index of a record of this kind: the words that one item takes, of as many words as vlen items take.
+abbrev pub IsItem : Kind → Record → ℕ → Option Words → Type 0
+IsItem k r = IsGroup (tail_words k 1) (tail_words k (vlen r.info)) r.tail
+
+-- an item without its info word
+abbrev pub words_alone : Item → Words
+words_alone item = record { count = item.count; words = item.words }
+
+-- The item of an index of the type of an id, or that the type has none, or that there is no such type.
+abbrev pub ItemOf : List Record → ℕ → ℕ → Result (Option Item) Refusal → Type 0
+ItemOf records id index (Ok (Some item)) =
+    (k : Kind) × (r : Record) × (slice_get records id ≡ Some r) × (kind_of r.info ≡ Some k)
+    × (item.info ≡ r.info) × IsItem k r index (Some (words_alone item))
+ItemOf records id index (Ok None) =
+    (k : Kind) × (r : Record) × (slice_get records id ≡ Some r) × (kind_of r.info ≡ Some k) × IsItem k r index None
+ItemOf records id index (Err refusal) = (length records ≤ id) × (refusal ≡ UnknownBtfType id)

@@ -1,0 +1,109 @@
+//! Changes of a table: a string more, a type more.
+
+ghost use Rattle.std.specs.Prelude.{◌≡◌, ◌≢◌, ◌<◌, ◌≤◌, OnErr};
+ghost use Rattle.std.specs.Str.{IsUtf8};
+ghost use Rattle.btf_model.specs.Table.{with_string, string_place};
+ghost use Rattle.btf_words.specs.Endianness.{order_of};
+ghost use Rattle.btf_words.specs.Error.{MeetsOrNoMemory};
+ghost use Rattle.vbtf.specs.Adding.{AddsRecord, EndsAddingType, Adds};
+ghost use Rattle.vbtf.specs.Orders.{order_named};
+
+use crate::fault::{CLOSED, Fault, INVALID_ARGUMENT, report};
+use crate::handle::{Handle, owner, taken};
+use crate::orders::named_order;
+use btf::{Btf, BtfError, BtfType, Endianness};
+use std::alloc::Global;
+
+/// Adds a text and a zero byte to the strings of the table that a handle owns.
+///
+/// Status 6 where the strings would be too long, 20 where an allocation fails, 101 where the handle's state is not 1,
+/// and 102 where the text is not UTF-8; the table then stays as it was.
+#[unsafe(no_mangle)]
+pub extern "C" fn vbtf_raw_add_string(
+    alloc: Global,
+    table: &mut Handle,
+    text: &[u8],
+    offset: &mut u32,
+    fault: &mut Fault,
+) -> u32
+    ensures added { table.old.state ≡ 1 → IsUtf8 text.now
+        → Adds result table.old table.new offset.new fault.new
+        (string_place text.now table.old.opened.btf) (with_string text.now table.old.opened.btf) }
+    ensures closed { table.old.state ≢ 1 → IsUtf8 text.now
+        → (result ≡ CLOSED) × (table.new ≡ table.old) }
+    ensures not_utf8 { (IsUtf8 text.now → ⊥)
+        → (result ≡ INVALID_ARGUMENT) × (table.new ≡ table.old) }
+{
+    let Ok(text) = str::from_utf8(text) else {
+        return INVALID_ARGUMENT;
+    };
+    let Some(mut whole) = taken(alloc, table) else {
+        return CLOSED;
+    };
+    let answer = whole.btf.add_string(text);
+    *table = owner(whole);
+    match answer {
+        Ok(place) => {
+            *offset = place;
+            0
+        }
+        Err(error) => report(error, fault),
+    }
+}
+
+/// Adds the type whose record these bytes are to the table that a handle owns, and writes its id. `order` is the byte
+/// order of the record: 0 for little, 1 for big.
+///
+/// Status 4 where no kind has the number of the record's kind; 2 where the bytes end before the record does, or the
+/// types would be too long; 20 where an allocation fails; 101 where the handle's state is not 1; 102 where bytes follow
+/// the record, or the order is another number. The table then stays as it was.
+#[unsafe(no_mangle)]
+pub extern "C" fn vbtf_raw_add_type(
+    alloc: Global,
+    table: &mut Handle,
+    bytes: &[u8],
+    order: u32,
+    id: &mut u32,
+    fault: &mut Fault,
+) -> u32
+    ensures added { table.old.state ≡ 1 → order ≤ 1 → EndsAddingType result
+        (order_named order) bytes.now table.old table.new id.new fault.new }
+    ensures closed { table.old.state ≢ 1 → order ≤ 1
+        → (result ≡ CLOSED) × (table.new ≡ table.old) }
+    ensures order { 1 < order → (result ≡ INVALID_ARGUMENT) × (table.new ≡ table.old) }
+{
+    let Some(endianness) = named_order(order) else {
+        return INVALID_ARGUMENT;
+    };
+    let Some(mut whole) = taken(alloc, table) else {
+        return CLOSED;
+    };
+    let answer = add_record(alloc, &mut whole.btf, bytes, endianness);
+    *table = owner(whole);
+    match answer {
+        Ok(Some(place)) => {
+            *id = place;
+            0
+        }
+        Ok(None) => INVALID_ARGUMENT,
+        Err(error) => report(error, fault),
+    }
+}
+
+/// Adds the type whose record these bytes are, and returns its id. None where bytes follow the record.
+fn add_record(
+    alloc: Global,
+    btf: &mut Btf,
+    bytes: &[u8],
+    endianness: Endianness,
+) -> Result<Option<u32>, BtfError>
+    ensures added { MeetsOrNoMemory (λ id. id) result
+        (AddsRecord (order_of endianness) bytes.now btf.old btf.new) }
+    ensures err { OnErr result (btf.new ≡ btf.old) }
+{
+    let btf_type = BtfType::read(alloc, bytes, endianness)?;
+    if btf_type.type_info_size() != bytes.len() {
+        return Ok(None);
+    }
+    Ok(Some(btf.add_type(btf_type)?))
+}

@@ -1,0 +1,25 @@
+//! Keys of a hasher, from a number that C draws.
+
+use std::hash::RandomState;
+use std::io;
+use std::random::RandomSource;
+
+/// A random number of the caller.
+#[derive(Drop)]
+struct Seed(u64);
+
+impl RandomSource for Seed {
+    /// The bytes of the number, again and again. Never fails.
+    fn fill_bytes(&self, bytes: &mut [u8]) -> io::Result<()> {
+        let word = self.0.to_le_bytes();
+        for (index, byte) in bytes.iter_mut().enumerate() {
+            *byte = word[index % 8];
+        }
+        Ok(())
+    }
+}
+
+/// A hash builder whose keys are made of a number. Who does not know the number cannot choose names that collide.
+pub(crate) fn keyed_by(seed: u64) -> io::Result<RandomState> {
+    RandomState::new(&Seed(seed))
+}

@@ -1,0 +1,49 @@
+//! The value of a variant.
+
+ghost use Rattle.std.specs.Prelude.{◌≡◌, ◌≢◌};
+ghost use Rattle.std.specs.Str.{IsUtf8};
+ghost use Rattle.btf_model.specs.Value.{Value};
+ghost use Rattle.vbtf.specs.Status.{EndsFindingOrNoMemory, Keeps};
+
+use crate::fault::{CLOSED, Fault, INVALID_ARGUMENT, NO_ITEM, report};
+use crate::handle::{Handle, lent};
+use btf::variant_value;
+
+/// The value of the first variant of a name, in the enumeration that a type resolves to: an ENUM, whose values have
+/// zeros above their 32 bits, an ENUM64, or a UNION that took the place of an ENUM64 in this table.
+///
+/// Status 6, 9, 10 or 12 with the first cause of refusal, 20 where an allocation fails, 101 where the handle's state is
+/// not 2, 102 where the name is not UTF-8, and 103 where no variant has the name.
+#[unsafe(no_mangle)]
+pub extern "C" fn vbtf_lent_value(
+    table: &mut Handle,
+    id: u32,
+    name: &[u8],
+    value: &mut u64,
+    fault: &mut Fault,
+) -> u32
+    ensures found { table.old.state ≡ 2 → IsUtf8 name.now
+        → EndsFindingOrNoMemory result value.new fault.new
+        (Value table.old.opened.btf id name.now) }
+    ensures closed { table.old.state ≢ 2 → IsUtf8 name.now → result ≡ CLOSED }
+    ensures not_utf8 { (IsUtf8 name.now → ⊥) → result ≡ INVALID_ARGUMENT }
+    ensures kept { Keeps table.old table.new }
+{
+    let Ok(name) = str::from_utf8(name) else {
+        return INVALID_ARGUMENT;
+    };
+    let Some(loan) = lent(table) else {
+        return CLOSED;
+    };
+    let answer = variant_value(&loan.get().btf, id, name);
+    *table = Handle::from_loan(loan);
+    let found = match answer {
+        Ok(found) => found,
+        Err(error) => return report(error, fault),
+    };
+    let Some(found) = found else {
+        return NO_ITEM;
+    };
+    *value = found;
+    0
+}
