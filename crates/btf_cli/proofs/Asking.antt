@@ -4,14 +4,14 @@ use Rattle.std.specs.Prelude.{if◌then◌else◌, codes, ◌⊎◌, IfSome}
 use Rattle.std.specs.Str.{bytes_eq}
 use Rattle.std.specs.Str.Parse.{digits_value}
 use Rattle.std.specs.Option.{option_to_list}
+use Rattle.btf_rewrite_model.specs.declared.ksyms_ids.KsymsIds.{KsymsIds}
 use Rattle.btf_rewrite_model.specs.Ksyms as model
 use Rattle.btf_model.specs.Refusal.{Refusal}
 use Rattle.btf_model.specs.Table.{Table}
 use Rattle.btf_model.specs.Blob.{IsTable, IsRefusal}
 use Rattle.btf_rewrite_model.specs.Rewritten.{RewrittenWith, IsRefusedWith}
-use Rattle.btf_words.specs.Endianness.{order_of}
-use Rattle.btf_words.specs.declared.words.Endianness.{Endianness}
-use Rattle.btf_words.specs.declared.words.Endianness.TheVariants as orders
+use Rattle.btf_model.specs.declared.endianness.Endianness.{Endianness}
+use Rattle.btf_model.specs.declared.endianness.Endianness.TheVariants as orders
 use Rattle.btf_cli.specs.Saying.{Saying}
 use Rattle.btf_cli.specs.Sayings.{SayAll, SayIds, layout_said, kernel_said, policy_said}
 use Rattle.btf_cli.specs.Request.{request_words, request_ids, IsSaid, Requests}
@@ -47,7 +47,7 @@ query_told (word ∷ []) = word_told word
 query_told (word ∷ id ∷ []) = Size (digits_value 10 id)
 query_told (word ∷ id ∷ other ∷ more) = Compat (digits_value 10 id) (digits_value 10 other)
 
-order_is_told : (e : Endianness) → order_told (order_word (order_of e)) ≡ e
+order_is_told : (e : Endianness) → order_told (order_word e) ≡ e
 order_is_told orders.Little = refl
 order_is_told orders.Big = refl
 
@@ -73,15 +73,15 @@ option_once None (Some y) same = cc
 option_once (Some x) None same = cc
 option_once (Some x) (Some y) same = cc
 
-ids_once : (said : List Saying) (a b : Option model.KsymsIds) → SayIds said a → SayIds said b → a ≡ b
+ids_once : (said : List Saying) (a b : Option KsymsIds) → SayIds said a → SayIds said b → a ≡ b
 ids_once said None None is other = refl
 ids_once said None (Some b) is other = let same = sym is.0 ∙ other.0 in cc
 ids_once said (Some a) None is other = let same = sym is.0 ∙ other.0 in cc
 ids_once said (Some a) (Some b) is other =
-    let datasecs : a.datasec ∷ [] ≡ b.datasec ∷ [] = sym is.0 ∙ other.0 in
-    let datasec : a.datasec ≡ b.datasec = cc in
-    let placeholder : a.placeholder ≡ b.placeholder = option_once a.placeholder b.placeholder (sym is.1 ∙ other.1) in
-    ap (λ (n : ℕ). Some (record { datasec = n; placeholder = a.placeholder })) datasec ∙ ap (λ (o : Option ℕ). Some (record { datasec = b.datasec; placeholder = o })) placeholder
+    let datasecs : a.datasec_id ∷ [] ≡ b.datasec_id ∷ [] = sym is.0 ∙ other.0 in
+    let datasec : a.datasec_id ≡ b.datasec_id = cc in
+    let placeholder : a.placeholder_id ≡ b.placeholder_id = option_once a.placeholder_id b.placeholder_id (sym is.1 ∙ other.1) in
+    ap (λ (n : ℕ). Some (record { datasec_id = n; placeholder_id = a.placeholder_id })) datasec ∙ ap (λ (o : Option ℕ). Some (record { datasec_id = b.datasec_id; placeholder_id = o })) placeholder
 
 -- two requests say the same
 pub record AreAlike (a b : Request) : Type 0 where
@@ -97,14 +97,14 @@ requests_alike words a b p q =
 said_alike : (a b : Request) (said : List Saying) → AreAlike a b → IsSaid a said → IsSaid b said
 said_alike a b said alike is = record {
   all = subst (λ (ws : List (List ℕ)). SayAll ws said) alike.words is.all;
-  ids = subst (λ (ids : Option model.KsymsIds). SayIds said ids) alike.ids is.ids;
+  ids = subst (λ (ids : Option KsymsIds). SayIds said ids) alike.ids is.ids;
 }
 
 rewrites_alike : (a b : Request) (t : Table) (r : Result Table Refusal) → AreAlike a b → Rewrites a t r → Rewrites b t r
 rewrites_alike a b t (Ok new) alike is =
-    (is.0, said_alike a b is.0 alike is.1, subst (λ (ids : Option model.KsymsIds). RewrittenWith (policy_said is.0) t ids (layout_said is.0) (kernel_said is.0) new) alike.ids is.2)
+    (is.0, said_alike a b is.0 alike is.1, subst (λ (ids : Option KsymsIds). RewrittenWith (policy_said is.0) t ids (layout_said is.0) (kernel_said is.0) new) alike.ids is.2)
 rewrites_alike a b t (Err refusal) alike is =
-    (is.0, said_alike a b is.0 alike is.1, subst (λ (ids : Option model.KsymsIds). IsRefusedWith (policy_said is.0) t ids (layout_said is.0) (kernel_said is.0) refusal) alike.ids is.2)
+    (is.0, said_alike a b is.0 alike is.1, subst (λ (ids : Option KsymsIds). IsRefusedWith (policy_said is.0) t ids (layout_said is.0) (kernel_said is.0) refusal) alike.ids is.2)
 
 -- ---- commands of the same words
 
@@ -143,7 +143,7 @@ pub record SameLine (a b : Line) : Type 0 where
 
 pub lines_alike : (words : List (String Global)) (a b : Line) → Asks words a → Asks words b → SameLine a b
 lines_alike words a b p q =
-    let same : order_word (order_of a.endianness) ∷ p.0 ≡ order_word (order_of b.endianness) ∷ q.0 = sym p.1 ∙ q.1 in
+    let same : order_word a.endianness ∷ p.0 ≡ order_word b.endianness ∷ q.0 = sym p.1 ∙ q.1 in
     record {
       endianness = sym (order_is_told a.endianness) ∙ ap (λ (ws : List (List ℕ)). order_told (first_word ws)) same ∙ order_is_told b.endianness;
       command = commands_alike p.0 a.command b.command p.2 (subst (λ (rest : List (List ℕ)). AsksCommand rest b.command) (ap other_words (sym same)) q.2);
@@ -151,15 +151,15 @@ lines_alike words a b p q =
 
 pub answers_alike : (a b : Line) (bytes written : List ℕ) → SameLine a b → IsAnswer a bytes written → IsAnswer b bytes written
 answers_alike a b bytes written alike is =
-    (is.0, subst (λ (e : Endianness). IsTable (order_of e) bytes is.0) alike.endianness is.1, writes_alike a.command b.command is.0 written alike.command is.2)
+    (is.0, subst (λ (e : Endianness). IsTable e bytes is.0) alike.endianness is.1, writes_alike a.command b.command is.0 written alike.command is.2)
 
 pub declined_alike : (a b : Line) (bytes : List ℕ) (refusal : Refusal) → SameLine a b → IsDeclined a bytes refusal → IsDeclined b bytes refusal
 declined_alike a b bytes refusal alike is = record { cause = go is.cause }
   where
-    go : IsRefusal (order_of a.endianness) bytes refusal ⊎ ((t : Table) × IsTable (order_of a.endianness) bytes t × Declines a.command t refusal)
-        → IsRefusal (order_of b.endianness) bytes refusal ⊎ ((t : Table) × IsTable (order_of b.endianness) bytes t × Declines b.command t refusal)
-    go (inl no_table) = inl (subst (λ (e : Endianness). IsRefusal (order_of e) bytes refusal) alike.endianness no_table)
-    go (inr table) = inr (table.0, subst (λ (e : Endianness). IsTable (order_of e) bytes table.0) alike.endianness table.1, declines_alike a.command b.command table.0 refusal alike.command table.2)
+    go : IsRefusal a.endianness bytes refusal ⊎ ((t : Table) × IsTable a.endianness bytes t × Declines a.command t refusal)
+        → IsRefusal b.endianness bytes refusal ⊎ ((t : Table) × IsTable b.endianness bytes t × Declines b.command t refusal)
+    go (inl no_table) = inl (subst (λ (e : Endianness). IsRefusal e bytes refusal) alike.endianness no_table)
+    go (inr table) = inr (table.0, subst (λ (e : Endianness). IsTable e bytes table.0) alike.endianness table.1, declines_alike a.command b.command table.0 refusal alike.command table.2)
 
 pub written_alike : (a b : Line) (old new input : Option (List ℕ)) → SameLine a b → IfSome input (IsWritten old new a) → IfSome input (IsWritten old new b)
 written_alike a b old new None alike written = tt

@@ -2,7 +2,7 @@
 use Rattle.std.proofs.Common.{◌≡◌, ◌≢◌, ℕ, List, sym, ap, ◌∙◌}
 use Rattle.std.specs.Prelude.{◌==◌, codes}
 use Rattle.std.specs.List.{before_first, after_first}
-use Rattle.btf_rewrite_model.specs.Feature.{Feature}
+use Rattle.btf_rewrite_model.specs.declared.feature.BtfFeature.{BtfFeature}
 use Rattle.btf_cli.specs.Saying.{Saying, Grants, FillsSized, SectionSize, SymbolOffset, KsymsId, PlaceholderId, Says, feature_word, fill_word, IsNamed, IsId}
 
 -- a word is cut there into these
@@ -19,7 +19,7 @@ SaysBy what rest (SymbolOffset name offset) = (what ≡ codes "symbol") × IsNam
 SaysBy what rest (KsymsId id) = (what ≡ codes "ksyms") × IsId rest id
 SaysBy what rest (PlaceholderId id) = (what ≡ codes "placeholder") × IsId rest id
 
-pub says_by : (word what rest : List ℕ) → IsCut word what rest → ((f : Feature) → word ≢ feature_word f) → word ≢ fill_word → (saying : Saying) → Says word saying → SaysBy what rest saying
+pub says_by : (word what rest : List ℕ) → IsCut word what rest → ((f : BtfFeature) → word ≢ feature_word f) → word ≢ fill_word → (saying : Saying) → Says word saying → SaysBy what rest saying
 says_by word what rest cut unnamed other (Grants feature) says = unnamed feature says
 says_by word what rest cut unnamed other FillsSized says = other says
 says_by word what rest cut unnamed other (SectionSize name size) says =

@@ -5,14 +5,16 @@ use Rattle.std.specs.List.{list_any, AllByRecursion}
 use Rattle.std.specs.Str.{bytes_eq}
 use Rattle.std.proofs.lemmas.Bool.{false≢true}
 use Rattle.std.proofs.lemmas.Slice.Eq.{bytes_eq-Decides}
-use Rattle.btf_rewrite_model.specs.Feature as features
-use Rattle.btf_rewrite_model.specs.Feature.{Feature, Answer, FillPolicy, KeepSized, FillSized, grants, same_feature, number}
+use Rattle.btf_rewrite_model.specs.declared.feature.BtfFeature.TheVariants as features
+use Rattle.btf_rewrite_model.specs.Feature.{grants, same_feature, number}
+use Rattle.btf_rewrite_model.specs.declared.feature.BtfFeature.{BtfFeature}
+use Rattle.btf_rewrite_model.specs.declared.feature.FeatureAnswer.{FeatureAnswer}
+use Rattle.btf_rewrite_model.specs.declared.feature.FillPolicy.{FillPolicy}
+use Rattle.btf_rewrite_model.specs.declared.feature.FillPolicy.TheVariants.{KeepSized, FillSized}
 use Rattle.btf_rewrite_model.specs.RewriteLaws.{IsAmong}
 use Rattle.btf_rewrite_model.proofs.Kernels.{AgreeWith}
 use Rattle.btf_rewrite_model.specs.Passing.{features_of}
-use Rattle.btf_types.specs.Features.{feature_of, answers_of, Called}
-use Rattle.btf_rules.specs.declared.features.BtfFeature.{BtfFeature}
-use Rattle.btf_rules.specs.declared.features.FeatureAnswer.{FeatureAnswer}
+use Rattle.btf_types.specs.Features.{Called}
 use Rattle.btf_cli.specs.Saying.{Saying, Grants, FillsSized, SectionSize, SymbolOffset, KsymsId, PlaceholderId, Says, feature_word, fill_word, texts}
 use Rattle.btf_cli.specs.Sayings.{SayAll, is_grant, kernel_said, is_fill, policy_said}
 use Rattle.btf_cli.specs.Request.{IsSaid, names, policy_named}
@@ -21,7 +23,7 @@ use Rattle.btf_cli.proofs.Told.{feature_told, feature_is}
 
 -- ---- features
 
-abbrev numbered : ℕ → Feature
+abbrev numbered : ℕ → BtfFeature
 numbered n =
     if n == 0 then features.Func
     else (if n == 1 then features.FuncGlobal
@@ -31,7 +33,7 @@ numbered n =
     else (if n == 5 then features.DeclTag
     else (if n == 6 then features.TypeTag else features.Enum64))))))
 
-numbered_is : (f : Feature) → numbered (number f) ≡ f
+numbered_is : (f : BtfFeature) → numbered (number f) ≡ f
 numbered_is features.Func = refl
 numbered_is features.FuncGlobal = refl
 numbered_is features.DataSec = refl
@@ -41,11 +43,11 @@ numbered_is features.DeclTag = refl
 numbered_is features.TypeTag = refl
 numbered_is features.Enum64 = refl
 
-same_is : (f g : Feature) → same_feature f g ≡ true → f ≡ g
+same_is : (f g : BtfFeature) → same_feature f g ≡ true → f ≡ g
 same_is f g is = sym (numbered_is f) ∙ ap numbered (eqb-true (number f) (number g) is) ∙ numbered_is g
 
 -- the words of two features are one word where the features are one
-words_alike : (f g : Feature) → bytes_eq (feature_word f) (feature_word g) ≡ same_feature f g
+words_alike : (f g : BtfFeature) → bytes_eq (feature_word f) (feature_word g) ≡ same_feature f g
 words_alike f g =
     elim (same_feature f g) as (λ (b : Bool). same_feature f g ≡ b → bytes_eq (feature_word f) (feature_word g) ≡ b) [
       | true ↦ λ same. (bytes_eq-Decides (feature_word f) (feature_word g)).1 (ap feature_word (same_is f g same))
@@ -60,23 +62,23 @@ words_alike f g =
 
 -- ---- what words grant
 
-word_grants : (word : List ℕ) (saying : Saying) (f : Feature) → Says word saying → bytes_eq word (feature_word f) ≡ is_grant f saying
+word_grants : (word : List ℕ) (saying : Saying) (f : BtfFeature) → Says word saying → bytes_eq word (feature_word f) ≡ is_grant f saying
 word_grants word (Grants g) f says = ap (λ (w : List ℕ). bytes_eq w (feature_word f)) says ∙ words_alike g f
-word_grants word FillsSized f says = ap (λ (w : List ℕ). bytes_eq w (feature_word f)) says ∙ elim f as (λ (g : Feature). bytes_eq fill_word (feature_word g) ≡ false) [ features.Func ↦ refl | _ ↦ refl ]
+word_grants word FillsSized f says = ap (λ (w : List ℕ). bytes_eq w (feature_word f)) says ∙ elim f as (λ (g : BtfFeature). bytes_eq fill_word (feature_word g) ≡ false) [ features.Func ↦ refl | _ ↦ refl ]
 word_grants word (SectionSize name size) f says =
-    ap (λ (w : List ℕ). bytes_eq w (feature_word f)) says.1 ∙ elim f as (λ (g : Feature). bytes_eq (codes "section:" ++ says.0) (feature_word g) ≡ false) [ features.Func ↦ refl | _ ↦ refl ]
+    ap (λ (w : List ℕ). bytes_eq w (feature_word f)) says.1 ∙ elim f as (λ (g : BtfFeature). bytes_eq (codes "section:" ++ says.0) (feature_word g) ≡ false) [ features.Func ↦ refl | _ ↦ refl ]
 word_grants word (SymbolOffset name offset) f says =
-    ap (λ (w : List ℕ). bytes_eq w (feature_word f)) says.1 ∙ elim f as (λ (g : Feature). bytes_eq (codes "symbol:" ++ says.0) (feature_word g) ≡ false) [ features.Func ↦ refl | _ ↦ refl ]
+    ap (λ (w : List ℕ). bytes_eq w (feature_word f)) says.1 ∙ elim f as (λ (g : BtfFeature). bytes_eq (codes "symbol:" ++ says.0) (feature_word g) ≡ false) [ features.Func ↦ refl | _ ↦ refl ]
 word_grants word (KsymsId id) f says =
-    ap (λ (w : List ℕ). bytes_eq w (feature_word f)) says.1 ∙ elim f as (λ (g : Feature). bytes_eq (codes "ksyms:" ++ says.0) (feature_word g) ≡ false) [ features.Func ↦ refl | _ ↦ refl ]
+    ap (λ (w : List ℕ). bytes_eq w (feature_word f)) says.1 ∙ elim f as (λ (g : BtfFeature). bytes_eq (codes "ksyms:" ++ says.0) (feature_word g) ≡ false) [ features.Func ↦ refl | _ ↦ refl ]
 word_grants word (PlaceholderId id) f says =
-    ap (λ (w : List ℕ). bytes_eq w (feature_word f)) says.1 ∙ elim f as (λ (g : Feature). bytes_eq (codes "placeholder:" ++ says.0) (feature_word g) ≡ false) [ features.Func ↦ refl | _ ↦ refl ]
+    ap (λ (w : List ℕ). bytes_eq w (feature_word f)) says.1 ∙ elim f as (λ (g : BtfFeature). bytes_eq (codes "placeholder:" ++ says.0) (feature_word g) ≡ false) [ features.Func ↦ refl | _ ↦ refl ]
 
 -- whether one of the words is a feature's
-abbrev named_among : List (String Global) → Feature → Bool
+abbrev named_among : List (String Global) → BtfFeature → Bool
 named_among words f = list_any (λ (word : String Global). bytes_eq (string_bytes word) (feature_word f)) words
 
-words_grant : (words : List (String Global)) (said : List Saying) (f : Feature) → SayAll (texts words) said → named_among words f ≡ list_any (is_grant f) said
+words_grant : (words : List (String Global)) (said : List Saying) (f : BtfFeature) → SayAll (texts words) said → named_among words f ≡ list_any (is_grant f) said
 words_grant [] [] f all = refl
 words_grant [] (s ∷ said) f all = absurd all
 words_grant (w ∷ words) [] f all = absurd all
@@ -86,7 +88,7 @@ words_grant (w ∷ words) (s ∷ said) f all =
 -- ---- the policy
 
 word_fills : (word : List ℕ) (saying : Saying) → Says word saying → bytes_eq word fill_word ≡ is_fill saying
-word_fills word (Grants g) says = ap (λ (w : List ℕ). bytes_eq w fill_word) says ∙ elim g as (λ (f : Feature). bytes_eq (feature_word f) fill_word ≡ false) [ features.Func ↦ refl | _ ↦ refl ]
+word_fills word (Grants g) says = ap (λ (w : List ℕ). bytes_eq w fill_word) says ∙ elim g as (λ (f : BtfFeature). bytes_eq (feature_word f) fill_word ≡ false) [ features.Func ↦ refl | _ ↦ refl ]
 word_fills word FillsSized says = ap (λ (w : List ℕ). bytes_eq w fill_word) says
 word_fills word (SectionSize name size) says = ap (λ (w : List ℕ). bytes_eq w fill_word) says.1
 word_fills word (SymbolOffset name offset) says = ap (λ (w : List ℕ). bytes_eq w fill_word) says.1
@@ -106,7 +108,7 @@ policy_is request said is_said = ap (λ (b : Bool). if b then FillSized else Kee
 
 -- ---- the answers of the kernel
 
-kernel_grants : (said : List Saying) (f : Feature) → grants (kernel_said said) f ≡ list_any (is_grant f) said
+kernel_grants : (said : List Saying) (f : BtfFeature) → grants (kernel_said said) f ≡ list_any (is_grant f) said
 kernel_grants said features.Func = refl
 kernel_grants said features.FuncGlobal = refl
 kernel_grants said features.DataSec = refl
@@ -118,31 +120,31 @@ kernel_grants said features.Enum64 = refl
 
 -- each answer is whether a word is its feature's
 abbrev pub AreNamed : Request → List FeatureAnswer → Type 0
-AreNamed request answers = AllByRecursion (λ (a : FeatureAnswer). a.granted ≡ names request (feature_of a.feature)) answers
+AreNamed request answers = AllByRecursion (λ (a : FeatureAnswer). a.granted ≡ names request a.feature) answers
 
 -- a predicate that answers so, whatever it is called for
 pub all_named : {F : Type 0} (step : F → BtfFeature → Bool → F → Type 0) (request : Request) (Is : F → Type 0)
-    → ((f g : F) (feature : BtfFeature) (granted : Bool) → Is f → step f feature granted g → (granted ≡ names request (feature_of feature)) × Is g)
+    → ((f g : F) (feature : BtfFeature) (granted : Bool) → Is f → step f feature granted g → (granted ≡ names request feature) × Is g)
     → (before : F) (answers : List FeatureAnswer) (after : F) → Is before → Called step before answers after → AreNamed request answers
 all_named step request Is each before [] after is called = tt
 all_named step request Is each before (a ∷ answers) after is called =
     let one = each before called.0 a.feature a.granted is called.1 in (one.0, all_named step request Is each called.0 answers after one.1 called.2)
 
 -- such answers agree with the kernel's
-named_agree : (request : Request) (said : List Saying) (answers : List FeatureAnswer) → IsSaid request said → AreNamed request answers → (f : Feature) → IsAmong f (features_of (answers_of answers))
-    → grants (kernel_said said) f ≡ grants (answers_of answers) f
+named_agree : (request : Request) (said : List Saying) (answers : List FeatureAnswer) → IsSaid request said → AreNamed request answers → (f : BtfFeature) → IsAmong f (features_of answers)
+    → grants (kernel_said said) f ≡ grants answers f
 named_agree request said [] is_said named f among = absurd (false≢true among)
 named_agree request said (a ∷ answers) is_said named f among =
-    elim (same_feature (feature_of a.feature) f) as (λ (b : Bool). same_feature (feature_of a.feature) f ≡ b → grants (kernel_said said) f ≡ (if b then a.granted else grants (answers_of answers) f)) [
+    elim (same_feature a.feature f) as (λ (b : Bool). same_feature a.feature f ≡ b → grants (kernel_said said) f ≡ (if b then a.granted else grants answers f)) [
       | true ↦ λ same.
-          let one : feature_of a.feature ≡ f = same_is (feature_of a.feature) f same in kernel_grants said f ∙ sym (words_grant request.words.now said f is_said.all) ∙ ap (names request) (sym one) ∙ sym named.0
-      | false ↦ λ other. named_agree request said answers is_said named.1 f (later (feature_of a.feature) other among)
+          let one : a.feature ≡ f = same_is a.feature f same in kernel_grants said f ∙ sym (words_grant request.words.now said f is_said.all) ∙ ap (names request) (sym one) ∙ sym named.0
+      | false ↦ λ other. named_agree request said answers is_said named.1 f (later a.feature other among)
     ] refl
   where
-    later : (g : Feature) → same_feature g f ≡ false → (same_feature f g || list_any (same_feature f) (features_of (answers_of answers))) ≡ true → list_any (same_feature f) (features_of (answers_of answers)) ≡ true
+    later : (g : BtfFeature) → same_feature g f ≡ false → (same_feature f g || list_any (same_feature f) (features_of answers)) ≡ true → list_any (same_feature f) (features_of answers) ≡ true
     later g other either =
-        elim (same_feature f g) as (λ (b : Bool). same_feature f g ≡ b → (b || list_any (same_feature f) (features_of (answers_of answers))) ≡ true → list_any (same_feature f) (features_of (answers_of answers)) ≡ true)
-        [ true ↦ λ is _. absurd (false≢true (sym other ∙ ap (λ (h : Feature). same_feature g h) (same_is f g is) ∙ eq-eqb (number g) (number g) refl)) | false ↦ λ is rest. rest ] refl either
+        elim (same_feature f g) as (λ (b : Bool). same_feature f g ≡ b → (b || list_any (same_feature f) (features_of answers)) ≡ true → list_any (same_feature f) (features_of answers) ≡ true)
+        [ true ↦ λ is _. absurd (false≢true (sym other ∙ ap (λ (h : BtfFeature). same_feature g h) (same_is f g is) ∙ eq-eqb (number g) (number g) refl)) | false ↦ λ is rest. rest ] refl either
 
-pub kernel_agrees : (request : Request) (said : List Saying) (answers : List FeatureAnswer) → IsSaid request said → AreNamed request answers → AgreeWith (answers_of answers) (kernel_said said)
+pub kernel_agrees : (request : Request) (said : List Saying) (answers : List FeatureAnswer) → IsSaid request said → AreNamed request answers → AgreeWith answers (kernel_said said)
 kernel_agrees request said answers is_said named = named_agree request said answers is_said named

@@ -4,7 +4,7 @@ use Rattle.std.specs.Prelude.{if◌then◌else◌, string_bytes, option_map}
 use Rattle.std.specs.Option.{option_or}
 use Rattle.std.specs.Str.{bytes_eq}
 use Rattle.std.proofs.lemmas.List.{take_all}
-use Rattle.btf_words.specs.declared.words.SectionIndex.{SectionIndex}
+use Rattle.btf_words.specs.declared.section_index.SectionIndex.{SectionIndex}
 use Rattle.btf_cli.specs.Saying.{Saying, SectionSize, SymbolOffset, Says, texts}
 use Rattle.btf_cli.specs.Sayings.{SayAll, last_said, size_said, offset_said}
 use Rattle.btf_cli.proofs.Told.{told_is}

@@ -15,7 +15,6 @@ use Rattle.btf_model.proofs.Blobs.{same_table, table_not_refused}
 use Rattle.btf_rewrite_model.proofs.Kernels.{rewritten_not_refused}
 use Rattle.btf_model.proofs.OnePlain.{one_plain}
 use Rattle.btf_model.proofs.Walks.{one_answer, by_one}
-use Rattle.btf_words.specs.Endianness.{order_of}
 use Rattle.btf_words.specs.Error.{refusal_of}
 use Rattle.btf_words.specs.declared.error.BtfError.{BtfError}
 use Rattle.btf_types.specs.Pairs.{pair}
@@ -58,10 +57,10 @@ written_or_declined (Rewrite request) t written refusal writes declines = rewrit
 pub answered_not_declined : (line : Line) (bytes written : List ℕ) (refusal : Refusal) → IsAnswer line bytes written → IsDeclined line bytes refusal → ⊥
 answered_not_declined line bytes written refusal answer declined =
     ⊎_elim
-    (λ no_table. table_not_refused (order_of line.endianness) bytes answer.0 refusal answer.1 no_table)
+    (λ no_table. table_not_refused line.endianness bytes answer.0 refusal answer.1 no_table)
     (λ p.
     written_or_declined line.command answer.0 written refusal answer.2
-    (subst (λ (u : Table). Declines line.command u refusal) (same_table (order_of line.endianness) bytes p.0 answer.0 p.1 answer.1) p.2))
+    (subst (λ (u : Table). Declines line.command u refusal) (same_table line.endianness bytes p.0 answer.0 p.1 answer.1) p.2))
     declined.cause
 
 -- ---- results
@@ -72,12 +71,12 @@ declined_fails line bytes (Ok output) made refusal declined = absurd (answered_n
 declined_fails line bytes (Err e) made refusal declined = refl
 
 -- the answer to a query of a line
-pub query_made : (line : Line) (bytes : List ℕ) (query : Query) (t : Table) (r : Result Output BtfError) → line.command ≡ Ask query → IsTable (order_of line.endianness) bytes t → IfOk r (λ output. Writes (Ask query) t (output_bytes output))
+pub query_made : (line : Line) (bytes : List ℕ) (query : Query) (t : Table) (r : Result Output BtfError) → line.command ≡ Ask query → IsTable line.endianness bytes t → IfOk r (λ output. Writes (Ask query) t (output_bytes output))
     → IfOk r (λ output. IsAnswer line bytes (output_bytes output))
 query_made line bytes query t (Ok output) is parsed made = (t, parsed, subst (λ (command : Command). Writes command t (output_bytes output)) (sym is) made)
 query_made line bytes query t (Err e) is parsed made = tt
 
-pub query_told : (line : Line) (bytes : List ℕ) (query : Query) (t : Table) (r : Result Output BtfError) → line.command ≡ Ask query → IsTable (order_of line.endianness) bytes t → IfErr r (λ e. IfSome (refusal_of e) (Declines (Ask query) t))
+pub query_told : (line : Line) (bytes : List ℕ) (query : Query) (t : Table) (r : Result Output BtfError) → line.command ≡ Ask query → IsTable line.endianness bytes t → IfErr r (λ e. IfSome (refusal_of e) (Declines (Ask query) t))
     → IfErr r (λ e. IfSome (refusal_of e) (IsDeclined line bytes))
 query_told line bytes query t (Ok output) is parsed told = tt
 query_told line bytes query t (Err e) is parsed told =

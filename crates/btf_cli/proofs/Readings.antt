@@ -5,7 +5,7 @@ use Rattle.std.specs.List.{filter_map, cons_option}
 use Rattle.std.specs.Option.{option_to_list}
 use Rattle.std.proofs.lemmas.List.{append-nil, map-append, take-append-drop, take_all}
 use Rattle.std.proofs.lemmas.List.Elements.{filter_map-append}
-use Rattle.btf_rewrite_model.specs.Ksyms.{KsymsIds}
+use Rattle.btf_rewrite_model.specs.declared.ksyms_ids.KsymsIds.{KsymsIds}
 use Rattle.btf_cli.specs.Saying.{Saying, KsymsId, PlaceholderId, Says, texts}
 use Rattle.btf_cli.specs.Sayings.{SayAll, SayIds, ksyms_said, placeholder_said}
 use Rattle.btf_cli.specs.Word.{saying_of}
@@ -105,8 +105,8 @@ second_placeholder front back word None id ksyms said ids read there says all is
 second_placeholder front back word (Some first) id ksyms said None read there says all is =
     let two = sym is.1 ∙ ids_said placeholder_said front back word (PlaceholderId id) said (first ∷ []) all read.placeholders says in cc
 second_placeholder front back word (Some first) id ksyms said (Some ids) read there says all is =
-    let two : option_to_list ids.placeholder ≡ first ∷ id ∷ filter_map placeholder_said (map told back) = sym is.1 ∙ ids_said placeholder_said front back word (PlaceholderId id) said (first ∷ []) all read.placeholders says in
-    one_at_most ids.placeholder first id (filter_map placeholder_said (map told back)) two
+    let two : option_to_list ids.placeholder_id ≡ first ∷ id ∷ filter_map placeholder_said (map told back) = sym is.1 ∙ ids_said placeholder_said front back word (PlaceholderId id) said (first ∷ []) all read.placeholders says in
+    one_at_most ids.placeholder_id first id (filter_map placeholder_said (map told back)) two
 
 -- A word that is met among others, where those before it were read.
 pub record IsMet (words : List (String Global)) (i : ℕ) (word : String Global) (text : List ℕ) (ksyms placeholder : Option ℕ) : Type 0 where
@@ -167,7 +167,7 @@ no_placeholder (words.Placeholder id) other = absurd (other id refl)
 no_placeholder word other = refl
 
 -- the ids that were read
-pub some_ids : (texts_read : List (List ℕ)) (ksyms placeholder : Option ℕ) (datasec : ℕ) (ids : Option KsymsIds) → HaveRead texts_read ksyms placeholder → ksyms ≡ Some datasec → ids ≡ Some (record { datasec = datasec; placeholder = placeholder })
+pub some_ids : (texts_read : List (List ℕ)) (ksyms placeholder : Option ℕ) (datasec : ℕ) (ids : Option KsymsIds) → HaveRead texts_read ksyms placeholder → ksyms ≡ Some datasec → ids ≡ Some (record { datasec_id = datasec; placeholder_id = placeholder })
     → SayIds (map told texts_read) ids
 some_ids texts_read ksyms placeholder datasec ids read some is =
     subst (λ (o : Option KsymsIds). SayIds (map told texts_read) o) (sym is) (read.datasecs ∙ ap (λ (o : Option ℕ). option_to_list o) some, read.placeholders)

@@ -4,14 +4,14 @@ use Rattle.std.specs.Prelude.{if◌then◌else◌, codes, nat_eq, map}
 use Rattle.std.specs.List.{starts_with}
 use Rattle.std.specs.Str.{bytes_eq}
 use Rattle.std.specs.Str.Parse.{digits_value}
-use Rattle.btf_rewrite_model.specs.Feature as features
-use Rattle.btf_rewrite_model.specs.Feature.{Feature}
+use Rattle.btf_rewrite_model.specs.declared.feature.BtfFeature.TheVariants as features
+use Rattle.btf_rewrite_model.specs.declared.feature.BtfFeature.{BtfFeature}
 use Rattle.btf_cli.specs.Saying.{Saying, Grants, FillsSized, SectionSize, SymbolOffset, KsymsId, PlaceholderId, Says, feature_word, IsNamed}
 use Rattle.btf_cli.specs.Sayings.{SayAll}
 use Rattle.btf_cli.proofs.NameEnds.{cut_last, cut_named}
 
 -- the feature that a word names, if it names one
-abbrev pub feature_told : List ℕ → Feature
+abbrev pub feature_told : List ℕ → BtfFeature
 feature_told word =
     if bytes_eq word (codes "Func") then features.Func
     else (if bytes_eq word (codes "FuncGlobal") then features.FuncGlobal
@@ -21,7 +21,7 @@ feature_told word =
     else (if bytes_eq word (codes "DeclTag") then features.DeclTag
     else (if bytes_eq word (codes "TypeTag") then features.TypeTag else features.Enum64))))))
 
-pub feature_is : (f : Feature) → feature_told (feature_word f) ≡ f
+pub feature_is : (f : BtfFeature) → feature_told (feature_word f) ≡ f
 feature_is features.Func = refl
 feature_is features.FuncGlobal = refl
 feature_is features.DataSec = refl
@@ -45,7 +45,7 @@ told word =
     else (if starts_with nat_eq word (codes "placeholder:") then PlaceholderId (digits_value 10 (drop 12 word))
     else (if bytes_eq word (codes "fill-sized") then FillsSized else Grants (feature_told word)))))
 
-feature_word_told : (f : Feature) → told (feature_word f) ≡ Grants (feature_told (feature_word f))
+feature_word_told : (f : BtfFeature) → told (feature_word f) ≡ Grants (feature_told (feature_word f))
 feature_word_told features.Func = refl
 feature_word_told features.FuncGlobal = refl
 feature_word_told features.DataSec = refl

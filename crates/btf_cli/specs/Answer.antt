@@ -9,8 +9,7 @@ use Rattle.btf_model.specs.Fields.{Pair}
 use Rattle.btf_model.specs.Compat.{Plain, firsts}
 use Rattle.btf_rewrite_model.specs.Rewritten.{RewrittenWith, IsRefusedWith}
 use Rattle.btf_types.specs.Pairs.{pair}
-use Rattle.btf_words.specs.Endianness.{order_of}
-use Rattle.btf_words.specs.declared.words.Endianness.{Endianness}
+use Rattle.btf_model.specs.declared.endianness.Endianness.{Endianness}
 use Rattle.btf_cli.specs.Saying.{Saying}
 use Rattle.btf_cli.specs.Sayings.{layout_said, kernel_said, policy_said}
 use Rattle.btf_cli.specs.Request.{request_ids, IsSaid}
@@ -60,12 +59,12 @@ rewriting endianness request = record { endianness = endianness; command = Rewri
 
 -- the bytes stand for a table, and the command writes this of it
 abbrev pub IsAnswer : Line → List ℕ → List ℕ → Type 0
-IsAnswer line bytes written = (t : Table) × IsTable (order_of line.endianness) bytes t × Writes line.command t written
+IsAnswer line bytes written = (t : Table) × IsTable line.endianness bytes t × Writes line.command t written
 
 -- The bytes stand for no table, or for one that the command refuses.
 pub record IsDeclined (line : Line) (bytes : List ℕ) (refusal : Refusal) : Type 0 where
-  pub cause : IsRefusal (order_of line.endianness) bytes refusal
-      ⊎ ((t : Table) × IsTable (order_of line.endianness) bytes t × Declines line.command t refusal)
+  pub cause : IsRefusal line.endianness bytes refusal
+      ⊎ ((t : Table) × IsTable line.endianness bytes t × Declines line.command t refusal)
 
 -- A writer whose bytes are known has gained the answer to these bytes, and nothing else.
 abbrev pub IsWritten : Option (List ℕ) → Option (List ℕ) → Line → List ℕ → Type 0

@@ -2,8 +2,8 @@
 use Rattle.std.specs.Prelude.{◌≡◌, List, [], ◌∷◌, ℕ, codes}
 use Rattle.std.specs.Prelude.{String}
 use Rattle.std.specs.declared.alloc.Global.{Global}
-use Rattle.btf_model.specs.Word.{Order, Little, Big}
-use Rattle.btf_words.specs.Endianness.{order_of}
+use Rattle.btf_model.specs.declared.endianness.Endianness.{Endianness}
+use Rattle.btf_model.specs.declared.endianness.Endianness.TheVariants.{Little, Big}
 use Rattle.btf_cli.specs.Saying.{texts, IsId}
 use Rattle.btf_cli.specs.Request.{Requests}
 use Rattle.btf_cli.specs.declared.line.Line.{Line}
@@ -13,7 +13,7 @@ use Rattle.btf_cli.specs.declared.line.Command.{Command}
 use Rattle.btf_cli.specs.declared.line.Command.TheVariants.{Ask, Rewrite}
 
 -- the word for a byte order
-abbrev pub order_word : Order → List ℕ
+abbrev pub order_word : Endianness → List ℕ
 order_word Little = codes "little"
 order_word Big = codes "big"
 
@@ -33,7 +33,7 @@ AsksCommand words (Rewrite request) = (rest : List (List ℕ)) × (words ≡ cod
 -- The words ask for this: an order, and then a command
 abbrev pub Asks : List (String Global) → Line → Type 0
 Asks words line =
-    (rest : List (List ℕ)) × (texts words ≡ order_word (order_of line.endianness) ∷ rest)
+    (rest : List (List ℕ)) × (texts words ≡ order_word line.endianness ∷ rest)
     × AsksCommand rest line.command
 
 -- some words ask for this

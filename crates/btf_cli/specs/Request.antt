@@ -3,9 +3,11 @@ use Rattle.std.specs.Prelude.{◌≡◌, if◌then◌else◌, ℕ, Bool, List, O
 use Rattle.std.specs.List.{list_any}
 use Rattle.std.specs.Str.{bytes_eq}
 use Rattle.std.specs.declared.alloc.Global.{Global}
-use Rattle.btf_rewrite_model.specs.Feature.{Feature, FillPolicy, KeepSized, FillSized}
+use Rattle.btf_rewrite_model.specs.declared.ksyms_ids.KsymsIds.{KsymsIds}
+use Rattle.btf_rewrite_model.specs.declared.feature.BtfFeature.{BtfFeature}
+use Rattle.btf_rewrite_model.specs.declared.feature.FillPolicy.{FillPolicy}
+use Rattle.btf_rewrite_model.specs.declared.feature.FillPolicy.TheVariants.{KeepSized, FillSized}
 use Rattle.btf_rewrite_model.specs.Ksyms as model
-use Rattle.btf_types.specs.Rewrites.{ids_of}
 use Rattle.btf_cli.specs.Saying.{Saying, feature_word, fill_word, texts}
 use Rattle.btf_cli.specs.Sayings.{SayAll, SayIds}
 use Rattle.btf_cli.specs.declared.request.Request.{Request}
@@ -14,15 +16,15 @@ use Rattle.btf_cli.specs.declared.request.Request.{Request}
 abbrev pub request_words : Request → List (List ℕ)
 request_words request = texts request.words.now
 
-abbrev pub request_ids : Request → Option model.KsymsIds
-request_ids request = ids_of request.ksyms
+abbrev pub request_ids : Request → Option KsymsIds
+request_ids request = request.ksyms
 
 -- one of the words of a request is this
 abbrev pub has_word : Request → List ℕ → Bool
 has_word request text = list_any (λ (word : String Global). bytes_eq (string_bytes word) text) request.words.now
 
 -- a word of the request is that of a feature
-abbrev pub names : Request → Feature → Bool
+abbrev pub names : Request → BtfFeature → Bool
 names request f = has_word request (feature_word f)
 
 -- a word of the request is that which has DATASECs filled that have a size

@@ -3,8 +3,8 @@ use Rattle.std.specs.Prelude.{◌≡◌, ◌<◌, ◌^◌, ◌++◌, List, ℕ, 
 use Rattle.std.specs.Prelude.{String}
 use Rattle.std.specs.Str.Parse.{IsNumeral, digits_value}
 use Rattle.std.specs.declared.alloc.Global.{Global}
-use Rattle.btf_rewrite_model.specs.Feature.{Feature}
-use Rattle.btf_rewrite_model.specs.Feature as features
+use Rattle.btf_rewrite_model.specs.declared.feature.BtfFeature.{BtfFeature}
+use Rattle.btf_rewrite_model.specs.declared.feature.BtfFeature.TheVariants as features
 
 -- the texts of the words
 abbrev pub texts : List (String Global) → List (List ℕ)
@@ -23,7 +23,7 @@ abbrev pub IsNamed : List ℕ → List ℕ → ℕ → Type 0
 IsNamed text name n = (digits : List ℕ) × (text ≡ name ++ codes "=" ++ digits) × IsNumber 64 digits n
 
 -- the word that grants a feature
-abbrev pub feature_word : Feature → List ℕ
+abbrev pub feature_word : BtfFeature → List ℕ
 feature_word features.Func = codes "Func"
 feature_word features.FuncGlobal = codes "FuncGlobal"
 feature_word features.DataSec = codes "DataSec"
@@ -40,7 +40,7 @@ fill_word = codes "fill-sized"
 -- what a word can say
 pub data Saying : Type 0 where
   -- the kernel has this feature
-  Grants : (feature : Feature) → Saying
+  Grants : (feature : BtfFeature) → Saying
   -- a DATASEC that has a size and no entries gets one, where the kernel takes none without
   FillsSized : Saying
   -- the section of this name has this size

@@ -3,9 +3,13 @@ use Rattle.std.specs.Prelude.{◌≡◌, ℕ, if◌then◌else◌, Bool, true, f
 use Rattle.std.specs.List.{AllZip, filter_map, list_any}
 use Rattle.std.specs.Option.{option_or, option_to_list}
 use Rattle.std.specs.Str.{bytes_eq}
-use Rattle.btf_rewrite_model.specs.Feature as features
-use Rattle.btf_rewrite_model.specs.Feature.{Feature, Answer, FillPolicy, KeepSized, FillSized, same_feature}
-use Rattle.btf_rewrite_model.specs.Ksyms.{KsymsIds}
+use Rattle.btf_rewrite_model.specs.declared.feature.BtfFeature.TheVariants as features
+use Rattle.btf_rewrite_model.specs.Feature.{same_feature}
+use Rattle.btf_rewrite_model.specs.declared.feature.BtfFeature.{BtfFeature}
+use Rattle.btf_rewrite_model.specs.declared.feature.FeatureAnswer.{FeatureAnswer}
+use Rattle.btf_rewrite_model.specs.declared.feature.FillPolicy.{FillPolicy}
+use Rattle.btf_rewrite_model.specs.declared.feature.FillPolicy.TheVariants.{KeepSized, FillSized}
+use Rattle.btf_rewrite_model.specs.declared.ksyms_ids.KsymsIds.{KsymsIds}
 use Rattle.btf_rewrite_model.specs.Pass.{Layout}
 use Rattle.btf_cli.specs.Saying.{Saying, Grants, FillsSized, SectionSize, SymbolOffset, KsymsId, PlaceholderId, Says}
 
@@ -15,20 +19,20 @@ SayAll words said = AllZip Says words said
 
 -- ---- the kernel
 
-abbrev pub is_grant : Feature → Saying → Bool
+abbrev pub is_grant : BtfFeature → Saying → Bool
 is_grant f (Grants feature) = same_feature feature f
 is_grant f saying = false
 
-abbrev pub all_features : List Feature
+abbrev pub all_features : List BtfFeature
 all_features =
     features.Func ∷ features.FuncGlobal ∷ features.DataSec ∷ features.DataSecZero ∷ features.Float ∷ features.DeclTag
     ∷ features.TypeTag ∷ features.Enum64 ∷ []
 
 -- the kernel has a feature if a word grants it
-abbrev pub answer_said : List Saying → Feature → Answer
+abbrev pub answer_said : List Saying → BtfFeature → FeatureAnswer
 answer_said said f = record { feature = f; granted = list_any (is_grant f) said }
 
-abbrev pub kernel_said : List Saying → List Answer
+abbrev pub kernel_said : List Saying → List FeatureAnswer
 kernel_said said = map (answer_said said) all_features
 
 -- ---- the policy
@@ -77,6 +81,6 @@ placeholder_said saying = None
 -- One word says the id of `.ksyms`, and one at most that of the placeholder; or none says either.
 abbrev pub SayIds : List Saying → Option KsymsIds → Type 0
 SayIds said (Some ids) =
-    (filter_map ksyms_said said ≡ ids.datasec ∷ [])
-    × (filter_map placeholder_said said ≡ option_to_list ids.placeholder)
+    (filter_map ksyms_said said ≡ ids.datasec_id ∷ [])
+    × (filter_map placeholder_said said ≡ option_to_list ids.placeholder_id)
 SayIds said None = (filter_map ksyms_said said ≡ []) × (filter_map placeholder_said said ≡ [])

@@ -1,11 +1,10 @@
 -- What a word that was read says.
-use Rattle.btf_types.specs.Features.{feature_of}
 use Rattle.btf_cli.specs.Saying.{Saying, Grants, FillsSized, SectionSize, SymbolOffset, KsymsId, PlaceholderId}
 use Rattle.btf_cli.specs.declared.word.Word.{Word}
 use Rattle.btf_cli.specs.declared.word.Word.TheVariants as words
 
 abbrev pub saying_of : Word → Saying
-saying_of (words.Grant feature) = Grants (feature_of feature)
+saying_of (words.Grant feature) = Grants feature
 saying_of words.FillSized = FillsSized
 saying_of (words.Section name size) = SectionSize name.now size
 saying_of (words.Symbol name offset) = SymbolOffset name.now offset

@@ -1,8 +1,7 @@
 //! What the words after the program's name ask for.
 
 ghost use Rattle.std.specs.Prelude.{◌≡◌, ◌≢◌, IfSome, IfNone};
-ghost use Rattle.btf_model.specs.Word.{Order};
-ghost use Rattle.btf_words.specs.Endianness.{order_of};
+ghost use Rattle.btf_model.specs.declared.endianness.Endianness.{Endianness};
 ghost use Rattle.btf_cli.specs.Line.{order_word};
 
 use crate::number::read_id;
@@ -40,8 +39,8 @@ pub struct Line<'a> {
 
 /// The byte order that a word names.
 fn read_order(word: &str) -> Option<Endianness>
-    ensures some { IfSome result (λ endianness. word.now ≡ order_word (order_of endianness)) }
-    ensures none { IfNone result ((order : Order) → word.now ≢ order_word order) }
+    ensures some { IfSome result (λ endianness. word.now ≡ order_word endianness) }
+    ensures none { IfNone result ((order : Endianness) → word.now ≢ order_word order) }
 {
     match word {
         "little" => Some(Endianness::Little),

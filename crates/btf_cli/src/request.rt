@@ -26,7 +26,6 @@ fn keep(place: &mut Option<u32>, id: u32) -> Option<()>
 
 impl<'a> Request<'a> {
     ghost use Rattle.std.specs.Prelude.{◌≡◌, IfSome, IfNone};
-    ghost use Rattle.btf_types.specs.Features.{feature_of, policy_of};
     ghost use Rattle.btf_cli.specs.Saying.{texts};
     ghost use Rattle.btf_cli.specs.Request.{has_word, names, policy_named, Requests};
     ghost use Rattle.btf_cli.specs.declared.request.Request.{Request};
@@ -66,14 +65,14 @@ impl<'a> Request<'a> {
 
     /// Whether one of the words grants a feature.
     pub fn grants(&self, feature: BtfFeature) -> bool
-        ensures { result ≡ names self.now (feature_of feature) }
+        ensures { result ≡ names self.now feature }
     {
         self.has(feature_word(feature))
     }
 
     /// What the words choose for DATASECs that have a size and no entries.
     pub fn policy(&self) -> FillPolicy
-        ensures { policy_of result ≡ policy_named self.now }
+        ensures { result ≡ policy_named self.now }
     {
         if self.has(FILL_SIZED) {
             FillPolicy::FillSized

@@ -2,7 +2,6 @@
 
 ghost use Rattle.std.specs.Prelude.{◌≡◌, ℕ, List, IfOk, IfErr, IfSome, IfNone};
 ghost use Rattle.btf_words.specs.Error.{refusal_of};
-ghost use Rattle.btf_types.specs.Features.{feature_of};
 ghost use Rattle.btf_types.specs.Layout.{sizes_of, offsets_of};
 ghost use Rattle.btf_cli.specs.Answer.{rewriting, IsAnswer, IsDeclined};
 ghost use Rattle.btf_cli.specs.Request.{IsSaid, names};
@@ -87,7 +86,7 @@ pub fn rewritten(
     let sections = sections(alloc, request.words)?;
     let symbols = symbols(alloc, request.words)?;
     let is_granted = |feature: BtfFeature| -> bool
-        ensures { result ≡ names request.entry (feature_of feature) }
+        ensures { result ≡ names request.entry feature }
     { request.grants(feature) };
     let mut resolver = BtfFeatureResolver::new(is_granted);
     let (bytes, _) = rewrite_bytes_with(

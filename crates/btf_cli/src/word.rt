@@ -1,8 +1,7 @@
 //! The words of a rewrite.
 
 ghost use Rattle.std.specs.Prelude.{◌≡◌, ◌≢◌, ℕ, List, IfSome, IfNone};
-ghost use Rattle.btf_rewrite_model.specs.Feature.{Feature};
-ghost use Rattle.btf_types.specs.Features.{feature_of};
+ghost use Rattle.btf_rewrite_model.specs.declared.feature.BtfFeature.{BtfFeature};
 ghost use Rattle.btf_cli.specs.Saying.{feature_word as word_of, IsNamed};
 
 use crate::number::{read_id, read_number};
@@ -30,7 +29,7 @@ pub enum Word<'a> {
 
 /// The word that grants a feature.
 pub fn feature_word(feature: BtfFeature) -> &'static str
-    ensures { result.now ≡ word_of (feature_of feature) }
+    ensures { result.now ≡ word_of feature }
 {
     match feature {
         BtfFeature::Func => "Func",
@@ -46,8 +45,8 @@ pub fn feature_word(feature: BtfFeature) -> &'static str
 
 /// The feature that a word grants.
 fn read_feature(word: &str) -> Option<BtfFeature>
-    ensures some { IfSome result (λ feature. word.now ≡ word_of (feature_of feature)) }
-    ensures none { IfNone result ((feature : Feature) → word.now ≢ word_of feature) }
+    ensures some { IfSome result (λ feature. word.now ≡ word_of feature) }
+    ensures none { IfNone result ((feature : BtfFeature) → word.now ≢ word_of feature) }
 {
     match word {
         "Func" => Some(BtfFeature::Func),

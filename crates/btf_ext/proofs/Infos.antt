@@ -2,18 +2,19 @@
 use Rattle.std.proofs.Common.{◌≡◌, ℕ, zero, suc, ◌+◌, ◌*◌, ◌<◌, ◌≤◌, List, [], ◌∷◌, ◌++◌, length, drop, sym, ap, ◌∙◌, append_assoc, arith}
 use Rattle.std.specs.Prelude.{map}
 use Rattle.std.proofs.lemmas.List.{append-nil, map-append, length-drop}
-use Rattle.btf_model.specs.Word.{Order, words_at}
+use Rattle.btf_model.specs.Word.{words_at}
+use Rattle.btf_model.specs.declared.endianness.Endianness.{Endianness}
 use Rattle.btf_model.specs.Ext.{record_words}
 
 -- the records so far, and as many of the rest as there are still to be, are all records
-pub record RecordsSoFar {X : Type 0} (words : X → List ℕ) (read_as : List ℕ → List ℕ) (order : Order) (size width count : ℕ) (bytes : List ℕ) (done : ℕ) (items : List X) (rest : List ℕ) : Type 0 where
+pub record RecordsSoFar {X : Type 0} (words : X → List ℕ) (read_as : List ℕ → List ℕ) (order : Endianness) (size width count : ℕ) (bytes : List ℕ) (done : ℕ) (items : List X) (rest : List ℕ) : Type 0 where
   pub todo : ℕ
   pub sum : done + todo ≡ count
   pub left : length rest ≡ size * todo
   pub records : map words items ++ map read_as (record_words order size width todo rest) ≡ map read_as (record_words order size width count bytes)
 
 -- before the first record
-pub no_records_yet : {X : Type 0} (words : X → List ℕ) (read_as : List ℕ → List ℕ) (order : Order) (size width count : ℕ) (bytes : List ℕ) (items : List X) → items ≡ [] → length bytes ≡ size * count → RecordsSoFar words read_as order size width count bytes 0 items bytes
+pub no_records_yet : {X : Type 0} (words : X → List ℕ) (read_as : List ℕ → List ℕ) (order : Endianness) (size width count : ℕ) (bytes : List ℕ) (items : List X) → items ≡ [] → length bytes ≡ size * count → RecordsSoFar words read_as order size width count bytes 0 items bytes
 no_records_yet words read_as order size width count bytes items none len = record {
   todo = count;
   sum = omega arith;
@@ -22,7 +23,7 @@ no_records_yet words read_as order size width count bytes items none len = recor
 }
 
 -- a record lies in the rest
-pub record_lies_in_rest : {X : Type 0} (words : X → List ℕ) (read_as : List ℕ → List ℕ) (order : Order) (size width count : ℕ) (bytes : List ℕ) (done : ℕ) (items : List X) (rest : List ℕ) → RecordsSoFar words read_as order size width count bytes done items rest → done < count → size ≤ length rest
+pub record_lies_in_rest : {X : Type 0} (words : X → List ℕ) (read_as : List ℕ → List ℕ) (order : Endianness) (size width count : ℕ) (bytes : List ℕ) (done : ℕ) (items : List X) (rest : List ℕ) → RecordsSoFar words read_as order size width count bytes done items rest → done < count → size ≤ length rest
 record_lies_in_rest words read_as order size width count bytes done items rest h lt = within h.todo h.sum h.left
   where
     within : (todo : ℕ) → done + todo ≡ count → length rest ≡ size * todo → size ≤ length rest
@@ -30,7 +31,7 @@ record_lies_in_rest words read_as order size width count bytes done items rest h
     within (suc n) sum left = omega (arith, left)
 
 -- one more record
-pub one_more_record : {X : Type 0} (words : X → List ℕ) (read_as : List ℕ → List ℕ) (order : Order) (size width count : ℕ) (bytes : List ℕ) (done : ℕ) (items more : List X) (rest next : List ℕ) (x : X) → RecordsSoFar words read_as order size width count bytes done items rest → done < count → words x ≡ read_as (words_at order width rest) → more ≡ items ++ x ∷ [] → next ≡ drop size rest → RecordsSoFar words read_as order size width count bytes (done + 1) more next
+pub one_more_record : {X : Type 0} (words : X → List ℕ) (read_as : List ℕ → List ℕ) (order : Endianness) (size width count : ℕ) (bytes : List ℕ) (done : ℕ) (items more : List X) (rest next : List ℕ) (x : X) → RecordsSoFar words read_as order size width count bytes done items rest → done < count → words x ≡ read_as (words_at order width rest) → more ≡ items ++ x ∷ [] → next ≡ drop size rest → RecordsSoFar words read_as order size width count bytes (done + 1) more next
 one_more_record words read_as order size width count bytes done items more rest next x h lt x-is more-is next-is = step h.todo h.sum h.left h.records
   where
     step : (todo : ℕ) → done + todo ≡ count → length rest ≡ size * todo → map words items ++ map read_as (record_words order size width todo rest) ≡ map read_as (record_words order size width count bytes) → RecordsSoFar words read_as order size width count bytes (done + 1) more next
@@ -49,7 +50,7 @@ one_more_record words read_as order size width count bytes done items more rest 
     }
 
 -- all are read
-pub all_records : {X : Type 0} (words : X → List ℕ) (read_as : List ℕ → List ℕ) (order : Order) (size width count : ℕ) (bytes : List ℕ) (done : ℕ) (items : List X) (rest : List ℕ) → RecordsSoFar words read_as order size width count bytes done items rest → count ≤ done → map words items ≡ map read_as (record_words order size width count bytes)
+pub all_records : {X : Type 0} (words : X → List ℕ) (read_as : List ℕ → List ℕ) (order : Endianness) (size width count : ℕ) (bytes : List ℕ) (done : ℕ) (items : List X) (rest : List ℕ) → RecordsSoFar words read_as order size width count bytes done items rest → count ≤ done → map words items ≡ map read_as (record_words order size width count bytes)
 all_records words read_as order size width count bytes done items rest h le = end h.todo h.sum h.records
   where
     end : (todo : ℕ) → done + todo ≡ count → map words items ++ map read_as (record_words order size width todo rest) ≡ map read_as (record_words order size width count bytes) → map words items ≡ map read_as (record_words order size width count bytes)

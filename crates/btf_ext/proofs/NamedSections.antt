@@ -22,7 +22,7 @@ use Rattle.std.proofs.lemmas.Slice.Eq.{bytes_eq-Decides}
 use Rattle.btf_model.specs.Ext.{Section, SectionBytes, Part, Named, Records, IsSection, HaveNames, AreNamed, instruction_records, records_named, section_named, sections_of}
 use Rattle.btf_model.specs.Refusal.{Refusal}
 use Rattle.btf_model.specs.Text.{text_at}
-use Rattle.btf_model.specs.Word.{Order}
+use Rattle.btf_model.specs.declared.endianness.Endianness.{Endianness}
 use Rattle.btf_words.specs.declared.error.BtfError.{BtfError}
 use Rattle.btf_words.specs.Error.{refusal_of}
 use Rattle.btf_ext.specs.Info.{AreByName, GainsUnder}
@@ -35,7 +35,7 @@ use Rattle.btf_ext.proofs.Parts.{CutSoFar, cut_one, cut_all}
 
 -- What was read of the sections of a part: those that the bytes begin with, whose names can be read, as at each offset
 -- that was met.
-pub record MetSoFar (order : Order) (size : ℕ) (strings bytes : List ℕ) (sections : List Section) (rest : SectionBytes) (set : BTreeSet ℕ) : Type 0 where
+pub record MetSoFar (order : Endianness) (size : ℕ) (strings bytes : List ℕ) (sections : List Section) (rest : SectionBytes) (set : BTreeSet ℕ) : Type 0 where
   pub names : List Named
   pub same : sections_of names ≡ sections
   pub cut : CutSoFar order size bytes (sections_of names) rest
@@ -46,7 +46,7 @@ empty_has_none : (set : BTreeSet ℕ) → IsEmpty set → (q : ℕ) → contains
 empty_has_none set is q = ap (list_any (is_at (nat_cmp q))) is
 
 -- before the first
-pub none_met : (order : Order) (size : ℕ) (strings bytes : List ℕ) (sections : List Section) (rest : SectionBytes) (met : BTreeSet ℕ) → sections ≡ [] → rest ≡ record { order = order; size = size; bytes = bytes } → IsEmpty met → MetSoFar order size strings bytes sections rest met
+pub none_met : (order : Endianness) (size : ℕ) (strings bytes : List ℕ) (sections : List Section) (rest : SectionBytes) (met : BTreeSet ℕ) → sections ≡ [] → rest ≡ record { order = order; size = size; bytes = bytes } → IsEmpty met → MetSoFar order size strings bytes sections rest met
 none_met order size strings bytes sections rest met none is empty = record {
   names = [];
   same = sym none;
@@ -68,7 +68,7 @@ gained old new k q updates at = split (is_eq (nat_cmp k q)) (contains nat_cmp ol
     split false c here at = inr at
 
 -- one more section, whose name was read, or stands at an offset that was met
-pub one_more_met : (order : Order) (size : ℕ) (strings bytes : List ℕ) (sections more : List Section) (rest next : SectionBytes) (met now : BTreeSet ℕ) (s : SecInfo)
+pub one_more_met : (order : Endianness) (size : ℕ) (strings bytes : List ℕ) (sections more : List Section) (rest next : SectionBytes) (met now : BTreeSet ℕ) (s : SecInfo)
     → MetSoFar order size strings bytes sections rest met → GivesSection rest (Some (Ok s)) next → more ≡ sections ++ section_of s ∷ [] → ordered.Updates nat_cmp met now s.name_offset true → (text : List ℕ) × (text_at strings s.name_offset ≡ Ok text) → MetSoFar order size strings bytes more next now
 one_more_met order size strings bytes sections more rest next met now s h gives more-is updates read =
     let n : Named = record { text = read.0; section = section_of s } in
@@ -85,7 +85,7 @@ one_more_met order size strings bytes sections more rest next met now s h gives 
     }
 
 -- all are read
-pub all_met : (order : Order) (size : ℕ) (strings bytes : List ℕ) (sections : List Section) (rest : SectionBytes) (met : BTreeSet ℕ) → MetSoFar order size strings bytes sections rest met → rest.bytes ≡ [] → AreReadable order size strings bytes (Ok sections)
+pub all_met : (order : Endianness) (size : ℕ) (strings bytes : List ℕ) (sections : List Section) (rest : SectionBytes) (met : BTreeSet ℕ) → MetSoFar order size strings bytes sections rest met → rest.bytes ≡ [] → AreReadable order size strings bytes (Ok sections)
 all_met order size strings bytes sections rest met h done = (h.names, h.same, (cut_all order size bytes (sections_of h.names) rest h.cut done, h.have))
 
 -- an offset that is not new was met
@@ -132,7 +132,7 @@ section_named-cons n ns q = at (bytes_eq q n.text) (filter (λ x. bytes_eq q x.t
     at false fs = sym (option_or-none (option_map (λ (x : Named). x.section) (last_or None fs)))
 
 -- records that are added under the name of one more section in front
-gains_section : (order : Order) (width : ℕ) (p : Part) (n : Named) (ns : List Named) (old new : List ℕ → Option Records) → ((q : List ℕ) → old q ≡ records_named order width p ns q) → GainsUnder n.text (instruction_records order p.size width n.section) old new → (q : List ℕ) → new q ≡ records_named order width p (n ∷ ns) q
+gains_section : (order : Endianness) (width : ℕ) (p : Part) (n : Named) (ns : List Named) (old new : List ℕ → Option Records) → ((q : List ℕ) → old q ≡ records_named order width p ns q) → GainsUnder n.text (instruction_records order p.size width n.section) old new → (q : List ℕ) → new q ≡ records_named order width p (n ∷ ns) q
 gains_section order width p n ns old new h gains q =
     let read : Section → Records = instruction_records order p.size width in
     gains q
@@ -151,7 +151,7 @@ named_later n ns q later = section_named-cons n ns q ∙ at (bytes_eq q n.text) 
 
 -- What was taken of the named sections of a part, from the last on: the records under their names, and a name at each
 -- offset that was met.
-pub record TakenSoFar (order : Order) (width : ℕ) (strings : List ℕ) (p : Part) (items : List SecInfo) (set : BTreeSet ℕ) (found_in : List ℕ → Option Records) : Type 0 where
+pub record TakenSoFar (order : Endianness) (width : ℕ) (strings : List ℕ) (p : Part) (items : List SecInfo) (set : BTreeSet ℕ) (found_in : List ℕ → Option Records) : Type 0 where
   pub before : List Named
   pub after : List Named
   pub named : AreNamed order p.size strings p.bytes (Ok (before ++ after))
@@ -160,7 +160,7 @@ pub record TakenSoFar (order : Order) (width : ℕ) (strings : List ℕ) (p : Pa
   pub found : (q : List ℕ) → found_in q ≡ records_named order width p after q
 
 -- before the last
-pub none_taken : (order : Order) (width : ℕ) (strings : List ℕ) (p : Part) (sections left : List SecInfo) (taken : BTreeSet ℕ) (found : List ℕ → Option Records) → AreReadable order p.size strings p.bytes (Ok (map section_of sections)) → left ≡ sections → IsEmpty taken → ((q : List ℕ) → found q ≡ None) → TakenSoFar order width strings p left taken found
+pub none_taken : (order : Endianness) (width : ℕ) (strings : List ℕ) (p : Part) (sections left : List SecInfo) (taken : BTreeSet ℕ) (found : List ℕ → Option Records) → AreReadable order p.size strings p.bytes (Ok (map section_of sections)) → left ≡ sections → IsEmpty taken → ((q : List ℕ) → found q ≡ None) → TakenSoFar order width strings p left taken found
 none_taken order width strings p sections left taken found h is empty none = record {
   before = h.0;
   after = [];
@@ -213,7 +213,7 @@ ends_in f (x ∷ xs) (z ∷ zs) y e =
     record { front = x ∷ h.front; last = h.last; is = ap (λ (t : List _). x ∷ t) h.is; front_is = cc; last_is = h.last_is }
 
 -- what is known of the section whose turn it is
-pub record IsTurn (order : Order) (strings : List ℕ) (p : Part) (s : SecInfo) (left : List SecInfo) (after : List Named) : Type 0 where
+pub record IsTurn (order : Endianness) (strings : List ℕ) (p : Part) (s : SecInfo) (left : List SecInfo) (after : List Named) : Type 0 where
   pub front : List Named
   pub name : Named
   pub front_is : sections_of front ≡ map section_of left
@@ -226,7 +226,7 @@ all_at : {A : Type 0} (P : A → Type 0) (xs ys : List A) (x : A) → AllByRecur
 all_at P [] ys x h = h.0
 all_at P (z ∷ zs) ys x h = all_at P zs ys x h.1
 
-pub turn_of : (order : Order) (width : ℕ) (strings : List ℕ) (p : Part) (all left : List SecInfo) (s : SecInfo) (taken : BTreeSet ℕ) (found : List ℕ → Option Records) → (h : TakenSoFar order width strings p all taken found) → all ≡ left ++ s ∷ [] → IsTurn order strings p s left (h.after)
+pub turn_of : (order : Endianness) (width : ℕ) (strings : List ℕ) (p : Part) (all left : List SecInfo) (s : SecInfo) (taken : BTreeSet ℕ) (found : List ℕ → Option Records) → (h : TakenSoFar order width strings p all taken found) → all ≡ left ++ s ∷ [] → IsTurn order strings p s left (h.after)
 turn_of order width strings p all left s taken found h is = made (ends_in (λ (n : Named). n.section) h.before (map section_of left) (section_of s) (h.left ∙ ap (map section_of) is ∙ map-append section_of left (s ∷ [])))
   where
     made : EndsIn (λ (n : Named). n.section) h.before (map section_of left) (section_of s) → IsTurn order strings p s left (h.after)
@@ -253,7 +253,7 @@ still_taken strings n after taken now offset updates text h q at =
     ]
 
 -- one more section, at an offset that was not met before
-pub one_added : (order : Order) (width : ℕ) (strings : List ℕ) (p : Part) (all left : List SecInfo) (s : SecInfo) (taken now : BTreeSet ℕ) (old new : List ℕ → Option Records) → TakenSoFar order width strings p all taken old → all ≡ left ++ s ∷ [] → ordered.Updates nat_cmp taken now s.name_offset true
+pub one_added : (order : Endianness) (width : ℕ) (strings : List ℕ) (p : Part) (all left : List SecInfo) (s : SecInfo) (taken now : BTreeSet ℕ) (old new : List ℕ → Option Records) → TakenSoFar order width strings p all taken old → all ≡ left ++ s ∷ [] → ordered.Updates nat_cmp taken now s.name_offset true
     → ((text : List ℕ) → text_at strings s.name_offset ≡ Ok text → GainsUnder text (instruction_records order p.size width (section_of s)) old new) → TakenSoFar order width strings p left now new
 one_added order width strings p all left s taken now old new h is updates gains =
     let t = turn_of order width strings p all left s taken old h is in
@@ -267,7 +267,7 @@ one_added order width strings p all left s taken now old new h is updates gains 
     }
 
 -- one more section, at an offset that was met
-pub one_passed : (order : Order) (width : ℕ) (strings : List ℕ) (p : Part) (all left : List SecInfo) (s : SecInfo) (taken now : BTreeSet ℕ) (found : List ℕ → Option Records) → TakenSoFar order width strings p all taken found → all ≡ left ++ s ∷ [] → ordered.Updates nat_cmp taken now s.name_offset true → contains nat_cmp taken s.name_offset ≡ true → TakenSoFar order width strings p left now found
+pub one_passed : (order : Endianness) (width : ℕ) (strings : List ℕ) (p : Part) (all left : List SecInfo) (s : SecInfo) (taken now : BTreeSet ℕ) (found : List ℕ → Option Records) → TakenSoFar order width strings p all taken found → all ≡ left ++ s ∷ [] → ordered.Updates nat_cmp taken now s.name_offset true → contains nat_cmp taken s.name_offset ≡ true → TakenSoFar order width strings p left now found
 one_passed order width strings p all left s taken now found h is updates was =
     let t = turn_of order width strings p all left s taken found h is in
     let w = h.taken s.name_offset was in
@@ -284,7 +284,7 @@ one_passed order width strings p all left s taken now found h is updates was =
     }
 
 -- the name of a section can be read, so only memory can be missing
-pub not_refused : (order : Order) (width : ℕ) (strings : List ℕ) (p : Part) (all left : List SecInfo) (s : SecInfo) (taken : BTreeSet ℕ) (found : List ℕ → Option Records) (e : BtfError) (P : Refusal → Type 0) → TakenSoFar order width strings p all taken found → all ≡ left ++ s ∷ [] → IfSome (refusal_of e) (λ f. text_at strings s.name_offset ≡ Err f) → IfSome (refusal_of e) P
+pub not_refused : (order : Endianness) (width : ℕ) (strings : List ℕ) (p : Part) (all left : List SecInfo) (s : SecInfo) (taken : BTreeSet ℕ) (found : List ℕ → Option Records) (e : BtfError) (P : Refusal → Type 0) → TakenSoFar order width strings p all taken found → all ≡ left ++ s ∷ [] → IfSome (refusal_of e) (λ f. text_at strings s.name_offset ≡ Err f) → IfSome (refusal_of e) P
 not_refused order width strings p all left s taken found e P h is refused =
     let t = turn_of order width strings p all left s taken found h is in
     IfSome_then (refusal_of e) refused (λ f at. absurd (apart (text_at strings s.name_offset) t.name.text f t.text_is at))
@@ -293,7 +293,7 @@ not_refused order width strings p all left s taken found e P h is refused =
     apart r text f p q = cc
 
 -- all are taken
-pub all_taken : (order : Order) (width : ℕ) (strings : List ℕ) (p : Part) (left : List SecInfo) (taken : BTreeSet ℕ) (found : List ℕ → Option Records) → TakenSoFar order width strings p left taken found → length left ≡ 0 → AreByName order width strings p (Ok found)
+pub all_taken : (order : Endianness) (width : ℕ) (strings : List ℕ) (p : Part) (left : List SecInfo) (taken : BTreeSet ℕ) (found : List ℕ → Option Records) → TakenSoFar order width strings p left taken found → length left ≡ 0 → AreByName order width strings p (Ok found)
 all_taken order width strings p left taken found h done = (h.after, subst (λ (ns : List Named). AreNamed order p.size strings p.bytes (Ok ns)) (ap (λ (ns : List Named). ns ++ h.after) (none h.before (h.left ∙ ap (map section_of) (no_item left done)))) h.named, h.found)
   where
     no_item : (xs : List SecInfo) → length xs ≡ 0 → xs ≡ []

@@ -5,7 +5,7 @@ use Rattle.std.specs.Option.{option_or}
 use Rattle.std.specs.Str.{bytes_eq}
 use Rattle.btf_model.specs.Ext.{Part, Named, Records, AreNamed, records_named}
 use Rattle.btf_model.specs.Refusal.{Refusal}
-use Rattle.btf_model.specs.Word.{Order}
+use Rattle.btf_model.specs.declared.endianness.Endianness.{Endianness}
 use Rattle.btf_ext.specs.declared.info.by_section.BySection.{BySection}
 use Rattle.btf_ext.specs.declared.info.func.bpf_func_info.{bpf_func_info}
 use Rattle.btf_ext.specs.declared.info.func.FuncSecInfo.{FuncSecInfo}
@@ -41,7 +41,7 @@ GainsUnder text records old new =
     (name : List ℕ) → new name ≡ option_or (old name) (if bytes_eq name text then Some records else None)
 
 -- What reading named sections of a part returns: the records under each name, of so many words each, or the refusal.
-abbrev pub AreByName : Order → ℕ → List ℕ → Part → Result (List ℕ → Option Records) Refusal → Type 0
+abbrev pub AreByName : Endianness → ℕ → List ℕ → Part → Result (List ℕ → Option Records) Refusal → Type 0
 AreByName order width strings p (Ok found) =
     (sections : List Named) × AreNamed order p.size strings p.bytes (Ok sections)
     × ((name : List ℕ) → found name ≡ records_named order width p sections name)

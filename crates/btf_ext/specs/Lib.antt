@@ -5,7 +5,6 @@ pub mod Relocation
 pub mod BtfExt
 pub use Rattle.btf_model.specs.Ext
 pub use Rattle.btf_words.specs.Error
-pub use Rattle.btf_words.specs.Endianness
 pub use Rattle.btf_model.specs.Text
 pub use Rattle.btf_model.specs.Blob
 pub use Rattle.btf_model.specs.Word

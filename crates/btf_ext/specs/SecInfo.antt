@@ -2,7 +2,7 @@
 use Rattle.std.specs.Prelude.{◌≡◌, ◌≢◌, ℕ, List, [], ◌++◌, Option, Some, None, Result, Ok, Err}
 use Rattle.btf_model.specs.Ext.{Section, SectionBytes, Named, IsSection, BeginsNoSection, AreNamed, section_bytes, sections_of, cut_refusal}
 use Rattle.btf_model.specs.Refusal.{Refusal}
-use Rattle.btf_model.specs.Word.{Order}
+use Rattle.btf_model.specs.declared.endianness.Endianness.{Endianness}
 use Rattle.btf_words.specs.declared.error.BtfError.{BtfError}
 use Rattle.btf_words.specs.Error.{refusal_of}
 use Rattle.btf_ext.specs.declared.ext.sections.SecInfo.{SecInfo}
@@ -24,7 +24,7 @@ GivesSection before (Some (Err e)) after =
 
 -- What reading the sections of a part returns, where the name of each can be read, but none is kept: the sections of
 -- some named sections, or the refusal.
-abbrev pub AreReadable : Order → ℕ → List ℕ → List ℕ → Result (List Section) Refusal → Type 0
+abbrev pub AreReadable : Endianness → ℕ → List ℕ → List ℕ → Result (List Section) Refusal → Type 0
 AreReadable order size strings bytes (Ok sections) =
     (named : List Named) × (sections_of named ≡ sections) × AreNamed order size strings bytes (Ok named)
 AreReadable order size strings bytes (Err refusal) = AreNamed order size strings bytes (Err refusal)

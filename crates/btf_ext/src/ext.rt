@@ -7,7 +7,6 @@ mod sections;
 ghost use Rattle.std.specs.Prelude.{◌≡◌, map, Ok};
 ghost use Rattle.btf_model.specs.Ext.{IsExt};
 ghost use Rattle.btf_words.specs.Error.{MeetsOrNoMemory, IsOrNoMemory};
-ghost use Rattle.btf_words.specs.Endianness.{order_of};
 ghost use Rattle.btf_ext.specs.Info.{funcs_by_name, lines_by_name};
 ghost use Rattle.btf_ext.specs.Relocation.{relocation};
 
@@ -44,7 +43,7 @@ impl BtfExt {
     /// Magic, version and flags are not looked at.
     pub fn parse(data: &[u8], endianness: Endianness, btf: &Btf) -> Result<BtfExt, BtfError>
         ensures { MeetsOrNoMemory ext result
-            (IsExt (order_of endianness) «data».now btf.now.strings) }
+            (IsExt endianness «data».now btf.now.strings) }
     {
         BtfExt::parse_with_hasher(data, endianness, btf, BuildHasherDefault::new())
     }
@@ -66,7 +65,7 @@ impl<H: BuildHasher> BtfExt<H> {
     where
         H: Clone,
         ensures { MeetsOrNoMemory ext result
-            (IsExt (order_of endianness) «data».now btf.now.strings) }
+            (IsExt endianness «data».now btf.now.strings) }
     {
         let alloc = allocator_of(btf);
         let header = Header::read(data, endianness)?;

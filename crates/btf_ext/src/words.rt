@@ -2,9 +2,9 @@
 
 ghost use Rattle.std.specs.Prelude.{◌≡◌, ◌+◌, ◌≤◌, ◌++◌, length, drop, take, OnOk};
 ghost use Rattle.std.specs.List.{flat_map};
-ghost use Rattle.btf_model.specs.Word.{Little, word, word_of, words_at};
+ghost use Rattle.btf_model.specs.Word.{word, word_of, words_at};
+ghost use Rattle.btf_model.specs.declared.endianness.Endianness.TheVariants.{Little};
 ghost use Rattle.btf_model.specs.Blob as blob;
-ghost use Rattle.btf_words.specs.Endianness.{order_of};
 
 use btf_items::push_array;
 use btf_plain::Endianness;
@@ -13,7 +13,7 @@ use std::alloc::AllocError;
 /// The first word of bytes, and what follows it.
 pub fn split_word(bytes: &[u8], endianness: Endianness) -> (u32, &[u8])
     requires { 4 ≤ length bytes.now }
-    ensures word { result.0 ≡ word_of (order_of endianness) (take 4 bytes.now) }
+    ensures word { result.0 ≡ word_of endianness (take 4 bytes.now) }
     ensures rest { result.1.now ≡ drop 4 bytes.now }
     ensures length { length result.1.now + 4 ≡ length bytes.now }
 {
@@ -24,7 +24,7 @@ pub fn split_word(bytes: &[u8], endianness: Endianness) -> (u32, &[u8])
 /// The word at a place.
 pub fn word_at(bytes: &[u8], at: usize, endianness: Endianness) -> u32
     requires { at + 4 ≤ length bytes.now }
-    ensures { result ≡ blob.word_at (order_of endianness) at bytes.now }
+    ensures { result ≡ blob.word_at endianness at bytes.now }
 {
     let (_, rest) = bytes.split_at(at);
     let (word, _) = split_word(rest, endianness);
@@ -34,7 +34,7 @@ pub fn word_at(bytes: &[u8], at: usize, endianness: Endianness) -> u32
 /// The first four words of bytes.
 pub fn four_words(bytes: &[u8], endianness: Endianness) -> [u32; 4]
     requires { 16 ≤ length bytes.now }
-    ensures { result ≡ words_at (order_of endianness) 4 bytes.now }
+    ensures { result ≡ words_at endianness 4 bytes.now }
 {
     let (first, rest) = split_word(bytes, endianness);
     let (second, rest) = split_word(rest, endianness);

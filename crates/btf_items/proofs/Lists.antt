@@ -6,7 +6,8 @@ use Rattle.std.proofs.lemmas.List.{append-nil, append_assoc, drop-drop, length-d
 use Rattle.std.proofs.Math.Nat.{mul-le-mul_left}
 use Rattle.std.proofs.lemmas.List.Concat.{flat_map-append, flat_map-cons}
 use Rattle.std.proofs.lemmas.Result.{err_from_is_err_and}
-use Rattle.btf_model.specs.Word.{Order, word_of, words_at}
+use Rattle.btf_model.specs.Word.{word_of, words_at}
+use Rattle.btf_model.specs.declared.endianness.Endianness.{Endianness}
 use Rattle.btf_model.proofs.Words.{length-words_at}
 use Rattle.btf_model.specs.Record.{Kind, Record, kind_of, vlen, tail_words}
 use Rattle.btf_model.specs.Spelling.{kept, IsWhole}
@@ -16,7 +17,7 @@ use Rattle.btf_words.specs.Error.{MeetsOrNoMemory}
 use Rattle.btf_items.specs.ReadItems.{ReadsItems}
 
 -- words, and then more words
-pub words_at-add : (order : Order) (m n : ℕ) (bytes : List ℕ) → words_at order (m + n) bytes ≡ words_at order m bytes ++ words_at order n (drop (4 * m) bytes)
+pub words_at-add : (order : Endianness) (m n : ℕ) (bytes : List ℕ) → words_at order (m + n) bytes ≡ words_at order m bytes ++ words_at order n (drop (4 * m) bytes)
 words_at-add order zero n bytes = ap (λ k. words_at order k bytes) (zero-add n)
 words_at-add order (suc m) n bytes =
     let k : suc m + n ≡ suc (m + n) = omega arith in
@@ -24,13 +25,13 @@ words_at-add order (suc m) n bytes =
     ap (λ k. words_at order k bytes) k ∙ ap (λ (ws : List ℕ). word_of order (take 4 bytes) ∷ ws) (words_at-add order m n (drop 4 bytes) ∙ ap (λ (b : List ℕ). words_at order m (drop 4 bytes) ++ words_at order n b) at)
 
 -- the items that have been read from the front of the bytes, and what stays
-pub record ItemsSoFar {X : Type 0} (width : ℕ) (item_words : X → List ℕ) (order : Order) (bytes : List ℕ) (n : ℕ) (items : List X) (rest : List ℕ) : Type 0 where
+pub record ItemsSoFar {X : Type 0} (width : ℕ) (item_words : X → List ℕ) (order : Endianness) (bytes : List ℕ) (n : ℕ) (items : List X) (rest : List ℕ) : Type 0 where
   pub count : length items ≡ n
   pub within : 4 * (width * n) ≤ length bytes
   pub read_words : flat_map item_words items ≡ words_at order (width * n) bytes
   pub behind : rest ≡ drop (4 * (width * n)) bytes
 
-pub no_items : {X : Type 0} (width : ℕ) (item_words : X → List ℕ) (order : Order) (bytes : List ℕ) (items : List X) → items ≡ [] → ItemsSoFar width item_words order bytes 0 items bytes
+pub no_items : {X : Type 0} (width : ℕ) (item_words : X → List ℕ) (order : Endianness) (bytes : List ℕ) (items : List X) → items ≡ [] → ItemsSoFar width item_words order bytes 0 items bytes
 no_items width item_words order bytes items is =
     let none : width * 0 ≡ 0 = omega arith in
     record {
@@ -41,7 +42,7 @@ no_items width item_words order bytes items is =
     }
 
 -- one more item
-pub more_items : {X : Type 0} (width : ℕ) (item_words : X → List ℕ) (order : Order) (bytes : List ℕ) (n : ℕ) (items more : List X) (rest next : List ℕ) (x : X) → ItemsSoFar width item_words order bytes n items rest → 4 * width ≤ length rest → item_words x ≡ words_at order width rest → next ≡ drop (4 * width) rest → more ≡ items ++ x ∷ [] → ItemsSoFar width item_words order bytes (n + 1) more next
+pub more_items : {X : Type 0} (width : ℕ) (item_words : X → List ℕ) (order : Endianness) (bytes : List ℕ) (n : ℕ) (items more : List X) (rest next : List ℕ) (x : X) → ItemsSoFar width item_words order bytes n items rest → 4 * width ≤ length rest → item_words x ≡ words_at order width rest → next ≡ drop (4 * width) rest → more ≡ items ++ x ∷ [] → ItemsSoFar width item_words order bytes (n + 1) more next
 more_items width item_words order bytes n items more rest next x h le words next-is more-is =
     let k : width * (n + 1) ≡ width * n + width = omega arith in
     record {
@@ -55,7 +56,7 @@ more_items width item_words order bytes n items more rest next x h le words next
     }
 
 -- an item that is cut
-pub items_cut : {X : Type 0} {Y : Type 0} (items_of : Y → List X) (width : ℕ) (item_words : X → List ℕ) (order : Order) (bytes : List ℕ) (n count : ℕ) (items : List X) (rest : List ℕ) (e : BtfError) (r : Result Y BtfError) → ItemsSoFar width item_words order bytes n items rest → n < count → length rest < 4 * width → e ≡ InvalidTypeInfo → IsErrAnd r (λ y. y ≡ e) → MeetsOrNoMemory items_of r (ReadsItems width item_words order bytes count)
+pub items_cut : {X : Type 0} {Y : Type 0} (items_of : Y → List X) (width : ℕ) (item_words : X → List ℕ) (order : Endianness) (bytes : List ℕ) (n count : ℕ) (items : List X) (rest : List ℕ) (e : BtfError) (r : Result Y BtfError) → ItemsSoFar width item_words order bytes n items rest → n < count → length rest < 4 * width → e ≡ InvalidTypeInfo → IsErrAnd r (λ y. y ≡ e) → MeetsOrNoMemory items_of r (ReadsItems width item_words order bytes count)
 items_cut {X} {Y} items_of width item_words order bytes n count items rest e r h lt short is err =
     let p = err_from_is_err_and r err in
     let le : width * (n + 1) ≤ width * count = mul-le-mul_left width (omega arith) in
@@ -96,7 +97,7 @@ words_of_set k f each xs i y lt =
     ∙ sym (append_assoc (take (k * i) (flat_map f xs)) (f y) (drop (k * suc i) (flat_map f xs)))
 
 -- the first of more items that were read
-pub first_items : {X : Type 0} (width : ℕ) (f : X → List ℕ) → ((x : X) → length (f x) ≡ width) → (order : Order) (bytes : List ℕ) (n more : ℕ) (xs : List X) → n ≤ more → ReadsItems width f order bytes more (Ok (take more xs)) → ReadsItems width f order bytes n (Ok (take n xs))
+pub first_items : {X : Type 0} (width : ℕ) (f : X → List ℕ) → ((x : X) → length (f x) ≡ width) → (order : Endianness) (bytes : List ℕ) (n more : ℕ) (xs : List X) → n ≤ more → ReadsItems width f order bytes more (Ok (take more xs)) → ReadsItems width f order bytes n (Ok (take n xs))
 first_items width f each order bytes n more xs le h =
     let fewer : width * n ≤ width * more = mul-le-mul_left width le in
     let both : take n (take more xs) ≡ take n xs = sym (take-append-le n (take more xs) (drop more xs) (omega (arith, h.1, le))) ∙ ap (take n) (take-append-drop more xs) in

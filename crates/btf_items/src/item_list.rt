@@ -3,7 +3,6 @@
 ghost use Rattle.std.specs.Prelude.{◌≡◌, ◌<◌, ◌≤◌, length, take, slice_set, IfOk};
 ghost use Rattle.std.specs.List.{flat_map};
 ghost use Rattle.btf_words.specs.Error.{MeetsOrNoMemory};
-ghost use Rattle.btf_words.specs.Endianness.{order_of};
 ghost use Rattle.btf_items.specs.ReadItems.{ReadsItems};
 ghost use Rattle.btf_items.specs.ItemList.{items_of};
 
@@ -49,7 +48,7 @@ impl<T: Blank, const N: usize> ItemList<T, N> {
         count: usize,
     ) -> Result<Self, BtfError>
         ensures { MeetsOrNoMemory items_of result
-            (ReadsItems T.width T.item_words (order_of endianness) bytes.now count) }
+            (ReadsItems T.width T.item_words endianness bytes.now count) }
     {
         if count > N {
             return Ok(ItemList::Many(read_items(alloc, bytes, endianness, count)?));
@@ -124,7 +123,7 @@ fn read_few<T: Blank, const N: usize>(
 ) -> Result<[T; N], BtfError>
     requires { count ≤ N }
     ensures { MeetsOrNoMemory (take count) result
-        (ReadsItems T.width T.item_words (order_of endianness) bytes.now count) }
+        (ReadsItems T.width T.item_words endianness bytes.now count) }
 {
     let mut items: [T; N] = array::from_fn(|_| T::blank());
     let mut rest = bytes;

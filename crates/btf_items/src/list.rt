@@ -4,7 +4,6 @@ ghost use Rattle.std.specs.Prelude.{◌≡◌, ℕ, ◌*◌, ◌<◌, ◌≤◌,
 ghost use Rattle.std.specs.List.{flat_map, AllByRecursion};
 ghost use Rattle.btf_model.specs.Word.{word, words_at};
 ghost use Rattle.btf_words.specs.Error.{MeetsOrNoMemory};
-ghost use Rattle.btf_words.specs.Endianness.{order_of};
 ghost use Rattle.btf_items.specs.ReadItems.{ReadsItems};
 
 use crate::words::{push, split_word};
@@ -23,14 +22,14 @@ pub trait Item: Sized + Clone + Drop {
     fn read(bytes: &[u8], endianness: Endianness) -> Result<(Self, &[u8]), BtfError>
         ensures { MatchResult result
             (λ x. (4 * width ≤ length bytes.now)
-            × (item_words x.0 ≡ words_at (order_of endianness) width bytes.now)
+            × (item_words x.0 ≡ words_at endianness width bytes.now)
             × (x.1.now ≡ drop (4 * width) bytes.now))
             (λ e. (length bytes.now < 4 * width) × (e ≡ BtfError.InvalidTypeInfo)) };
 
     /// Writes the item at the end of bytes.
     fn append_to(&self, out: &mut Vec<u8>, endianness: Endianness) -> Result<(), AllocError>
         ensures written { OnOk result (out.new.items ≡ out.old.items
-            ++ flat_map (word (order_of endianness)) (item_words self.now)) }
+            ++ flat_map (word endianness) (item_words self.now)) }
         ensures words_fit { AllByRecursion (λ w. w < 2 ^ 32) (item_words self.now) };
 
     /// A clone has the same words.
@@ -44,7 +43,7 @@ pub fn push_items<T: Item>(
     items: &[T],
 ) -> Result<(), AllocError>
     ensures written { OnOk result (out.new.items ≡ out.old.items
-        ++ flat_map (word (order_of endianness)) (flat_map T.item_words items.now)) }
+        ++ flat_map (word endianness) (flat_map T.item_words items.now)) }
     ensures words_fit { OnOk result
         (AllByRecursion (λ w. w < 2 ^ 32) (flat_map T.item_words items.now)) }
 {
@@ -71,7 +70,7 @@ pub fn read_items<T: Item>(
     count: usize,
 ) -> Result<Vec<T>, BtfError>
     ensures { MeetsOrNoMemory (λ v. v.items) result
-        (ReadsItems T.width T.item_words (order_of endianness) bytes.now count) }
+        (ReadsItems T.width T.item_words endianness bytes.now count) }
 {
     let mut items = Vec::with_capacity(alloc, count)?;
     let mut rest = bytes;

@@ -3,7 +3,6 @@
 ghost use Rattle.std.specs.Prelude.{◌≡◌, ◌<◌, ◌≤◌, ◌^◌, ◌++◌, length, take, drop, OnOk, MatchResult};
 ghost use Rattle.std.specs.List.{flat_map, AllByRecursion};
 ghost use Rattle.btf_model.specs.Word.{word, word_of};
-ghost use Rattle.btf_words.specs.Endianness.{order_of};
 
 use btf_words::{BtfError, Endianness};
 use std::alloc::AllocError;
@@ -11,7 +10,7 @@ use std::alloc::AllocError;
 /// The first word of bytes, and what follows it.
 pub fn split_word(bytes: &[u8], endianness: Endianness) -> Result<(u32, &[u8]), BtfError>
     ensures { MatchResult result
-        (λ x. (4 ≤ length bytes.now) × (x.0 ≡ word_of (order_of endianness) (take 4 bytes.now))
+        (λ x. (4 ≤ length bytes.now) × (x.0 ≡ word_of endianness (take 4 bytes.now))
         × (x.1.now ≡ drop 4 bytes.now))
         (λ e. (length bytes.now < 4) × (e ≡ BtfError.InvalidTypeInfo)) }
 {
@@ -28,7 +27,7 @@ pub fn push_array<const N: usize>(
     words: &[u32; N],
 ) -> Result<(), AllocError>
     ensures written { OnOk result (out.new.items ≡ out.old.items
-        ++ flat_map (word (order_of endianness)) words.now) }
+        ++ flat_map (word endianness) words.now) }
     ensures words_fit { AllByRecursion (λ w. w < 2 ^ 32) words.now }
 {
     let values = words.as_slice();
@@ -42,7 +41,7 @@ pub fn push_array<const N: usize>(
 /// Writes words at the end of bytes.
 pub fn push(out: &mut Vec<u8>, endianness: Endianness, words: &[u32]) -> Result<(), AllocError>
     ensures written { OnOk result (out.new.items ≡ out.old.items
-        ++ flat_map (word (order_of endianness)) words.now) }
+        ++ flat_map (word endianness) words.now) }
     ensures words_fit { AllByRecursion (λ w. w < 2 ^ 32) words.now }
 {
     for value in words {

@@ -4,7 +4,8 @@ use Rattle.std.proofs.Common.{◌≡◌, ℕ, zero, suc, ◌+◌, ◌^◌, ◌<�
 use Rattle.std.specs.List.{flat_map}
 use Rattle.std.proofs.lemmas.Bool.{cases_lt}
 use Rattle.std.proofs.lemmas.List.{length-append, take_at, drop_at, take_all, nil_from_length, append-nil}
-use Rattle.btf_model.specs.Word.{Order, Little, Big}
+use Rattle.btf_model.specs.declared.endianness.Endianness.{Endianness}
+use Rattle.btf_model.specs.declared.endianness.Endianness.TheVariants.{Little, Big}
 use Rattle.btf_model.specs.Record.{Record, unknown}
 use Rattle.btf_model.specs.Refusal.{Refusal}
 use Rattle.btf_model.specs.Spelling.{spell}
@@ -14,7 +15,7 @@ use Rattle.btf_model.proofs.Words.{word_of-word, half_of-half}
 use Rattle.btf_model.proofs.Records.{goes_no_further, same_records, whole_are_records}
 
 -- after the longest front no spelling begins
-pub rest_from_none : (order : Order) (bytes front rest : List ℕ) (rs : List Record) → bytes ≡ front ++ rest → AreRecords order front rs → BeginsNoRecord order rest → IsRest order bytes rest
+pub rest_from_none : (order : Endianness) (bytes front rest : List ℕ) (rs : List Record) → bytes ≡ front ++ rest → AreRecords order front rs → BeginsNoRecord order rest → IsRest order bytes rest
 rest_from_none order bytes front rest rs whole cut none = record {
   front = front;
   whole = whole;
@@ -26,20 +27,20 @@ same_back : (a b x y : List ℕ) → length a ≡ length b → a ++ x ≡ b ++ y
 same_back a b x y len e = sym (drop_at a x (length b) len) ∙ ap (drop (length b)) e ∙ drop_at b y (length b) refl
 
 -- there is one rest
-pub same_rest : (order : Order) (bytes x y : List ℕ) → IsRest order bytes x → IsRest order bytes y → x ≡ y
+pub same_rest : (order : Endianness) (bytes x y : List ℕ) → IsRest order bytes x → IsRest order bytes y → x ≡ y
 same_rest order bytes x y h g =
     let a = h.longest g.front y g.cut.0 g.whole g.cut.1 in
     let b = g.longest h.front x h.cut.0 h.whole h.cut.1 in
     same_back h.front g.front x y (omega arith) (sym h.whole ∙ g.whole)
 
 -- bytes that are cut whole leave no rest
-pub no_rest : (order : Order) (bytes rest : List ℕ) (rs : List Record) → AreRecords order bytes rs → IsRest order bytes rest → rest ≡ []
+pub no_rest : (order : Endianness) (bytes rest : List ℕ) (rs : List Record) → AreRecords order bytes rs → IsRest order bytes rest → rest ≡ []
 no_rest order bytes rest rs cut h =
     let le = h.longest bytes [] rs (sym (append-nil bytes)) cut in
     nil_from_length rest (omega (arith, ap length h.whole, length-append h.front rest))
 
 -- bytes stand for one table
-pub same_table : (order : Order) (bytes : List ℕ) (t u : Table) → IsTable order bytes t → IsTable order bytes u → t ≡ u
+pub same_table : (order : Endianness) (bytes : List ℕ) (t u : Table) → IsTable order bytes t → IsTable order bytes u → t ≡ u
 same_table order bytes t u h g =
     let rs = same_records order _ h.records.0 g.records.0 h.records.2 g.records.2 in
     let records : t.records ≡ u.records = h.records.1 ∙ ap (λ (rs : List Record). unknown ∷ rs) rs ∙ sym g.records.1 in
@@ -50,13 +51,13 @@ same_table order bytes t u h g =
     same a b c d e f g = λ i. record { order = a i; magic = b i; version = c i; flags = d i; strings = e i; records = f i; fallbacks = g i }
 
 -- bytes that stand for a table are not refused
-pub table_not_refused : (order : Order) (bytes : List ℕ) (t : Table) (refusal : Refusal) → IsTable order bytes t → IsRefusal order bytes refusal → ⊥
+pub table_not_refused : (order : Endianness) (bytes : List ℕ) (t : Table) (refusal : Refusal) → IsTable order bytes t → IsRefusal order bytes refusal → ⊥
 table_not_refused order bytes t refusal h g =
     let p = g.record_at h.header_fits h.strings_fit h.types_fit in
     p.2 (no_rest order _ p.0 h.records.0 h.records.2 p.1)
 
 -- there is one first cause
-pub same_refusal : (order : Order) (bytes : List ℕ) (f g : Refusal) → IsRefusal order bytes f → IsRefusal order bytes g → f ≡ g
+pub same_refusal : (order : Endianness) (bytes : List ℕ) (f g : Refusal) → IsRefusal order bytes f → IsRefusal order bytes g → f ≡ g
 same_refusal order bytes f g h k =
     elim (cases_lt (length bytes) header_len) [
       | inl lt ↦ h.header lt ∙ sym (k.header lt)
@@ -75,13 +76,13 @@ same_refusal order bytes f g h k =
 -- ---- what is written
 
 -- the header that is written is read again
-pub header_of-header_bytes : (order : Order) (h : Header) (rest : List ℕ) → h.magic < 2 ^ 16 → h.hdr_len < 2 ^ 32 → h.type_off < 2 ^ 32 → h.type_len < 2 ^ 32 → h.str_off < 2 ^ 32 → h.str_len < 2 ^ 32 → header_of order (header_bytes order h ++ rest) ≡ h
+pub header_of-header_bytes : (order : Endianness) (h : Header) (rest : List ℕ) → h.magic < 2 ^ 16 → h.hdr_len < 2 ^ 32 → h.type_off < 2 ^ 32 → h.type_len < 2 ^ 32 → h.str_off < 2 ^ 32 → h.str_len < 2 ^ 32 → header_of order (header_bytes order h ++ rest) ≡ h
 header_of-header_bytes Little h rest a b c d e f =
     λ i. record { magic = half_of-half Little h.magic a i; version = h.version; flags = h.flags; hdr_len = word_of-word Little h.hdr_len b i; type_off = word_of-word Little h.type_off c i; type_len = word_of-word Little h.type_len d i; str_off = word_of-word Little h.str_off e i; str_len = word_of-word Little h.str_len f i }
 header_of-header_bytes Big h rest a b c d e f =
     λ i. record { magic = half_of-half Big h.magic a i; version = h.version; flags = h.flags; hdr_len = word_of-word Big h.hdr_len b i; type_off = word_of-word Big h.type_off c i; type_len = word_of-word Big h.type_len d i; str_off = word_of-word Big h.str_off e i; str_len = word_of-word Big h.str_len f i }
 
-length-header_bytes : (order : Order) (h : Header) → length (header_bytes order h) ≡ 24
+length-header_bytes : (order : Endianness) (h : Header) → length (header_bytes order h) ≡ 24
 length-header_bytes Little h = refl
 length-header_bytes Big h = refl
 

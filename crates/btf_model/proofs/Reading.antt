@@ -3,7 +3,8 @@ use Rattle.std.proofs.Common.{◌≡◌, ℕ, suc, ◌+◌, ◌*◌, ◌<◌, �
 use Rattle.std.proofs.lemmas.Bool.{le-ltb, lt-ltb}
 use Rattle.std.proofs.lemmas.List.{length-append, take-append-drop}
 use Rattle.std.proofs.lemmas.Option.{slice_get_cases, slice_get_within}
-use Rattle.btf_model.specs.Word.{Order, word_of, words_at}
+use Rattle.btf_model.specs.Word.{word_of, words_at}
+use Rattle.btf_model.specs.declared.endianness.Endianness.{Endianness}
 use Rattle.btf_model.specs.Record.{Kind, kinds, highest_kind, Record, kind_number, kind_of, vlen, tail_words, words}
 use Rattle.btf_model.specs.Refusal.{InvalidTypeInfo, InvalidTypeKind}
 use Rattle.btf_model.specs.Spelling.{spell, kept, IsRecord}
@@ -12,7 +13,7 @@ use Rattle.btf_model.proofs.Words.{IsBytes, length-words_at, words_at-front, spe
 use Rattle.btf_model.proofs.Records.{length-spell, spelling_is_long}
 
 -- the record of the first words of the bytes, with a tail of n words
-abbrev pub record_at : Order → ℕ → List ℕ → Record
+abbrev pub record_at : Endianness → ℕ → List ℕ → Record
 record_at order n bytes = record {
   name = word_of order (take 4 bytes);
   info = word_of order (take 4 (drop 4 bytes));
@@ -21,7 +22,7 @@ record_at order n bytes = record {
 }
 
 -- the info word at the front of the bytes
-abbrev pub info_at : Order → List ℕ → ℕ
+abbrev pub info_at : Endianness → List ℕ → ℕ
 info_at order bytes = word_of order (take 4 (drop 4 bytes))
 
 -- a kind that is read has a number up to the highest, and no other number has one
@@ -39,7 +40,7 @@ kind_none info e =
     different k h = cc
 
 -- the whole words at the front are the record
-pub reads : (order : Order) (bytes : List ℕ) (k : Kind) (n : ℕ) → IsBytes bytes → 12 + 4 * n ≤ length bytes → kind_of (info_at order bytes) ≡ Some k → n ≡ tail_words k (vlen (info_at order bytes)) → ReadsFront order bytes (Ok (kept k (record_at order n bytes)))
+pub reads : (order : Endianness) (bytes : List ℕ) (k : Kind) (n : ℕ) → IsBytes bytes → 12 + 4 * n ≤ length bytes → kind_of (info_at order bytes) ≡ Some k → n ≡ tail_words k (vlen (info_at order bytes)) → ReadsFront order bytes (Ok (kept k (record_at order n bytes)))
 reads order bytes k n fits long kind tail =
     let le : 4 * suc (suc (suc n)) ≤ length bytes = omega arith in (
       take (4 * suc (suc (suc n))) bytes,
@@ -59,7 +60,7 @@ reads order bytes k n fits long kind tail =
     )
 
 -- a spelling that begins the bytes has the info word that stands there
-info_of_front : (order : Order) (bytes front rest : List ℕ) (r : Record) (p : IsRecord order front r) → bytes ≡ front ++ rest → p.1.info ≡ info_at order bytes
+info_of_front : (order : Endianness) (bytes front rest : List ℕ) (r : Record) (p : IsRecord order front r) → bytes ≡ front ++ rest → p.1.info ≡ info_at order bytes
 info_of_front order bytes front rest r p e =
     let whole : bytes ≡ spell order p.1 ++ rest = e ∙ ap (λ t. t ++ rest) p.3 in
     let first : words_at order 2 bytes ≡ p.1.name ∷ p.1.info ∷ [] = ap (words_at order 2) whole ∙ words_at-front order 2 (words p.1) rest p.2.words (omega arith) in
@@ -72,12 +73,12 @@ long_front : (bytes front rest : List ℕ) → bytes ≡ front ++ rest → lengt
 long_front bytes front rest e = omega (arith, ap length e, length-append front rest)
 
 -- fewer than three words
-pub reads_short : (order : Order) (bytes : List ℕ) → length bytes < 12 → ReadsFront order bytes (Err InvalidTypeInfo)
+pub reads_short : (order : Endianness) (bytes : List ℕ) → length bytes < 12 → ReadsFront order bytes (Err InvalidTypeInfo)
 reads_short order bytes lt =
     (λ front rest r e p. omega (arith, spelling_is_long order front r p, long_front bytes front rest e), rw (lt-ltb (length bytes) 12 lt) refl)
 
 -- a kind that is not read
-pub reads_other_kind : (order : Order) (bytes : List ℕ) → 12 ≤ length bytes → kind_of (info_at order bytes) ≡ None → ReadsFront order bytes (Err (InvalidTypeKind (kind_number (info_at order bytes))))
+pub reads_other_kind : (order : Endianness) (bytes : List ℕ) → 12 ≤ length bytes → kind_of (info_at order bytes) ≡ None → ReadsFront order bytes (Err (InvalidTypeKind (kind_number (info_at order bytes))))
 reads_other_kind order bytes le none = (
   λ front rest r e p. different p.0 (sym p.2.kind ∙ ap kind_of (info_of_front order bytes front rest r p e) ∙ none),
   rw (le-ltb (length bytes) 12 le, lt-ltb highest_kind (kind_number (info_at order bytes)) (kind_none (info_at order bytes) none)) refl,
@@ -87,7 +88,7 @@ reads_other_kind order bytes le none = (
     different k h = cc
 
 -- a tail that is cut
-pub reads_cut : (order : Order) (bytes : List ℕ) (k : Kind) → 12 ≤ length bytes → kind_of (info_at order bytes) ≡ Some k → length bytes < 12 + 4 * tail_words k (vlen (info_at order bytes)) → ReadsFront order bytes (Err InvalidTypeInfo)
+pub reads_cut : (order : Endianness) (bytes : List ℕ) (k : Kind) → 12 ≤ length bytes → kind_of (info_at order bytes) ≡ Some k → length bytes < 12 + 4 * tail_words k (vlen (info_at order bytes)) → ReadsFront order bytes (Err InvalidTypeInfo)
 reads_cut order bytes k le kind lt = (
   λ front rest r e p.
       let info = info_of_front order bytes front rest r p e in

@@ -2,13 +2,14 @@
 use Rattle.std.proofs.Common.{◌≡◌, ℕ, suc, ◌+◌, ◌*◌, ◌^◌, ◌<◌, ◌≤◌, List, [], ◌∷◌, ◌++◌, length, take, Some, refl, sym, ap, subst, ◌∙◌, append_assoc, arith}
 use Rattle.std.specs.List.{flat_map, AllByRecursion}
 use Rattle.std.proofs.lemmas.List.{length-append, length-map, append_cancel_left, append-nil}
-use Rattle.btf_model.specs.Word.{Order, words_at}
+use Rattle.btf_model.specs.Word.{words_at}
+use Rattle.btf_model.specs.declared.endianness.Endianness.{Endianness}
 use Rattle.btf_model.specs.Record.{Kind, Unknown, Int, Ptr, Array, Struct, Union, Enum, Fwd, Typedef, Volatile, Const, Restrict, Func, FuncProto, Var, DataSec, Float, DeclTag, TypeTag, Enum64, Record, kind_of, vlen, tail_words, unknown, words}
 use Rattle.btf_model.specs.Spelling.{spell, HasKind, kept, IsRecord, IsWhole}
 use Rattle.btf_model.specs.Blob.{AreRecords, BeginsNoRecord}
 use Rattle.btf_model.proofs.Words.{words_at-front, length-spelled, words_at-spelled}
 
-pub length-spell : (order : Order) (r : Record) → length (spell order r) ≡ 12 + 4 * length r.tail
+pub length-spell : (order : Endianness) (r : Record) → length (spell order r) ≡ 12 + 4 * length r.tail
 length-spell order r = omega (arith, length-spelled order (words r))
 
 -- the record of a list of words
@@ -24,7 +25,7 @@ same_kind : (k l : Kind) → Some k ≡ Some l → k ≡ l
 same_kind k l e = cc
 
 -- the info words of two spellings of one beginning are one
-same_info : (order : Order) (w v : Record) (x y : List ℕ) → AllByRecursion (λ n. n < 2 ^ 32) (words w) → AllByRecursion (λ n. n < 2 ^ 32) (words v) → spell order w ++ x ≡ spell order v ++ y → w.info ≡ v.info
+same_info : (order : Endianness) (w v : Record) (x y : List ℕ) → AllByRecursion (λ n. n < 2 ^ 32) (words w) → AllByRecursion (λ n. n < 2 ^ 32) (words v) → spell order w ++ x ≡ spell order v ++ y → w.info ≡ v.info
 unfolding from_words
 same_info order w v x y fw fv e =
     let a = words_at-front order 3 (words w) x fw (omega arith) in
@@ -38,7 +39,7 @@ pub record SameStart (k l : Kind) (w v : Record) (x y : List ℕ) : Type 0 where
   pub words : w ≡ v
   pub rest : x ≡ y
 
-pub same_start : (order : Order) (k l : Kind) (w v : Record) (x y : List ℕ) → HasKind k w → HasKind l v → spell order w ++ x ≡ spell order v ++ y → SameStart k l w v x y
+pub same_start : (order : Endianness) (k l : Kind) (w v : Record) (x y : List ℕ) → HasKind k w → HasKind l v → spell order w ++ x ≡ spell order v ++ y → SameStart k l w v x y
 same_start order k l w v x y hw hv e =
     let info = same_info order w v x y hw.words hv.words e in
     let kind : k ≡ l = same_kind k l (sym hw.kind ∙ ap kind_of info ∙ hv.kind) in
@@ -57,7 +58,7 @@ pub record SameRecord (a b : List ℕ) (r q : Record) (x y : List ℕ) : Type 0 
   pub record_is : r ≡ q
   pub rest : x ≡ y
 
-pub same_record : (order : Order) (a b : List ℕ) (r q : Record) (x y : List ℕ) → IsRecord order a r → IsRecord order b q → a ++ x ≡ b ++ y → SameRecord a b r q x y
+pub same_record : (order : Endianness) (a b : List ℕ) (r q : Record) (x y : List ℕ) → IsRecord order a r → IsRecord order b q → a ++ x ≡ b ++ y → SameRecord a b r q x y
 same_record order a b r q x y p s e =
     let e' : spell order p.1 ++ x ≡ spell order s.1 ++ y = ap (λ t. t ++ x) (sym p.3) ∙ e ∙ ap (λ t. t ++ y) s.3 in
     let same = same_start order p.0 s.0 p.1 s.1 x y p.2 s.2 e' in
@@ -68,7 +69,7 @@ same_record order a b r q x y p s e =
     }
 
 -- a spelling has its three words at least
-pub spelling_is_long : (order : Order) (a : List ℕ) (r : Record) → IsRecord order a r → 12 ≤ length a
+pub spelling_is_long : (order : Endianness) (a : List ℕ) (r : Record) → IsRecord order a r → 12 ≤ length a
 spelling_is_long order a r p = omega (arith, length-spell order p.1, ap length p.3)
 
 -- what is kept has the words that were read
@@ -95,34 +96,34 @@ length-kept TypeTag w h = refl
 length-kept Enum64 w h = refl
 
 -- a spelling is as long as the record that is read
-pub length-spelling : (order : Order) (a : List ℕ) (r : Record) → IsRecord order a r → length a ≡ 12 + 4 * length r.tail
+pub length-spelling : (order : Endianness) (a : List ℕ) (r : Record) → IsRecord order a r → length a ≡ 12 + 4 * length r.tail
 length-spelling order a r p = omega (arith, length-spell order p.1, ap length p.3, ap (λ (q : Record). length q.tail) p.4, length-kept p.0 p.1 p.2)
 
 -- a whole record's own spelling is read as it
-pub whole_is_record : (order : Order) (r : Record) → IsWhole r → IsRecord order (spell order r) r
+pub whole_is_record : (order : Endianness) (r : Record) → IsWhole r → IsRecord order (spell order r) r
 whole_is_record order r h = (h.0, r, h.1, refl, sym h.2)
 
 -- ---- rows of records
 
 -- one more record at the end
-pub AreRecords-push : (order : Order) (a b : List ℕ) (rs : List Record) (r : Record) → AreRecords order a rs → IsRecord order b r → AreRecords order (a ++ b) (rs ++ r ∷ [])
+pub AreRecords-push : (order : Endianness) (a b : List ℕ) (rs : List Record) (r : Record) → AreRecords order a rs → IsRecord order b r → AreRecords order (a ++ b) (rs ++ r ∷ [])
 AreRecords-push order a b [] r h p = (b, [], ap (λ t. t ++ b) h ∙ sym (append-nil b), p, refl)
 AreRecords-push order a b (q ∷ rs) r h p =
     (h.0, h.1 ++ b, ap (λ t. t ++ b) h.2 ∙ append_assoc h.0 h.1 b, h.3, AreRecords-push order h.1 b rs r h.4 p)
 
 -- whole records are read as they are written
-pub whole_are_records : (order : Order) (rs : List Record) → AllByRecursion IsWhole rs → AreRecords order (flat_map (spell order) rs) rs
+pub whole_are_records : (order : Endianness) (rs : List Record) → AllByRecursion IsWhole rs → AreRecords order (flat_map (spell order) rs) rs
 whole_are_records order [] h = refl
 whole_are_records order (r ∷ rs) h = (spell order r, flat_map (spell order) rs, refl, whole_is_record order r h.0, whole_are_records order rs h.1)
 
-begins_nothing : (order : Order) (a b : List ℕ) (r : Record) → IsRecord order a r → [] ≡ a ++ b → (A : Type 0) → A
+begins_nothing : (order : Endianness) (a b : List ℕ) (r : Record) → IsRecord order a r → [] ≡ a ++ b → (A : Type 0) → A
 begins_nothing order a b r p e A =
     let le = spelling_is_long order a r p in
     let len = ap length e in
     absurd (omega (arith, length-append a b))
 
 -- bytes are cut whole in one way
-pub same_records : (order : Order) (bytes : List ℕ) (rs qs : List Record) → AreRecords order bytes rs → AreRecords order bytes qs → rs ≡ qs
+pub same_records : (order : Endianness) (bytes : List ℕ) (rs qs : List Record) → AreRecords order bytes rs → AreRecords order bytes qs → rs ≡ qs
 same_records order bytes [] [] h g = refl
 same_records order bytes [] (q ∷ qs) h g = begins_nothing order g.0 g.1 q g.3 (sym h ∙ g.2) ([] ≡ q ∷ qs)
 same_records order bytes (r ∷ rs) [] h g = begins_nothing order h.0 h.1 r h.3 (sym g ∙ h.2) (r ∷ rs ≡ [])
@@ -132,7 +133,7 @@ same_records order bytes (r ∷ rs) (q ∷ qs) h g =
     ap (λ (x : Record). x ∷ rs) same.record_is ∙ ap (λ (xs : List Record). q ∷ xs) others
 
 -- no front that is cut into spellings goes further than one after which no spelling begins
-pub goes_no_further : (order : Order) (front rest other more : List ℕ) (rs qs : List Record) → BeginsNoRecord order rest → AreRecords order front rs → AreRecords order other qs → front ++ rest ≡ other ++ more → length other ≤ length front
+pub goes_no_further : (order : Endianness) (front rest other more : List ℕ) (rs qs : List Record) → BeginsNoRecord order rest → AreRecords order front rs → AreRecords order other qs → front ++ rest ≡ other ++ more → length other ≤ length front
 goes_no_further order front rest other more rs [] none h g e = omega (arith, ap length g)
 goes_no_further order front rest other more [] (q ∷ qs) none h g e =
     let begins : rest ≡ g.0 ++ (g.1 ++ more) = ap (λ t. t ++ rest) (sym h) ∙ e ∙ ap (λ t. t ++ more) g.2 ∙ append_assoc g.0 g.1 more in
@@ -144,12 +145,12 @@ goes_no_further order front rest other more (r ∷ rs) (q ∷ qs) none h g e =
     omega (arith, length-append h.0 h.1, length-append g.0 g.1, ap length h.2, ap length g.2, ap length same.bytes)
 
 -- the spellings of the records that are read are as long as the bytes
-pub length-records : (order : Order) (bytes : List ℕ) (rs : List Record) → AreRecords order bytes rs → length (flat_map (spell order) rs) ≡ length bytes
+pub length-records : (order : Endianness) (bytes : List ℕ) (rs : List Record) → AreRecords order bytes rs → length (flat_map (spell order) rs) ≡ length bytes
 length-records order bytes [] h = ap length (sym h)
 length-records order bytes (r ∷ rs) h =
     omega (arith, length-append (spell order r) (flat_map (spell order) rs), length-spell order r, length-spelling order h.0 r h.3, length-records order h.1 rs h.4, ap length h.2, length-append h.0 h.1)
 
 -- each record has its three words
-pub records_are_long : (order : Order) (rs : List Record) → 12 * length rs ≤ length (flat_map (spell order) rs)
+pub records_are_long : (order : Endianness) (rs : List Record) → 12 * length rs ≤ length (flat_map (spell order) rs)
 records_are_long order [] = omega arith
 records_are_long order (r ∷ rs) = omega (arith, length-append (spell order r) (flat_map (spell order) rs), length-spell order r, records_are_long order rs)

@@ -6,7 +6,8 @@ use Rattle.std.proofs.lemmas.Bool.{cases_lt}
 use Rattle.std.specs.List.{flat_map, AllByRecursion}
 use Rattle.std.proofs.Math.Seq.{take-add}
 use Rattle.std.proofs.lemmas.List.{length-take, length-drop, length-map, drop-drop, drop_more, take-append-drop, take_all, get_or_past}
-use Rattle.btf_model.specs.Word.{Order, word, word_of, words_at}
+use Rattle.btf_model.specs.Word.{word, word_of, words_at}
+use Rattle.btf_model.specs.declared.endianness.Endianness.{Endianness}
 use Rattle.btf_model.specs.Record.{Kind, Unknown, Int, Ptr, Array, Struct, Union, Enum, Fwd, Typedef, Volatile, Const, Restrict, Func, FuncProto, Var, DataSec, Float, DeclTag, TypeTag, Enum64, Record}
 use Rattle.btf_model.specs.Spelling.{spell, HasKind, kept, IsWhole}
 use Rattle.btf_model.specs.Table.{Table, type_bytes}
@@ -83,7 +84,7 @@ stays Enum64 w h = refl
 abbrev StandsAsRead : Record → Type 0
 StandsAsRead w = (k : Kind) × HasKind k w × IsWrittenAsRead k w
 
-read_stand : (order : Order) (bytes : List ℕ) (rs : List Record) → AreRecords order bytes rs → AllByRecursion StandsAsRead rs
+read_stand : (order : Endianness) (bytes : List ℕ) (rs : List Record) → AreRecords order bytes rs → AllByRecursion StandsAsRead rs
 read_stand order bytes [] h = tt
 read_stand order bytes (r ∷ rs) h =
     let p = h.3 in
@@ -97,7 +98,7 @@ stand_whole (r ∷ rs) h = ((h.0.0, h.0.1, stays h.0.0 r h.0.2), stand_whole rs 
 
 -- ---- the header
 
-header_back : (order : Order) (bytes : List ℕ) → IsBytes bytes → header_len ≤ length bytes → header_bytes order (header_of order bytes) ≡ take 24 bytes
+header_back : (order : Endianness) (bytes : List ℕ) → IsBytes bytes → header_len ≤ length bytes → header_bytes order (header_of order bytes) ≡ take 24 bytes
 header_back order bytes fits le =
     let magic = half-half_of order (take 2 bytes) (omega (arith, length-take 2 bytes)) (IsBytes-take 2 bytes fits) in
     let flags : take 2 (drop 2 bytes) ≡ slice_index bytes 2 ∷ slice_index bytes 3 ∷ [] = ap (take 2) (drop_more bytes 2 0 (omega arith) ∙ ap (λ (b : List ℕ). get_or bytes 2 0 ∷ b) (drop_more bytes 3 0 (omega arith))) in
@@ -129,16 +130,16 @@ length-slice : (at len : ℕ) (bytes : List ℕ) → at + len ≤ length bytes �
 length-slice at len bytes le = omega (arith, length-take len (drop at bytes), length-drop at bytes)
 
 -- what the table of a blob says of its parts
-record Parts (order : Order) (bytes : List ℕ) (t : Table) : Type 0 where
+record Parts (order : Endianness) (bytes : List ℕ) (t : Table) : Type 0 where
   types : length (type_bytes t) ≡ (header_of order bytes).type_len
   strings : length t.strings ≡ (header_of order bytes).str_len
   header : header_of order (canon t) ≡ canon_header t
 
-parts : (order : Order) (bytes : List ℕ) (t : Table) → IsBytes bytes → IsTable order bytes t → Parts order bytes t
+parts : (order : Endianness) (bytes : List ℕ) (t : Table) → IsBytes bytes → IsTable order bytes t → Parts order bytes t
 parts order bytes t fits h =
     let header = header_of order bytes in
     let rs = h.records.0 in
-    let spelled : type_bytes t ≡ flat_map (spell order) rs = ap (λ (xs : List Record). flat_map (spell t.order) (drop 1 xs)) h.records.1 ∙ ap (λ (o : Order). flat_map (spell o) rs) h.same_order in
+    let spelled : type_bytes t ≡ flat_map (spell order) rs = ap (λ (xs : List Record). flat_map (spell t.order) (drop 1 xs)) h.records.1 ∙ ap (λ (o : Endianness). flat_map (spell o) rs) h.same_order in
     let types : length (type_bytes t) ≡ header.type_len = ap length spelled ∙ length-records order (type_section header bytes) rs h.records.2 ∙ length-slice (header.hdr_len + header.type_off) header.type_len bytes h.types_fit in
     let strings : length t.strings ≡ header.str_len = ap length h.strings ∙ length-slice (header.hdr_len + header.str_off) header.str_len bytes h.strings_fit in
     let magic : t.magic < 2 ^ 16 = rw h.magic (half_of_below order (take 2 bytes) (IsBytes-take 2 bytes fits)) in
@@ -147,17 +148,17 @@ parts order bytes t fits h =
     record {
       types = types;
       strings = strings;
-      header = subst (λ (o : Order). header_of o (canon t) ≡ canon_header t) h.same_order
+      header = subst (λ (o : Endianness). header_of o (canon t) ≡ canon_header t) h.same_order
           (ap (header_of t.order) (regrouped t) ∙ header_of-header_bytes t.order (canon_header t) (type_bytes t ++ t.strings) magic (omega arith) (omega arith) types_small types_small strings_small);
     }
 
 -- a blob that is written as it was read has the written form
-written_is_usual : (order : Order) (bytes : List ℕ) (t : Table) → IsBytes bytes → IsTable order bytes t → canon t ≡ bytes → IsUsual order bytes
+written_is_usual : (order : Endianness) (bytes : List ℕ) (t : Table) → IsBytes bytes → IsTable order bytes t → canon t ≡ bytes → IsUsual order bytes
 written_is_usual order bytes t fits h e =
     let p = parts order bytes t fits h in
     let header : header_of order bytes ≡ canon_header t = ap (header_of order) (sym e) ∙ p.header in
     let rs = h.records.0 in
-    let spelled : type_bytes t ≡ flat_map (spell order) rs = ap (λ (xs : List Record). flat_map (spell t.order) (drop 1 xs)) h.records.1 ∙ ap (λ (o : Order). flat_map (spell o) rs) h.same_order in
+    let spelled : type_bytes t ≡ flat_map (spell order) rs = ap (λ (xs : List Record). flat_map (spell t.order) (drop 1 xs)) h.records.1 ∙ ap (λ (o : Endianness). flat_map (spell o) rs) h.same_order in
     let section : type_section (header_of order bytes) bytes ≡ flat_map (spell order) rs = ap (λ (x : Header). type_section x bytes) header ∙ ap (type_section (canon_header t)) (sym e) ∙ canon_types t ∙ spelled in
     record {
       hdr_len = ap (λ (x : Header). x.hdr_len) header;
@@ -168,7 +169,7 @@ written_is_usual order bytes t fits h e =
     }
 
 -- a blob of the written form is written as it was read
-usual_is_written : (order : Order) (bytes : List ℕ) (t : Table) → IsBytes bytes → IsTable order bytes t → IsUsual order bytes → canon t ≡ bytes
+usual_is_written : (order : Endianness) (bytes : List ℕ) (t : Table) → IsBytes bytes → IsTable order bytes t → IsUsual order bytes → canon t ≡ bytes
 usual_is_written order bytes t fits h u =
     let p = parts order bytes t fits h in
     let header = header_of order bytes in
@@ -176,7 +177,7 @@ usual_is_written order bytes t fits h u =
     let ws = u.records.0 in
     let again : AreRecords order section ws = subst (λ (b : List ℕ). AreRecords order b ws) (sym u.records.2) (whole_are_records order ws (stand_whole ws u.records.1)) in
     let same : h.records.0 ≡ ws = same_records order section h.records.0 ws h.records.2 again in
-    let spelled : type_bytes t ≡ section = ap (λ (xs : List Record). flat_map (spell t.order) (drop 1 xs)) h.records.1 ∙ ap (λ (o : Order). flat_map (spell o) h.records.0) h.same_order ∙ ap (flat_map (spell order)) same ∙ sym u.records.2 in
+    let spelled : type_bytes t ≡ section = ap (λ (xs : List Record). flat_map (spell t.order) (drop 1 xs)) h.records.1 ∙ ap (λ (o : Endianness). flat_map (spell o) h.records.0) h.same_order ∙ ap (flat_map (spell order)) same ∙ sym u.records.2 in
     let same_header : canon_header t ≡ header = λ i. record {
       magic = h.magic i;
       version = h.version i;
@@ -187,7 +188,7 @@ usual_is_written order bytes t fits h u =
       str_off = (p.types ∙ sym u.str_off) i;
       str_len = p.strings i;
     } in
-    let front : header_bytes t.order (canon_header t) ≡ take 24 bytes = ap (λ (o : Order). header_bytes o (canon_header t)) h.same_order ∙ ap (header_bytes order) same_header ∙ header_back order bytes fits h.header_fits in
+    let front : header_bytes t.order (canon_header t) ≡ take 24 bytes = ap (λ (o : Endianness). header_bytes o (canon_header t)) h.same_order ∙ ap (header_bytes order) same_header ∙ header_back order bytes fits h.header_fits in
     let types_at : header.hdr_len + header.type_off ≡ 24 = omega (arith, u.hdr_len, u.type_off) in
     let strings_at : header.hdr_len + header.str_off ≡ 24 + header.type_len = omega (arith, u.hdr_len, u.str_off) in
     let types : section ≡ take header.type_len (drop 24 bytes) = ap (λ (k : ℕ). take header.type_len (drop k bytes)) types_at in
@@ -201,5 +202,5 @@ usual_is_written order bytes t fits h u =
     ∙ ap (λ (x : List ℕ). take 24 bytes ++ x) (take-append-drop header.type_len (drop 24 bytes))
     ∙ take-append-drop 24 bytes
 
-pub writes_back : (order : Order) (bytes : List ℕ) (t : Table) → All (λ byte. byte < 2 ^ 8) bytes → IsTable order bytes t → (canon t ≡ bytes) ↔ IsUsual order bytes
+pub writes_back : (order : Endianness) (bytes : List ℕ) (t : Table) → All (λ byte. byte < 2 ^ 8) bytes → IsTable order bytes t → (canon t ≡ bytes) ↔ IsUsual order bytes
 writes_back order bytes t fits h = (written_is_usual order bytes t (bytes_from_all bytes fits) h, usual_is_written order bytes t (bytes_from_all bytes fits) h)

@@ -3,7 +3,8 @@
 -- that of aya-obj's `Btf::parse`, with sums in 64 bits.
 use Rattle.std.specs.Prelude.{◌≡◌, ◌≢◌, ℕ, ◌+◌, ◌<◌, ◌≤◌, ◌^◌, nat_lt, if◌then◌else◌, List, [], ◌∷◌, ◌++◌, length, take, drop, slice_index, Result, Ok, Err}
 use Rattle.std.specs.List.{flat_map, AllByRecursion}
-use Rattle.btf_model.specs.Word.{Order, word, word_of, half, half_of}
+use Rattle.btf_model.specs.Word.{word, word_of, half, half_of}
+use Rattle.btf_model.specs.declared.endianness.Endianness.{Endianness}
 use Rattle.btf_model.specs.Record.{Record, unknown, kind_number, highest_kind}
 use Rattle.btf_model.specs.Spelling.{IsRecord, IsWhole}
 use Rattle.btf_model.specs.Refusal.{Refusal, InvalidHeader, InvalidTypeInfo, InvalidTypeKind}
@@ -14,7 +15,7 @@ abbrev pub slice : ℕ → ℕ → List ℕ → List ℕ
 slice at len bytes = take len (drop at bytes)
 
 -- the word that stands at a place
-abbrev pub word_at : Order → ℕ → List ℕ → ℕ
+abbrev pub word_at : Endianness → ℕ → List ℕ → ℕ
 word_at order at bytes = word_of order (slice at 4 bytes)
 
 -- The header: the first 24 bytes of a blob. The offsets of both sections count from hdr_len.
@@ -31,7 +32,7 @@ pub record Header : Type 0 where
 abbrev pub header_len : ℕ
 header_len = 24
 
-abbrev pub header_of : Order → List ℕ → Header
+abbrev pub header_of : Endianness → List ℕ → Header
 header_of order bytes = record {
   magic = half_of order (slice 0 2 bytes);
   version = slice_index bytes 2;
@@ -43,7 +44,7 @@ header_of order bytes = record {
   str_len = word_at order 20 bytes;
 }
 
-abbrev pub header_bytes : Order → Header → List ℕ
+abbrev pub header_bytes : Endianness → Header → List ℕ
 header_bytes order h =
     half order h.magic ++ h.version ∷ h.flags
     ∷ flat_map (word order) (h.hdr_len ∷ h.type_off ∷ h.type_len ∷ h.str_off ∷ h.str_len ∷ [])
@@ -62,14 +63,14 @@ abbrev pub type_section : Header → List ℕ → List ℕ
 type_section h bytes = slice (h.hdr_len + h.type_off) h.type_len bytes
 
 -- The bytes are cut whole into spellings of these records, one after another.
-abbrev pub AreRecords : Order → List ℕ → List Record → Type 0
+abbrev pub AreRecords : Endianness → List ℕ → List Record → Type 0
 AreRecords order bytes [] = bytes ≡ []
 AreRecords order bytes (r ∷ rs) =
     (front rest : List ℕ) × (bytes ≡ front ++ rest) × IsRecord order front r × AreRecords order rest rs
 
 -- The bytes stand for the table: the header names two slices of them, which are the string section and the spellings of
 -- the records from id 1 on. Magic, version and flags are the header's. There are no fallbacks.
-pub record IsTable (order : Order) (bytes : List ℕ) (t : Table) : Type 0 where
+pub record IsTable (order : Endianness) (bytes : List ℕ) (t : Table) : Type 0 where
   pub header_fits : header_len ≤ length bytes
   pub strings_fit : strings_end (header_of order bytes) ≤ length bytes
   pub types_fit : types_end (header_of order bytes) ≤ length bytes
@@ -83,23 +84,23 @@ pub record IsTable (order : Order) (bytes : List ℕ) (t : Table) : Type 0 where
   pub fallbacks : t.fallbacks ≡ no_fallbacks t.records
 
 -- No spelling begins the bytes.
-abbrev pub BeginsNoRecord : Order → List ℕ → Type 0
+abbrev pub BeginsNoRecord : Endianness → List ℕ → Type 0
 BeginsNoRecord order bytes = (front rest : List ℕ) (r : Record) → bytes ≡ front ++ rest → IsRecord order front r → ⊥
 
 -- why the bytes begin with no spelling
-abbrev pub rest_refusal : Order → List ℕ → Refusal
+abbrev pub rest_refusal : Endianness → List ℕ → Refusal
 rest_refusal order rest =
     let kind = kind_number (word_at order 4 rest) in
     if nat_lt (length rest) 12 then InvalidTypeInfo
     else (if nat_lt highest_kind kind then InvalidTypeKind kind else InvalidTypeInfo)
 
 -- What reading one record returns: the record of which the bytes begin with a spelling, else why they begin with none.
-abbrev pub ReadsFront : Order → List ℕ → Result Record Refusal → Type 0
+abbrev pub ReadsFront : Endianness → List ℕ → Result Record Refusal → Type 0
 ReadsFront order bytes (Ok r) = (front rest : List ℕ) × (bytes ≡ front ++ rest) × IsRecord order front r
 ReadsFront order bytes (Err refusal) = BeginsNoRecord order bytes × (refusal ≡ rest_refusal order bytes)
 
 -- What stays of the bytes when their longest front that can be cut into spellings is taken away.
-pub record IsRest (order : Order) (bytes rest : List ℕ) : Type 0 where
+pub record IsRest (order : Endianness) (bytes rest : List ℕ) : Type 0 where
   pub front : List ℕ
   pub whole : bytes ≡ front ++ rest
   pub cut : (rs : List Record) × AreRecords order front rs
@@ -108,7 +109,7 @@ pub record IsRest (order : Order) (bytes rest : List ℕ) : Type 0 where
 
 -- The first cause for which bytes are refused: a cut header, strings that don't fit, types that don't fit, and then
 -- what stays after the longest front of records.
-pub record IsRefusal (order : Order) (bytes : List ℕ) (refusal : Refusal) : Type 0 where
+pub record IsRefusal (order : Endianness) (bytes : List ℕ) (refusal : Refusal) : Type 0 where
   pub header : length bytes < header_len → refusal ≡ InvalidHeader
   pub strings : header_len ≤ length bytes → length bytes < strings_end (header_of order bytes) → refusal ≡ InvalidHeader
   pub types : header_len ≤ length bytes → strings_end (header_of order bytes) ≤ length bytes
@@ -119,7 +120,7 @@ pub record IsRefusal (order : Order) (bytes : List ℕ) (refusal : Refusal) : Ty
       × (refusal ≡ rest_refusal order rest)
 
 -- What parsing returns: the table that the bytes stand for, else the first cause of refusal.
-abbrev pub Parses : Order → List ℕ → Result Table Refusal → Type 0
+abbrev pub Parses : Endianness → List ℕ → Result Table Refusal → Type 0
 Parses order bytes (Ok t) = IsTable order bytes t
 Parses order bytes (Err refusal) = IsRefusal order bytes refusal
 

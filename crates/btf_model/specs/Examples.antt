@@ -1,6 +1,7 @@
 -- Worked examples of the definitions, computed.
 use Rattle.std.specs.Prelude.{◌≡◌, [], ◌∷◌, Some, None, refl}
-use Rattle.btf_model.specs.Word.{Little, Big, word, word_of, half}
+use Rattle.btf_model.specs.Word.{word, word_of, half}
+use Rattle.btf_model.specs.declared.endianness.Endianness.TheVariants.{Little, Big}
 use Rattle.btf_model.specs.Record.{Unknown, Int, Ptr, Struct, Fwd, Var, Enum64, Record, kind_of, kind_flag, vlen, tail_words, member_bit_offset, member_bit_field_size, unknown}
 use Rattle.btf_model.specs.Spelling.{spell, kept}
 use Rattle.btf_model.specs.Refusal.{InvalidTypeInfo, InvalidTypeKind}

@@ -5,7 +5,9 @@
 use Rattle.std.specs.Prelude.{◌≡◌, ◌≢◌, ◌⊎◌, ℕ, zero, suc, ◌+◌, ◌*◌, ◌-◌, ◌/◌, ◌<◌, ◌≤◌, ◌^◌, ◌==◌, min, nat_lt, if◌then◌else◌, List, [], ◌∷◌, ◌++◌, length, take, drop, map, filter, replicate, option_map, Option, None, Result, Ok, Err}
 use Rattle.std.specs.List.{flat_map, AllByRecursion, last_or}
 use Rattle.std.specs.Str.{bytes_eq}
-use Rattle.btf_model.specs.Word.{Order, Little, word, words_at}
+use Rattle.btf_model.specs.Word.{word, words_at}
+use Rattle.btf_model.specs.declared.endianness.Endianness.{Endianness}
+use Rattle.btf_model.specs.declared.endianness.Endianness.TheVariants.{Little}
 use Rattle.btf_model.specs.Refusal.{Refusal, InvalidHeader, InvalidInfo}
 use Rattle.btf_model.specs.Blob.{slice, word_at}
 use Rattle.btf_model.specs.Text.{text_at}
@@ -19,7 +21,7 @@ pub record Section : Type 0 where
   pub bytes : List ℕ
 
 -- It is spelled as the word of its name, the word of its count, and its records.
-abbrev pub section_bytes : Order → Section → List ℕ
+abbrev pub section_bytes : Endianness → Section → List ℕ
 section_bytes order s = word order s.name ++ word order s.count ++ s.bytes
 
 -- A section of records of this size: there is at least one, each has at least one byte, and there are just their bytes.
@@ -31,17 +33,17 @@ pub record IsSection (size : ℕ) (s : Section) : Type 0 where
   pub records : length s.bytes ≡ size * s.count
 
 -- The bytes are these sections, one after another, and then a rest.
-abbrev pub BeginsWith : Order → ℕ → List ℕ → List Section → List ℕ → Type 0
+abbrev pub BeginsWith : Endianness → ℕ → List ℕ → List Section → List ℕ → Type 0
 BeginsWith order size bytes sections rest =
     AllByRecursion (IsSection size) sections × (bytes ≡ flat_map (section_bytes order) sections ++ rest)
 
 -- The sections that bytes begin with, as many as there are, and the rest after them.
-pub record Sections (order : Order) (size : ℕ) (bytes : List ℕ) (sections : List Section) (rest : List ℕ) : Type 0 where
+pub record Sections (order : Endianness) (size : ℕ) (bytes : List ℕ) (sections : List Section) (rest : List ℕ) : Type 0 where
   pub cut : BeginsWith order size bytes sections rest
   pub longest : (others : List Section) (more : List ℕ) → BeginsWith order size bytes others more → length rest ≤ length more
 
 -- No section begins the bytes.
-abbrev pub BeginsNoSection : Order → ℕ → List ℕ → Type 0
+abbrev pub BeginsNoSection : Endianness → ℕ → List ℕ → Type 0
 BeginsNoSection order size bytes =
     (s : Section) (more : List ℕ) → IsSection size s → bytes ≡ section_bytes order s ++ more → ⊥
 
@@ -50,19 +52,19 @@ abbrev pub largest_len : ℕ
 largest_len = 18446744073709551615
 
 -- Why a rest begins with no section: it is cut in its first two words, or there are no records, or they are cut.
-abbrev pub cut_refusal : Order → ℕ → List ℕ → Refusal
+abbrev pub cut_refusal : Endianness → ℕ → List ℕ → Refusal
 cut_refusal order size rest =
     if nat_lt (length rest) 8 then InvalidInfo 0 8 (length rest)
     else InvalidInfo 8 (min (size * word_at order 4 rest) largest_len) (length rest)
 
 -- Bytes whose sections are read one after another: the order of their words, the size of a record, and what is left.
 pub record SectionBytes : Type 0 where
-  pub order : Order
+  pub order : Endianness
   pub size : ℕ
   pub bytes : List ℕ
 
 -- What reading all sections returns, where names are not read: the sections, or why the rest after them is refused.
-abbrev pub AreSections : Order → ℕ → List ℕ → Result (List Section) Refusal → Type 0
+abbrev pub AreSections : Endianness → ℕ → List ℕ → Result (List Section) Refusal → Type 0
 AreSections order size bytes (Ok sections) = BeginsWith order size bytes sections []
 AreSections order size bytes (Err refusal) =
     (sections : List Section) × (rest : List ℕ) × Sections order size bytes sections rest × (rest ≢ [])
@@ -83,20 +85,20 @@ abbrev pub sections_of : List Named → List Section
 sections_of named = map (λ n. n.section) named
 
 -- After these named sections stands one whose name cannot be read.
-abbrev pub IsUnnamedBehind : Order → ℕ → List ℕ → List ℕ → List Named → Refusal → Type 0
+abbrev pub IsUnnamedBehind : Endianness → ℕ → List ℕ → List ℕ → List Named → Refusal → Type 0
 IsUnnamedBehind order size strings bytes named refusal =
     (s : Section) × (more : List ℕ) × BeginsWith order size bytes (sections_of named ++ s ∷ []) more
     × (text_at strings s.name ≡ Err refusal)
 
 -- After these named sections stands a rest that is cut.
-abbrev pub IsCutBehind : Order → ℕ → List ℕ → List Named → Refusal → Type 0
+abbrev pub IsCutBehind : Endianness → ℕ → List ℕ → List Named → Refusal → Type 0
 IsCutBehind order size bytes named refusal =
     (rest : List ℕ) × Sections order size bytes (sections_of named) rest × (rest ≢ [])
     × (refusal ≡ cut_refusal order size rest)
 
 -- What reading all sections returns, where the name of each is read after it: the named sections, or what is refused
 -- after the first of them.
-abbrev pub AreNamed : Order → ℕ → List ℕ → List ℕ → Result (List Named) Refusal → Type 0
+abbrev pub AreNamed : Endianness → ℕ → List ℕ → List ℕ → Result (List Named) Refusal → Type 0
 AreNamed order size strings bytes (Ok named) =
     BeginsWith order size bytes (sections_of named) [] × HaveNames strings named
 AreNamed order size strings bytes (Err refusal) =
@@ -106,7 +108,7 @@ AreNamed order size strings bytes (Err refusal) =
 -- ---- records
 
 -- the first words of each of so many records of this size, one after another
-abbrev pub record_words : Order → ℕ → ℕ → ℕ → List ℕ → List (List ℕ)
+abbrev pub record_words : Endianness → ℕ → ℕ → ℕ → List ℕ → List (List ℕ)
 record_words order size width zero bytes = []
 record_words order size width (suc count) bytes =
     words_at order width bytes ∷ record_words order size width count (drop size bytes)
@@ -134,7 +136,7 @@ abbrev pub little_bytes : List (List ℕ) → List ℕ
 little_bytes records = flat_map (flat_map (word Little)) records
 
 -- function and line records: of each so many words
-abbrev pub instruction_records : Order → ℕ → ℕ → Section → Records
+abbrev pub instruction_records : Endianness → ℕ → ℕ → Section → Records
 instruction_records order size width s = record {
   count = s.count;
   words = map in_instructions (record_words order size width s.count s.bytes);
@@ -163,12 +165,12 @@ abbrev pub full_header : ℕ
 full_header = 32
 
 -- The bytes of the header: as many of the first 32 as its length says, and zeros in place of the others.
-abbrev pub header_bytes : Order → List ℕ → List ℕ
+abbrev pub header_bytes : Endianness → List ℕ → List ℕ
 header_bytes order bytes = let given = take (min (word_at order 4 bytes) full_header) bytes in given
     ++ replicate (full_header - length given) 0
 
 -- a range by the two words at a place: its offset after the header, whose length is the second word, and its length
-abbrev pub range_at : Order → ℕ → ℕ → List ℕ → Range
+abbrev pub range_at : Endianness → ℕ → ℕ → List ℕ → Range
 range_at order at least bytes = record {
   start = word_at order 4 bytes + word_at order at bytes;
   len = word_at order (at + 4) bytes;
@@ -176,7 +178,7 @@ range_at order at least bytes = record {
 }
 
 -- A function record has two words at least, a line record and a relocation record have four.
-abbrev pub header_words : Order → List ℕ → Header
+abbrev pub header_words : Endianness → List ℕ → Header
 header_words order bytes = record {
   func = range_at order 8 8 bytes;
   line = range_at order 16 16 bytes;
@@ -184,7 +186,7 @@ header_words order bytes = record {
 }
 
 -- The header stands there up to its length, which is its second word, or is cut.
-abbrev pub HasHeader : Order → List ℕ → Result Header Refusal → Type 0
+abbrev pub HasHeader : Endianness → List ℕ → Result Header Refusal → Type 0
 HasHeader order bytes (Ok h) =
     (8 ≤ length bytes) × (word_at order 4 bytes ≤ length bytes) × (h ≡ header_words order (header_bytes order bytes))
 HasHeader order bytes (Err refusal) =
@@ -192,7 +194,7 @@ HasHeader order bytes (Err refusal) =
 
 -- A range lies in the bytes. If it is not empty, it begins with a word, the size of its records, which is not below the
 -- least.
-pub record IsRange (order : Order) (bytes : List ℕ) (r : Range) : Type 0 where
+pub record IsRange (order : Endianness) (bytes : List ℕ) (r : Range) : Type 0 where
   pub within : r.start + r.len ≤ length bytes
   pub has_word : 0 < r.len → 4 ≤ r.len
   pub large_enough : 0 < r.len → r.least ≤ word_at order r.start bytes
@@ -203,13 +205,13 @@ pub record Part : Type 0 where
   pub bytes : List ℕ
 
 -- An empty range has records of size 0; another its first word as their size, and the sections after it.
-abbrev pub part_of : Order → List ℕ → Range → Part
+abbrev pub part_of : Endianness → List ℕ → Range → Part
 part_of order bytes r =
     if r.len == 0 then record { size = 0; bytes = [] }
     else record { size = word_at order r.start bytes; bytes = slice (r.start + 4) (r.len - 4) bytes }
 
 -- What a range says, or that it is none.
-abbrev pub HasPart : Order → List ℕ → Range → Result Part Refusal → Type 0
+abbrev pub HasPart : Endianness → List ℕ → Range → Result Part Refusal → Type 0
 HasPart order bytes r (Ok part) = IsRange order bytes r × (part ≡ part_of order bytes r)
 HasPart order bytes r (Err refusal) = ¬ (IsRange order bytes r) × (refusal ≡ InvalidInfo r.start r.len (length bytes))
 
@@ -222,14 +224,14 @@ pub record Ext : Type 0 where
   pub line : List ℕ → Option Records
   pub relocations : List (ℕ × List (List ℕ))
 
-abbrev pub records_named : Order → ℕ → Part → List Named → List ℕ → Option Records
+abbrev pub records_named : Endianness → ℕ → Part → List Named → List ℕ → Option Records
 records_named order width part named name =
     option_map (instruction_records order part.size width) (section_named named name)
 
-abbrev pub relocation_section : Order → ℕ → Section → ℕ × List (List ℕ)
+abbrev pub relocation_section : Endianness → ℕ → Section → ℕ × List (List ℕ)
 relocation_section order size s = (s.name, record_words order size 4 s.count s.bytes)
 
-abbrev pub ext_of : Order → Part → List Named → Part → List Named → Part → List Section → Ext
+abbrev pub ext_of : Endianness → Part → List Named → Part → List Named → Part → List Section → Ext
 ext_of order func funcs line lines core relocations = record {
   func_size = func.size;
   func = records_named order 2 func funcs;
@@ -246,7 +248,7 @@ Then first second (Err refusal) = first (Err refusal) ⊎ ((a : _) × first (Ok 
 
 -- What the bytes say, under a table's strings, or the first cause of refusal: the header, then the three ranges, then
 -- the sections of functions, of lines, and of relocations.
-abbrev pub IsExt : Order → List ℕ → List ℕ → Result Ext Refusal → Type 0
+abbrev pub IsExt : Endianness → List ℕ → List ℕ → Result Ext Refusal → Type 0
 IsExt order bytes strings =
     Then (HasHeader order bytes) (λ h.
     Then (HasPart order bytes h.func) (λ func.

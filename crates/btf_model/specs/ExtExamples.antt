@@ -1,6 +1,6 @@
 -- Worked examples of the definitions of `.BTF.ext`, computed.
 use Rattle.std.specs.Prelude.{◌≡◌, [], ◌∷◌, Some, None, option_map, refl}
-use Rattle.btf_model.specs.Word.{Little, Big}
+use Rattle.btf_model.specs.declared.endianness.Endianness.TheVariants.{Little, Big}
 use Rattle.btf_model.specs.Refusal.{InvalidInfo}
 use Rattle.btf_model.specs.Ext.{Section, section_bytes, cut_refusal, record_words, in_instructions, section_named, header_bytes, header_words, part_of}
 

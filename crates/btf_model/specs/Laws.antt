@@ -1,6 +1,6 @@
 -- The laws of the definitions. Each is the contract of a public function of this crate.
 use Rattle.std.specs.Prelude.{All, Contains, ◌≤◌, ◌*◌, ◌^◌, ◌↔◌, ◌≡◌, ◌≢◌, ℕ, ◌<◌, Bool, false, List, [], ◌∷◌, ◌++◌, map, length, Option, Some, Result, Ok, Err, slice_get}
-use Rattle.btf_model.specs.Word.{Order}
+use Rattle.btf_model.specs.declared.endianness.Endianness.{Endianness}
 use Rattle.std.specs.List.{flat_map, AllByRecursion, IsDistinct}
 use Rattle.std.specs.Str.{IsUtf8}
 use Rattle.btf_model.specs.Record.{Kind, Unknown, Int, Fwd, Array, Var, Record, unknown}
@@ -19,15 +19,15 @@ use Rattle.btf_model.specs.Blob.{IsTable, IsRefusal, IsValid, canon, header_len,
 -- No spelling is a proper beginning of another, and bytes spell one record.
 abbrev pub NoSpellingBeginsAnother : Type 0
 NoSpellingBeginsAnother =
-    (order : Order) (bytes more : List ℕ) (r q : Record) → IsRecord order bytes r → IsRecord order (bytes ++ more) q
+    (order : Endianness) (bytes more : List ℕ) (r q : Record) → IsRecord order bytes r → IsRecord order (bytes ++ more) q
     → (more ≡ []) × (r ≡ q)
 
 -- Bytes stand for one table at most, or are refused for one cause at most, and never both.
 pub record BlobIsDetermined : Type 0 where
-  pub one_table : (order : Order) (bytes : List ℕ) (t u : Table) → IsTable order bytes t → IsTable order bytes u → t ≡ u
-  pub one_refusal : (order : Order) (bytes : List ℕ) (f g : Refusal) → IsRefusal order bytes f → IsRefusal order bytes g
+  pub one_table : (order : Endianness) (bytes : List ℕ) (t u : Table) → IsTable order bytes t → IsTable order bytes u → t ≡ u
+  pub one_refusal : (order : Endianness) (bytes : List ℕ) (f g : Refusal) → IsRefusal order bytes f → IsRefusal order bytes g
       → f ≡ g
-  pub not_both : (order : Order) (bytes : List ℕ) (t : Table) (f : Refusal) → IsTable order bytes t
+  pub not_both : (order : Endianness) (bytes : List ℕ) (t : Table) (f : Refusal) → IsTable order bytes t
       → IsRefusal order bytes f → ⊥
 
 -- What is written stands for the table without its fallbacks, in the table's order.
@@ -43,14 +43,14 @@ IsWrittenAsRead Var w = AllByRecursion (λ linkage. linkage ≤ 3) w.tail
 IsWrittenAsRead k w = Unit {0}
 
 -- The bytes are cut whole into the words of records that are written as they stand.
-abbrev pub AreWrittenAsRead : Order → List ℕ → Type 0
+abbrev pub AreWrittenAsRead : Endianness → List ℕ → Type 0
 AreWrittenAsRead order bytes =
     (rs : List Record) × AllByRecursion (λ w. (k : Kind) × HasKind k w × IsWrittenAsRead k w) rs
     × (bytes ≡ flat_map (spell order) rs)
 
 -- The bytes have the one written form of a table: the usual header, the strings right after the types, nothing after
 -- the strings, and no word that reading drops.
-pub record IsUsual (order : Order) (bytes : List ℕ) : Type 0 where
+pub record IsUsual (order : Endianness) (bytes : List ℕ) : Type 0 where
   pub hdr_len : (header_of order bytes).hdr_len ≡ header_len
   pub type_off : (header_of order bytes).type_off ≡ 0
   pub str_off : (header_of order bytes).str_off ≡ (header_of order bytes).type_len
@@ -60,7 +60,7 @@ pub record IsUsual (order : Order) (bytes : List ℕ) : Type 0 where
 -- A blob that stands for a table is written as it was read exactly if it has the written form.
 abbrev pub ParsedWritesBack : Type 0
 ParsedWritesBack =
-    (order : Order) (bytes : List ℕ) (t : Table) → All (λ byte. byte < 2 ^ 8) bytes → IsTable order bytes t
+    (order : Endianness) (bytes : List ℕ) (t : Table) → All (λ byte. byte < 2 ^ 8) bytes → IsTable order bytes t
     → (canon t ≡ bytes) ↔ IsUsual order bytes
 
 -- The type that was added is found under the old number of types, and each old id keeps its record.
@@ -112,7 +112,7 @@ RelocationWordsAreDetermined =
 -- The sections that bytes begin with, and the rest after them, are determined.
 abbrev pub SectionsAreDetermined : Type 0
 SectionsAreDetermined =
-    (order : Order) (size : ℕ) (bytes : List ℕ) (a b : List Section) (x y : List ℕ) → Sections order size bytes a x
+    (order : Endianness) (size : ℕ) (bytes : List ℕ) (a b : List Section) (x y : List ℕ) → Sections order size bytes a x
     → Sections order size bytes b y → (a ≡ b) × (x ≡ y)
 
 -- A comparison has one answer, and that of types one list of starts, whatever pairs are open above it.

@@ -3,11 +3,12 @@
 -- which this project settles (docs/DIFFERENCES.md).
 use Rattle.std.specs.Prelude.{◌≡◌, ℕ, ◌<◌, ◌^◌, min, List, map, length, Some}
 use Rattle.std.specs.List.{flat_map, AllByRecursion}
-use Rattle.btf_model.specs.Word.{Order, word}
+use Rattle.btf_model.specs.Word.{word}
+use Rattle.btf_model.specs.declared.endianness.Endianness.{Endianness}
 use Rattle.btf_model.specs.Record.{Kind, Unknown, Fwd, Array, Var, Record, kind_of, vlen, tail_words, unknown, words}
 
 -- The spelling of a record: its words, one after another.
-abbrev pub spell : Order → Record → List ℕ
+abbrev pub spell : Endianness → Record → List ℕ
 spell order r = flat_map (word order) (words r)
 
 -- r's words are those of a record of this kind: the kind stands in info, the tail is as long as kind and vlen say, and
@@ -27,7 +28,7 @@ kept Var r = record r { tail = map (min 3) r.tail }
 kept k r = r
 
 -- The bytes spell the record r: they are the words of a record, and r is what is kept of it.
-abbrev pub IsRecord : Order → List ℕ → Record → Type 0
+abbrev pub IsRecord : Endianness → List ℕ → Record → Type 0
 IsRecord order bytes r = (k : Kind) × (w : Record) × HasKind k w × (bytes ≡ spell order w) × (r ≡ kept k w)
 
 -- r is a record that is kept as it is: its own spelling is read as r.

@@ -3,7 +3,8 @@
 -- that was rewritten as a UNION.
 use Rattle.std.specs.Prelude.{ℕ, ◌+◌, nat_le, if◌then◌else◌, Bool, List, [], ◌∷◌, ◌++◌, length, map, drop, Option, None, Result, Ok, Err}
 use Rattle.std.specs.List.{flat_map}
-use Rattle.btf_model.specs.Word.{Order, Little}
+use Rattle.btf_model.specs.declared.endianness.Endianness.{Endianness}
+use Rattle.btf_model.specs.declared.endianness.Endianness.TheVariants.{Little}
 use Rattle.btf_model.specs.Record.{Record, unknown}
 use Rattle.btf_model.specs.Refusal.{Refusal, InvalidStringOffset, InvalidTypeInfo}
 use Rattle.btf_model.specs.Spelling.{spell}
@@ -26,7 +27,7 @@ pub record UnionRecord : Type 0 where
 -- A table: the byte order, three values of the header, the string section, the records from id 0 on, and for each id
 -- the fallback that its UNION has.
 pub record Table : Type 0 where
-  pub order : Order
+  pub order : Endianness
   pub magic : ℕ
   pub version : ℕ
   pub flags : ℕ

@@ -5,6 +5,10 @@
 
 ghost use Rattle.btf_model.specs.Laws.{NoSpellingBeginsAnother, BlobIsDetermined, WrittenParsesBack, ParsedWritesBack, AddedStringReadsBack, NameFindsOne, AddedTypeIsFound, WalksAreDetermined, ResolvingTwiceIsOnce, VariantValuesAreDetermined, RelocationWordsAreDetermined, SectionsAreDetermined, ComparisonsAreDetermined, ComparisonsHaveAnswers, ComparisonsAreSymmetric, ComparisonsAreNotReflexive, StartsAreFew};
 
+mod endianness;
+
+pub use endianness::Endianness;
+
 /// No record's spelling is a proper beginning of another's, and bytes spell one record: so a row of
 /// spellings is cut in one way.
 pub fn no_spelling_begins_another()

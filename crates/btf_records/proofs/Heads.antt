@@ -5,7 +5,8 @@ use Rattle.std.specs.List.{AllByRecursion}
 use Rattle.std.proofs.lemmas.List.{length-drop}
 use Rattle.std.proofs.lemmas.Option.{IfSome_then}
 use Rattle.std.proofs.lemmas.Result.{err_from_is_err_and}
-use Rattle.btf_model.specs.Word.{Order, words_at}
+use Rattle.btf_model.specs.Word.{words_at}
+use Rattle.btf_model.specs.declared.endianness.Endianness.{Endianness}
 use Rattle.btf_model.specs.Record.{Kind, Unknown, Var, Record, kinds, unknown, words, kind_number, kind_of, vlen, tail_words}
 use Rattle.btf_model.specs.Refusal as refusals
 use Rattle.btf_model.specs.Spelling.{kept, IsWhole}
@@ -24,15 +25,15 @@ use Rattle.btf_records.specs.declared.codec.Head.{Head}
 use Rattle.btf_records.specs.Head.{IsHead, record_behind, ReadsTail}
 use Rattle.btf_records.specs.Place.{Puts, StaysOr}
 
-behind_is : (order : Order) (bytes : List ℕ) (head : Head) (rest : List ℕ) (n : ℕ) → IsHead order bytes head rest → record_at order n bytes ≡ record_behind order head n rest
+behind_is : (order : Endianness) (bytes : List ℕ) (head : Head) (rest : List ℕ) (n : ℕ) → IsHead order bytes head rest → record_at order n bytes ≡ record_behind order head n rest
 behind_is order bytes head rest n h = λ i. record { name = sym h.name i; info = sym h.info i; third = sym h.third i; tail = words_at order n (sym h.behind i) }
 
-length-behind : (order : Order) (bytes : List ℕ) (head : Head) (rest : List ℕ) → IsHead order bytes head rest → length bytes ≡ 12 + length rest
+length-behind : (order : Endianness) (bytes : List ℕ) (head : Head) (rest : List ℕ) → IsHead order bytes head rest → length bytes ≡ 12 + length rest
 length-behind order bytes head rest h =
     omega (arith, h.long, ap length h.behind, length-drop 4 (drop 4 (drop 4 bytes)), length-drop 4 (drop 4 bytes), length-drop 4 bytes)
 
 -- a record whose tail is put is read from the front
-pub front_put : {P : Type 0} (HasPut : P → BtfType → P → Type 0) (Stays : P → P → Type 0) (old new : P) (order : Order) (bytes : List ℕ) (head : Head) (rest : List ℕ) (k : Kind) (r : Result ℕ BtfError) → IsBytes bytes → IsHead order bytes head rest → kind_of head.info ≡ Some k → Puts HasPut Stays old new (ReadsTail order head k rest) r → Puts HasPut Stays old new (ReadsFront order bytes) r
+pub front_put : {P : Type 0} (HasPut : P → BtfType → P → Type 0) (Stays : P → P → Type 0) (old new : P) (order : Endianness) (bytes : List ℕ) (head : Head) (rest : List ℕ) (k : Kind) (r : Result ℕ BtfError) → IsBytes bytes → IsHead order bytes head rest → kind_of head.info ≡ Some k → Puts HasPut Stays old new (ReadsTail order head k rest) r → Puts HasPut Stays old new (ReadsFront order bytes) r
 front_put HasPut Stays old new order bytes head rest k (Ok size) fits h kind given =
     let t = given.0 in
     let n = tail_words k (vlen head.info) in
@@ -46,7 +47,7 @@ front_put HasPut Stays old new order bytes head rest k (Err e) fits h kind given
 )
 
 -- a kind that does not exist
-pub kind_refused : {P : Type 0} (HasPut : P → BtfType → P → Type 0) (HasKept : P → P → Type 0) (place : P) (order : Order) (bytes : List ℕ) (head : Head) (rest : List ℕ) (number : ℕ) (r : Result ℕ BtfError) (e : BtfError) → IsErrAnd r (λ y. y ≡ e) → slice_get kinds number ≡ None → e ≡ InvalidTypeKind number → number ≡ kind_number head.info → IsHead order bytes head rest → Puts HasPut (StaysOr HasKept) place place (ReadsFront order bytes) r
+pub kind_refused : {P : Type 0} (HasPut : P → BtfType → P → Type 0) (HasKept : P → P → Type 0) (place : P) (order : Endianness) (bytes : List ℕ) (head : Head) (rest : List ℕ) (number : ℕ) (r : Result ℕ BtfError) (e : BtfError) → IsErrAnd r (λ y. y ≡ e) → slice_get kinds number ≡ None → e ≡ InvalidTypeKind number → number ≡ kind_number head.info → IsHead order bytes head rest → Puts HasPut (StaysOr HasKept) place place (ReadsFront order bytes) r
 kind_refused HasPut HasKept place order bytes head rest number r e err none is number-is h =
     let p = err_from_is_err_and r err in
     let no_kind : kind_of head.info ≡ None = ap (slice_get kinds) (sym number-is) ∙ none in

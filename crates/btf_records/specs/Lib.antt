@@ -8,6 +8,5 @@ pub use Rattle.btf_model.specs.Spelling
 pub use Rattle.btf_model.specs.Table
 pub use Rattle.btf_model.specs.Blob
 pub use Rattle.btf_words.specs.Error
-pub use Rattle.btf_words.specs.Endianness
 pub use Rattle.btf_model.specs.Info
 pub use Rattle.btf_words.specs.Kind

@@ -6,7 +6,6 @@ ghost use Rattle.btf_model.specs.Record.{kind_number, kind_of};
 ghost use Rattle.btf_model.specs.Spelling.{spell, IsRecord, IsWhole};
 ghost use Rattle.btf_model.specs.Blob.{ReadsFront};
 ghost use Rattle.btf_words.specs.Error.{MeetsOrNoMemory, IsOrNoMemory};
-ghost use Rattle.btf_words.specs.Endianness.{order_of};
 ghost use Rattle.btf_records.specs.BtfType.{record_of, fallback_of};
 ghost use Rattle.btf_records.specs.Head.{IsHead, ReadsTail};
 ghost use Rattle.btf_records.specs.Place.{Puts, StaysOr};
@@ -34,7 +33,7 @@ impl Head {
     /// The head of the record at the front of bytes, and what follows it.
     fn read(bytes: &[u8], endianness: Endianness) -> Result<(Head, &[u8]), BtfError>
         ensures { MatchResult result
-            (λ x. IsHead (order_of endianness) bytes.now x.0 x.1.now)
+            (λ x. IsHead endianness bytes.now x.0 x.1.now)
             (λ e. (length bytes.now < 12) × (e ≡ BtfError.InvalidTypeInfo)) }
     {
         let (name, rest) = split_word(bytes, endianness)?;
@@ -62,7 +61,7 @@ impl Head {
 fn read_int(head: Head, rest: &[u8], endianness: Endianness) -> Result<Int, BtfError>
     requires { kind_of head.info ≡ Some model.Int }
     ensures { MeetsOrNoMemory (λ r. r) result
-        (ReadsTail (order_of endianness) head model.Int rest.now) }
+        (ReadsTail endianness head model.Int rest.now) }
 {
     let (word, _) = split_word(rest, endianness)?;
     let int = Int::new(head.name, head.third, IntEncoding::None, 0);
@@ -73,7 +72,7 @@ fn read_int(head: Head, rest: &[u8], endianness: Endianness) -> Result<Int, BtfE
 fn read_var(head: Head, rest: &[u8], endianness: Endianness) -> Result<Var, BtfError>
     requires { kind_of head.info ≡ Some model.Var }
     ensures { MeetsOrNoMemory (λ r. r) result
-        (ReadsTail (order_of endianness) head model.Var rest.now) }
+        (ReadsTail endianness head model.Var rest.now) }
 {
     let (linkage, _) = split_word(rest, endianness)?;
     Ok(Var::new(head.name, head.third, VarLinkage::from(linkage)).with_info(head.info))
@@ -83,7 +82,7 @@ fn read_var(head: Head, rest: &[u8], endianness: Endianness) -> Result<Var, BtfE
 fn read_decl_tag(head: Head, rest: &[u8], endianness: Endianness) -> Result<DeclTag, BtfError>
     requires { kind_of head.info ≡ Some model.DeclTag }
     ensures { MeetsOrNoMemory (λ r. r) result
-        (ReadsTail (order_of endianness) head model.DeclTag rest.now) }
+        (ReadsTail endianness head model.DeclTag rest.now) }
 {
     let (index, _) = split_word(rest, endianness)?;
     Ok(DeclTag::new(head.name, head.third, index.cast_signed()).with_info(head.info))
@@ -93,7 +92,7 @@ fn read_decl_tag(head: Head, rest: &[u8], endianness: Endianness) -> Result<Decl
 fn read_array(head: Head, rest: &[u8], endianness: Endianness) -> Result<Array, BtfError>
     requires { kind_of head.info ≡ Some model.Array }
     ensures { MeetsOrNoMemory (λ r. r) result
-        (ReadsTail (order_of endianness) head model.Array rest.now) }
+        (ReadsTail endianness head model.Array rest.now) }
 {
     let (element_type, rest) = split_word(rest, endianness)?;
     let (index_type, rest) = split_word(rest, endianness)?;
@@ -110,7 +109,7 @@ fn read_with_list<R: WithList>(
 ) -> Result<R, BtfError>
     requires { kind_of head.info ≡ Some R.kind }
     ensures front { MeetsOrNoMemory R.words result
-        (ReadsTail (order_of endianness) head R.kind rest.now) }
+        (ReadsTail endianness head R.kind rest.now) }
     ensures alone { IfOk result R.words_alone }
 {
     let items = R::read_list(alloc, rest, endianness, head.vlen())?;
@@ -125,7 +124,7 @@ impl BtfType {
     /// above 2 is read as Unknown, and a record of kind 0 is Unknown whatever its other words are.
     pub fn read(alloc: Global, data: &[u8], endianness: Endianness) -> Result<BtfType, BtfError>
         ensures front { MeetsOrNoMemory record_of result
-            (ReadsFront (order_of endianness) «data».now) }
+            (ReadsFront endianness «data».now) }
         ensures no_fallback { IfOk result (λ t. fallback_of t ≡ None) }
     {
         let mut one = One {
@@ -143,7 +142,7 @@ impl BtfType {
         endianness: Endianness,
     ) -> Result<usize, BtfError>
         ensures { Puts (λ old t new. new ≡ old ++ t ∷ []) (λ old new. new ≡ old)
-            types.old.items types.new.items (ReadsFront (order_of endianness) «data».now) result }
+            types.old.items types.new.items (ReadsFront endianness «data».now) result }
     {
         let alloc = *types.allocator();
         read_to(types, alloc, data, endianness)
@@ -153,7 +152,7 @@ impl BtfType {
     /// record's words may stand at the end.
     pub fn append_to(&self, out: &mut Vec<u8>, order: Endianness) -> Result<(), AllocError>
         ensures written { OnOk result (out.new.items ≡ out.old.items
-            ++ spell (order_of order) (record_of self.now)) }
+            ++ spell order (record_of self.now)) }
         // What is written is read as the record.
         ensures whole { OnOk result (IsWhole (record_of self.now)) }
     {
@@ -216,10 +215,10 @@ impl BtfType {
     /// The bytes of the record, in this order. `OutOfMemory` is the only error.
     pub fn to_bytes(&self, alloc: Global, endianness: Endianness) -> Result<Vec<u8>, BtfError>
         ensures written { IsOrNoMemory (λ v. v.items) result
-            (Ok (spell (order_of endianness) (record_of self.now))) }
+            (Ok (spell endianness (record_of self.now))) }
         // What is written is read as the record.
         ensures read_again { IfOk result
-            (λ v. IsRecord (order_of endianness) v.items (record_of self.now)) }
+            (λ v. IsRecord endianness v.items (record_of self.now)) }
     {
         let mut out = Vec::with_capacity(alloc, self.type_info_size())?;
         self.append_to(&mut out, endianness)?;
@@ -236,7 +235,7 @@ fn read_to<P: Place>(
     endianness: Endianness,
 ) -> Result<usize, BtfError>
     ensures { Puts P.has_put (StaysOr P.has_kept) place.old place.new
-        (ReadsFront (order_of endianness) «data».now) result }
+        (ReadsFront endianness «data».now) result }
 {
     let (head, rest) = Head::read(data, endianness)?;
     let kind = BtfKind::try_from(head.kind())?;
@@ -255,7 +254,7 @@ fn put_tail<P: Place>(
 ) -> Result<usize, BtfError>
     requires { kind_of head.info ≡ Some (kinds.kind kind) }
     ensures { Puts P.has_put (StaysOr P.has_kept) place.old place.new
-        (ReadsTail (order_of endianness) head (kinds.kind kind) rest.now) result }
+        (ReadsTail endianness head (kinds.kind kind) rest.now) result }
 {
     let Head { name, info, third } = head;
     match kind {
@@ -317,7 +316,7 @@ fn put_with_list<P: Place, R: WithList>(
 ) -> Result<usize, BtfError>
     requires { kind_of head.now.info ≡ Some R.kind }
     ensures { Puts P.has_put (StaysOr P.has_kept) place.old place.new
-        (ReadsTail (order_of endianness) head.now R.kind rest.now) result }
+        (ReadsTail endianness head.now R.kind rest.now) result }
 {
     let record: R = read_with_list(alloc, *head, rest, endianness)?;
     put(place, record.into_type())
@@ -326,7 +325,7 @@ fn put_with_list<P: Place, R: WithList>(
 /// Writes an ARRAY at the end of bytes, its third word as 0.
 fn append_array(t: &Array, out: &mut Vec<u8>, endianness: Endianness) -> Result<(), AllocError>
     ensures written { OnOk result (out.new.items ≡ out.old.items
-        ++ spell (order_of endianness) t.now) }
+        ++ spell endianness t.now) }
     ensures whole { IsWhole t.now }
 {
     let array = t.array();

@@ -9,8 +9,10 @@ use Rattle.std.proofs.lemmas.Option.{none-some}
 use Rattle.btf_model.specs.Record as kinds
 use Rattle.btf_model.specs.Record.{Kind, Record, kind_of, vlen}
 use Rattle.btf_model.specs.Refusal.{Refusal}
-use Rattle.btf_rewrite_model.specs.Feature as features
-use Rattle.btf_rewrite_model.specs.Feature.{Feature, Answer, grants, same_feature, is_global, is_signed, has_no_entries, fills_sized, is_sized_and_empty}
+use Rattle.btf_rewrite_model.specs.declared.feature.BtfFeature.TheVariants as features
+use Rattle.btf_rewrite_model.specs.Feature.{grants, same_feature, is_global, is_signed, has_no_entries, fills_sized, is_sized_and_empty}
+use Rattle.btf_rewrite_model.specs.declared.feature.BtfFeature.{BtfFeature}
+use Rattle.btf_rewrite_model.specs.declared.feature.FeatureAnswer.{FeatureAnswer}
 use Rattle.btf_rewrite_model.specs.Made.{entries, variants, record_at, kind_at, byte_int, static_var, const, typedef, struct, union, enum, data_sec, with_linkage, unsigned}
 use Rattle.btf_rewrite_model.specs.Checks.{Check, first_fault, is_read, has_room, have_room, fits, record_len}
 use Rattle.btf_model.specs.Table.{type_bytes}
@@ -40,19 +42,19 @@ is_least_alike test other n alike = ap (λ (b : Bool). b && (least test n == n))
 
 -- ---- what agrees
 
-agree_below : (p : Pass) (answers : List Answer) (id : ℕ) → Agree p answers (suc id) → Agree p answers id
+agree_below : (p : Pass) (answers : List FeatureAnswer) (id : ℕ) → Agree p answers (suc id) → Agree p answers id
 agree_below p answers id agree f among =
     agree f (list_any-append (same_feature f) (asks_below p id) (asks p id) ∙ or_left (list_any (same_feature f) (asks_below p id)) (list_any (same_feature f) (asks p id)) among)
 
 -- Other answers agree on what an id itself asks for.
-abbrev pub AgreeAt : Pass → List Answer → ℕ → Type 0
-AgreeAt p answers id = (f : Feature) → IsAmong f (asks p id) → grants answers f ≡ has p f
+abbrev pub AgreeAt : Pass → List FeatureAnswer → ℕ → Type 0
+AgreeAt p answers id = (f : BtfFeature) → IsAmong f (asks p id) → grants answers f ≡ has p f
 
-agree_itself : (p : Pass) (answers : List Answer) (id : ℕ) → Agree p answers (suc id) → AgreeAt p answers id
+agree_itself : (p : Pass) (answers : List FeatureAnswer) (id : ℕ) → Agree p answers (suc id) → AgreeAt p answers id
 agree_itself p answers id agree f among =
     agree f (list_any-append (same_feature f) (asks_below p id) (asks p id) ∙ or_right (list_any (same_feature f) (asks_below p id)) (list_any (same_feature f) (asks p id)) among)
 
-pub agree_at : (p : Pass) (answers : List Answer) (n id : ℕ) → id < n → Agree p answers n → AgreeAt p answers id
+pub agree_at : (p : Pass) (answers : List FeatureAnswer) (n id : ℕ) → id < n → Agree p answers n → AgreeAt p answers id
 agree_at p answers zero id lt agree = absurd (omega (arith, lt))
 agree_at p answers (suc n) id lt agree =
     elim (cases_order id n) as (λ c. AgreeAt p answers id) [
@@ -89,7 +91,7 @@ filler_alike false true false t false v is_s is_t is_u is_v same_s same_u = refl
 filler_alike false false s t u v is_s is_t is_u is_v same_s same_u = refl
 
 -- what an id of this kind asks for agrees
-pub agree_of : (p : Pass) (answers : List Answer) (id : ℕ) (k : Option Kind) (f : Feature) → AgreeAt p answers id → kind_at p.table id ≡ k → IsAmong f (asks_by p id k (record_at p.table id)) → grants answers f ≡ has p f
+pub agree_of : (p : Pass) (answers : List FeatureAnswer) (id : ℕ) (k : Option Kind) (f : BtfFeature) → AgreeAt p answers id → kind_at p.table id ≡ k → IsAmong f (asks_by p id k (record_at p.table id)) → grants answers f ≡ has p f
 agree_of p answers id k f agree kind among = agree f (subst (λ (j : Option Kind). IsAmong f (asks_by p id j (record_at p.table id))) (sym kind) among)
 
 pub first_among : (c : Bool) → IsAmong features.DataSec (if c then features.DataSec ∷ features.DataSecZero ∷ [] else features.DataSec ∷ [])
@@ -110,10 +112,10 @@ name_room p id named = ap is_none (passed_tail (is_read (name_of p id)) (have_ro
 abbrev asks_zero : Pass → ℕ → Bool
 asks_zero p id = has p features.DataSec && (sized_asks_zero p id (record_at p.table id) || unsized_asks_zero p id (record_at p.table id))
 
-section_agrees : (p : Pass) (answers : List Answer) (id : ℕ) → AgreeAt p answers id → kind_at p.table id ≡ Some kinds.DataSec → grants answers features.DataSec ≡ has p features.DataSec
+section_agrees : (p : Pass) (answers : List FeatureAnswer) (id : ℕ) → AgreeAt p answers id → kind_at p.table id ≡ Some kinds.DataSec → grants answers features.DataSec ≡ has p features.DataSec
 section_agrees p answers id agree kind = agree_of p answers id (Some kinds.DataSec) features.DataSec agree kind (first_among (asks_zero p id))
 
-zero_agrees : (p : Pass) (answers : List Answer) (id : ℕ) → AgreeAt p answers id → kind_at p.table id ≡ Some kinds.DataSec → asks_zero p id ≡ true → grants answers features.DataSecZero ≡ has p features.DataSecZero
+zero_agrees : (p : Pass) (answers : List FeatureAnswer) (id : ℕ) → AgreeAt p answers id → kind_at p.table id ≡ Some kinds.DataSec → asks_zero p id ≡ true → grants answers features.DataSecZero ≡ has p features.DataSecZero
 zero_agrees p answers id agree kind is = agree_of p answers id (Some kinds.DataSec) features.DataSecZero agree kind (second_among (asks_zero p id) is)
 
 asks_unsized : (d a z e room size : Bool) → d ≡ true → z ≡ true → e ≡ true → room ≡ true → size ≡ true → (d && (a || (z && e && room && size))) ≡ true
@@ -138,7 +140,7 @@ first_two true true c is = (refl, refl)
 first_two true false c is = absurd (false≢true is)
 first_two false b c is = absurd (false≢true is)
 
-pub filler_same : (p : Pass) (answers : List Answer) (id : ℕ) → AgreeAt p answers id → (kind_at p.table id ≡ Some kinds.DataSec → IsNamed p id) → gets_filler (with_answers p answers) id ≡ gets_filler p id
+pub filler_same : (p : Pass) (answers : List FeatureAnswer) (id : ℕ) → AgreeAt p answers id → (kind_at p.table id ≡ Some kinds.DataSec → IsNamed p id) → gets_filler (with_answers p answers) id ≡ gets_filler p id
 filler_same p answers id agree named =
     let q : Pass = with_answers p answers in
     let r : Record = record_at p.table id in
@@ -165,16 +167,16 @@ named_of_ruled p id ruled kind =
     let checks : first_fault (checks_by p id (Some kinds.DataSec) r) ≡ None = subst (λ (k : Option Kind). first_fault (checks_by p id k r) ≡ None) kind ruled in
     passed_left (name_checks p id) _ checks
 
-fillers_same : (p : Pass) (answers : List Answer) (n id : ℕ) → Agree p answers n → AreRuled p n → id < n → gets_filler (with_answers p answers) id ≡ gets_filler p id
+fillers_same : (p : Pass) (answers : List FeatureAnswer) (n id : ℕ) → Agree p answers n → AreRuled p n → id < n → gets_filler (with_answers p answers) id ≡ gets_filler p id
 fillers_same p answers n id agree ruled lt = filler_same p answers id (agree_at p answers n id lt agree) (named_of_ruled p id (ruled id lt))
 
 -- ---- texts
 
-renaming_same : (p : Pass) (answers : List Answer) (name : Result (List ℕ) Refusal) → grants answers features.DataSec ≡ has p features.DataSec → renaming (with_answers p answers) name ≡ renaming p name
+renaming_same : (p : Pass) (answers : List FeatureAnswer) (name : Result (List ℕ) Refusal) → grants answers features.DataSec ≡ has p features.DataSec → renaming (with_answers p answers) name ≡ renaming p name
 renaming_same p answers (Ok name) same = cc
 renaming_same p answers (Err refusal) same = refl
 
-texts_same : (p : Pass) (answers : List Answer) (id : ℕ) (k : Option Kind) → kind_at p.table id ≡ k → AgreeAt p answers id → makes_filler (with_answers p answers) id ≡ makes_filler p id
+texts_same : (p : Pass) (answers : List FeatureAnswer) (id : ℕ) (k : Option Kind) → kind_at p.table id ≡ k → AgreeAt p answers id → makes_filler (with_answers p answers) id ≡ makes_filler p id
     → texts_by (with_answers p answers) id k (record_at p.table id) ≡ texts_by p id k (record_at p.table id)
 texts_same p answers id (Some kinds.FuncProto) kind agree filler_made =
     let same : grants answers features.Func ≡ has p features.Func = agree_of p answers id (Some kinds.FuncProto) features.Func agree kind refl in
@@ -190,7 +192,7 @@ texts_same p answers id k kind agree filler_made = refl
 
 -- ---- records that are appended
 
-added_same : (p : Pass) (answers : List Answer) (free id : ℕ) (k : Option Kind) → kind_at p.table id ≡ k → AgreeAt p answers id → makes_filler (with_answers p answers) id ≡ makes_filler p id
+added_same : (p : Pass) (answers : List FeatureAnswer) (free id : ℕ) (k : Option Kind) → kind_at p.table id ≡ k → AgreeAt p answers id → makes_filler (with_answers p answers) id ≡ makes_filler p id
     → offset_at (with_answers p answers) id ≡ offset_at p id → added_by (with_answers p answers) free id k ≡ added_by p free id k
 added_same p answers free id (Some kinds.Enum64) kind agree filler_made offset =
     let same : grants answers features.Enum64 ≡ has p features.Enum64 = agree_of p answers id (Some kinds.Enum64) features.Enum64 agree kind refl in
@@ -205,7 +207,7 @@ added_same p answers free id k kind agree filler_made offset = refl
 
 -- ---- what is asked
 
-func_asks_same : (p : Pass) (answers : List Answer) (r : Record) (name : Result (List ℕ) Refusal) → ((f : Feature) → IsAmong f (func_asks p r name) → grants answers f ≡ has p f) → func_asks (with_answers p answers) r name ≡ func_asks p r name
+func_asks_same : (p : Pass) (answers : List FeatureAnswer) (r : Record) (name : Result (List ℕ) Refusal) → ((f : BtfFeature) → IsAmong f (func_asks p r name) → grants answers f ≡ has p f) → func_asks (with_answers p answers) r name ≡ func_asks p r name
 func_asks_same p answers r (Ok name) agree =
     let c : Bool = has p features.Func && is_global r && not (is_builtin name) in
     let first : IsAmong features.Func (if c then features.Func ∷ features.FuncGlobal ∷ [] else features.Func ∷ []) =
@@ -213,15 +215,15 @@ func_asks_same p answers r (Ok name) agree =
     ap (λ (b : Bool). if b && is_global r && not (is_builtin name) then features.Func ∷ features.FuncGlobal ∷ [] else features.Func ∷ []) (agree features.Func first)
 func_asks_same p answers r (Err refusal) agree = refl
 
-rooms_same : (p : Pass) (answers : List Answer) (id : ℕ) → offset_at (with_answers p answers) id ≡ offset_at p id → renaming (with_answers p answers) (name_of p id) ≡ renaming p (name_of p id)
+rooms_same : (p : Pass) (answers : List FeatureAnswer) (id : ℕ) → offset_at (with_answers p answers) id ≡ offset_at p id → renaming (with_answers p answers) (name_of p id) ≡ renaming p (name_of p id)
     → have_room (offset_at (with_answers p answers) id) (renaming (with_answers p answers) (name_of p id)) ≡ have_room (offset_at p id) (renaming p (name_of p id))
 rooms_same p answers id offset same = ap (λ (o : ℕ). have_room o (renaming (with_answers p answers) (name_of p id))) offset ∙ ap (λ (ts : List (List ℕ)). have_room (offset_at p id) ts) same
 
-names_same : (p : Pass) (answers : List Answer) (id : ℕ) → offset_at (with_answers p answers) id ≡ offset_at p id → renaming (with_answers p answers) (name_of p id) ≡ renaming p (name_of p id)
+names_same : (p : Pass) (answers : List FeatureAnswer) (id : ℕ) → offset_at (with_answers p answers) id ≡ offset_at p id → renaming (with_answers p answers) (name_of p id) ≡ renaming p (name_of p id)
     → name_checks (with_answers p answers) id ≡ name_checks p id
 names_same p answers id offset same = ap (λ (cs : List Check). is_read (name_of p id) ∷ cs) (rooms_same p answers id offset same)
 
-asks_same : (p : Pass) (answers : List Answer) (id : ℕ) (k : Option Kind) → kind_at p.table id ≡ k → AgreeAt p answers id → offset_at (with_answers p answers) id ≡ offset_at p id
+asks_same : (p : Pass) (answers : List FeatureAnswer) (id : ℕ) (k : Option Kind) → kind_at p.table id ≡ k → AgreeAt p answers id → offset_at (with_answers p answers) id ≡ offset_at p id
     → asks_by (with_answers p answers) id k (record_at p.table id) ≡ asks_by p id k (record_at p.table id)
 asks_same p answers id (Some kinds.Func) kind agree offset = func_asks_same p answers (record_at p.table id) (name_of p id) (λ f among. agree_of p answers id (Some kinds.Func) f agree kind among)
 asks_same p answers id (Some kinds.DataSec) kind agree offset =
@@ -231,7 +233,7 @@ asks_same p answers id (Some kinds.DataSec) kind agree offset =
     let room : List Check → Bool = λ cs. is_none (first_fault cs) in
     let names : name_checks (with_answers p answers) id ≡ name_checks p id = names_same p answers id offset same in
     let rooms : have_room (offset_at (with_answers p answers) id) (renaming (with_answers p answers) (name_of p id)) ≡ have_room (offset_at p id) (renaming p (name_of p id)) = rooms_same p answers id offset same in
-    let asked : Bool → List Check → List Check → List Feature =
+    let asked : Bool → List Check → List Check → List BtfFeature =
     λ b named has_room. if b && ((fills_sized p.policy && not (r.third == 0) && has_no_entries r && room named) || ((r.third == 0) && has_no_entries r && room has_room && is_positive (section_size p id)))
     then features.DataSec ∷ features.DataSecZero ∷ [] else features.DataSec ∷ [] in
     ap (λ (b : Bool). asked b (name_checks (with_answers p answers) id) (have_room (offset_at (with_answers p answers) id) (renaming (with_answers p answers) (name_of p id)))) granted
@@ -242,7 +244,7 @@ asks_same p answers id k kind agree offset = refl
 -- ---- what records become
 
 -- what a rule reads beside the record itself
-record Same (p : Pass) (answers : List Answer) (id : ℕ) : Type 0 where
+record Same (p : Pass) (answers : List FeatureAnswer) (id : ℕ) : Type 0 where
   agree : AgreeAt p answers id
   offset : offset_at (with_answers p answers) id ≡ offset_at p id
   read : kind_at p.table id ≡ Some kinds.Func → is_read (name_of p id) ≡ None
@@ -262,7 +264,7 @@ asked_too true true true is_d is_g is_b = absurd (false≢true (sym is_b))
 asked_too true false b is_d is_g is_b = absurd (false≢true is_g)
 asked_too false g b is_d is_g is_b = absurd (false≢true is_d)
 
-func_same : (p : Pass) (answers : List Answer) (r : Record) (name : Result (List ℕ) Refusal) → ((f : Feature) → IsAmong f (func_asks p r name) → grants answers f ≡ has p f) → is_read name ≡ None
+func_same : (p : Pass) (answers : List FeatureAnswer) (r : Record) (name : Result (List ℕ) Refusal) → ((f : BtfFeature) → IsAmong f (func_asks p r name) → grants answers f ≡ has p f) → is_read name ≡ None
     → (if grants answers features.Func then known_func (with_answers p answers) r name else typedef r.name r.third) ≡ (if has p features.Func then known_func p r name else typedef r.name r.third)
 func_same p answers r (Ok name) agree read =
     let c : Bool = has p features.Func && is_global r && not (is_builtin name) in
@@ -290,7 +292,7 @@ section_made p lower id granted filled name at =
     if granted then (if r.third == 0 then (if filled then filling (max size 1) else data_sec name size (vlen r.info) (map (placed p) (entries r.tail))) else (if filled then filling r.third else record r { name = name }))
     else struct name (vlen r.info) (vlen r.info) (entry_members p lower id (entries r.tail))
 
-section_same : (p : Pass) (answers : List Answer) (lower : List Record) (id : ℕ) → kind_at p.table id ≡ Some kinds.DataSec → Same p answers id
+section_same : (p : Pass) (answers : List FeatureAnswer) (lower : List Record) (id : ℕ) → kind_at p.table id ≡ Some kinds.DataSec → Same p answers id
     → becomes_by (with_answers p answers) lower id (Some kinds.DataSec) (record_at p.table id) ≡ becomes_by p lower id (Some kinds.DataSec) (record_at p.table id)
 section_same p answers lower id kind same =
     let q : Pass = with_answers p answers in
@@ -303,7 +305,7 @@ section_same p answers lower id kind same =
     ∙ ap (λ (n : ℕ). section_made p lower id (has p features.DataSec) (gets_filler p id) n (filler_id q id)) name
     ∙ ap (λ (n : ℕ). section_made p lower id (has p features.DataSec) (gets_filler p id) (new_name p id r) n) same.filler_at
 
-becomes_same : (p : Pass) (answers : List Answer) (lower : List Record) (id : ℕ) (k : Option Kind) → kind_at p.table id ≡ k → Same p answers id
+becomes_same : (p : Pass) (answers : List FeatureAnswer) (lower : List Record) (id : ℕ) (k : Option Kind) → kind_at p.table id ≡ k → Same p answers id
     → becomes_by (with_answers p answers) lower id k (record_at p.table id) ≡ becomes_by p lower id k (record_at p.table id)
 becomes_same p answers lower id (Some kinds.Var) kind same =
     ap (λ (b : Bool). if b then record_at p.table id else byte_int (record_at p.table id).name) (agree_of p answers id (Some kinds.Var) features.DataSec same.agree kind refl)
@@ -334,22 +336,22 @@ becomes_same p answers lower id k kind same = refl
 read_of_ruled : (p : Pass) (id : ℕ) → fault p id ≡ None → kind_at p.table id ≡ Some kinds.Func → is_read (name_of p id) ≡ None
 read_of_ruled p id ruled kind = passed_head (is_read (name_of p id)) [] (subst (λ (k : Option Kind). first_fault (checks_by p id k (record_at p.table id)) ≡ None) kind ruled)
 
-offset_same : (p : Pass) (answers : List Answer) (id : ℕ) → IsSameBelow p answers id → offset_at (with_answers p answers) id ≡ offset_at p id
+offset_same : (p : Pass) (answers : List FeatureAnswer) (id : ℕ) → IsSameBelow p answers id → offset_at (with_answers p answers) id ≡ offset_at p id
 offset_same p answers id below = ap (λ (ts : List (List ℕ)). length p.table.strings + texts_len ts) below.texts
 
-makes_same : (p : Pass) (answers : List Answer) (id : ℕ) → ((j : ℕ) → j ≤ id → gets_filler (with_answers p answers) j ≡ gets_filler p j) → makes_filler (with_answers p answers) id ≡ makes_filler p id
+makes_same : (p : Pass) (answers : List FeatureAnswer) (id : ℕ) → ((j : ℕ) → j ≤ id → gets_filler (with_answers p answers) j ≡ gets_filler p j) → makes_filler (with_answers p answers) id ≡ makes_filler p id
 makes_same p answers id fillers = is_least_alike (gets_filler (with_answers p answers)) (gets_filler p) id fillers
 
-free_same : (p : Pass) (answers : List Answer) (id : ℕ) → IsSameBelow p answers id → free_id (with_answers p answers) id ≡ free_id p id
+free_same : (p : Pass) (answers : List FeatureAnswer) (id : ℕ) → IsSameBelow p answers id → free_id (with_answers p answers) id ≡ free_id p id
 free_same p answers id below = ap (λ (rs : List Record). length p.table.records + length rs) below.added
 
 -- the id that the least one made, where all up to this one are alike
-made_same : (p : Pass) (answers : List Answer) (id : ℕ) (test other : ℕ → Bool) → ((j : ℕ) → j ≤ id → test j ≡ other j) → ((j : ℕ) → j ≤ id → IsSameBelow p answers j)
+made_same : (p : Pass) (answers : List FeatureAnswer) (id : ℕ) (test other : ℕ → Bool) → ((j : ℕ) → j ≤ id → test j ≡ other j) → ((j : ℕ) → j ≤ id → IsSameBelow p answers j)
     → free_id (with_answers p answers) (least test id) ≡ free_id p (least other id)
 made_same p answers id test other alike below =
     ap (λ (j : ℕ). free_id (with_answers p answers) j) (least_alike test other id alike) ∙ free_same p answers (least other id) (below (least other id) (least_le other id))
 
-all_same : (p : Pass) (answers : List Answer) (id : ℕ) → AgreeAt p answers id → fault p id ≡ None → ((j : ℕ) → j ≤ id → gets_filler (with_answers p answers) j ≡ gets_filler p j)
+all_same : (p : Pass) (answers : List FeatureAnswer) (id : ℕ) → AgreeAt p answers id → fault p id ≡ None → ((j : ℕ) → j ≤ id → gets_filler (with_answers p answers) j ≡ gets_filler p j)
     → ((j : ℕ) → j ≤ id → IsSameBelow p answers j) → Same p answers id
 all_same p answers id agree ruled fillers below = record {
   agree = agree;
@@ -362,7 +364,7 @@ all_same p answers id agree ruled fillers below = record {
 }
 
 -- one more id
-step : (p : Pass) (answers : List Answer) (id : ℕ) → AgreeAt p answers id → fault p id ≡ None → ((j : ℕ) → j ≤ id → gets_filler (with_answers p answers) j ≡ gets_filler p j)
+step : (p : Pass) (answers : List FeatureAnswer) (id : ℕ) → AgreeAt p answers id → fault p id ≡ None → ((j : ℕ) → j ≤ id → gets_filler (with_answers p answers) j ≡ gets_filler p j)
     → ((j : ℕ) → j ≤ id → IsSameBelow p answers j) → IsSameBelow p answers (suc id)
 step p answers id agree ruled fillers below =
     let q : Pass = with_answers p answers in
@@ -372,7 +374,7 @@ step p answers id agree ruled fillers below =
     let offset : offset_at q id ≡ offset_at p id = offset_same p answers id here in
     let makes : makes_filler q id ≡ makes_filler p id = makes_same p answers id fillers in
     record {
-      asks = ap (λ (fs : List Feature). fs ++ asks q id) here.asks ∙ ap (λ (fs : List Feature). asks_below p id ++ fs) (asks_same p answers id k refl agree offset);
+      asks = ap (λ (fs : List BtfFeature). fs ++ asks q id) here.asks ∙ ap (λ (fs : List BtfFeature). asks_below p id ++ fs) (asks_same p answers id k refl agree offset);
       texts = ap (λ (ts : List (List ℕ)). ts ++ texts q id) here.texts ∙ ap (λ (ts : List (List ℕ)). texts_below p id ++ ts) (texts_same p answers id k refl agree makes);
       added = ap (λ (rs : List Record). with_added q id rs) here.added
           ∙ ap (λ (rs : List Record). added_below p id ++ rs) (added_same p answers (length p.table.records + length (added_below p id)) id k refl agree makes offset);
@@ -381,10 +383,10 @@ step p answers id agree ruled fillers below =
           ∙ ap (λ (x : Record). ruled_below p id ++ x ∷ []) (becomes_same p answers (ruled_below p id) id k refl (all_same p answers id agree ruled fillers below));
     }
 
-nothing_below : (p : Pass) (answers : List Answer) → IsSameBelow p answers zero
+nothing_below : (p : Pass) (answers : List FeatureAnswer) → IsSameBelow p answers zero
 nothing_below p answers = record { asks = refl; texts = refl; added = refl; growth = refl; ruled = refl }
 
-up_to : (p : Pass) (answers : List Answer) (n j : ℕ) → j ≤ n → Agree p answers n → AreRuled p n → IsSameBelow p answers j
+up_to : (p : Pass) (answers : List FeatureAnswer) (n j : ℕ) → j ≤ n → Agree p answers n → AreRuled p n → IsSameBelow p answers j
 up_to p answers zero zero le agree ruled = nothing_below p answers
 up_to p answers zero (suc j) le agree ruled = absurd (omega (arith, le))
 up_to p answers (suc n) j le agree ruled =
@@ -395,10 +397,10 @@ up_to p answers (suc n) j le agree ruled =
       | inr other ↦ elim other as (λ c. IsSameBelow p answers j) [ inl less ↦ lower j (omega (arith, less)) | inr more ↦ absurd (omega (arith, le, more)) ]
     ]
 
-pub same_below : (p : Pass) (answers : List Answer) (id : ℕ) → Agree p answers id → AreRuled p id → IsSameBelow p answers id
+pub same_below : (p : Pass) (answers : List FeatureAnswer) (id : ℕ) → Agree p answers id → AreRuled p id → IsSameBelow p answers id
 same_below p answers id agree ruled = up_to p answers id id (omega arith) agree ruled
 
-pub same_asked : (p : Pass) (answers : List Answer) (id : ℕ) → Agree p answers (suc id) → AreRuled p id → asks (with_answers p answers) id ≡ asks p id
+pub same_asked : (p : Pass) (answers : List FeatureAnswer) (id : ℕ) → Agree p answers (suc id) → AreRuled p id → asks (with_answers p answers) id ≡ asks p id
 same_asked p answers id agree ruled =
     asks_same p answers id (kind_at p.table id) refl (agree_itself p answers id agree) (offset_same p answers id (same_below p answers id (agree_below p answers id agree) ruled))
 
@@ -410,7 +412,7 @@ both_parts [] after other same = same refl
 both_parts (None ∷ before) after other same = both_parts before after other same
 both_parts (Some refusal ∷ before) after other same = refl
 
-type_len_same : (p : Pass) (answers : List Answer) (id : ℕ) → IsSameBelow p answers id → type_len_at (with_answers p answers) id ≡ type_len_at p id
+type_len_same : (p : Pass) (answers : List FeatureAnswer) (id : ℕ) → IsSameBelow p answers id → type_len_at (with_answers p answers) id ≡ type_len_at p id
 type_len_same p answers id below =
     ap (λ (rs : List Record). length (type_bytes p.table) + sum_by record_len rs + growth_below (with_answers p answers) id) below.added ∙ ap (λ (n : ℕ). length (type_bytes p.table) + sum_by record_len (added_below p id) + n) below.growth
 
@@ -424,7 +426,7 @@ sizing_by p id makes gets offset used records =
     let growing : List Check = if gets then fits (used + sum_by record_len records) 12 ∷ [] else [] in
     if r.third == 0 then is_sized (section_size p id) (name_of p id) ∷ making ++ flat_map (entry_checks p) (entries r.tail) ++ growing else making ++ growing
 
-fillers_to : (p : Pass) (answers : List Answer) (id : ℕ) → Agree p answers (suc id) → AreRuled p id → (kind_at p.table id ≡ Some kinds.DataSec → IsNamed p id) → (j : ℕ) → j ≤ id → gets_filler (with_answers p answers) j ≡ gets_filler p j
+fillers_to : (p : Pass) (answers : List FeatureAnswer) (id : ℕ) → Agree p answers (suc id) → AreRuled p id → (kind_at p.table id ≡ Some kinds.DataSec → IsNamed p id) → (j : ℕ) → j ≤ id → gets_filler (with_answers p answers) j ≡ gets_filler p j
 fillers_to p answers id agree ruled named j le =
     elim (cases_order j id) as (λ c. gets_filler (with_answers p answers) j ≡ gets_filler p j) [
       | inl same ↦ subst (λ (i : ℕ). gets_filler (with_answers p answers) i ≡ gets_filler p i) (sym same) (filler_same p answers id (agree_itself p answers id agree) named)
@@ -436,7 +438,7 @@ fillers_to p answers id agree ruled named j le =
 abbrev section_rest : Pass → ℕ → List Check
 section_rest p id = if has p features.DataSec then (if (record_at p.table id).third == 0 then completing_checks p id (record_at p.table id) else filling_checks p id) else flat_map (member_checks p) (entries (record_at p.table id).tail)
 
-section_rest_same : (p : Pass) (answers : List Answer) (id : ℕ) → kind_at p.table id ≡ Some kinds.DataSec → Agree p answers (suc id) → AreRuled p id → IsNamed p id
+section_rest_same : (p : Pass) (answers : List FeatureAnswer) (id : ℕ) → kind_at p.table id ≡ Some kinds.DataSec → Agree p answers (suc id) → AreRuled p id → IsNamed p id
     → section_rest (with_answers p answers) id ≡ section_rest p id
 section_rest_same p answers id kind agree ruled named =
     let q : Pass = with_answers p answers in
@@ -460,7 +462,7 @@ section_rest_same p answers id kind agree ruled named =
     ap (λ (cs : List Check). if grants answers features.DataSec then cs else flat_map (member_checks p) (entries r.tail)) same
     ∙ ap (λ (b : Bool). if b then (if r.third == 0 then completing_checks p id r else filling_checks p id) else flat_map (member_checks p) (entries r.tail)) granted
 
-section_fault_same : (p : Pass) (answers : List Answer) (id : ℕ) → kind_at p.table id ≡ Some kinds.DataSec → Agree p answers (suc id) → AreRuled p id
+section_fault_same : (p : Pass) (answers : List FeatureAnswer) (id : ℕ) → kind_at p.table id ≡ Some kinds.DataSec → Agree p answers (suc id) → AreRuled p id
     → first_fault (name_checks (with_answers p answers) id ++ section_rest (with_answers p answers) id) ≡ first_fault (name_checks p id ++ section_rest p id)
 section_fault_same p answers id kind agree ruled =
     let q : Pass = with_answers p answers in
@@ -474,7 +476,7 @@ section_fault_same p answers id kind agree ruled =
 no_section : (k : Option Kind) → k ≡ Some kinds.Enum64 → k ≡ Some kinds.DataSec → ⊥
 no_section k is_enum is_section = false≢true (ap is_enum64 (sym is_section ∙ is_enum))
 
-fault_same : (p : Pass) (answers : List Answer) (id : ℕ) (k : Option Kind) → kind_at p.table id ≡ k → Agree p answers (suc id) → AreRuled p id
+fault_same : (p : Pass) (answers : List FeatureAnswer) (id : ℕ) (k : Option Kind) → kind_at p.table id ≡ k → Agree p answers (suc id) → AreRuled p id
     → first_fault (checks_by (with_answers p answers) id k (record_at p.table id)) ≡ first_fault (checks_by p id k (record_at p.table id))
 fault_same p answers id (Some kinds.FuncProto) kind agree ruled =
     let q : Pass = with_answers p answers in
@@ -500,5 +502,5 @@ fault_same p answers id (Some kinds.Enum64) kind agree ruled =
 fault_same p answers id (Some kinds.DataSec) kind agree ruled = section_fault_same p answers id kind agree ruled
 fault_same p answers id k kind agree ruled = refl
 
-pub same_refused : (p : Pass) (answers : List Answer) (id : ℕ) → Agree p answers (suc id) → AreRuled p id → fault (with_answers p answers) id ≡ fault p id
+pub same_refused : (p : Pass) (answers : List FeatureAnswer) (id : ℕ) → Agree p answers (suc id) → AreRuled p id → fault (with_answers p answers) id ≡ fault p id
 same_refused p answers id agree ruled = fault_same p answers id (kind_at p.table id) refl agree ruled

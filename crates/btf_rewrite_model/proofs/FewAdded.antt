@@ -6,8 +6,10 @@ use Rattle.std.proofs.lemmas.List.FromFn.{length-map-range_with_len}
 use Rattle.btf_model.specs.Record as kinds
 use Rattle.btf_model.specs.Record.{Kind, Record}
 use Rattle.btf_model.specs.Table.{Table, with_string, with_type}
-use Rattle.btf_rewrite_model.specs.Feature.{FillPolicy, Answer}
-use Rattle.btf_rewrite_model.specs.Ksyms.{KsymsIds, appends_int, each_stepped, stepped, int_text}
+use Rattle.btf_rewrite_model.specs.declared.feature.FeatureAnswer.{FeatureAnswer}
+use Rattle.btf_rewrite_model.specs.declared.feature.FillPolicy.{FillPolicy}
+use Rattle.btf_rewrite_model.specs.Ksyms.{appends_int, each_stepped, stepped, int_text}
+use Rattle.btf_rewrite_model.specs.declared.ksyms_ids.KsymsIds.{KsymsIds}
 use Rattle.btf_rewrite_model.specs.Made.{record_at, kind_at, c_int, byte_int, static_var}
 use Rattle.btf_rewrite_model.specs.Pass.{Pass, Layout, is_least, wants_placeholder, gets_filler, added_by, added_below, makes_placeholder, makes_filler, offset_at, filler_offset, filler_type_text}
 use Rattle.btf_rewrite_model.specs.Rewritten.{begun, pass_with, old_count, RewrittenWith}
@@ -108,12 +110,12 @@ few_in_the_step t None = (omega arith, omega arith)
 few_in_the_step t (Some ids) =
     let stepped_table = λ (b : Bool). if b then with_type (c_int (length t.strings)) None (with_string int_text (each_stepped t ids)) else each_stepped t ids in
     let one = length-append (each_stepped t ids).records (c_int (length t.strings) ∷ []) in
-    elim (appends_int t ids.placeholder) as (λ (b : Bool). (length t.records ≤ length (stepped_table b).records) × (length (stepped_table b).records ≤ length t.records + 1)) [
+    elim (appends_int t ids.placeholder_id) as (λ (b : Bool). (length t.records ≤ length (stepped_table b).records) × (length (stepped_table b).records ≤ length t.records + 1)) [
       | true ↦ (omega (arith, one, length_stepped t ids), omega (arith, one, length_stepped t ids))
       | false ↦ (omega (arith, length_stepped t ids), omega (arith, length_stepped t ids))
     ]
 
-pub few_in_a_rewrite : (policy : FillPolicy) (old new : Table) (ids : Option KsymsIds) (layout : Layout) (answers : List Answer) → RewrittenWith policy old ids layout answers new → (length old.records ≤ length new.records) × (length new.records ≤ length old.records + 4)
+pub few_in_a_rewrite : (policy : FillPolicy) (old new : Table) (ids : Option KsymsIds) (layout : Layout) (answers : List FeatureAnswer) → RewrittenWith policy old ids layout answers new → (length old.records ≤ length new.records) × (length new.records ≤ length old.records + 4)
 few_in_a_rewrite policy old new ids layout answers h =
     let p : Pass = pass_with policy old ids layout answers in
     let n : ℕ = old_count p in

@@ -4,8 +4,9 @@ use Rattle.std.specs.Prelude.{if◌then◌else◌}
 use Rattle.std.proofs.lemmas.Bool.{false≢true, eqb-true, eq-eqb, cases_order, false_from_ne_true}
 use Rattle.btf_model.specs.Record as kinds
 use Rattle.btf_model.specs.Record.{Kind, Record}
-use Rattle.btf_rewrite_model.specs.Feature as features
-use Rattle.btf_rewrite_model.specs.Feature.{Answer, grants}
+use Rattle.btf_rewrite_model.specs.declared.feature.BtfFeature.TheVariants as features
+use Rattle.btf_rewrite_model.specs.Feature.{grants}
+use Rattle.btf_rewrite_model.specs.declared.feature.FeatureAnswer.{FeatureAnswer}
 use Rattle.btf_rewrite_model.specs.Made.{kind_at}
 use Rattle.btf_rewrite_model.specs.Pass.{Pass, has, least, or_this, is_least, is_enum64, wants_placeholder, gets_filler}
 use Rattle.btf_rewrite_model.specs.Rewritten.{AreRuled}
@@ -91,14 +92,14 @@ made_alike test other number others n (Some made) alike same m =
 
 -- ---- under further answers
 
-enum64_alike : (p : Pass) (answers : List Answer) (id : ℕ) (k : Option Kind) → kind_at p.table id ≡ k → AgreeAt p answers id → (is_enum64 k && not (grants answers features.Enum64)) ≡ (is_enum64 k && not (has p features.Enum64))
+enum64_alike : (p : Pass) (answers : List FeatureAnswer) (id : ℕ) (k : Option Kind) → kind_at p.table id ≡ k → AgreeAt p answers id → (is_enum64 k && not (grants answers features.Enum64)) ≡ (is_enum64 k && not (has p features.Enum64))
 enum64_alike p answers id (Some kinds.Enum64) kind agree = ap not (agree_of p answers id (Some kinds.Enum64) features.Enum64 agree kind refl)
 enum64_alike p answers id k kind agree = refl
 
 -- The ids below that want a placeholder are the same.
-pub placeholder_alike : (p : Pass) (answers : List Answer) (n : ℕ) → Agree p answers n → (j : ℕ) → j < n → wants_placeholder (with_answers p answers) j ≡ wants_placeholder p j
+pub placeholder_alike : (p : Pass) (answers : List FeatureAnswer) (n : ℕ) → Agree p answers n → (j : ℕ) → j < n → wants_placeholder (with_answers p answers) j ≡ wants_placeholder p j
 placeholder_alike p answers n agree j lt = enum64_alike p answers j (kind_at p.table j) refl (agree_at p answers n j lt agree)
 
 -- So are those that get a filler.
-pub filler_alike_below : (p : Pass) (answers : List Answer) (n : ℕ) → Agree p answers n → AreRuled p n → (j : ℕ) → j < n → gets_filler (with_answers p answers) j ≡ gets_filler p j
+pub filler_alike_below : (p : Pass) (answers : List FeatureAnswer) (n : ℕ) → Agree p answers n → AreRuled p n → (j : ℕ) → j < n → gets_filler (with_answers p answers) j ≡ gets_filler p j
 filler_alike_below p answers n agree ruled j lt = filler_same p answers j (agree_at p answers n j lt agree) (named_of_ruled p j (ruled j lt))

@@ -8,8 +8,10 @@ use Rattle.btf_model.specs.Record as kinds
 use Rattle.btf_model.specs.Record.{Kind, Record, kind_of, kind_number, kind_flag, vlen}
 use Rattle.btf_model.specs.Info.{with_vlen, with_flag}
 use Rattle.btf_model.specs.Refusal.{Refusal, UnknownSectionSize}
-use Rattle.btf_rewrite_model.specs.Feature as features
-use Rattle.btf_rewrite_model.specs.Feature.{Feature, Answer, number, same_feature, grants, needs, needs_by, is_sized_and_empty, fills_sized, is_global, is_signed, has_no_entries}
+use Rattle.btf_rewrite_model.specs.declared.feature.BtfFeature.TheVariants as features
+use Rattle.btf_rewrite_model.specs.Feature.{number, same_feature, grants, needs, needs_by, is_sized_and_empty, fills_sized, is_global, is_signed, has_no_entries}
+use Rattle.btf_rewrite_model.specs.declared.feature.BtfFeature.{BtfFeature}
+use Rattle.btf_rewrite_model.specs.declared.feature.FeatureAnswer.{FeatureAnswer}
 use Rattle.btf_rewrite_model.specs.Made.{Entry, entries, record_at, kind_at, struct, union, enum, data_sec, with_linkage, unsigned}
 use Rattle.btf_rewrite_model.specs.Checks.{Check, first_fault, is_read}
 use Rattle.btf_rewrite_model.specs.Pass.{Pass, has, name_of, name_checks, is_builtin, gets_filler, section_size, is_unsized, is_zero_or, fills_sized_one, fills_unsized}
@@ -29,19 +31,19 @@ vlen_small info = omega arith
 
 -- ---- features
 
-grants_alike : (answers : List Answer) (f g : Feature) → number f ≡ number g → grants answers f ≡ grants answers g
+grants_alike : (answers : List FeatureAnswer) (f g : BtfFeature) → number f ≡ number g → grants answers f ≡ grants answers g
 grants_alike [] f g same = refl
 grants_alike (answer ∷ answers) f g same = ap (λ (n : ℕ). if number answer.feature == n then answer.granted else grants answers f) same ∙ ap (λ (b : Bool). if same_feature answer.feature g then answer.granted else b) (grants_alike answers f g same)
 
 -- the one feature that is needed is granted
-alone : (f g : Feature) → IsAmong f (g ∷ []) → number f ≡ number g
+alone : (f g : BtfFeature) → IsAmong f (g ∷ []) → number f ≡ number g
 alone f g is = elim (or_cases (same_feature f g) false is) as (λ c. number f ≡ number g) [ inl same ↦ eqb-true (number f) (number g) same | inr never ↦ absurd (false≢true never) ]
 
-pub one_granted : (p : Pass) (f g : Feature) → has p g ≡ true → IsAmong f (g ∷ []) → has p f ≡ true
+pub one_granted : (p : Pass) (f g : BtfFeature) → has p g ≡ true → IsAmong f (g ∷ []) → has p f ≡ true
 one_granted p f g granted is = grants_alike p.answers f g (alone f g is) ∙ granted
 
 -- or each of two
-two_granted : (p : Pass) (f g h : Feature) → has p g ≡ true → has p h ≡ true → IsAmong f (g ∷ h ∷ []) → has p f ≡ true
+two_granted : (p : Pass) (f g h : BtfFeature) → has p g ≡ true → has p h ≡ true → IsAmong f (g ∷ h ∷ []) → has p f ≡ true
 two_granted p f g h granted granted_too is =
     elim (or_cases (same_feature f g) (same_feature f h || false) is) as (λ c. has p f ≡ true)
     [ inl same ↦ grants_alike p.answers f g (eqb-true (number f) (number g) same) ∙ granted | inr other ↦ one_granted p f h granted_too other ]
@@ -49,7 +51,7 @@ two_granted p f g h granted granted_too is =
 -- ---- the kinds
 
 -- the features that the kernel needs for a new record
-abbrev Needs : Bool → Feature → Record → Type 0
+abbrev Needs : Bool → BtfFeature → Record → Type 0
 Needs is_exempt f r = IsAmong f (needs_by is_exempt (kind_of r.info) r)
 
 -- a record that is made or kept, by a test
@@ -58,15 +60,15 @@ either P C true x y f g h = f refl h
 either P C false x y f g h = g refl h
 
 -- a record whose kind is known
-of_kind : (is_exempt : Bool) (f : Feature) (r : Record) (k : Option Kind) → kind_of r.info ≡ k → Needs is_exempt f r → IsAmong f (needs_by is_exempt k r)
+of_kind : (is_exempt : Bool) (f : BtfFeature) (r : Record) (k : Option Kind) → kind_of r.info ≡ k → Needs is_exempt f r → IsAmong f (needs_by is_exempt k r)
 of_kind is_exempt f r k kind is = subst (λ (j : Option Kind). IsAmong f (needs_by is_exempt j r)) kind is
 
 -- none of no features
-none : {C : Type 0} (f : Feature) → IsAmong f [] → C
+none : {C : Type 0} (f : BtfFeature) → IsAmong f [] → C
 none f is = absurd (false≢true is)
 
 -- a sign that stays is granted
-sign_granted : (f g : Feature) (s h : Bool) → (s && not h) ≡ false → IsAmong f (if s then g ∷ [] else []) → (h ≡ true) × IsAmong f (g ∷ [])
+sign_granted : (f g : BtfFeature) (s h : Bool) → (s && not h) ≡ false → IsAmong f (if s then g ∷ [] else []) → (h ≡ true) × IsAmong f (g ∷ [])
 sign_granted f g true true stays is = (refl, is)
 sign_granted f g true false stays is = absurd (false≢true (sym stays))
 sign_granted f g false h stays is = absurd (false≢true is)
@@ -77,12 +79,12 @@ unsigned_flag info = omega arith
 pub unsigned_number : (info : ℕ) → kind_number (with_flag info false) ≡ kind_number info
 unsigned_number info = omega arith
 
-unsigned_needs_none : {C : Type 0} (is_exempt : Bool) (f : Feature) (r : Record) → kind_of r.info ≡ Some kinds.Enum → Needs is_exempt f (unsigned r) → C
+unsigned_needs_none : {C : Type 0} (is_exempt : Bool) (f : BtfFeature) (r : Record) → kind_of r.info ≡ Some kinds.Enum → Needs is_exempt f (unsigned r) → C
 unsigned_needs_none is_exempt f r kind is =
     let same : kind_of (unsigned r).info ≡ Some kinds.Enum = ap (λ (m : ℕ). slice_get (take 20 kinds.kinds) m) (unsigned_number r.info) ∙ kind in
     none f (subst (λ (n : ℕ). IsAmong f (if n == 1 then features.Enum64 ∷ [] else [])) (unsigned_flag r.info) (of_kind is_exempt f (unsigned r) (Some kinds.Enum) same is))
 
-enum_granted : (p : Pass) (is_exempt : Bool) (f : Feature) (r : Record) → kind_of r.info ≡ Some kinds.Enum → Needs is_exempt f (if is_signed r && not (has p features.Enum64) then unsigned r else r) → has p f ≡ true
+enum_granted : (p : Pass) (is_exempt : Bool) (f : BtfFeature) (r : Record) → kind_of r.info ≡ Some kinds.Enum → Needs is_exempt f (if is_signed r && not (has p features.Enum64) then unsigned r else r) → has p f ≡ true
 enum_granted p is_exempt f r kind is =
     either (Needs is_exempt f) (has p f ≡ true) (is_signed r && not (has p features.Enum64)) (unsigned r) r
     (λ cleared n. unsigned_needs_none is_exempt f r kind n)
@@ -97,20 +99,20 @@ static_vlen info = omega arith
 pub static_number : (info : ℕ) → kind_number (with_vlen info 0) ≡ kind_number info
 static_number info = omega arith
 
-static_needs : (is_exempt : Bool) (f : Feature) (r : Record) → kind_of r.info ≡ Some kinds.Func → Needs is_exempt f (with_linkage 0 r) → IsAmong f (features.Func ∷ [])
+static_needs : (is_exempt : Bool) (f : BtfFeature) (r : Record) → kind_of r.info ≡ Some kinds.Func → Needs is_exempt f (with_linkage 0 r) → IsAmong f (features.Func ∷ [])
 static_needs is_exempt f r kind is =
     let same : kind_of (with_linkage 0 r).info ≡ Some kinds.Func = ap (λ (m : ℕ). slice_get (take 20 kinds.kinds) m) (static_number r.info) ∙ kind in
     subst (λ (n : ℕ). IsAmong f (if n == 1 then features.Func ∷ features.FuncGlobal ∷ [] else features.Func ∷ [])) (static_vlen r.info) (of_kind is_exempt f (with_linkage 0 r) (Some kinds.Func) same is)
 
 -- a Global function that stays is granted
-global_granted : (p : Pass) (f : Feature) (g b h : Bool) → has p features.Func ≡ true → has p features.FuncGlobal ≡ h → (g && (b || not h)) ≡ false
+global_granted : (p : Pass) (f : BtfFeature) (g b h : Bool) → has p features.Func ≡ true → has p features.FuncGlobal ≡ h → (g && (b || not h)) ≡ false
     → IsAmong f (if g then features.Func ∷ features.FuncGlobal ∷ [] else features.Func ∷ []) → has p f ≡ true
 global_granted p f true true h granted is_h stays is = absurd (false≢true (sym stays))
 global_granted p f true false true granted is_h stays is = two_granted p f features.Func features.FuncGlobal granted is_h is
 global_granted p f true false false granted is_h stays is = absurd (false≢true (sym stays))
 global_granted p f false b h granted is_h stays is = one_granted p f features.Func granted is
 
-known_granted : (p : Pass) (is_exempt : Bool) (f : Feature) (r : Record) (name : Result (List ℕ) Refusal) → kind_of r.info ≡ Some kinds.Func → has p features.Func ≡ true
+known_granted : (p : Pass) (is_exempt : Bool) (f : BtfFeature) (r : Record) (name : Result (List ℕ) Refusal) → kind_of r.info ≡ Some kinds.Func → has p features.Func ≡ true
     → first_fault (is_read name ∷ []) ≡ None → Needs is_exempt f (known_func p r name) → has p f ≡ true
 known_granted p is_exempt f r (Ok name) kind granted read is =
     either (Needs is_exempt f) (has p f ≡ true) (is_global r && (is_builtin name || not (has p features.FuncGlobal))) (with_linkage 0 r) r
@@ -123,12 +125,12 @@ known_granted p is_exempt f r (Err refusal) kind granted read is = absurd (none-
 made_flag : (count : ℕ) → count < 2 ^ 16 → kind_flag (6 * 2 ^ 24 + count) ≡ 0
 made_flag count small = omega arith
 
-made_enum_needs_none : {C : Type 0} (is_exempt : Bool) (f : Feature) (name count : ℕ) (words : List ℕ) → count < 2 ^ 16 → Needs is_exempt f (enum name count words) → C
+made_enum_needs_none : {C : Type 0} (is_exempt : Bool) (f : BtfFeature) (name count : ℕ) (words : List ℕ) → count < 2 ^ 16 → Needs is_exempt f (enum name count words) → C
 made_enum_needs_none is_exempt f name count words small is =
     none f (subst (λ (n : ℕ). IsAmong f (if n == 1 then features.Enum64 ∷ [] else [])) (made_flag count small)
     (of_kind is_exempt f (enum name count words) (Some kinds.Enum) (kind_made 6 count kinds.Enum (omega arith) small refl) is))
 
-proto_granted : (p : Pass) (is_exempt : Bool) (f : Feature) (r : Record) (words : List ℕ) → kind_of r.info ≡ Some kinds.FuncProto
+proto_granted : (p : Pass) (is_exempt : Bool) (f : BtfFeature) (r : Record) (words : List ℕ) → kind_of r.info ≡ Some kinds.FuncProto
     → Needs is_exempt f (if has p features.Func then record r { tail = words } else enum r.name (vlen r.info) r.tail) → has p f ≡ true
 proto_granted p is_exempt f r words kind is =
     either (Needs is_exempt f) (has p f ≡ true) (has p features.Func) (record r { tail = words }) (enum r.name (vlen r.info) r.tail)
@@ -139,11 +141,11 @@ proto_granted p is_exempt f r words kind is =
 -- ---- sections
 
 -- a made STRUCT or UNION needs nothing
-struct_needs_none : {C : Type 0} (is_exempt : Bool) (f : Feature) (name size count : ℕ) (words : List ℕ) → count < 2 ^ 16 → Needs is_exempt f (struct name size count words) → C
+struct_needs_none : {C : Type 0} (is_exempt : Bool) (f : BtfFeature) (name size count : ℕ) (words : List ℕ) → count < 2 ^ 16 → Needs is_exempt f (struct name size count words) → C
 struct_needs_none is_exempt f name size count words small is =
     none f (of_kind is_exempt f (struct name size count words) (Some kinds.Struct) (kind_made 4 count kinds.Struct (omega arith) small refl) is)
 
-union_needs_none : {C : Type 0} (is_exempt : Bool) (f : Feature) (name size count : ℕ) (words : List ℕ) → count < 2 ^ 16 → Needs is_exempt f (union name size count words) → C
+union_needs_none : {C : Type 0} (is_exempt : Bool) (f : BtfFeature) (name size count : ℕ) (words : List ℕ) → count < 2 ^ 16 → Needs is_exempt f (union name size count words) → C
 union_needs_none is_exempt f name size count words small is =
     none f (of_kind is_exempt f (union name size count words) (Some kinds.Union) (kind_made 5 count kinds.Union (omega arith) small refl) is)
 
@@ -151,7 +153,7 @@ made_vlen : (count : ℕ) → count < 2 ^ 16 → vlen (15 * 2 ^ 24 + count) ≡ 
 made_vlen count small = omega arith
 
 -- a DATASEC that has entries, or is exempt, needs the one feature
-section_needs : (f : Feature) (e x : Bool) → (e && not x) ≡ false → IsAmong f (if e && not x then features.DataSec ∷ features.DataSecZero ∷ [] else features.DataSec ∷ []) → IsAmong f (features.DataSec ∷ [])
+section_needs : (f : BtfFeature) (e x : Bool) → (e && not x) ≡ false → IsAmong f (if e && not x then features.DataSec ∷ features.DataSecZero ∷ [] else features.DataSec ∷ []) → IsAmong f (features.DataSec ∷ [])
 section_needs f e x one is = subst (λ (b : Bool). IsAmong f (if b then features.DataSec ∷ features.DataSecZero ∷ [] else features.DataSec ∷ [])) one is
 
 or_true : (b : Bool) → (b || true) ≡ true
@@ -168,7 +170,7 @@ unfilled true false true true false size is_d is_u no_filler = absurd (false≢t
 unfilled true false true false h size is_d is_u no_filler = refl
 
 -- where one that has a size gets no filler, it has entries, or is exempt, or its kernel takes it without
-unfilled_sized : (p : Pass) (f : Feature) (d s e z h u : Bool) → has p features.DataSec ≡ true → has p features.DataSecZero ≡ h → d ≡ true → z ≡ false
+unfilled_sized : (p : Pass) (f : BtfFeature) (d s e z h u : Bool) → has p features.DataSec ≡ true → has p features.DataSecZero ≡ h → d ≡ true → z ≡ false
     → (d && ((s && (e && not z) && not h) || u)) ≡ false
     → IsAmong f (if e && not (not s && (e && not z)) then features.DataSec ∷ features.DataSecZero ∷ [] else features.DataSec ∷ []) → has p f ≡ true
 unfilled_sized p f false s e z h u granted is_h is_d is_z no_filler is = absurd (false≢true is_d)
@@ -178,7 +180,7 @@ unfilled_sized p f true true true false false u granted is_h is_d is_z no_filler
 unfilled_sized p f true false true false h u granted is_h is_d is_z no_filler is = one_granted p f features.DataSec granted is
 unfilled_sized p f true s false false h u granted is_h is_d is_z no_filler is = one_granted p f features.DataSec granted is
 
-zero_granted : (p : Pass) (f : Feature) (e x h : Bool) → has p features.DataSec ≡ true → has p features.DataSecZero ≡ h → (e && not h) ≡ false
+zero_granted : (p : Pass) (f : BtfFeature) (e x h : Bool) → has p features.DataSec ≡ true → has p features.DataSecZero ≡ h → (e && not h) ≡ false
     → IsAmong f (if e && not x then features.DataSec ∷ features.DataSecZero ∷ [] else features.DataSec ∷ []) → has p f ≡ true
 zero_granted p f true true h granted is_h known is = one_granted p f features.DataSec granted is
 zero_granted p f true false true granted is_h known is = two_granted p f features.DataSec features.DataSecZero granted is_h is
@@ -225,20 +227,20 @@ module _ (p : Pass) (id : ℕ) (unsized : Bool) (others : List Check) (granted :
       size_known (section_size p id) (name_of p id) (passed_head _ _ (passed_left (name_checks p id) _ passed)) (passed_head _ _ inner)
 
 -- one that gets the filler has an entry
-filled_granted : (p : Pass) (is_exempt : Bool) (f : Feature) (id size : ℕ) (r : Record) → has p features.DataSec ≡ true → Needs is_exempt f (filled p id size r) → has p f ≡ true
+filled_granted : (p : Pass) (is_exempt : Bool) (f : BtfFeature) (id size : ℕ) (r : Record) → has p features.DataSec ≡ true → Needs is_exempt f (filled p id size r) → has p f ≡ true
 filled_granted p is_exempt f id size r granted is =
     one_granted p f features.DataSec granted (of_kind is_exempt f (filled p id size r) (Some kinds.DataSec) (kind_made 15 1 kinds.DataSec (omega arith) (omega arith) refl) is)
 
 -- one that is completed: the entry of the filler, or entries of its own, or none where that was granted
 
-laid_granted : (p : Pass) (is_exempt : Bool) (f : Feature) (name size count : ℕ) (es : List Entry) → has p features.DataSec ≡ true → count < 2 ^ 16
+laid_granted : (p : Pass) (is_exempt : Bool) (f : BtfFeature) (name size count : ℕ) (es : List Entry) → has p features.DataSec ≡ true → count < 2 ^ 16
     → ((count == 0) && not (has p features.DataSecZero)) ≡ false → Needs is_exempt f (data_sec name size count es) → has p f ≡ true
 laid_granted p is_exempt f name size count es granted small known is =
     zero_granted p f (count == 0) is_exempt (has p features.DataSecZero) granted refl known
     (subst (λ (n : ℕ). IsAmong f (if (n == 0) && not is_exempt then features.DataSec ∷ features.DataSecZero ∷ [] else features.DataSec ∷ [])) (made_vlen count small)
     (of_kind is_exempt f (data_sec name size count es) (Some kinds.DataSec) (kind_made 15 count kinds.DataSec (omega arith) small refl) is))
 
-completed_granted : (p : Pass) (id : ℕ) (is_exempt : Bool) (f : Feature) (size : ℕ) → kind_at p.table id ≡ Some kinds.DataSec → has p features.DataSec ≡ true → ((record_at p.table id).third == 0) ≡ true
+completed_granted : (p : Pass) (id : ℕ) (is_exempt : Bool) (f : BtfFeature) (size : ℕ) → kind_at p.table id ≡ Some kinds.DataSec → has p features.DataSec ≡ true → ((record_at p.table id).third == 0) ≡ true
     → (n : ℕ) × (section_size p id ≡ Some n) → Needs is_exempt f (completed p id size (record_at p.table id)) → has p f ≡ true
 completed_granted p id is_exempt f size kind granted unsized known is =
     let r : Record = record_at p.table id in
@@ -255,7 +257,7 @@ abbrev exempt : Pass → Record → Bool
 exempt p r = not (fills_sized p.policy) && (has_no_entries r && not (r.third == 0))
 
 -- one that has a size: the entry of the filler, or as it was
-sized_granted : (p : Pass) (id : ℕ) (f : Feature) → kind_at p.table id ≡ Some kinds.DataSec → has p features.DataSec ≡ true → ((record_at p.table id).third == 0) ≡ false
+sized_granted : (p : Pass) (id : ℕ) (f : BtfFeature) → kind_at p.table id ≡ Some kinds.DataSec → has p features.DataSec ≡ true → ((record_at p.table id).third == 0) ≡ false
     → Needs (exempt p (record_at p.table id)) f (sized p id (record_at p.table id)) → has p f ≡ true
 sized_granted p id f kind granted is_sized is =
     let r : Record = record_at p.table id in
@@ -266,7 +268,7 @@ sized_granted p id f kind granted is_sized is =
     (of_kind (exempt p r) f (record r { name = new_name p id r }) (Some kinds.DataSec) kind n))
     is
 
-section_granted : (p : Pass) (id : ℕ) (f : Feature) (words : List ℕ) → kind_at p.table id ≡ Some kinds.DataSec
+section_granted : (p : Pass) (id : ℕ) (f : BtfFeature) (words : List ℕ) → kind_at p.table id ≡ Some kinds.DataSec
     → first_fault (checks_by p id (Some kinds.DataSec) (record_at p.table id)) ≡ None
     → Needs (exempt p (record_at p.table id)) f
     (if has p features.DataSec then (if (record_at p.table id).third == 0 then completed p id (unwrap_or (section_size p id) 0) (record_at p.table id) else sized p id (record_at p.table id))
@@ -289,7 +291,7 @@ abbrev none_exempt : Pass → Bool
 none_exempt p = not (fills_sized p.policy) && false
 
 -- What the kernel needs for the new record of an id was granted, where the id is not refused.
-granted_by : (p : Pass) (lower : List Record) (id : ℕ) (f : Feature) (k : Option Kind) → kind_at p.table id ≡ k → first_fault (checks_by p id k (record_at p.table id)) ≡ None
+granted_by : (p : Pass) (lower : List Record) (id : ℕ) (f : BtfFeature) (k : Option Kind) → kind_at p.table id ≡ k → first_fault (checks_by p id k (record_at p.table id)) ≡ None
     → Needs (not (fills_sized p.policy) && is_sized_and_empty k (record_at p.table id)) f (becomes_by p lower id k (record_at p.table id)) → has p f ≡ true
 granted_by p lower id f (Some kinds.Var) kind passed is =
     either (Needs (none_exempt p) f) (has p f ≡ true) (has p features.DataSec) _ _ (λ granted n. one_granted p f features.DataSec granted (of_kind (none_exempt p) f (record_at p.table id) _ kind n)) (λ denied n. none f n) is
@@ -310,5 +312,5 @@ granted_by p lower id f (Some kinds.DataSec) kind passed is = section_granted p 
 granted_by p lower id f (Some kinds.Ptr) kind passed is = none f (of_kind (none_exempt p) f (record (record_at p.table id) { name = 0 }) (Some kinds.Ptr) kind is)
 granted_by p lower id f k kind passed is = none f (of_kind (not (fills_sized p.policy) && is_sized_and_empty k (record_at p.table id)) f (record_at p.table id) k kind is)
 
-pub new_granted : (p : Pass) (id : ℕ) (f : Feature) → fault p id ≡ None → IsAmong f (needs p.policy (record_at p.table id) (becomes p id)) → has p f ≡ true
+pub new_granted : (p : Pass) (id : ℕ) (f : BtfFeature) → fault p id ≡ None → IsAmong f (needs p.policy (record_at p.table id) (becomes p id)) → has p f ≡ true
 new_granted p id f passed is = granted_by p (ruled_below p id) id f (kind_at p.table id) refl passed is

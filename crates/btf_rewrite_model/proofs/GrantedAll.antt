@@ -7,10 +7,13 @@ use Rattle.std.proofs.lemmas.Option.{same_Some, slice_get_within}
 use Rattle.btf_model.specs.Record as kinds
 use Rattle.btf_model.specs.Record.{Kind, Record, unknown}
 use Rattle.btf_model.specs.Table.{Table}
-use Rattle.btf_rewrite_model.specs.Feature as features
-use Rattle.btf_rewrite_model.specs.Feature.{Feature, Answer, FillPolicy, needs}
+use Rattle.btf_rewrite_model.specs.declared.feature.BtfFeature.TheVariants as features
+use Rattle.btf_rewrite_model.specs.Feature.{needs}
+use Rattle.btf_rewrite_model.specs.declared.feature.BtfFeature.{BtfFeature}
+use Rattle.btf_rewrite_model.specs.declared.feature.FeatureAnswer.{FeatureAnswer}
+use Rattle.btf_rewrite_model.specs.declared.feature.FillPolicy.{FillPolicy}
 use Rattle.btf_rewrite_model.specs.Made.{record_at, kind_at, byte_int, static_var}
-use Rattle.btf_rewrite_model.specs.Ksyms.{KsymsIds}
+use Rattle.btf_rewrite_model.specs.declared.ksyms_ids.KsymsIds.{KsymsIds}
 use Rattle.btf_rewrite_model.specs.Pass.{Pass, Layout, has, makes_filler, makes_placeholder, filler, filler_type_text, offset_at, filler_offset, added_by, added_below, Asked, asks_below}
 use Rattle.btf_rewrite_model.specs.Rule.{becomes, ruled_below}
 use Rattle.btf_rewrite_model.specs.Fault.{fault}
@@ -22,7 +25,7 @@ use Rattle.btf_rewrite_model.proofs.GrantedOnce.{AreOnce, each_is_once, granted_
 
 -- what the kernel needs for a record that is appended was granted
 abbrev AddedGranted : Pass → Record → Type 0
-AddedGranted p r = (before : Record) (f : Feature) → IsAmong f (needs p.policy before r) → has p f ≡ true
+AddedGranted p r = (before : Record) (f : BtfFeature) → IsAmong f (needs p.policy before r) → has p f ≡ true
 
 nothing_needed : (p : Pass) (name : ℕ) → AddedGranted p (byte_int name)
 nothing_needed p name before f is = absurd (false≢true is)
@@ -68,7 +71,7 @@ of_either (q ∷ rs) more (suc i) r at =
     elim (of_either rs more i r at) as (λ c. ((suc i < suc (length rs)) × (slice_get rs i ≡ Some r)) ⊎ ((j : ℕ) × (slice_get more j ≡ Some r)))
     [ inl here ↦ inl (omega (arith, here.0), here.1) | inr there ↦ inr there ]
 
-pub has_granted : (p : Pass) (id : ℕ) (r : Record) (f : Feature) → ((low : ℕ) → low < old_count p → fault p low ≡ None)
+pub has_granted : (p : Pass) (id : ℕ) (r : Record) (f : BtfFeature) → ((low : ℕ) → low < old_count p → fault p low ≡ None)
     → ((id < length (ruled_below p (old_count p))) × (slice_get (ruled_below p (old_count p)) id ≡ Some r)) ⊎ ((j : ℕ) × (slice_get (added_below p (old_count p)) j ≡ Some r))
     → IsAmong f (needs p.policy (record_at p.table id) r) → has p f ≡ true
 has_granted p id r f ruled (inl old) is =
@@ -77,8 +80,8 @@ has_granted p id r f ruled (inl old) is =
     new_granted p id f (ruled id lt) (subst (λ (q : Record). IsAmong f (needs p.policy (record_at p.table id) q)) same is)
 has_granted p id r f ruled (inr added) is = each_of (AddedGranted p) (added_below p (old_count p)) added.0 r (all_added_granted p (old_count p)) added.1 (record_at p.table id) f is
 
-pub suffice : (policy : FillPolicy) (old new : Table) (ids : Option KsymsIds) (layout : Layout) (answers : List Answer) → RewrittenWith policy old ids layout answers new → map (λ (answer : Answer). answer.feature) answers ≡ Asked (pass_with policy old ids layout answers)
-    → (id : ℕ) (r : Record) → slice_get new.records id ≡ Some r → (f : Feature) → IsAmong f (needs policy (record_at (begun old ids) id) r) → IsGrantedOnce answers f
+pub suffice : (policy : FillPolicy) (old new : Table) (ids : Option KsymsIds) (layout : Layout) (answers : List FeatureAnswer) → RewrittenWith policy old ids layout answers new → map (λ (answer : FeatureAnswer). answer.feature) answers ≡ Asked (pass_with policy old ids layout answers)
+    → (id : ℕ) (r : Record) → slice_get new.records id ≡ Some r → (f : BtfFeature) → IsAmong f (needs policy (record_at (begun old ids) id) r) → IsGrantedOnce answers f
 suffice policy old new ids layout answers is asked id r at f needed =
     let p : Pass = pass_with policy old ids layout answers in
     let place : slice_get (ruled_below p (old_count p) ++ added_below p (old_count p)) id ≡ Some r = ap (λ (t : Table). slice_get t.records id) (sym is.table) ∙ at in

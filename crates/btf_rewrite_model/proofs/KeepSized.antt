@@ -7,8 +7,11 @@ use Rattle.std.proofs.lemmas.Bool.{ne_eqb}
 use Rattle.std.proofs.lemmas.List.{append-nil}
 use Rattle.btf_model.specs.Record as kinds
 use Rattle.btf_model.specs.Record.{Kind, Record, vlen}
-use Rattle.btf_rewrite_model.specs.Feature as features
-use Rattle.btf_rewrite_model.specs.Feature.{Feature, FillPolicy, KeepSized, fills_sized, is_sized_and_empty, has_no_entries}
+use Rattle.btf_rewrite_model.specs.declared.feature.BtfFeature.TheVariants as features
+use Rattle.btf_rewrite_model.specs.Feature.{fills_sized, is_sized_and_empty, has_no_entries}
+use Rattle.btf_rewrite_model.specs.declared.feature.BtfFeature.{BtfFeature}
+use Rattle.btf_rewrite_model.specs.declared.feature.FillPolicy.{FillPolicy}
+use Rattle.btf_rewrite_model.specs.declared.feature.FillPolicy.TheVariants.{KeepSized}
 use Rattle.btf_rewrite_model.specs.Made.{record_at, kind_at, entries, struct}
 use Rattle.btf_rewrite_model.specs.Checks.{Check, first_fault, fits, record_len}
 use Rattle.btf_rewrite_model.specs.Pass.{Pass, has, name_checks, fills_unsized, gets_filler, is_unsized, is_zero_or, section_size, least, added, type_len_at, unsized_asks_zero, data_sec_asks}

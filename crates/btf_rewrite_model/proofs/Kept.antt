@@ -11,10 +11,13 @@ use Rattle.btf_model.specs.Record.{Kind, Record, unknown, kind_of, kind_number, 
 use Rattle.btf_model.specs.Refusal.{Refusal, UnknownBtfType, MaximumTypeDepthReached}
 use Rattle.btf_model.specs.Table.{Table}
 use Rattle.btf_model.specs.Walk.{Extent, Finding, Ends, GoesOn, Leads, WalkAnswers, By, Elements, size_in, size_by, extent, modified, modified_type, behind_modifier, unmodified_in, Resolves, HasSize}
-use Rattle.btf_rewrite_model.specs.Feature as features
-use Rattle.btf_rewrite_model.specs.Feature.{FillPolicy, Answer, is_global, is_signed}
-use Rattle.btf_rewrite_model.specs.Made.{entries, variants, record_at, kind_at, ids_of, byte_int, const, struct, union, enum, data_sec, unsigned, c_int}
-use Rattle.btf_rewrite_model.specs.Ksyms.{KsymsIds, stepped, each_stepped, appends_int}
+use Rattle.btf_rewrite_model.specs.declared.feature.BtfFeature.TheVariants as features
+use Rattle.btf_rewrite_model.specs.Feature.{is_global, is_signed}
+use Rattle.btf_rewrite_model.specs.declared.feature.FeatureAnswer.{FeatureAnswer}
+use Rattle.btf_rewrite_model.specs.declared.feature.FillPolicy.{FillPolicy}
+use Rattle.btf_rewrite_model.specs.Made.{entries, variants, record_at, kind_at, table_ids, byte_int, const, struct, union, enum, data_sec, unsigned, c_int}
+use Rattle.btf_rewrite_model.specs.Ksyms.{stepped, each_stepped, appends_int}
+use Rattle.btf_rewrite_model.specs.declared.ksyms_ids.KsymsIds.{KsymsIds}
 use Rattle.btf_rewrite_model.specs.Pass.{Pass, Layout, has, gets_filler, section_size, offset_at}
 use Rattle.btf_rewrite_model.specs.Rule.{becomes, becomes_by, ruled_below, completed, sized, filled, new_name, placed, named_params, variant_members, entry_members, placeholder_id}
 use Rattle.btf_rewrite_model.specs.Rewritten.{begun, pass_with, RewrittenWith}
@@ -128,8 +131,8 @@ each_at : (t : Table) (ids : KsymsIds) (id : ℕ) (r : Record) → slice_get t.r
 each_at t ids id r at =
     let lt : id < length t.records = slice_get_within t.records id r at in
     let f : ℕ → Record = λ i. stepped t ids i (kind_at t i) (record_at t i) in
-    let len : length (map f (ids_of t)) ≡ length t.records = length-map-range_with_len f 0 (length t.records) in
-    slice_get-get_or (map f (ids_of t)) id unknown (omega (arith, lt, len)) ∙ ap (λ (q : Record). Some q) (get_or-map-range_with_len f 0 (length t.records) id id unknown lt (omega arith))
+    let len : length (map f (table_ids t)) ≡ length t.records = length-map-range_with_len f 0 (length t.records) in
+    slice_get-get_or (map f (table_ids t)) id unknown (omega (arith, lt, len)) ∙ ap (λ (q : Record). Some q) (get_or-map-range_with_len f 0 (length t.records) id id unknown lt (omega arith))
     ∙ ap (λ (o : Option Record). Some (stepped t ids id (kind_of (unwrap_or o unknown).info) (unwrap_or o unknown))) at
 
 pub begun_at : (t : Table) (ids : Option KsymsIds) (id : ℕ) (r : Record) → slice_get t.records id ≡ Some r → slice_get (begun t ids).records id ≡ Some (begun_record t ids id r)
@@ -138,7 +141,7 @@ begun_at t None id r at = at
 begun_at t (Some ids) id r at =
     let here : slice_get (each_stepped t ids).records id ≡ Some (stepped t ids id (kind_of r.info) r) = each_at t ids id r at in
     let within : id < length (each_stepped t ids).records = slice_get_within (each_stepped t ids).records id (stepped t ids id (kind_of r.info) r) here in
-    by_table (λ u. slice_get u.records id ≡ Some (stepped t ids id (kind_of r.info) r)) (appends_int t ids.placeholder) _ (each_stepped t ids)
+    by_table (λ u. slice_get u.records id ≡ Some (stepped t ids id (kind_of r.info) r)) (appends_int t ids.placeholder_id) _ (each_stepped t ids)
     (slice_get-append_left (each_stepped t ids).records (c_int (length t.strings) ∷ []) id within ∙ here) here
 
 pub begun_same : (t : Table) (ids : Option KsymsIds) (id : ℕ) (r : Record) → keeps_size (kind_of r.info) ≡ true → begun_record t ids id r ≡ r
@@ -168,7 +171,7 @@ answers_too : {P A : Type 0} (Finds Found : P → Finding P A → Type 0) (start
 answers_too Finds Found start too_deep answer on ends (inl walk) = inl (walk.0, walk.1, walk.2, leads_too Finds Found on walk.0 start walk.1 walk.3, ends walk.1 (walk.0, walk.2, walk.3) walk.4)
 answers_too Finds Found start too_deep answer on ends (inr deep) = absurd (false≢true (sym (ap is_ok deep.2)))
 
-module _ (policy : FillPolicy) (old new : Table) (ids : Option KsymsIds) (layout : Layout) (answers : List Answer) (is : RewrittenWith policy old ids layout answers new) where
+module _ (policy : FillPolicy) (old new : Table) (ids : Option KsymsIds) (layout : Layout) (answers : List FeatureAnswer) (is : RewrittenWith policy old ids layout answers new) where
   -- the new record of an id that the old table has
   new_record : (id : ℕ) (r : Record) → slice_get old.records id ≡ Some r → slice_get new.records id ≡ Some (becomes (pass_with policy old ids layout answers) id)
   new_record id r at =

@@ -10,10 +10,13 @@ use Rattle.btf_model.specs.Record as kinds
 use Rattle.btf_model.specs.Record.{Kind, Record}
 use Rattle.btf_model.specs.Refusal.{Refusal}
 use Rattle.btf_model.specs.Table.{Table, Fallback, no_fallbacks}
-use Rattle.btf_rewrite_model.specs.Feature as features
-use Rattle.btf_rewrite_model.specs.Feature.{FillPolicy, Feature, Answer, grants, same_feature}
-use Rattle.btf_rewrite_model.specs.Made.{record_at, kind_at, ids_of, fallback_of}
-use Rattle.btf_rewrite_model.specs.Ksyms.{KsymsIds}
+use Rattle.btf_rewrite_model.specs.declared.feature.BtfFeature.TheVariants as features
+use Rattle.btf_rewrite_model.specs.Feature.{grants, same_feature}
+use Rattle.btf_rewrite_model.specs.declared.feature.BtfFeature.{BtfFeature}
+use Rattle.btf_rewrite_model.specs.declared.feature.FeatureAnswer.{FeatureAnswer}
+use Rattle.btf_rewrite_model.specs.declared.feature.FillPolicy.{FillPolicy}
+use Rattle.btf_rewrite_model.specs.Made.{record_at, kind_at, table_ids, fallback_of}
+use Rattle.btf_rewrite_model.specs.declared.ksyms_ids.KsymsIds.{KsymsIds}
 use Rattle.btf_rewrite_model.specs.Pass.{Pass, Layout, added_below, asks_below, each_once, Asked}
 use Rattle.btf_rewrite_model.specs.Rule.{ruled_below, falls_back, falls_back_by}
 use Rattle.btf_rewrite_model.specs.Rewritten.{step_fault, pass_with, old_count, ended, rewritten, AreRuled, RewrittenWith, FaultsAt, IsRefusedWith}
@@ -23,15 +26,15 @@ use Rattle.btf_rewrite_model.specs.Passing.{features_of}
 use Rattle.btf_rewrite_model.proofs.Passing.{among_each, asks_begin}
 
 -- Other answers say of each feature that was asked for what it was answered.
-abbrev pub AgreeWith : List Answer → List Answer → Type 0
-AgreeWith answers all = (f : Feature) → IsAmong f (features_of answers) → grants all f ≡ grants answers f
+abbrev pub AgreeWith : List FeatureAnswer → List FeatureAnswer → Type 0
+AgreeWith answers all = (f : BtfFeature) → IsAmong f (features_of answers) → grants all f ≡ grants answers f
 
 -- ---- what agrees
 
-agree_by : (p : Pass) (all : List Answer) (end : ℕ) → features_of p.answers ≡ each_once (asks_below p end) → AgreeWith p.answers all → Agree p all end
+agree_by : (p : Pass) (all : List FeatureAnswer) (end : ℕ) → features_of p.answers ≡ each_once (asks_below p end) → AgreeWith p.answers all → Agree p all end
 agree_by p all end asked agree f among = agree f (ap (list_any (same_feature f)) asked ∙ among_each f (asks_below p end) among)
 
-agree_up_to : (p : Pass) (all : List Answer) (end id : ℕ) → id ≤ end → Agree p all end → Agree p all id
+agree_up_to : (p : Pass) (all : List FeatureAnswer) (end id : ℕ) → id ≤ end → Agree p all end → Agree p all id
 agree_up_to p all end id le agree f among =
     let more = asks_begin p id end le in
     agree f
@@ -39,13 +42,13 @@ agree_up_to p all end id le agree f among =
     ∙ or_left (list_any (same_feature f) (asks_below p id)) (list_any (same_feature f) more.0) among)
 
 -- ids that are not refused are not refused under the others
-ruled_so : (p : Pass) (all : List Answer) (end : ℕ) → Agree p all end → AreRuled p end → AreRuled (with_answers p all) end
+ruled_so : (p : Pass) (all : List FeatureAnswer) (end : ℕ) → Agree p all end → AreRuled p end → AreRuled (with_answers p all) end
 ruled_so p all end agree ruled id lt =
     same_refused p all id (agree_up_to p all end (suc id) (omega (arith, lt)) agree) (λ low below. ruled low (omega (arith, below, lt))) ∙ ruled id lt
 
 -- ---- fallbacks
 
-falls_back_so : (p : Pass) (all : List Answer) (id : ℕ) (k : Option Kind) (old : Option Fallback) → AgreeAt p all id → kind_at p.table id ≡ k
+falls_back_so : (p : Pass) (all : List FeatureAnswer) (id : ℕ) (k : Option Kind) (old : Option Fallback) → AgreeAt p all id → kind_at p.table id ≡ k
     → falls_back_by (with_answers p all) k (record_at p.table id) old ≡ falls_back_by p k (record_at p.table id) old
 falls_back_so p all id (Some kinds.Enum64) old agree kind =
     ap (λ b. if b then old else Some (fallback_of (record_at p.table id))) (agree_of p all id (Some kinds.Enum64) features.Enum64 agree kind refl)
@@ -59,20 +62,20 @@ map_within f g from (suc count) same =
 
 -- ---- the rewrite
 
-rewritten_so : (p : Pass) (all : List Answer) → Agree p all (old_count p) → AreRuled p (old_count p) → rewritten (with_answers p all) ≡ rewritten p
+rewritten_so : (p : Pass) (all : List FeatureAnswer) → Agree p all (old_count p) → AreRuled p (old_count p) → rewritten (with_answers p all) ≡ rewritten p
 rewritten_so p all agree ruled =
     let n : ℕ = old_count p in
     let q : Pass = with_answers p all in
     let same : IsSameBelow p all n = same_below p all n agree ruled in
-    let fallbacks : map (falls_back q) (ids_of p.table) ≡ map (falls_back p) (ids_of p.table) =
+    let fallbacks : map (falls_back q) (table_ids p.table) ≡ map (falls_back p) (table_ids p.table) =
     map_within (falls_back q) (falls_back p) 0 n (λ id lt. falls_back_so p all id (kind_at p.table id) _ (agree_at p all n id (omega (arith, lt)) agree) refl) in
     ap (λ (ts : List (List ℕ)). record (rewritten q) { strings = p.table.strings ++ flat_map ended ts }) same.texts
-    ∙ ap (λ (rs : List Record). record (rewritten p) { records = rs ++ added_below q n; fallbacks = map (falls_back q) (ids_of p.table) ++ no_fallbacks (added_below q n) }) same.ruled
-    ∙ ap (λ (rs : List Record). record (rewritten p) { records = ruled_below p n ++ rs; fallbacks = map (falls_back q) (ids_of p.table) ++ no_fallbacks rs }) same.added
+    ∙ ap (λ (rs : List Record). record (rewritten p) { records = rs ++ added_below q n; fallbacks = map (falls_back q) (table_ids p.table) ++ no_fallbacks (added_below q n) }) same.ruled
+    ∙ ap (λ (rs : List Record). record (rewritten p) { records = ruled_below p n ++ rs; fallbacks = map (falls_back q) (table_ids p.table) ++ no_fallbacks rs }) same.added
     ∙ ap (λ (fs : List (Option Fallback)). record (rewritten p) { fallbacks = fs ++ no_fallbacks (added_below p n) }) fallbacks
 
 -- what is rewritten is rewritten so under the others
-pub rewritten_alike : (policy : FillPolicy) (old new : Table) (ids : Option KsymsIds) (layout : Layout) (answers all : List Answer) → RewrittenWith policy old ids layout answers new → features_of answers ≡ Asked (pass_with policy old ids layout answers) → AgreeWith answers all
+pub rewritten_alike : (policy : FillPolicy) (old new : Table) (ids : Option KsymsIds) (layout : Layout) (answers all : List FeatureAnswer) → RewrittenWith policy old ids layout answers new → features_of answers ≡ Asked (pass_with policy old ids layout answers) → AgreeWith answers all
     → RewrittenWith policy old ids layout all new
 rewritten_alike policy old new ids layout answers all is asked agree =
     let p : Pass = pass_with policy old ids layout answers in
@@ -80,7 +83,7 @@ rewritten_alike policy old new ids layout answers all is asked agree =
     record { step = is.step; ruled = ruled_so p all (old_count p) agree_all is.ruled; table = is.table ∙ sym (rewritten_so p all agree_all is.ruled) }
 
 -- what is refused is refused so under the others
-pub refused_alike : (policy : FillPolicy) (old : Table) (ids : Option KsymsIds) (layout : Layout) (answers all : List Answer) (refusal : Refusal)
+pub refused_alike : (policy : FillPolicy) (old : Table) (ids : Option KsymsIds) (layout : Layout) (answers all : List FeatureAnswer) (refusal : Refusal)
     → ((step_fault old ids ≡ Some refusal) × (answers ≡ []))
     ⊎ ((step_fault old ids ≡ None) × ((id : ℕ) × FaultsAt (pass_with policy old ids layout answers) id refusal × (features_of answers ≡ each_once (asks_below (pass_with policy old ids layout answers) (suc id)))))
     → AgreeWith answers all → IsRefusedWith policy old ids layout all refusal
@@ -95,6 +98,6 @@ refused_alike policy old ids layout answers all refusal (inr pass) agree =
 -- ---- one outcome
 
 -- what is rewritten is not refused
-pub rewritten_not_refused : (policy : FillPolicy) (old new : Table) (ids : Option KsymsIds) (layout : Layout) (answers : List Answer) (refusal : Refusal) → RewrittenWith policy old ids layout answers new → IsRefusedWith policy old ids layout answers refusal → ⊥
+pub rewritten_not_refused : (policy : FillPolicy) (old new : Table) (ids : Option KsymsIds) (layout : Layout) (answers : List FeatureAnswer) (refusal : Refusal) → RewrittenWith policy old ids layout answers new → IsRefusedWith policy old ids layout answers refusal → ⊥
 rewritten_not_refused policy old new ids layout answers refusal is (inl step) = none-some refusal (sym is.step ∙ step)
 rewritten_not_refused policy old new ids layout answers refusal is (inr pass) = none-some refusal (sym (is.ruled pass.1.0 pass.1.1.0) ∙ pass.1.1.2)

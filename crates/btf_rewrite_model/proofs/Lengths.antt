@@ -10,8 +10,8 @@ use Rattle.btf_model.specs.Record as kinds
 use Rattle.btf_model.specs.Record.{Kind, Record, kind_of, vlen, tail_words}
 use Rattle.btf_model.specs.Refusal.{Refusal}
 use Rattle.btf_model.specs.Spelling.{HasKind}
-use Rattle.btf_rewrite_model.specs.Feature as features
-use Rattle.btf_rewrite_model.specs.Feature.{is_global, is_signed, has_no_entries, is_sized_and_empty}
+use Rattle.btf_rewrite_model.specs.declared.feature.BtfFeature.TheVariants as features
+use Rattle.btf_rewrite_model.specs.Feature.{fills_sized, is_global, is_signed, has_no_entries, is_sized_and_empty}
 use Rattle.btf_rewrite_model.specs.Made.{Entry, entries, entry_words, variants, record_at, kind_at, wants_name, byte_int, const, typedef, struct, union, enum, data_sec, with_linkage, unsigned}
 use Rattle.btf_rewrite_model.specs.Checks.{record_len}
 use Rattle.btf_rewrite_model.specs.Pass.{Pass, has, name_of, is_builtin, gets_filler, section_size, is_unsized, is_zero_or, param_text, offset_at}
@@ -128,7 +128,7 @@ filled_by p id true true true false true z false is_d unsized is_e sized is = ab
 pub is_filled : (p : Pass) (id : ℕ) → gets_filler p id ≡ true → IsFilled p id
 is_filled p id filled =
     let r : Record = record_at p.table id in
-    filled_by p id (has p features.DataSec) (is_unsized (kind_at p.table id) r) (is_sized_and_empty (kind_at p.table id) r) (has_no_entries r) (features.fills_sized p.policy)
+    filled_by p id (has p features.DataSec) (is_unsized (kind_at p.table id) r) (is_sized_and_empty (kind_at p.table id) r) (has_no_entries r) (fills_sized p.policy)
     (is_zero_or (not (has p features.DataSecZero)) (section_size p id)) (not (has p features.DataSecZero)) refl
     (λ u. (unsized_section (kind_at p.table id) r u).0) refl (λ w. ((sized_section (kind_at p.table id) r w).0, (sized_section (kind_at p.table id) r w).1)) filled
 

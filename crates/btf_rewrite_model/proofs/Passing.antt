@@ -11,15 +11,18 @@ use Rattle.std.proofs.lemmas.List.Elements.{filter-append}
 use Rattle.std.proofs.lemmas.List.Folds.{list_any-append}
 use Rattle.std.proofs.lemmas.List.Concat.{flat_map-append}
 use Rattle.std.proofs.lemmas.List.Sums.{sum_by-append}
-use Rattle.btf_rewrite_model.specs.Feature as features
-use Rattle.btf_rewrite_model.specs.Feature.{FillPolicy, Feature, Answer, number, same_feature, grants, has_no_entries}
+use Rattle.btf_rewrite_model.specs.declared.feature.BtfFeature.TheVariants as features
+use Rattle.btf_rewrite_model.specs.Feature.{is_sized_and_empty, fills_sized, number, same_feature, grants, has_no_entries}
+use Rattle.btf_rewrite_model.specs.declared.feature.BtfFeature.{BtfFeature}
+use Rattle.btf_rewrite_model.specs.declared.feature.FeatureAnswer.{FeatureAnswer}
+use Rattle.btf_rewrite_model.specs.declared.feature.FillPolicy.{FillPolicy}
 use Rattle.btf_rewrite_model.specs.Made.{record_at, kind_at}
 use Rattle.btf_model.specs.Record as kinds
 use Rattle.btf_model.specs.Record.{Kind, Record}
 use Rattle.btf_model.specs.Refusal.{Refusal}
 use Rattle.btf_model.specs.Table.{Table, type_bytes}
 use Rattle.btf_rewrite_model.specs.Checks.{first_fault, record_len}
-use Rattle.btf_rewrite_model.specs.Ksyms.{KsymsIds}
+use Rattle.btf_rewrite_model.specs.declared.ksyms_ids.KsymsIds.{KsymsIds}
 use Rattle.btf_rewrite_model.specs.Pass.{Pass, Layout, has, is_unsized, is_zero_or, section_size, texts_by, added_by, asks, asks_below, each_once, Asked, texts, texts_below, texts_len, added, added_below, gets_filler, growth_below, offset_at, free_id, type_len_at}
 use Rattle.btf_rewrite_model.specs.Rule.{becomes, ruled_below, falls_back, falls_back_by}
 use Rattle.btf_rewrite_model.specs.Fault.{fault, checks_by}
@@ -30,7 +33,7 @@ use Rattle.btf_rewrite_model.proofs.Agreeing.{same_below, same_refused}
 
 -- ---- features, each once
 
-same_sym : (f g : Feature) → same_feature f g ≡ same_feature g f
+same_sym : (f g : BtfFeature) → same_feature f g ≡ same_feature g f
 same_sym f g =
     elim (same_feature f g) as (λ (b : Bool). same_feature f g ≡ b → b ≡ same_feature g f) [
       | true ↦ λ is. sym (eq-eqb (number g) (number f) (sym (eqb-true (number f) (number g) is)))
@@ -39,15 +42,15 @@ same_sym f g =
           [ true ↦ λ back. absurd (true≢false (sym (eq-eqb (number f) (number g) (sym (eqb-true (number g) (number f) back))) ∙ is)) | false ↦ λ back. refl ] refl
     ] refl
 
-abbrev pushed : Bool → List Feature → Feature → List Feature
+abbrev pushed : Bool → List BtfFeature → BtfFeature → List BtfFeature
 pushed known fs f = if known then fs else fs ++ f ∷ []
 
 -- one more feature is new, or stands there
-pub each_once_push : (fs : List Feature) (f : Feature) → each_once (fs ++ f ∷ []) ≡ pushed (list_any (same_feature f) fs) (each_once fs) f
+pub each_once_push : (fs : List BtfFeature) (f : BtfFeature) → each_once (fs ++ f ∷ []) ≡ pushed (list_any (same_feature f) fs) (each_once fs) f
 each_once_push [] f = refl
 each_once_push (g ∷ fs) f =
-    let others : List Feature → List Feature = filter (λ h. not (same_feature g h)) in
-    let rest : List Feature = each_once fs in
+    let others : List BtfFeature → List BtfFeature = filter (λ h. not (same_feature g h)) in
+    let rest : List BtfFeature = each_once fs in
     ap (λ xs. g ∷ others xs) (each_once_push fs f)
     ∙ elim (list_any (same_feature f) fs) as (λ (known : Bool). g ∷ others (pushed known rest f) ≡ pushed (same_feature f g || known) (g ∷ others rest) f) [
       | true ↦ elim (same_feature f g) as (λ (b : Bool). g ∷ others rest ≡ pushed (b || true) (g ∷ others rest) f) [ true ↦ refl | false ↦ refl ]
@@ -57,7 +60,7 @@ each_once_push (g ∷ fs) f =
     ]
 
 -- what is among features is among them, each once
-left_in : (f g : Feature) (fs : List Feature) → same_feature g f ≡ false → IsAmong f fs → IsAmong f (filter (λ h. not (same_feature g h)) fs)
+left_in : (f g : BtfFeature) (fs : List BtfFeature) → same_feature g f ≡ false → IsAmong f fs → IsAmong f (filter (λ h. not (same_feature g h)) fs)
 left_in f g [] other among = among
 left_in f g (h ∷ fs) other among =
     elim (same_feature g h) as (λ (b : Bool). same_feature g h ≡ b → list_any (same_feature f) (cond (not b) (h ∷ filter (λ k. not (same_feature g k)) fs) (filter (λ k. not (same_feature g k)) fs)) ≡ true) [
@@ -68,7 +71,7 @@ left_in f g (h ∷ fs) other among =
           elim (same_feature f h) as (λ (b : Bool). (b || list_any (same_feature f) fs) ≡ true → (b || list_any (same_feature f) (filter (λ k. not (same_feature g k)) fs)) ≡ true) [ true ↦ λ _. refl | false ↦ λ later. left_in f g fs other later ] among
     ] refl
 
-pub among_each : (f : Feature) (fs : List Feature) → IsAmong f fs → IsAmong f (each_once fs)
+pub among_each : (f : BtfFeature) (fs : List BtfFeature) → IsAmong f fs → IsAmong f (each_once fs)
 among_each f [] among = among
 among_each f (g ∷ fs) among =
     elim (same_feature f g) as (λ (b : Bool). same_feature f g ≡ b → (b || list_any (same_feature f) fs) ≡ true → (b || list_any (same_feature f) (filter (λ h. not (same_feature g h)) (each_once fs))) ≡ true)
@@ -77,7 +80,7 @@ among_each f (g ∷ fs) among =
 -- ---- answers
 
 -- further answers do not change those to features that were answered
-pub grants_append : (answers more : List Answer) (f : Feature) → IsAmong f (features_of answers) → grants (answers ++ more) f ≡ grants answers f
+pub grants_append : (answers more : List FeatureAnswer) (f : BtfFeature) → IsAmong f (features_of answers) → grants (answers ++ more) f ≡ grants answers f
 grants_append [] more f among = absurd (false≢true among)
 grants_append (answer ∷ answers) more f among =
     elim (same_feature answer.feature f) as (λ (b : Bool). same_feature answer.feature f ≡ b → (if b then answer.granted else grants (answers ++ more) f) ≡ (if b then answer.granted else grants answers f)) [
@@ -86,26 +89,26 @@ grants_append (answer ∷ answers) more f among =
     ] refl
 
 -- the answer to a feature that was not answered
-pub grants_new : (answers : List Answer) (f : Feature) (granted : Bool) → list_any (same_feature f) (features_of answers) ≡ false → grants (answers ++ record { feature = f; granted = granted } ∷ []) f ≡ granted
+pub grants_new : (answers : List FeatureAnswer) (f : BtfFeature) (granted : Bool) → list_any (same_feature f) (features_of answers) ≡ false → grants (answers ++ record { feature = f; granted = granted } ∷ []) f ≡ granted
 grants_new [] f granted absent = ap (λ (b : Bool). if b then granted else false) (eq-eqb (number f) (number f) refl)
 grants_new (answer ∷ answers) f granted absent =
     let parts = or_parts (same_feature f answer.feature) (list_any (same_feature f) (features_of answers)) absent in
     ap (λ (b : Bool). if b then answer.granted else grants (answers ++ record { feature = f; granted = granted } ∷ []) f) (same_sym answer.feature f ∙ parts.0) ∙ grants_new answers f granted parts.1
 
 -- what was answered to a feature: what its first answer says
-abbrev pub answer_to : List Answer → Feature → Option Bool
+abbrev pub answer_to : List FeatureAnswer → BtfFeature → Option Bool
 answer_to [] f = None
 answer_to (answer ∷ answers) f = if same_feature answer.feature f then Some answer.granted else answer_to answers f
 
 -- Asking for one more feature: the old answer, or a new one after the others.
-abbrev pub AnswersWith : Option Bool → List Answer → Feature → Bool → List Answer → Type 0
+abbrev pub AnswersWith : Option Bool → List FeatureAnswer → BtfFeature → Bool → List FeatureAnswer → Type 0
 AnswersWith (Some told) answers f granted new = (granted ≡ told) × (new ≡ answers)
 AnswersWith None answers f granted new = new ≡ answers ++ record { feature = f; granted = granted } ∷ []
 
-abbrev pub NextAnswers : List Answer → Feature → Bool → List Answer → Type 0
+abbrev pub NextAnswers : List FeatureAnswer → BtfFeature → Bool → List FeatureAnswer → Type 0
 NextAnswers answers f granted new = AnswersWith (answer_to answers f) answers f granted new
 
-answered : (answers : List Answer) (f : Feature) (told : Bool) → answer_to answers f ≡ Some told → IsAmong f (features_of answers) × (grants answers f ≡ told)
+answered : (answers : List FeatureAnswer) (f : BtfFeature) (told : Bool) → answer_to answers f ≡ Some told → IsAmong f (features_of answers) × (grants answers f ≡ told)
 answered [] f told is = absurd (none-some told is)
 answered (answer ∷ answers) f told is =
     elim (same_feature answer.feature f) as (λ (b : Bool). same_feature answer.feature f ≡ b → (if b then Some answer.granted else answer_to answers f) ≡ Some told → ((same_feature f answer.feature || list_any (same_feature f) (features_of answers)) ≡ true) × ((if b then answer.granted else grants answers f) ≡ told)) [
@@ -119,7 +122,7 @@ answered (answer ∷ answers) f told is =
     or_from_left true b is_true = refl
     or_from_left false b is_true = absurd (false≢true is_true)
 
-unanswered : (answers : List Answer) (f : Feature) → answer_to answers f ≡ None → list_any (same_feature f) (features_of answers) ≡ false
+unanswered : (answers : List FeatureAnswer) (f : BtfFeature) → answer_to answers f ≡ None → list_any (same_feature f) (features_of answers) ≡ false
 unanswered [] f none = refl
 unanswered (answer ∷ answers) f none =
     elim (same_feature answer.feature f) as (λ (b : Bool). same_feature answer.feature f ≡ b → (if b then Some answer.granted else answer_to answers f) ≡ None → (same_feature f answer.feature || list_any (same_feature f) (features_of answers)) ≡ false) [
@@ -128,34 +131,34 @@ unanswered (answer ∷ answers) f none =
     ] refl none
 
 -- one more feature is asked for
-pub asked_next : (fs : List Feature) (answers new : List Answer) (f : Feature) (granted : Bool) → AreAnswersTo fs answers → NextAnswers answers f granted new
-    → AreAnswersTo (fs ++ f ∷ []) new × (grants new f ≡ granted) × ((more : List Answer) × (new ≡ answers ++ more))
+pub asked_next : (fs : List BtfFeature) (answers new : List FeatureAnswer) (f : BtfFeature) (granted : Bool) → AreAnswersTo fs answers → NextAnswers answers f granted new
+    → AreAnswersTo (fs ++ f ∷ []) new × (grants new f ≡ granted) × ((more : List FeatureAnswer) × (new ≡ answers ++ more))
 asked_next fs answers new f granted asked next =
-    elim (answer_to answers f) as (λ (o : Option Bool). answer_to answers f ≡ o → AnswersWith o answers f granted new → AreAnswersTo (fs ++ f ∷ []) new × (grants new f ≡ granted) × ((more : List Answer) × (new ≡ answers ++ more))) [
+    elim (answer_to answers f) as (λ (o : Option Bool). answer_to answers f ≡ o → AnswersWith o answers f granted new → AreAnswersTo (fs ++ f ∷ []) new × (grants new f ≡ granted) × ((more : List FeatureAnswer) × (new ≡ answers ++ more))) [
       | None ↦ λ none is.
           let absent : list_any (same_feature f) (features_of answers) ≡ false = unanswered answers f none in
           let new_one : list_any (same_feature f) fs ≡ false = absent_from_each f fs (ap (list_any (same_feature f)) (sym asked) ∙ absent) in (
-            ap features_of is ∙ map-append (λ (answer : Answer). answer.feature) answers (record { feature = f; granted = granted } ∷ []) ∙ ap (λ xs. xs ++ f ∷ []) asked
+            ap features_of is ∙ map-append (λ (answer : FeatureAnswer). answer.feature) answers (record { feature = f; granted = granted } ∷ []) ∙ ap (λ xs. xs ++ f ∷ []) asked
                 ∙ ap (λ (b : Bool). pushed b (each_once fs) f) (sym new_one) ∙ sym (each_once_push fs f),
-            ap (λ (xs : List Answer). grants xs f) is ∙ grants_new answers f granted absent,
+            ap (λ (xs : List FeatureAnswer). grants xs f) is ∙ grants_new answers f granted absent,
             (record { feature = f; granted = granted } ∷ [], is),
           )
       | Some told ↦ λ some is.
           let there : IsAmong f (features_of answers) × (grants answers f ≡ told) = answered answers f told some in
           let old_one : list_any (same_feature f) fs ≡ true = each_among f fs (ap (list_any (same_feature f)) (sym asked) ∙ there.0) in (
             ap features_of is.1 ∙ asked ∙ ap (λ (b : Bool). pushed b (each_once fs) f) (sym old_one) ∙ sym (each_once_push fs f),
-            ap (λ (xs : List Answer). grants xs f) is.1 ∙ there.1 ∙ sym is.0,
+            ap (λ (xs : List FeatureAnswer). grants xs f) is.1 ∙ there.1 ∙ sym is.0,
             ([], is.1 ∙ sym (append-nil answers)),
           )
     ] refl next
   where
-    each_among : (g : Feature) (gs : List Feature) → IsAmong g (each_once gs) → IsAmong g gs
+    each_among : (g : BtfFeature) (gs : List BtfFeature) → IsAmong g (each_once gs) → IsAmong g gs
     each_among g [] among = among
     each_among g (h ∷ gs) among =
         elim (same_feature g h) as (λ (b : Bool). (b || list_any (same_feature g) (filter (λ k. not (same_feature h k)) (each_once gs))) ≡ true → (b || list_any (same_feature g) gs) ≡ true)
         [ true ↦ λ _. refl | false ↦ λ later. each_among g gs (filtered_among (each_once gs) (λ k. not (same_feature h k)) later) ] among
       where
-        filtered_among : (ks : List Feature) (test : Feature → Bool) → IsAmong g (filter test ks) → IsAmong g ks
+        filtered_among : (ks : List BtfFeature) (test : BtfFeature → Bool) → IsAmong g (filter test ks) → IsAmong g ks
         filtered_among [] test inside = inside
         filtered_among (k ∷ ks) test inside =
             elim (test k) as (λ (b : Bool). list_any (same_feature g) (cond b (k ∷ filter test ks) (filter test ks)) ≡ true → (same_feature g k || list_any (same_feature g) ks) ≡ true) [
@@ -163,27 +166,27 @@ asked_next fs answers new f granted asked next =
               | false ↦ λ later. or_right (same_feature g k) (list_any (same_feature g) ks) (filtered_among ks test later)
             ] inside
 
-    absent_from_each : (g : Feature) (gs : List Feature) → list_any (same_feature g) (each_once gs) ≡ false → list_any (same_feature g) gs ≡ false
+    absent_from_each : (g : BtfFeature) (gs : List BtfFeature) → list_any (same_feature g) (each_once gs) ≡ false → list_any (same_feature g) gs ≡ false
     absent_from_each g gs absent =
         elim (list_any (same_feature g) gs) as (λ (b : Bool). list_any (same_feature g) gs ≡ b → b ≡ false) [ true ↦ λ is. absurd (true≢false (sym (among_each g gs is) ∙ absent)) | false ↦ λ is. refl ] refl
 
 -- features that come after others change nothing of what is there once
-pub each_once_begins : (fs gs : List Feature) → (rest : List Feature) × (each_once (fs ++ gs) ≡ each_once fs ++ rest)
+pub each_once_begins : (fs gs : List BtfFeature) → (rest : List BtfFeature) × (each_once (fs ++ gs) ≡ each_once fs ++ rest)
 each_once_begins [] gs = (each_once gs, refl)
 each_once_begins (f ∷ fs) gs =
-    let others : List Feature → List Feature = filter (λ h. not (same_feature f h)) in
+    let others : List BtfFeature → List BtfFeature = filter (λ h. not (same_feature f h)) in
     let inner = each_once_begins fs gs in
     (others inner.0, ap (λ xs. f ∷ others xs) inner.1 ∙ ap (λ xs. f ∷ xs) (filter-append (λ h. not (same_feature f h)) (each_once fs) inner.0))
 
 -- what ids ask for begins with what lower ones do
-pub asks_begin : (p : Pass) (id count : ℕ) → id ≤ count → (rest : List Feature) × (asks_below p count ≡ asks_below p id ++ rest)
+pub asks_begin : (p : Pass) (id count : ℕ) → id ≤ count → (rest : List BtfFeature) × (asks_below p count ≡ asks_below p id ++ rest)
 asks_begin p id zero le =
     let none : 0 ≡ id = omega (arith, le) in
     ([], ap (asks_below p) none ∙ sym (append-nil (asks_below p id)))
 asks_begin p id (suc count) le =
-    elim (cases_order id (suc count)) as (λ c. (rest : List Feature) × (asks_below p (suc count) ≡ asks_below p id ++ rest)) [
+    elim (cases_order id (suc count)) as (λ c. (rest : List BtfFeature) × (asks_below p (suc count) ≡ asks_below p id ++ rest)) [
       | inl same ↦ ([], ap (asks_below p) (sym same) ∙ sym (append-nil (asks_below p id)))
-      | inr other ↦ elim other as (λ c. (rest : List Feature) × (asks_below p (suc count) ≡ asks_below p id ++ rest)) [
+      | inr other ↦ elim other as (λ c. (rest : List BtfFeature) × (asks_below p (suc count) ≡ asks_below p id ++ rest)) [
         | inl less ↦
             let inner = asks_begin p id count (omega (arith, less)) in
             (inner.0 ++ asks p count, ap (λ fs. fs ++ asks p count) inner.1 ∙ append_assoc (asks_below p id) inner.0 (asks p count))
@@ -194,14 +197,14 @@ asks_begin p id (suc count) le =
 -- ---- the pass
 
 -- further answers agree
-pub further_agree : (p : Pass) (id : ℕ) (more : List Answer) → AreAnswersTo (asks_below p id) p.answers → Agree p (p.answers ++ more) id
+pub further_agree : (p : Pass) (id : ℕ) (more : List FeatureAnswer) → AreAnswersTo (asks_below p id) p.answers → Agree p (p.answers ++ more) id
 further_agree p id more asked f among = grants_append p.answers more f (ap (list_any (same_feature f)) asked ∙ among_each f (asks_below p id) among)
 
 -- so they change nothing below
-pub further_same : (p : Pass) (id : ℕ) (more : List Answer) → IsAt p id → IsSameBelow p (p.answers ++ more) id
+pub further_same : (p : Pass) (id : ℕ) (more : List FeatureAnswer) → IsAt p id → IsSameBelow p (p.answers ++ more) id
 further_same p id more at = same_below p (p.answers ++ more) id (further_agree p id more at.asked) at.ruled
 
-among_up_to : (p : Pass) (id j : ℕ) (f : Feature) → j < id → IsAmong f (asks_below p (suc j)) → IsAmong f (asks_below p id)
+among_up_to : (p : Pass) (id j : ℕ) (f : BtfFeature) → j < id → IsAmong f (asks_below p (suc j)) → IsAmong f (asks_below p id)
 among_up_to p zero j f less among = absurd (omega (arith, less))
 among_up_to p (suc id) j f less among =
     elim (cases_order j id) as (λ c. IsAmong f (asks_below p (suc id))) [
@@ -217,16 +220,16 @@ among_up_to p (suc id) j f less among =
     from_left false b is = absurd (false≢true is)
 
 -- none of the ids below is refused under further answers
-pub further_ruled : (p : Pass) (id : ℕ) (more : List Answer) → IsAt p id → AreRuled (with_answers p (p.answers ++ more)) id
+pub further_ruled : (p : Pass) (id : ℕ) (more : List FeatureAnswer) → IsAt p id → AreRuled (with_answers p (p.answers ++ more)) id
 further_ruled p id more at j less =
     same_refused p (p.answers ++ more) j (λ f among. further_agree p id more at.asked f (among_up_to p id j f less among)) (λ k below. at.ruled k (omega (arith, below, less))) ∙ at.ruled j less
 
 -- the answers to what the ids up to one ask for
-pub asked_to : (p : Pass) (id : ℕ) (more : List Answer) → IsAt p id → AreAnswersTo (asks_below p id ++ asks (with_answers p (p.answers ++ more)) id) (p.answers ++ more) → AreAnswersTo (asks_below (with_answers p (p.answers ++ more)) (suc id)) (p.answers ++ more)
-asked_to p id more at asked = asked ∙ ap (λ (fs : List Feature). each_once (fs ++ asks (with_answers p (p.answers ++ more)) id)) (sym (further_same p id more at).asks)
+pub asked_to : (p : Pass) (id : ℕ) (more : List FeatureAnswer) → IsAt p id → AreAnswersTo (asks_below p id ++ asks (with_answers p (p.answers ++ more)) id) (p.answers ++ more) → AreAnswersTo (asks_below (with_answers p (p.answers ++ more)) (suc id)) (p.answers ++ more)
+asked_to p id more at asked = asked ∙ ap (λ (fs : List BtfFeature). each_once (fs ++ asks (with_answers p (p.answers ++ more)) id)) (sym (further_same p id more at).asks)
 
 -- One more id is gone past: its asks are answered after the others, and it is not refused.
-pub goes_on : (p : Pass) (id : ℕ) (more : List Answer) → IsAt p id → AreAnswersTo (asks_below p id ++ asks (with_answers p (p.answers ++ more)) id) (p.answers ++ more) → fault (with_answers p (p.answers ++ more)) id ≡ None
+pub goes_on : (p : Pass) (id : ℕ) (more : List FeatureAnswer) → IsAt p id → AreAnswersTo (asks_below p id ++ asks (with_answers p (p.answers ++ more)) id) (p.answers ++ more) → fault (with_answers p (p.answers ++ more)) id ≡ None
     → IsAt (with_answers p (p.answers ++ more)) (suc id)
 goes_on p id more at asked passed =
     let q : Pass = with_answers p (p.answers ++ more) in
@@ -243,7 +246,7 @@ goes_on p id more at asked passed =
     }
 
 -- What the ids up to one append and become, where those below are gone past.
-pub record Grows (p : Pass) (more : List Answer) (id : ℕ) : Type 0 where
+pub record Grows (p : Pass) (more : List FeatureAnswer) (id : ℕ) : Type 0 where
   pub texts : texts_below (with_answers p (p.answers ++ more)) (suc id) ≡ texts_below p id ++ texts (with_answers p (p.answers ++ more)) id
   pub added : added_below (with_answers p (p.answers ++ more)) (suc id) ≡ added_below p id ++ added (with_answers p (p.answers ++ more)) id
   pub growth : growth_below (with_answers p (p.answers ++ more)) (suc id) ≡ growth_below p id + (if gets_filler (with_answers p (p.answers ++ more)) id then 12 else 0)
@@ -252,7 +255,7 @@ pub record Grows (p : Pass) (more : List Answer) (id : ℕ) : Type 0 where
   pub free : free_id (with_answers p (p.answers ++ more)) id ≡ free_id p id
   pub type_len : type_len_at (with_answers p (p.answers ++ more)) id ≡ type_len_at p id
 
-pub grows : (p : Pass) (more : List Answer) (id : ℕ) → IsAt p id → Grows p more id
+pub grows : (p : Pass) (more : List FeatureAnswer) (id : ℕ) → IsAt p id → Grows p more id
 grows p more id at =
     let q : Pass = with_answers p (p.answers ++ more) in
     let same : IsSameBelow p (p.answers ++ more) id = further_same p id more at in
@@ -269,12 +272,12 @@ grows p more id at =
 -- ---- the end
 
 -- A pass that has gone past all ids is a rewrite, and the answers are those to what it asks for.
-pub passes : (policy : FillPolicy) (old : Table) (ids : Option KsymsIds) (layout : Layout) (answers : List Answer) → step_fault old ids ≡ None → IsAt (pass_with policy old ids layout answers) (old_count (pass_with policy old ids layout answers))
+pub passes : (policy : FillPolicy) (old : Table) (ids : Option KsymsIds) (layout : Layout) (answers : List FeatureAnswer) → step_fault old ids ≡ None → IsAt (pass_with policy old ids layout answers) (old_count (pass_with policy old ids layout answers))
     → RewrittenWith policy old ids layout answers (rewritten (pass_with policy old ids layout answers)) × (features_of answers ≡ Asked (pass_with policy old ids layout answers))
 passes policy old ids layout answers step at = (record { step = step; ruled = at.ruled; table = refl }, at.asked)
 
 -- One that is refused at an id is refused for that.
-pub is_refused_at : (policy : FillPolicy) (old : Table) (ids : Option KsymsIds) (layout : Layout) (answers : List Answer) (id : ℕ) (refusal : Refusal) → step_fault old ids ≡ None → id < old_count (pass_with policy old ids layout answers)
+pub is_refused_at : (policy : FillPolicy) (old : Table) (ids : Option KsymsIds) (layout : Layout) (answers : List FeatureAnswer) (id : ℕ) (refusal : Refusal) → step_fault old ids ≡ None → id < old_count (pass_with policy old ids layout answers)
     → AreRuled (pass_with policy old ids layout answers) id → fault (pass_with policy old ids layout answers) id ≡ Some refusal → IsRefusedWith policy old ids layout answers refusal
 is_refused_at policy old ids layout answers id refusal step lt ruled faults = inr (step, (id, (lt, ruled, faults)))
 
@@ -285,7 +288,7 @@ pub made_at_first : (p : Pass) → HasMade p 0 [] [] [] (length (type_bytes p.ta
 made_at_first p = record { strings_are = refl; types_are = refl; new_are = refl; type_len_is = omega arith }
 
 -- One more id adds its own.
-pub made_next : (p : Pass) (id : ℕ) (more : List Answer) (strings : List ℕ) (types new : List Record) (type_len : ℕ) → IsAt p id → HasMade p id strings types new type_len
+pub made_next : (p : Pass) (id : ℕ) (more : List FeatureAnswer) (strings : List ℕ) (types new : List Record) (type_len : ℕ) → IsAt p id → HasMade p id strings types new type_len
     → HasMade (with_answers p (p.answers ++ more)) (suc id) (strings ++ flat_map ended (texts (with_answers p (p.answers ++ more)) id)) (types ++ added (with_answers p (p.answers ++ more)) id)
     (new ++ becomes (with_answers p (p.answers ++ more)) id ∷ [])
     (type_len + sum_by record_len (added (with_answers p (p.answers ++ more)) id) + (if gets_filler (with_answers p (p.answers ++ more)) id then 12 else 0))
@@ -338,10 +341,10 @@ quiet p id is = record {
     never false s h = refl
 
     no_filler : (k : Option Kind) → is_quiet k ≡ true
-        → (has p features.DataSec && ((features.fills_sized p.policy && features.is_sized_and_empty k (record_at p.table id) && not (has p features.DataSecZero))
+        → (has p features.DataSec && ((fills_sized p.policy && is_sized_and_empty k (record_at p.table id) && not (has p features.DataSecZero))
         || (is_unsized k (record_at p.table id) && has_no_entries (record_at p.table id) && is_zero_or (not (has p features.DataSecZero)) (section_size p id)))) ≡ false
     no_filler (Some kinds.DataSec) quiet_kind = absurd (false≢true quiet_kind)
-    no_filler k quiet_kind = never (has p features.DataSec) (features.fills_sized p.policy) (not (has p features.DataSecZero))
+    no_filler k quiet_kind = never (has p features.DataSec) (fills_sized p.policy) (not (has p features.DataSecZero))
 
     no_checks : (k : Option Kind) → is_quiet k ≡ true → checks_by p id k (record_at p.table id) ≡ []
     no_checks (Some kinds.Func) quiet_kind = absurd (false≢true quiet_kind)

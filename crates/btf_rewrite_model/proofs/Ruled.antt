@@ -8,11 +8,13 @@ use Rattle.std.proofs.lemmas.List.FromFn.{length-map-range_with_len, get_or-map-
 use Rattle.std.proofs.lemmas.Option.{slice_get-get_or}
 use Rattle.btf_model.specs.Record as kinds
 use Rattle.btf_model.specs.Record.{Kind, Record, unknown, kind_of, vlen}
-use Rattle.btf_rewrite_model.specs.Feature as features
+use Rattle.btf_rewrite_model.specs.declared.feature.BtfFeature.TheVariants as features
 use Rattle.btf_model.specs.Table.{Table, Fallback, no_fallbacks}
-use Rattle.btf_rewrite_model.specs.Made.{record_at, kind_at, ids_of, union, variants, fallback_of}
-use Rattle.btf_rewrite_model.specs.Ksyms.{KsymsIds}
-use Rattle.btf_rewrite_model.specs.Feature.{FillPolicy, Answer, grants}
+use Rattle.btf_rewrite_model.specs.Made.{record_at, kind_at, table_ids, union, variants, fallback_of}
+use Rattle.btf_rewrite_model.specs.declared.ksyms_ids.KsymsIds.{KsymsIds}
+use Rattle.btf_rewrite_model.specs.Feature.{grants}
+use Rattle.btf_rewrite_model.specs.declared.feature.FeatureAnswer.{FeatureAnswer}
+use Rattle.btf_rewrite_model.specs.declared.feature.FillPolicy.{FillPolicy}
 use Rattle.btf_rewrite_model.specs.Pass.{Pass, Layout, has, added_below}
 use Rattle.btf_rewrite_model.specs.Rule.{becomes, becomes_by, ruled_below, falls_back, falls_back_by, variant_members, placeholder_id}
 use Rattle.btf_rewrite_model.specs.Rewritten.{begun, old_count, pass_with, RewrittenWith}
@@ -39,7 +41,7 @@ ruled_at p (suc n) id lt = ruled_among p n id lt (ruled_at p n id) (cases_order 
 
 -- ---- the rewritten table
 
-module _ (policy : FillPolicy) (old new : Table) (ids : Option KsymsIds) (layout : Layout) (answers : List Answer) (is : RewrittenWith policy old ids layout answers new) where
+module _ (policy : FillPolicy) (old new : Table) (ids : Option KsymsIds) (layout : Layout) (answers : List FeatureAnswer) (is : RewrittenWith policy old ids layout answers new) where
   pass : Pass
   pass = pass_with policy old ids layout answers
 
@@ -58,7 +60,7 @@ module _ (policy : FillPolicy) (old new : Table) (ids : Option KsymsIds) (layout
   pub fallback_new : (id : ℕ) → id < old_count (pass_with policy old ids layout answers) → slice_get new.fallbacks id ≡ Some (falls_back (pass_with policy old ids layout answers) id)
   fallback_new id lt =
       let p : Pass = pass_with policy old ids layout answers in
-      let each : List (Option Fallback) = map (falls_back p) (ids_of p.table) in
+      let each : List (Option Fallback) = map (falls_back p) (table_ids p.table) in
       let len : length each ≡ old_count p = length-map-range_with_len (falls_back p) 0 (old_count p) in
       let within : id < length each = omega (arith, lt, len) in
       ap (λ (t : Table). slice_get t.fallbacks id) is.table ∙ slice_get-append_left each (no_fallbacks (added_below p (old_count p))) id within
@@ -76,7 +78,7 @@ union_kind p lower id k r is denied =
 left_fallback : (p : Pass) (k : Option Kind) (r : Record) (before : Option Fallback) → k ≡ Some kinds.Enum64 → has p features.Enum64 ≡ false → falls_back_by p k r before ≡ Some (fallback_of r)
 left_fallback p k r before is denied = ap (λ (j : Option Kind). falls_back_by p j r before) is ∙ ap (λ (b : Bool). if b then before else Some (fallback_of r)) denied
 
-pub enum64_kept : (policy : FillPolicy) (old new : Table) (ids : Option KsymsIds) (layout : Layout) (answers : List Answer) → RewrittenWith policy old ids layout answers new
+pub enum64_kept : (policy : FillPolicy) (old new : Table) (ids : Option KsymsIds) (layout : Layout) (answers : List FeatureAnswer) → RewrittenWith policy old ids layout answers new
     → (id : ℕ) → id < length (begun old ids).records → kind_at (begun old ids) id ≡ Some kinds.Enum64 → grants answers features.Enum64 ≡ false
     → (kind_at new id ≡ Some kinds.Union) × (slice_get new.fallbacks id ≡ Some (Some (fallback_of (record_at (begun old ids) id))))
 enum64_kept policy old new ids layout answers is id lt kind denied =

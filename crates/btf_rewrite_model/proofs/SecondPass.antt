@@ -8,8 +8,10 @@ use Rattle.std.proofs.lemmas.Slice.Eq.{bytes_eq-Decides}
 use Rattle.btf_model.specs.Record as kinds
 use Rattle.btf_model.specs.Record.{Kind, Record, unknown, kind_of, vlen}
 use Rattle.btf_model.specs.Table.{Fallback}
-use Rattle.btf_rewrite_model.specs.Feature as features
-use Rattle.btf_rewrite_model.specs.Feature.{Feature, Answer, same_feature, is_global, is_signed, has_no_entries, needs_by, is_sized_and_empty, fills_sized}
+use Rattle.btf_rewrite_model.specs.declared.feature.BtfFeature.TheVariants as features
+use Rattle.btf_rewrite_model.specs.Feature.{same_feature, is_global, is_signed, has_no_entries, needs_by, is_sized_and_empty, fills_sized}
+use Rattle.btf_rewrite_model.specs.declared.feature.BtfFeature.{BtfFeature}
+use Rattle.btf_rewrite_model.specs.declared.feature.FeatureAnswer.{FeatureAnswer}
 use Rattle.btf_rewrite_model.specs.Made.{record_at, kind_at, entries, variants, byte_int, const, typedef, struct, union, enum, with_linkage, unsigned, fallback_of}
 use Rattle.btf_rewrite_model.specs.Checks.{first_fault, is_read, have_room, fits, record_len}
 use Rattle.btf_rewrite_model.specs.Pass.{Pass, has, name_of, name_checks, sized_asks_zero, unsized_asks_zero, replaced, slash, dot, section_name, renaming, gets_filler, makes_filler, makes_placeholder, wants_placeholder, least, is_enum64, is_unsized, is_zero_or, is_positive, section_size, is_builtin, texts, texts_by, param_texts, offset_at, added, added_by, free_id, func_asks, data_sec_asks, asks_by, filler_type_text, filler_text, filler, filler_offset, placeholder_text, param_text, underscore, type_len_at}
@@ -20,7 +22,7 @@ use Rattle.btf_rewrite_model.proofs.Asking.{needed_by}
 use Rattle.btf_rewrite_model.proofs.Agreeing.{first_among, second_among}
 use Rattle.btf_rewrite_model.proofs.NewFacts.{NoneWants, FactOf}
 
-one_in_both : (f : Feature) (c : Bool) → IsAmong f (features.DataSec ∷ []) → IsAmong f (if c then features.DataSec ∷ features.DataSecZero ∷ [] else features.DataSec ∷ [])
+one_in_both : (f : BtfFeature) (c : Bool) → IsAmong f (features.DataSec ∷ []) → IsAmong f (if c then features.DataSec ∷ features.DataSecZero ∷ [] else features.DataSec ∷ [])
 one_in_both f false among = among
 one_in_both f true among = ap (λ (b : Bool). b || (same_feature f features.DataSecZero || false)) (or_false (same_feature f features.DataSec) among)
   where
@@ -29,7 +31,7 @@ one_in_both f true among = ap (λ (b : Bool). b || (same_feature f features.Data
     or_false false is = is
 
 -- one that has a size asks for the second where it has no entries, and is never exempt then
-zero_asked : (f : Feature) (d s x z e named room size : Bool) → z ≡ false → IsAmong f (if d && ((s && not z && e && named) || (z && e && room && size)) then features.DataSec ∷ features.DataSecZero ∷ [] else features.DataSec ∷ [])
+zero_asked : (f : BtfFeature) (d s x z e named room size : Bool) → z ≡ false → IsAmong f (if d && ((s && not z && e && named) || (z && e && room && size)) then features.DataSec ∷ features.DataSecZero ∷ [] else features.DataSec ∷ [])
     → IsAmong f (if e && not (not s && x) then features.DataSec ∷ features.DataSecZero ∷ [] else features.DataSec ∷ [])
 zero_asked f d s x true e named room size sized among = absurd (false≢true (sym sized))
 zero_asked f d true x false true named room size sized among = both_of (d && (named || false)) among
@@ -44,7 +46,7 @@ zero_asked f true false x false false named room size sized among = among
 zero_asked f false s x false false named room size sized among = among
 
 -- what a record asks for is needed for it, whatever stood there before
-pub asks_need : (q : Pass) (id : ℕ) (x : Bool) (f : Feature) (k : Option Kind) (r : Record) → (k ≡ Some kinds.DataSec → (r.third == 0) ≡ false) → IsAmong f (asks_by q id k r)
+pub asks_need : (q : Pass) (id : ℕ) (x : Bool) (f : BtfFeature) (k : Option Kind) (r : Record) → (k ≡ Some kinds.DataSec → (r.third == 0) ≡ false) → IsAmong f (asks_by q id k r)
     → IsAmong f (needs_by (not (fills_sized q.policy) && x) k r)
 asks_need q id x f (Some kinds.DataSec) r sized among =
     zero_asked f (has q features.DataSec) (fills_sized q.policy) x (r.third == 0) (has_no_entries r) (is_none (first_fault (name_checks q id)))
@@ -101,7 +103,7 @@ module _ (p q : Pass) (id : ℕ) where
 
   -- one that has a size gets no filler where what it asks for is granted
   no_filler : kind_at q.table id ≡ Some kinds.DataSec → ((record_at q.table id).third == 0) ≡ false → has q features.DataSec ≡ true → first_fault (name_checks q id) ≡ None
-      → ((f : Feature) → IsAmong f (data_sec_asks q id (record_at q.table id)) → has q f ≡ true) → gets_filler q id ≡ false
+      → ((f : BtfFeature) → IsAmong f (data_sec_asks q id (record_at q.table id)) → has q f ≡ true) → gets_filler q id ≡ false
   no_filler kind sized is_granted named granted =
       let r : Record = record_at q.table id in
       ap (λ (k : Option Kind). has q features.DataSec && ((fills_sized q.policy && is_sized_and_empty k r && not (has q features.DataSecZero)) || (is_unsized k r && has_no_entries r && is_zero_or (not (has q features.DataSecZero)) (section_size q id)))) kind
@@ -118,7 +120,7 @@ module _ (p q : Pass) (id : ℕ) where
       never true false e false h true a x is_d is_z is_named asked = refl
 
   pub stays : (k : Option Kind) → kind_at q.table id ≡ k → FactOf p q.table.strings k (record_at q.table id) → (k ≡ Some kinds.DataSec → ((record_at q.table id).third == 0) ≡ false)
-      → ((f : Feature) → IsAmong f (asks_by q id k (record_at q.table id)) → has q f ≡ true) → Stays q id k
+      → ((f : BtfFeature) → IsAmong f (asks_by q id k (record_at q.table id)) → has q f ≡ true) → Stays q id k
   stays (Some kinds.Ptr) kind fact sized granted = kept q id (Some kinds.Ptr) (λ lower. ap (λ (n : ℕ). record (record_at q.table id) { name = n }) (sym fact)) refl (λ free. refl) (λ old. refl) refl
   stays (Some kinds.Var) kind fact sized granted = kept q id (Some kinds.Var) (λ lower. ap (λ (b : Bool). if b then record_at q.table id else byte_int (record_at q.table id).name) (granted features.DataSec refl)) refl (λ free. refl) (λ old. refl) refl
   stays (Some kinds.Float) kind fact sized granted = kept q id (Some kinds.Float) (λ lower. ap (λ (b : Bool). if b then record_at q.table id else struct 0 (record_at q.table id).third 0 []) (granted features.Float refl)) refl (λ free. refl) (λ old. refl) refl
@@ -141,7 +143,7 @@ module _ (p q : Pass) (id : ℕ) where
       let r : Record = record_at q.table id in
       let name : List ℕ = fact.0 in
       let reads : name_of q id ≡ Ok name = fact.1 in
-      let asked : (f : Feature) → IsAmong f (func_asks q r (Ok name)) → has q f ≡ true = λ f among. granted f (subst (λ m. IsAmong f (func_asks q r m)) (sym reads) among) in
+      let asked : (f : BtfFeature) → IsAmong f (func_asks q r (Ok name)) → has q f ≡ true = λ f among. granted f (subst (λ m. IsAmong f (func_asks q r m)) (sym reads) among) in
       let is_granted : has q features.Func ≡ true = asked features.Func (func_among (has q features.Func && is_global r && not (is_builtin name))) in
       let keeps : (is_global r && (is_builtin name || not (has q features.FuncGlobal))) ≡ false = func_stays (is_global r) (is_builtin name) (has p features.FuncGlobal) (has q features.Func) (has q features.FuncGlobal) is_granted fact.2 (asked features.FuncGlobal) in
       kept q id (Some kinds.Func)

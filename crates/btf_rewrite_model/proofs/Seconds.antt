@@ -12,8 +12,9 @@ use Rattle.std.proofs.Math.Seq.{take-suc}
 use Rattle.btf_model.specs.Record as kinds
 use Rattle.btf_model.specs.Record.{Kind, Record, unknown, kind_of}
 use Rattle.btf_model.specs.Table.{Table, Fallback, no_fallbacks}
-use Rattle.btf_rewrite_model.specs.Feature.{Feature, same_feature, is_sized_and_empty}
-use Rattle.btf_rewrite_model.specs.Made.{record_at, kind_at, ids_of, byte_int, static_var}
+use Rattle.btf_rewrite_model.specs.Feature.{same_feature, is_sized_and_empty}
+use Rattle.btf_rewrite_model.specs.declared.feature.BtfFeature.{BtfFeature}
+use Rattle.btf_rewrite_model.specs.Made.{record_at, kind_at, table_ids, byte_int, static_var}
 use Rattle.btf_rewrite_model.specs.Pass.{Pass, makes_placeholder, makes_filler, offset_at, filler_offset, filler, filler_type_text, texts, texts_below, added_by, added_below, asks, asks_below}
 use Rattle.btf_rewrite_model.specs.Rule.{becomes, ruled_below, falls_back}
 use Rattle.btf_rewrite_model.specs.Rewritten.{pass_with, old_count, ended, rewritten, AreRuled}
@@ -43,7 +44,7 @@ module _ (q : Pass) (each : (id : ℕ) → id < old_count q → Stays q id (kind
       ap (λ (r : Record). ruled_below q n ++ r ∷ []) ((each n lt).becomes (ruled_below q n)) ∙ ap (λ rs. rs ++ record_at q.table n ∷ []) (same_records n (omega (arith, lt)))
       ∙ ap (λ (r : Record). take n q.table.records ++ r ∷ []) there ∙ sym (take-suc q.table.records n unknown lt)
 
-  same_fallbacks : length q.table.fallbacks ≡ old_count q → map (falls_back q) (ids_of q.table) ≡ q.table.fallbacks
+  same_fallbacks : length q.table.fallbacks ≡ old_count q → map (falls_back q) (table_ids q.table) ≡ q.table.fallbacks
   same_fallbacks many =
       sym (fill_by_all (falls_back q) q.table.fallbacks (old_count q) None many (λ k lt.
       let there : slice_get q.table.fallbacks k ≡ Some (get_or q.table.fallbacks k None) = slice_get-get_or q.table.fallbacks k None (omega (arith, lt, many)) in
@@ -56,9 +57,9 @@ module _ (q : Pass) (each : (id : ℕ) → id < old_count q → Stays q id (kind
       let all : n ≤ old_count q = omega arith in
       ap (λ ts. record (rewritten q) { strings = q.table.strings ++ flat_map ended ts }) (no_texts n all)
       ∙ ap (λ xs. record (rewritten q) { strings = xs }) (append-nil q.table.strings)
-      ∙ ap (λ rs. record (rewritten q) { strings = q.table.strings; records = ruled_below q n ++ rs; fallbacks = map (falls_back q) (ids_of q.table) ++ no_fallbacks rs }) (none_added n all)
-      ∙ ap (λ rs. record q.table { records = rs; fallbacks = map (falls_back q) (ids_of q.table) ++ [] }) (append-nil (ruled_below q n) ∙ same_records n all ∙ take_all n q.table.records all)
-      ∙ ap (λ fs. record q.table { fallbacks = fs }) (append-nil (map (falls_back q) (ids_of q.table)) ∙ same_fallbacks many)
+      ∙ ap (λ rs. record (rewritten q) { strings = q.table.strings; records = ruled_below q n ++ rs; fallbacks = map (falls_back q) (table_ids q.table) ++ no_fallbacks rs }) (none_added n all)
+      ∙ ap (λ rs. record q.table { records = rs; fallbacks = map (falls_back q) (table_ids q.table) ++ [] }) (append-nil (ruled_below q n) ∙ same_records n all ∙ take_all n q.table.records all)
+      ∙ ap (λ fs. record q.table { fallbacks = fs }) (append-nil (map (falls_back q) (table_ids q.table)) ∙ same_fallbacks many)
 
   pub none_refused : AreRuled q (old_count q)
   none_refused id lt = (each id lt).passes
@@ -91,7 +92,7 @@ either_fact p id r some ruled (inr added) =
     each_of (Fact p (after p (old_count p))) (added_below p (old_count p)) added.0 r (all_added (Fact p (after p (old_count p))) (λ name. tt) (λ name type. tt) p (old_count p)) added.1
 
 -- what one id asks for is among what all do
-asks_up_to : (q : Pass) (n id : ℕ) (f : Feature) → id < n → IsAmong f (asks q id) → IsAmong f (asks_below q n)
+asks_up_to : (q : Pass) (n id : ℕ) (f : BtfFeature) → id < n → IsAmong f (asks q id) → IsAmong f (asks_below q n)
 asks_up_to q zero id f lt among = absurd (omega (arith, lt))
 asks_up_to q (suc n) id f lt among =
     list_any-append (same_feature f) (asks_below q n) (asks q n)
@@ -116,12 +117,12 @@ changes_nothing policy old new layout answers again some is sized granted =
     let n : ℕ = old_count p in
     let records : new.records ≡ ruled_below p n ++ added_below p n = ap (λ (t : Table). t.records) is.table in
     let strings : new.strings ≡ after p n = ap (λ (t : Table). t.strings) is.table in
-    let fallbacks : new.fallbacks ≡ map (falls_back p) (ids_of p.table) ++ no_fallbacks (added_below p n) = ap (λ (t : Table). t.fallbacks) is.table in
+    let fallbacks : new.fallbacks ≡ map (falls_back p) (table_ids p.table) ++ no_fallbacks (added_below p n) = ap (λ (t : Table). t.fallbacks) is.table in
     let many : length new.fallbacks ≡ length new.records = omega (
       arith,
       ap length fallbacks,
       ap length records,
-      length-append (map (falls_back p) (ids_of p.table)) (no_fallbacks (added_below p n)),
+      length-append (map (falls_back p) (table_ids p.table)) (no_fallbacks (added_below p n)),
       length-append (ruled_below p n) (added_below p n),
       length-map-range_with_len (falls_back p) 0 n,
       no_fallbacks_len (added_below p n),

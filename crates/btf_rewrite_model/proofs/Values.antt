@@ -13,10 +13,13 @@ use Rattle.btf_model.specs.Refusal.{Refusal}
 use Rattle.btf_model.specs.Table.{Table, Variant, Fallback}
 use Rattle.btf_model.specs.Text.{text_at}
 use Rattle.btf_model.specs.Value.{variants_by, HasVariants, HaveOtherNames, FindsVariant, Value}
-use Rattle.btf_rewrite_model.specs.Feature as features
-use Rattle.btf_rewrite_model.specs.Feature.{FillPolicy, Answer, is_signed}
+use Rattle.btf_rewrite_model.specs.declared.feature.BtfFeature.TheVariants as features
+use Rattle.btf_rewrite_model.specs.Feature.{is_signed}
+use Rattle.btf_rewrite_model.specs.declared.feature.FeatureAnswer.{FeatureAnswer}
+use Rattle.btf_rewrite_model.specs.declared.feature.FillPolicy.{FillPolicy}
 use Rattle.btf_rewrite_model.specs.Made.{record_at, kind_at, union, unsigned, variants, fallback_of}
-use Rattle.btf_rewrite_model.specs.Ksyms.{KsymsIds, appends_int, each_stepped, int_text}
+use Rattle.btf_rewrite_model.specs.Ksyms.{appends_int, each_stepped, int_text}
+use Rattle.btf_rewrite_model.specs.declared.ksyms_ids.KsymsIds.{KsymsIds}
 use Rattle.btf_rewrite_model.specs.Pass.{Pass, Layout, has, texts_below}
 use Rattle.btf_rewrite_model.specs.Rule.{becomes, becomes_by, ruled_below, falls_back, falls_back_by, variant_members, placeholder_id}
 use Rattle.btf_rewrite_model.specs.Rewritten.{begun, ended, old_count, pass_with, RewrittenWith}
@@ -67,14 +70,14 @@ rule_keeps p lower id vs k r fallback kind is = absurd (no_variants vs _ is)
 begun_strings : (t : Table) (ids : Option KsymsIds) → (more : List ℕ) × ((begun t ids).strings ≡ t.strings ++ more)
 begun_strings t None = ([], sym (append-nil t.strings))
 begun_strings t (Some ids) =
-    by_table (λ u. (more : List ℕ) × (u.strings ≡ t.strings ++ more)) (appends_int t ids.placeholder) _ (each_stepped t ids)
+    by_table (λ u. (more : List ℕ) × (u.strings ≡ t.strings ++ more)) (appends_int t ids.placeholder_id) _ (each_stepped t ids)
     (int_text ++ 0 ∷ [], append_assoc t.strings int_text (0 ∷ []))
     ([], sym (append-nil t.strings))
 
 begun_fallback : (t : Table) (ids : Option KsymsIds) (id : ℕ) (fallback : Option Fallback) → slice_get t.fallbacks id ≡ Some fallback → slice_get (begun t ids).fallbacks id ≡ Some fallback
 begun_fallback t None id fallback at = at
 begun_fallback t (Some ids) id fallback at =
-    by_table (λ u. slice_get u.fallbacks id ≡ Some fallback) (appends_int t ids.placeholder) _ (each_stepped t ids)
+    by_table (λ u. slice_get u.fallbacks id ≡ Some fallback) (appends_int t ids.placeholder_id) _ (each_stepped t ids)
     (slice_get-append_left t.fallbacks (None ∷ []) id (slice_get_within t.fallbacks id fallback at) ∙ at) at
 
 -- ---- the rewritten table
@@ -88,7 +91,7 @@ finds_too strings strings' name stays vs None finds = others_too strings strings
 finds_too strings strings' name stays vs (Some value) finds =
     (finds.0, (finds.1.0, finds.1.1, finds.1.2, others_too strings strings' name stays finds.1.0 finds.1.3), stays finds.0.name name finds.2, finds.3)
 
-module _ (policy : FillPolicy) (old new : Table) (ids : Option KsymsIds) (layout : Layout) (answers : List Answer) (is : RewrittenWith policy old ids layout answers new) where
+module _ (policy : FillPolicy) (old new : Table) (ids : Option KsymsIds) (layout : Layout) (answers : List FeatureAnswer) (is : RewrittenWith policy old ids layout answers new) where
   texts_stay : (offset : ℕ) (text : List ℕ) → text_at old.strings offset ≡ Ok text → text_at new.strings offset ≡ Ok text
   texts_stay offset text reads =
       let p : Pass = pass_with policy old ids layout answers in

@@ -6,8 +6,12 @@ use Rattle.bstr.specs.Utf8.{pieces_from}
 use lib.Utf8.{encode}
 use Rattle.btf_model.specs.Record.{Record, unknown}
 use Rattle.btf_model.specs.Refusal.{InvalidStringOffset, InvalidTypeInfo, InvalidDatasec, UnknownBtfType, UnknownSectionSize}
-use Rattle.btf_rewrite_model.specs.Feature as features
-use Rattle.btf_rewrite_model.specs.Feature.{Feature, Answer, FillPolicy, KeepSized, FillSized, needs}
+use Rattle.btf_rewrite_model.specs.declared.feature.BtfFeature.TheVariants as features
+use Rattle.btf_rewrite_model.specs.Feature.{needs}
+use Rattle.btf_rewrite_model.specs.declared.feature.BtfFeature.{BtfFeature}
+use Rattle.btf_rewrite_model.specs.declared.feature.FeatureAnswer.{FeatureAnswer}
+use Rattle.btf_rewrite_model.specs.declared.feature.FillPolicy.{FillPolicy}
+use Rattle.btf_rewrite_model.specs.declared.feature.FillPolicy.TheVariants.{KeepSized, FillSized}
 use Rattle.btf_rewrite_model.specs.Pass.{Pass, Asked, asks, texts_below, added_below}
 use Rattle.btf_rewrite_model.specs.Fault.{fault}
 use Rattle.btf_rewrite_model.specs.Rule.{ruled_below, becomes}
@@ -77,7 +81,7 @@ unfolding pieces_from encode
 empty_section_is_asked_about = (refl, refl)
 
 -- ".a" at 1: DATASEC 1 of 9 bytes without entries, whose section is not known
-abbrev sized_section : FillPolicy → List Feature → Pass
+abbrev sized_section : FillPolicy → List BtfFeature → Pass
 sized_section policy fs = record { table = named_table (codes ".a" ∷ []) (data_sec 1 9 0 [] ∷ []); layout = no_layout; policy = policy; answers = granted fs }
 
 -- it stays, is not asked about, and needs nothing more
@@ -133,7 +137,7 @@ unfolding pieces_from encode
 members_have_new_names = refl
 
 -- ".d" at 1: a DATASEC that is its own entry is named as before
-abbrev own_entry : List Feature → Pass
+abbrev own_entry : List BtfFeature → Pass
 own_entry fs = record { table = named_table (codes ".d" ∷ []) (data_sec 1 0 1 (1 ∷ 0 ∷ 4 ∷ []) ∷ []); layout = record { sections = only (codes ".d") 8; symbols = λ name. None }; policy = KeepSized; answers = granted fs }
 
 own_entry_becomes_member : (becomes (own_entry []) 1 ≡ record { name = 4; info = 0x04000001; third = 1; tail = 1 ∷ 1 ∷ 0 ∷ [] }) × (texts_below (own_entry []) 2 ≡ codes "_d" ∷ [])

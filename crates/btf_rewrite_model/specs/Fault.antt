@@ -5,7 +5,7 @@ use Rattle.std.specs.List.{flat_map, sum_by}
 use Rattle.btf_model.specs.Record as kinds
 use Rattle.btf_model.specs.Record.{Kind, Record}
 use Rattle.btf_model.specs.Refusal.{Refusal, InvalidTypeInfo, UnknownSectionSize, SymbolOffsetNotFound}
-use Rattle.btf_rewrite_model.specs.Feature as features
+use Rattle.btf_rewrite_model.specs.declared.feature.BtfFeature.TheVariants as features
 use Rattle.btf_rewrite_model.specs.Made.{Entry, entries, record_at, kind_at, is_static, byte_int, static_var}
 use Rattle.btf_rewrite_model.specs.Checks.{Check, first_fault, is_read, is_known, has_room, have_room, fits, record_len}
 use Rattle.btf_rewrite_model.specs.Ksyms.{is_var}

@@ -4,24 +4,14 @@
 use Rattle.std.specs.Prelude.{ℕ, ◌==◌, ◌&&◌, not, Bool, true, false, if◌then◌else◌, List, [], ◌∷◌, Option, Some}
 use Rattle.btf_model.specs.Record as kinds
 use Rattle.btf_model.specs.Record.{Kind, Record, kind_of, vlen, kind_flag}
-
-pub data Feature : Type 0 where
-  -- FUNC and FUNC_PROTO
-  Func : Feature
-  -- a FUNC of linkage Global
-  FuncGlobal : Feature
-  -- VAR and DATASEC
-  DataSec : Feature
-  -- a DATASEC without entries
-  DataSecZero : Feature
-  Float : Feature
-  DeclTag : Feature
-  TypeTag : Feature
-  -- ENUM64, and the sign of an ENUM
-  Enum64 : Feature
+use Rattle.btf_rewrite_model.specs.declared.feature.BtfFeature.{BtfFeature}
+use Rattle.btf_rewrite_model.specs.declared.feature.BtfFeature.TheVariants.{Func, FuncGlobal, DataSec, DataSecZero, Float, DeclTag, TypeTag, Enum64}
+use Rattle.btf_rewrite_model.specs.declared.feature.FeatureAnswer.{FeatureAnswer}
+use Rattle.btf_rewrite_model.specs.declared.feature.FillPolicy.{FillPolicy}
+use Rattle.btf_rewrite_model.specs.declared.feature.FillPolicy.TheVariants.{KeepSized, FillSized}
 
 -- the place of a feature among the eight
-abbrev pub number : Feature → ℕ
+abbrev pub number : BtfFeature → ℕ
 number Func = 0
 number FuncGlobal = 1
 number DataSec = 2
@@ -31,27 +21,14 @@ number DeclTag = 5
 number TypeTag = 6
 number Enum64 = 7
 
-abbrev pub same_feature : Feature → Feature → Bool
+abbrev pub same_feature : BtfFeature → BtfFeature → Bool
 same_feature f g = number f == number g
-
--- a feature that was asked for, and whether the kernel has it
-pub record Answer : Type 0 where
-  pub feature : Feature
-  pub granted : Bool
 
 -- Whether the answers grant a feature: one of them is for it, and the first such is yes. What they do not grant is
 -- denied.
-abbrev pub grants : List Answer → Feature → Bool
+abbrev pub grants : List FeatureAnswer → BtfFeature → Bool
 grants [] f = false
 grants (answer ∷ answers) f = if same_feature answer.feature f then answer.granted else grants answers f
-
--- What a rewrite does with a DATASEC that has a size and no entries, for a kernel that takes no DATASEC without
--- entries.
-pub data FillPolicy : Type 0 where
-  -- It stays without entries, and the kernel is not asked about it.
-  KeepSized : FillPolicy
-  -- It gets an entry of its own, as one of size 0 does.
-  FillSized : FillPolicy
 
 abbrev pub fills_sized : FillPolicy → Bool
 fills_sized KeepSized = false
@@ -71,7 +48,7 @@ has_no_entries r = vlen r.info == 0
 
 -- The features that a kernel needs to take a record of this kind. A DATASEC without entries needs DataSecZero too,
 -- unless it is exempt.
-abbrev pub needs_by : Bool → Option Kind → Record → List Feature
+abbrev pub needs_by : Bool → Option Kind → Record → List BtfFeature
 needs_by is_exempt (Some kinds.Func) r = if is_global r then Func ∷ FuncGlobal ∷ [] else Func ∷ []
 needs_by is_exempt (Some kinds.FuncProto) r = Func ∷ []
 needs_by is_exempt (Some kinds.Var) r = DataSec ∷ []
@@ -91,5 +68,5 @@ is_sized_and_empty k r = false
 
 -- The features that a record needs, by the record that its id had before the pass. A DATASEC that had a size and no
 -- entries is exempt, where the policy keeps it.
-abbrev pub needs : FillPolicy → Record → Record → List Feature
+abbrev pub needs : FillPolicy → Record → Record → List BtfFeature
 needs policy before r = needs_by (not (fills_sized policy) && is_sized_and_empty (kind_of before.info) before) (kind_of r.info) r

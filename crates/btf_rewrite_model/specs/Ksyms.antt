@@ -8,13 +8,9 @@ use Rattle.btf_model.specs.Record.{Kind, Int, Func, FuncProto, Var, DataSec, Rec
 use Rattle.btf_model.specs.Refusal.{Refusal, InvalidDatasec}
 use Rattle.btf_model.specs.Table.{Table, type_bytes, with_string, with_type}
 use Rattle.btf_model.specs.Text.{text_at}
-use Rattle.btf_rewrite_model.specs.Made.{Entry, entries, entry_words, record_at, kind_at, ids_of, c_int, with_linkage, wants_name}
+use Rattle.btf_rewrite_model.specs.Made.{Entry, entries, entry_words, record_at, kind_at, table_ids, c_int, with_linkage, wants_name}
 use Rattle.btf_rewrite_model.specs.Checks.{Check, first_fault, is_read, is_known, has_room, fits, record_len}
-
--- the DATASEC of the symbols, and the VAR that takes the place of functions among them, where there is one
-pub record KsymsIds : Type 0 where
-  pub datasec : ℕ
-  pub placeholder : Option ℕ
+use Rattle.btf_rewrite_model.specs.declared.ksyms_ids.KsymsIds.{KsymsIds}
 
 -- ---- what the step reads
 
@@ -41,7 +37,7 @@ symbol_type t (Some placeholder) = (record_at t placeholder).third
 symbol_type t None = int_of_4 t
 
 abbrev pub symbols : Table → KsymsIds → List Entry
-symbols t ids = entries (record_at t ids.datasec).tail
+symbols t ids = entries (record_at t ids.datasec_id).tail
 
 -- an entry is of this id
 abbrev pub names : Table → KsymsIds → ℕ → Bool
@@ -82,13 +78,13 @@ laid_out t placeholder offset (e ∷ es) = record { type = entry_type t placehol
 abbrev pub stepped : Table → KsymsIds → ℕ → Option Kind → Record → Record
 stepped t ids id (Some Func) r = if names t ids id then with_linkage 1 r else r
 stepped t ids id (Some Var) r =
-    if names t ids id then record r { third = symbol_type t ids.placeholder; tail = 1 ∷ [] } else r
+    if names t ids id then record r { third = symbol_type t ids.placeholder_id; tail = 1 ∷ [] } else r
 stepped t ids id (Some FuncProto) r =
-    if is_prototype t ids id then record r { tail = with_names t ids.placeholder r.tail } else r
+    if is_prototype t ids id then record r { tail = with_names t ids.placeholder_id r.tail } else r
 stepped t ids id (Some DataSec) r =
-    if id == ids.datasec then record r {
+    if id == ids.datasec_id then record r {
       third = 4 * length (symbols t ids);
-      tail = flat_map entry_words (laid_out t ids.placeholder 0 (symbols t ids));
+      tail = flat_map entry_words (laid_out t ids.placeholder_id 0 (symbols t ids));
     } else r
 stepped t ids id k r = r
 
@@ -121,23 +117,23 @@ symbol_checks t placeholder (Some Func) r =
 symbol_checks t placeholder (Some Var) r = is_read (text_at t.strings r.name) ∷ []
 symbol_checks t placeholder k r = Some InvalidDatasec ∷ []
 
-abbrev pub entry_checks : Table → Option ℕ → Entry → List Check
-entry_checks t placeholder e = is_known t e.type ∷ symbol_checks t placeholder (kind_at t e.type) (record_at t e.type)
+abbrev pub ksyms_entry_checks : Table → Option ℕ → Entry → List Check
+ksyms_entry_checks t placeholder e = is_known t e.type ∷ symbol_checks t placeholder (kind_at t e.type) (record_at t e.type)
 
 -- Why the step is refused, if it is.
 abbrev pub ksyms_fault : Table → KsymsIds → Option Refusal
 ksyms_fault t ids =
-    first_fault (placeholder_checks t ids.placeholder ++ data_sec_checks t ids.datasec
-    ++ flat_map (entry_checks t ids.placeholder) (symbols t ids))
+    first_fault (placeholder_checks t ids.placeholder_id ++ data_sec_checks t ids.datasec_id
+    ++ flat_map (ksyms_entry_checks t ids.placeholder_id) (symbols t ids))
 
 -- ---- the table
 
 -- each record by itself
 abbrev pub each_stepped : Table → KsymsIds → Table
-each_stepped t ids = record t { records = map (λ id. stepped t ids id (kind_at t id) (record_at t id)) (ids_of t) }
+each_stepped t ids = record t { records = map (λ id. stepped t ids id (kind_at t id) (record_at t id)) (table_ids t) }
 
 -- The table after the step, where it is not refused: each record by itself, and then the INT, if it is appended.
 abbrev pub ksyms_table : Table → KsymsIds → Table
 ksyms_table t ids =
-    if appends_int t ids.placeholder
+    if appends_int t ids.placeholder_id
     then with_type (c_int (length t.strings)) None (with_string int_text (each_stepped t ids)) else each_stepped t ids

@@ -5,9 +5,10 @@ use lib.Utf8.{encode}
 use Rattle.btf_model.specs.Record.{Record, unknown}
 use Rattle.btf_model.specs.Refusal.{InvalidDatasec, InvalidStringOffset, UnknownBtfType}
 use Rattle.btf_model.specs.Table.{Table}
-use Rattle.btf_rewrite_model.specs.Feature as features
-use Rattle.btf_rewrite_model.specs.Feature.{Feature}
-use Rattle.btf_rewrite_model.specs.Ksyms.{KsymsIds, ksyms_table, ksyms_fault}
+use Rattle.btf_rewrite_model.specs.declared.feature.BtfFeature.TheVariants as features
+use Rattle.btf_rewrite_model.specs.declared.feature.BtfFeature.{BtfFeature}
+use Rattle.btf_rewrite_model.specs.Ksyms.{ksyms_table, ksyms_fault}
+use Rattle.btf_rewrite_model.specs.declared.ksyms_ids.KsymsIds.{KsymsIds}
 use Rattle.btf_rewrite_model.specs.Pass.{Pass, Asked}
 use Rattle.btf_rewrite_model.specs.Fault.{fault}
 use Rattle.btf_rewrite_model.specs.Rewritten.{pass_of, rewritten}
@@ -22,7 +23,7 @@ abbrev one_entry : ℕ → ℕ → ℕ → ℕ → ℕ → Record
 one_entry name section_size type offset size = record { name = name; info = 0x0f000001; third = section_size; tail = type ∷ offset ∷ size ∷ [] }
 
 abbrev ids : ℕ → Option ℕ → KsymsIds
-ids datasec placeholder = record { datasec = datasec; placeholder = placeholder }
+ids datasec placeholder = record { datasec_id = datasec; placeholder_id = placeholder }
 
 -- ---- without a placeholder
 

@@ -16,8 +16,8 @@ abbrev pub kind_at : Table → ℕ → Option Kind
 kind_at t id = kind_of (record_at t id).info
 
 -- the ids of a table
-abbrev pub ids_of : Table → List ℕ
-ids_of t = range_with_len 0 (length t.records)
+abbrev pub table_ids : Table → List ℕ
+table_ids t = range_with_len 0 (length t.records)
 
 -- ---- items
 

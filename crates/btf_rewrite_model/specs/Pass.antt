@@ -11,8 +11,11 @@ use Rattle.btf_model.specs.Record as kinds
 use Rattle.btf_model.specs.Refusal.{Refusal}
 use Rattle.btf_model.specs.Table.{Table, type_bytes}
 use Rattle.btf_model.specs.Text.{text_at}
-use Rattle.btf_rewrite_model.specs.Feature as features
-use Rattle.btf_rewrite_model.specs.Feature.{Feature, Answer, FillPolicy, fills_sized, grants, same_feature, is_global, is_signed, has_no_entries, is_sized_and_empty}
+use Rattle.btf_rewrite_model.specs.declared.feature.BtfFeature.TheVariants as features
+use Rattle.btf_rewrite_model.specs.Feature.{fills_sized, grants, same_feature, is_global, is_signed, has_no_entries, is_sized_and_empty}
+use Rattle.btf_rewrite_model.specs.declared.feature.BtfFeature.{BtfFeature}
+use Rattle.btf_rewrite_model.specs.declared.feature.FeatureAnswer.{FeatureAnswer}
+use Rattle.btf_rewrite_model.specs.declared.feature.FillPolicy.{FillPolicy}
 use Rattle.btf_rewrite_model.specs.Made.{record_at, kind_at, byte_int, static_var, wants_name}
 use Rattle.btf_rewrite_model.specs.Checks.{Check, first_fault, is_read, have_room, record_len, in_a_word}
 
@@ -27,9 +30,9 @@ pub record Pass : Type 0 where
   pub table : Table
   pub layout : Layout
   pub policy : FillPolicy
-  pub answers : List Answer
+  pub answers : List FeatureAnswer
 
-abbrev pub has : Pass → Feature → Bool
+abbrev pub has : Pass → BtfFeature → Bool
 has p feature = grants p.answers feature
 
 abbrev pub name_of : Pass → ℕ → Result (List ℕ) Refusal
@@ -105,7 +108,9 @@ is_zero_or other None = false
 -- One of size 0 without entries gets an entry of its own where its section has size 0, or the kernel takes no DATASEC
 -- without entries.
 abbrev pub fills_unsized : Pass → ℕ → Bool
-fills_unsized p id = is_unsized (kind_at p.table id) (record_at p.table id) && has_no_entries (record_at p.table id) && is_zero_or (not (has p features.DataSecZero)) (section_size p id)
+fills_unsized p id =
+    is_unsized (kind_at p.table id) (record_at p.table id) && has_no_entries (record_at p.table id)
+    && is_zero_or (not (has p features.DataSecZero)) (section_size p id)
 
 -- One that has a size and no entries gets an entry where the policy has it filled, and the kernel takes no DATASEC
 -- without entries.
@@ -230,7 +235,7 @@ abbrev pub is_builtin : List ℕ → Bool
 is_builtin name = list_any (bytes_eq name) builtins
 
 -- Func first; then, of a Global one that is no builtin, FuncGlobal.
-abbrev pub func_asks : Pass → Record → Result (List ℕ) Refusal → List Feature
+abbrev pub func_asks : Pass → Record → Result (List ℕ) Refusal → List BtfFeature
 func_asks p r (Ok name) = if has p features.Func && is_global r && not (is_builtin name) then features.Func ∷ features.FuncGlobal ∷ [] else features.Func ∷ []
 func_asks p r (Err refusal) = []
 
@@ -253,13 +258,13 @@ abbrev pub sized_asks_zero : Pass → ℕ → Record → Bool
 sized_asks_zero p id r = fills_sized p.policy && not (r.third == 0) && has_no_entries r && is_none (first_fault (name_checks p id))
 
 -- DataSec first; then DataSecZero, where that matters.
-abbrev pub data_sec_asks : Pass → ℕ → Record → List Feature
+abbrev pub data_sec_asks : Pass → ℕ → Record → List BtfFeature
 data_sec_asks p id r =
     if has p features.DataSec && (sized_asks_zero p id r || unsized_asks_zero p id r) then features.DataSec
     ∷ features.DataSecZero ∷ [] else features.DataSec ∷ []
 
 -- The features that an id asks for, in order, by its kind.
-abbrev pub asks_by : Pass → ℕ → Option Kind → Record → List Feature
+abbrev pub asks_by : Pass → ℕ → Option Kind → Record → List BtfFeature
 asks_by p id (Some kinds.Var) r = features.DataSec ∷ []
 asks_by p id (Some kinds.Float) r = features.Float ∷ []
 asks_by p id (Some kinds.DeclTag) r = features.DeclTag ∷ []
@@ -271,19 +276,19 @@ asks_by p id (Some kinds.FuncProto) r = features.Func ∷ []
 asks_by p id (Some kinds.DataSec) r = data_sec_asks p id r
 asks_by p id k r = []
 
-abbrev pub asks : Pass → ℕ → List Feature
+abbrev pub asks : Pass → ℕ → List BtfFeature
 asks p id = asks_by p id (kind_at p.table id) (record_at p.table id)
 
 -- what all ids below this one ask for
-abbrev pub asks_below : Pass → ℕ → List Feature
+abbrev pub asks_below : Pass → ℕ → List BtfFeature
 asks_below p zero = []
 asks_below p (suc id) = asks_below p id ++ asks p id
 
 -- each feature at its first place only
-abbrev pub each_once : List Feature → List Feature
+abbrev pub each_once : List BtfFeature → List BtfFeature
 each_once [] = []
 each_once (feature ∷ fs) = feature ∷ filter (λ f. not (same_feature feature f)) (each_once fs)
 
 -- The features that a whole pass asks for, in order.
-abbrev pub Asked : Pass → List Feature
+abbrev pub Asked : Pass → List BtfFeature
 Asked p = each_once (asks_below p (length p.table.records))

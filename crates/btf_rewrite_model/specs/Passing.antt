@@ -3,17 +3,18 @@ use Rattle.std.specs.Prelude.{◌≡◌, ℕ, ◌<◌, Bool, true, false, List, 
 use Rattle.std.specs.List.{flat_map}
 use Rattle.btf_model.specs.Record as kinds
 use Rattle.btf_model.specs.Record.{Kind, Record}
-use Rattle.btf_rewrite_model.specs.Feature.{Feature, Answer}
+use Rattle.btf_rewrite_model.specs.declared.feature.BtfFeature.{BtfFeature}
+use Rattle.btf_rewrite_model.specs.declared.feature.FeatureAnswer.{FeatureAnswer}
 use Rattle.btf_rewrite_model.specs.Pass.{Pass, asks_below, each_once, texts_below, added_below, type_len_at, is_least}
 use Rattle.btf_rewrite_model.specs.Rule.{ruled_below}
 use Rattle.btf_rewrite_model.specs.Rewritten.{AreRuled, ended}
 
 -- the features that were answered
-abbrev pub features_of : List Answer → List Feature
-features_of answers = map (λ (answer : Answer). answer.feature) answers
+abbrev pub features_of : List FeatureAnswer → List BtfFeature
+features_of answers = map (λ (answer : FeatureAnswer). answer.feature) answers
 
 -- the features of the answers are these, each once
-abbrev pub AreAnswersTo : List Feature → List Answer → Type 0
+abbrev pub AreAnswersTo : List BtfFeature → List FeatureAnswer → Type 0
 AreAnswersTo fs answers = features_of answers ≡ each_once fs
 
 -- The answers of a pass are those to what the ids below this one ask for, and none of these is refused.

@@ -8,8 +8,10 @@ use lib.Utf8.{encode}
 use Rattle.btf_model.specs.Record.{Record, unknown}
 use Rattle.btf_model.specs.Refusal.{InvalidStringOffset}
 use Rattle.btf_model.specs.Table.{Table}
-use Rattle.btf_rewrite_model.specs.Feature as features
-use Rattle.btf_rewrite_model.specs.Feature.{Feature, Answer, KeepSized}
+use Rattle.btf_rewrite_model.specs.declared.feature.BtfFeature.TheVariants as features
+use Rattle.btf_rewrite_model.specs.declared.feature.BtfFeature.{BtfFeature}
+use Rattle.btf_rewrite_model.specs.declared.feature.FeatureAnswer.{FeatureAnswer}
+use Rattle.btf_rewrite_model.specs.declared.feature.FillPolicy.TheVariants.{KeepSized}
 use Rattle.btf_rewrite_model.specs.Pass.{Pass, Layout, Asked, asks, texts_below, added_below}
 use Rattle.btf_rewrite_model.specs.Fault.{fault}
 use Rattle.btf_rewrite_model.specs.Rule.{ruled_below, becomes, falls_back}
@@ -33,7 +35,7 @@ strings_of texts = 0 ∷ flat_map (λ text. text ++ 0 ∷ []) texts
 abbrev pub named_table : List (List ℕ) → List Record → Table
 named_table texts rs = record (table_of rs) { strings = strings_of texts }
 
-abbrev pub granted : List Feature → List Answer
+abbrev pub granted : List BtfFeature → List FeatureAnswer
 granted fs = map (λ feature. record { feature = feature; granted = true }) fs
 
 -- an INT of 4 bytes with a sign, of this name
@@ -47,7 +49,7 @@ func name linkage type = record { name = name; info = 0x0c000000 + linkage; thir
 -- ---- FLOAT, TYPE_TAG, DECL_TAG, ENUM, PTR
 
 -- FLOATs of 4 and 8 bytes
-abbrev floats : List Feature → Pass
+abbrev floats : List BtfFeature → Pass
 floats fs = record {
   table = table_of (record { name = 5; info = 0x10000000; third = 4; tail = [] } ∷ record { name = 9; info = 0x10000000; third = 8; tail = [] } ∷ []);
   layout = no_layout;
@@ -120,7 +122,7 @@ unfolding digits
 their_texts = refl
 
 -- "static" at 1, "memcpy" at 8, "global" at 15: a FUNC of each, Static, Global and Global
-abbrev three_funcs : List Feature → Pass
+abbrev three_funcs : List BtfFeature → Pass
 three_funcs fs = record {
   table = named_table (codes "static" ∷ codes "memcpy" ∷ codes "global" ∷ []) (func 1 0 0 ∷ func 8 1 0 ∷ func 15 1 0 ∷ []);
   layout = no_layout;

@@ -8,40 +8,44 @@ use Rattle.btf_model.specs.Spelling.{HasKind}
 use Rattle.btf_model.specs.Table.{Table}
 use Rattle.btf_model.specs.Walk.{Finding, WalkAnswers, Elements, size_in, Resolves, HasSize}
 use Rattle.btf_model.specs.Value.{Value}
-use Rattle.btf_rewrite_model.specs.Feature as features
-use Rattle.btf_rewrite_model.specs.Feature.{Feature, Answer, FillPolicy, KeepSized, same_feature, grants, needs, needs_by, is_sized_and_empty}
+use Rattle.btf_rewrite_model.specs.declared.feature.BtfFeature.TheVariants as features
+use Rattle.btf_rewrite_model.specs.Feature.{same_feature, grants, needs, needs_by, is_sized_and_empty}
+use Rattle.btf_rewrite_model.specs.declared.feature.BtfFeature.{BtfFeature}
+use Rattle.btf_rewrite_model.specs.declared.feature.FeatureAnswer.{FeatureAnswer}
+use Rattle.btf_rewrite_model.specs.declared.feature.FillPolicy.{FillPolicy}
+use Rattle.btf_rewrite_model.specs.declared.feature.FillPolicy.TheVariants.{KeepSized}
 use Rattle.btf_rewrite_model.specs.Made.{record_at, kind_at, fallback_of}
 use Rattle.btf_rewrite_model.specs.Checks.{first_fault, record_len}
-use Rattle.btf_rewrite_model.specs.Ksyms.{KsymsIds}
+use Rattle.btf_rewrite_model.specs.declared.ksyms_ids.KsymsIds.{KsymsIds}
 use Rattle.btf_rewrite_model.specs.Pass.{Pass, Layout, has, name_checks, asks, asks_below, Asked, texts_below, added_below, fills_unsized, gets_filler, growth_below, unsized_asks_zero, data_sec_asks}
 use Rattle.btf_rewrite_model.specs.Rule.{becomes, ruled_below, new_name}
 use Rattle.btf_rewrite_model.specs.Fault.{fault}
 use Rattle.btf_rewrite_model.specs.Rewritten.{begun, pass_with, AreRuled, RewrittenWith}
 
 -- a feature is among these
-abbrev pub IsAmong : Feature → List Feature → Type 0
+abbrev pub IsAmong : BtfFeature → List BtfFeature → Type 0
 IsAmong f fs = list_any (same_feature f) fs ≡ true
 
 -- A feature is asked for of a record only if the kernel needs it for that record.
 abbrev pub AskedOnlyIfNeeded : Type 0
 AskedOnlyIfNeeded =
-    (p : Pass) (id : ℕ) (f : Feature) → IsAmong f (asks p id)
+    (p : Pass) (id : ℕ) (f : BtfFeature) → IsAmong f (asks p id)
     → IsAmong f (needs p.policy (record_at p.table id) (record_at p.table id))
 
 -- one of the answers is for this feature, and it is yes
-abbrev pub IsGrantedOnce : List Answer → Feature → Type 0
+abbrev pub IsGrantedOnce : List FeatureAnswer → BtfFeature → Type 0
 IsGrantedOnce answers f =
-    map (λ (answer : Answer). answer.granted)
-    (filter (λ (answer : Answer). same_feature answer.feature f) answers) ≡ true ∷ []
+    map (λ (answer : FeatureAnswer). answer.granted)
+    (filter (λ (answer : FeatureAnswer). same_feature answer.feature f) answers) ≡ true ∷ []
 
 -- Where the answers are those to what the pass asks for, the features that the kernel needs for a record of the new
 -- table, one that was appended among them, were asked for once each, and granted.
 abbrev pub GrantedFeaturesSuffice : Type 0
 GrantedFeaturesSuffice =
-    (policy : FillPolicy) (old new : Table) (ids : Option KsymsIds) (layout : Layout) (answers : List Answer)
+    (policy : FillPolicy) (old new : Table) (ids : Option KsymsIds) (layout : Layout) (answers : List FeatureAnswer)
     → RewrittenWith policy old ids layout answers new
-    → map (λ (answer : Answer). answer.feature) answers ≡ Asked (pass_with policy old ids layout answers)
-    → (id : ℕ) (r : Record) → slice_get new.records id ≡ Some r → (f : Feature)
+    → map (λ (answer : FeatureAnswer). answer.feature) answers ≡ Asked (pass_with policy old ids layout answers)
+    → (id : ℕ) (r : Record) → slice_get new.records id ≡ Some r → (f : BtfFeature)
     → IsAmong f (needs policy (record_at (begun old ids) id) r) → IsGrantedOnce answers f
 
 -- The record of an id keeps its length in bytes, but for a DATASEC that gets a filler.
@@ -54,7 +58,7 @@ pub record RecordLengthsStay : Type 0 where
 -- An ENUM64 that becomes a UNION leaves its sign, and of each variant in order its name and its value.
 abbrev pub Enum64KeepsItsValues : Type 0
 Enum64KeepsItsValues =
-    (policy : FillPolicy) (old new : Table) (ids : Option KsymsIds) (layout : Layout) (answers : List Answer)
+    (policy : FillPolicy) (old new : Table) (ids : Option KsymsIds) (layout : Layout) (answers : List FeatureAnswer)
     → RewrittenWith policy old ids layout answers new
     → (id : ℕ) → id < length (begun old ids).records → kind_at (begun old ids) id ≡ Some kinds.Enum64
     → grants answers features.Enum64 ≡ false
@@ -77,7 +81,7 @@ FindsKept t at found = (keeps_size (kind_at t at.type) ≡ true) × (size_in at 
 -- The size of a type, by such a walk, is its size in the new table.
 abbrev pub SizesStay : Type 0
 SizesStay =
-    (policy : FillPolicy) (old new : Table) (ids : Option KsymsIds) (layout : Layout) (answers : List Answer)
+    (policy : FillPolicy) (old new : Table) (ids : Option KsymsIds) (layout : Layout) (answers : List FeatureAnswer)
     → RewrittenWith policy old ids layout answers new
     → (id size : ℕ) → WalkAnswers (FindsKept old) (record { count = 1; type = id }) (λ _. MaximumTypeDepthReached id)
     (Ok size) → HasSize new.records id (Ok size)
@@ -85,7 +89,7 @@ SizesStay =
 -- What an id resolves to, but for a FUNC, it resolves to in the new table.
 abbrev pub ResolutionsStay : Type 0
 ResolutionsStay =
-    (policy : FillPolicy) (old new : Table) (ids : Option KsymsIds) (layout : Layout) (answers : List Answer)
+    (policy : FillPolicy) (old new : Table) (ids : Option KsymsIds) (layout : Layout) (answers : List FeatureAnswer)
     → RewrittenWith policy old ids layout answers new
     → (id end : ℕ) → Resolves old.records id (Ok end) → kind_at old end ≢ Some kinds.Func
     → Resolves new.records id (Ok end)
@@ -93,7 +97,7 @@ ResolutionsStay =
 -- The value of a variant that is found by a name, or that none has the name, is found in the new table.
 abbrev pub VariantValueStays : Type 0
 VariantValueStays =
-    (policy : FillPolicy) (old new : Table) (ids : Option KsymsIds) (layout : Layout) (answers : List Answer)
+    (policy : FillPolicy) (old new : Table) (ids : Option KsymsIds) (layout : Layout) (answers : List FeatureAnswer)
     → RewrittenWith policy old ids layout answers new
     → (id : ℕ) (name : List ℕ) (found : Option ℕ) → Value old id name (Ok found) → Value new id name (Ok found)
 
@@ -104,19 +108,19 @@ pub record FewTypesAreAppended : Type 0 where
   pub in_the_step : (t : Table) (ids : Option KsymsIds) → (length t.records ≤ length (begun t ids).records)
       × (length (begun t ids).records ≤ length t.records + 1)
   pub in_a_rewrite : (policy : FillPolicy) (old new : Table) (ids : Option KsymsIds) (layout : Layout)
-      (answers : List Answer) → RewrittenWith policy old ids layout answers new
+      (answers : List FeatureAnswer) → RewrittenWith policy old ids layout answers new
       → (length old.records ≤ length new.records) × (length new.records ≤ length old.records + 4)
 
 -- the same pass under other answers
-abbrev pub with_answers : Pass → List Answer → Pass
+abbrev pub with_answers : Pass → List FeatureAnswer → Pass
 with_answers p answers = record p { answers = answers }
 
 -- Other answers agree with those of a pass on what the ids below this one ask for.
-abbrev pub Agree : Pass → List Answer → ℕ → Type 0
-Agree p answers id = (f : Feature) → IsAmong f (asks_below p id) → grants answers f ≡ has p f
+abbrev pub Agree : Pass → List FeatureAnswer → ℕ → Type 0
+Agree p answers id = (f : BtfFeature) → IsAmong f (asks_below p id) → grants answers f ≡ has p f
 
 -- What the ids below ask for, append and become under other answers.
-pub record IsSameBelow (p : Pass) (answers : List Answer) (id : ℕ) : Type 0 where
+pub record IsSameBelow (p : Pass) (answers : List FeatureAnswer) (id : ℕ) : Type 0 where
   pub asks : asks_below (with_answers p answers) id ≡ asks_below p id
   pub texts : texts_below (with_answers p answers) id ≡ texts_below p id
   pub added : added_below (with_answers p answers) id ≡ added_below p id
@@ -126,21 +130,21 @@ pub record IsSameBelow (p : Pass) (answers : List Answer) (id : ℕ) : Type 0 wh
 -- What ids ask for, append and become, and why they are refused, depends on the answers to what they and lower ids ask
 -- for, and on no others.
 pub record OtherAnswersChangeNothing : Type 0 where
-  pub below : (p : Pass) (answers : List Answer) (id : ℕ) → Agree p answers id → AreRuled p id
+  pub below : (p : Pass) (answers : List FeatureAnswer) (id : ℕ) → Agree p answers id → AreRuled p id
       → IsSameBelow p answers id
-  pub asked : (p : Pass) (answers : List Answer) (id : ℕ) → Agree p answers (suc id) → AreRuled p id
+  pub asked : (p : Pass) (answers : List FeatureAnswer) (id : ℕ) → Agree p answers (suc id) → AreRuled p id
       → asks (with_answers p answers) id ≡ asks p id
-  pub refused : (p : Pass) (answers : List Answer) (id : ℕ) → Agree p answers (suc id) → AreRuled p id
+  pub refused : (p : Pass) (answers : List FeatureAnswer) (id : ℕ) → Agree p answers (suc id) → AreRuled p id
       → fault (with_answers p answers) id ≡ fault p id
 
 -- Where a rewrite without symbols of the kernel succeeds, of a table that has strings, and leaves no DATASEC of size 0,
 -- a second rewrite changes nothing, under the same policy and a kernel that grants again what it granted.
 abbrev pub SecondRewriteChangesNothing : Type 0
 SecondRewriteChangesNothing =
-    (policy : FillPolicy) (old new : Table) (layout : Layout) (answers again : List Answer) → 0 < length old.strings
+    (policy : FillPolicy) (old new : Table) (layout : Layout) (answers again : List FeatureAnswer) → 0 < length old.strings
     → RewrittenWith policy old None layout answers new
     → ((id : ℕ) → kind_at new id ≡ Some kinds.DataSec → (record_at new id).third ≢ 0)
-    → ((f : Feature) → IsAmong f (asks_below (pass_with policy new None layout again) (length new.records))
+    → ((f : BtfFeature) → IsAmong f (asks_below (pass_with policy new None layout again) (length new.records))
     → grants answers f ≡ true → grants again f ≡ true)
     → RewrittenWith policy new None layout again new
 

@@ -5,10 +5,13 @@ use Rattle.std.specs.Prelude.{◌≡◌, ◌⊎◌, ℕ, ◌<◌, List, [], ◌�
 use Rattle.std.specs.List.{flat_map}
 use Rattle.btf_model.specs.Refusal.{Refusal}
 use Rattle.btf_model.specs.Table.{Table, no_fallbacks}
-use Rattle.btf_rewrite_model.specs.Feature.{Answer, FillPolicy, KeepSized}
-use Rattle.btf_rewrite_model.specs.Ksyms.{KsymsIds, ksyms_table, ksyms_fault}
+use Rattle.btf_rewrite_model.specs.declared.feature.FeatureAnswer.{FeatureAnswer}
+use Rattle.btf_rewrite_model.specs.declared.feature.FillPolicy.{FillPolicy}
+use Rattle.btf_rewrite_model.specs.declared.feature.FillPolicy.TheVariants.{KeepSized}
+use Rattle.btf_rewrite_model.specs.Ksyms.{ksyms_table, ksyms_fault}
+use Rattle.btf_rewrite_model.specs.declared.ksyms_ids.KsymsIds.{KsymsIds}
 use Rattle.btf_rewrite_model.specs.Pass.{Pass, Layout, texts_below, added_below}
-use Rattle.btf_rewrite_model.specs.Made.{ids_of}
+use Rattle.btf_rewrite_model.specs.Made.{table_ids}
 use Rattle.btf_rewrite_model.specs.Rule.{ruled_below, falls_back}
 use Rattle.btf_rewrite_model.specs.Fault.{fault}
 
@@ -21,12 +24,12 @@ abbrev pub step_fault : Table → Option KsymsIds → Option Refusal
 step_fault t (Some ids) = ksyms_fault t ids
 step_fault t None = None
 
-abbrev pub pass_with : FillPolicy → Table → Option KsymsIds → Layout → List Answer → Pass
+abbrev pub pass_with : FillPolicy → Table → Option KsymsIds → Layout → List FeatureAnswer → Pass
 pass_with policy t ids layout answers =
     record { table = begun t ids; layout = layout; policy = policy; answers = answers }
 
 -- one that keeps DATASECs which have a size, as aya-obj does
-abbrev pub pass_of : Table → Option KsymsIds → Layout → List Answer → Pass
+abbrev pub pass_of : Table → Option KsymsIds → Layout → List FeatureAnswer → Pass
 pass_of = pass_with KeepSized
 
 -- the number of ids that a pass goes over
@@ -43,7 +46,7 @@ abbrev pub rewritten : Pass → Table
 rewritten p = record p.table {
   strings = p.table.strings ++ flat_map ended (texts_below p (old_count p));
   records = ruled_below p (old_count p) ++ added_below p (old_count p);
-  fallbacks = map (falls_back p) (ids_of p.table) ++ no_fallbacks (added_below p (old_count p));
+  fallbacks = map (falls_back p) (table_ids p.table) ++ no_fallbacks (added_below p (old_count p));
 }
 
 -- no id below this one is refused
@@ -52,12 +55,12 @@ AreRuled p end = (id : ℕ) → id < end → fault p id ≡ None
 
 -- The table is rewritten as the new one, under this policy.
 pub record RewrittenWith (policy : FillPolicy) (old : Table) (ids : Option KsymsIds) (layout : Layout)
-    (answers : List Answer) (new : Table) : Type 0 where
+    (answers : List FeatureAnswer) (new : Table) : Type 0 where
   pub step : step_fault old ids ≡ None
   pub ruled : AreRuled (pass_with policy old ids layout answers) (old_count (pass_with policy old ids layout answers))
   pub table : new ≡ rewritten (pass_with policy old ids layout answers)
 
-abbrev pub Rewritten : Table → Option KsymsIds → Layout → List Answer → Table → Type 0
+abbrev pub Rewritten : Table → Option KsymsIds → Layout → List FeatureAnswer → Table → Type 0
 Rewritten = RewrittenWith KeepSized
 
 -- The pass is refused at the least id that has a fault.
@@ -65,10 +68,10 @@ abbrev pub FaultsAt : Pass → ℕ → Refusal → Type 0
 FaultsAt p id refusal = (id < old_count p) × AreRuled p id × (fault p id ≡ Some refusal)
 
 -- The rewrite is refused: in the step of `.ksyms`, or else in the pass.
-abbrev pub IsRefusedWith : FillPolicy → Table → Option KsymsIds → Layout → List Answer → Refusal → Type 0
+abbrev pub IsRefusedWith : FillPolicy → Table → Option KsymsIds → Layout → List FeatureAnswer → Refusal → Type 0
 IsRefusedWith policy old ids layout answers refusal =
     (step_fault old ids ≡ Some refusal)
     ⊎ ((step_fault old ids ≡ None) × ((id : ℕ) × FaultsAt (pass_with policy old ids layout answers) id refusal))
 
-abbrev pub IsRefused : Table → Option KsymsIds → Layout → List Answer → Refusal → Type 0
+abbrev pub IsRefused : Table → Option KsymsIds → Layout → List FeatureAnswer → Refusal → Type 0
 IsRefused = IsRefusedWith KeepSized

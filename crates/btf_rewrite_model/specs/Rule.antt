@@ -7,7 +7,7 @@ use Rattle.btf_model.specs.Record as kinds
 use Rattle.btf_model.specs.Record.{Kind, Record, unknown, vlen}
 use Rattle.btf_model.specs.Refusal.{Refusal}
 use Rattle.btf_model.specs.Table.{Variant, Fallback}
-use Rattle.btf_rewrite_model.specs.Feature as features
+use Rattle.btf_rewrite_model.specs.declared.feature.BtfFeature.TheVariants as features
 use Rattle.btf_rewrite_model.specs.Feature.{is_global, is_signed, has_no_entries}
 use Rattle.btf_rewrite_model.specs.Made.{Entry, entries, variants, record_at, kind_at, is_static, wants_name, byte_int, const, typedef, struct, union, enum, data_sec, with_linkage, unsigned, fallback_of}
 use Rattle.btf_rewrite_model.specs.Pass.{Pass, has, name_of, least, renaming, section_size, gets_filler, wants_placeholder, offset_at, free_id, is_builtin, param_text, symbol_offset}

@@ -5,6 +5,12 @@
 
 ghost use Rattle.btf_rewrite_model.specs.RewriteLaws.{AskedOnlyIfNeeded, GrantedFeaturesSuffice, Enum64KeepsItsValues, RecordLengthsStay, FewTypesAreAppended, SizesStay, ResolutionsStay, VariantValueStays, OtherAnswersChangeNothing, SecondRewriteChangesNothing, SizedSectionsAreKept};
 
+mod feature;
+mod ksyms_ids;
+
+pub use feature::{BtfFeature, FeatureAnswer, FillPolicy};
+pub use ksyms_ids::KsymsIds;
+
 /// A rewrite asks for a feature only where the kernel needs it for a record of the table.
 pub fn asked_only_if_needed()
     ensures { AskedOnlyIfNeeded }

@@ -2,43 +2,23 @@
 use Rattle.std.specs.Prelude.{◌≡◌, ℕ, eqb, Bool, List, [], ◌∷◌, ◌++◌, map, Option, Some, None}
 use Rattle.std.specs.List.{IsDistinct, find}
 use Rattle.std.specs.Option.{option_map}
-use Rattle.btf_rewrite_model.specs.Feature as model
-use Rattle.btf_rewrite_model.specs.Feature.{Feature, Answer, same_feature, number}
-use Rattle.btf_rules.specs.declared.features.BtfFeature.{BtfFeature}
-use Rattle.btf_rules.specs.declared.features.BtfFeature.TheVariants.{Func, FuncGlobal, DataSec, DataSecZero, Float, DeclTag, TypeTag, Enum64}
-use Rattle.btf_rules.specs.declared.features.FeatureAnswer.{FeatureAnswer}
-use Rattle.btf_rules.specs.declared.features.FillPolicy.{FillPolicy}
-use Rattle.btf_rules.specs.declared.features.FillPolicy.TheVariants.{KeepSized, FillSized}
-
-abbrev pub feature_of : BtfFeature → Feature
-feature_of Func = model.Func
-feature_of FuncGlobal = model.FuncGlobal
-feature_of DataSec = model.DataSec
-feature_of DataSecZero = model.DataSecZero
-feature_of Float = model.Float
-feature_of DeclTag = model.DeclTag
-feature_of TypeTag = model.TypeTag
-feature_of Enum64 = model.Enum64
-
-abbrev pub policy_of : FillPolicy → model.FillPolicy
-policy_of KeepSized = model.KeepSized
-policy_of FillSized = model.FillSized
-
-abbrev pub answer_of : FeatureAnswer → Answer
-answer_of a = record { feature = feature_of a.feature; granted = a.granted }
-
-abbrev pub answers_of : List FeatureAnswer → List Answer
-answers_of answers = map answer_of answers
+use Rattle.btf_rewrite_model.specs.declared.feature.BtfFeature.TheVariants as model
+use Rattle.btf_rewrite_model.specs.Feature.{same_feature, number}
+use Rattle.btf_rewrite_model.specs.declared.feature.BtfFeature.{BtfFeature}
+use Rattle.btf_rewrite_model.specs.declared.feature.FeatureAnswer.{FeatureAnswer}
+use Rattle.btf_rewrite_model.specs.declared.feature.BtfFeature.TheVariants.{Func, FuncGlobal, DataSec, DataSecZero, Float, DeclTag, TypeTag, Enum64}
+use Rattle.btf_rewrite_model.specs.declared.feature.FillPolicy.{FillPolicy}
+use Rattle.btf_rewrite_model.specs.declared.feature.FillPolicy.TheVariants.{KeepSized, FillSized}
 
 -- the answer for a feature: what the first answer that is for it says
-abbrev pub told : List FeatureAnswer → Feature → Option Bool
+abbrev pub told : List FeatureAnswer → BtfFeature → Option Bool
 told answers feature =
     option_map (λ (a : FeatureAnswer). a.granted)
-    (find (λ (a : FeatureAnswer). same_feature (feature_of a.feature) feature) answers)
+    (find (λ (a : FeatureAnswer). same_feature a.feature feature) answers)
 
 -- the places of the features that are answered
 abbrev pub numbers : List FeatureAnswer → List ℕ
-numbers answers = map (λ (a : FeatureAnswer). number (feature_of a.feature)) answers
+numbers answers = map (λ (a : FeatureAnswer). number a.feature) answers
 
 -- no two answers are for one feature
 abbrev pub AreDistinct : List FeatureAnswer → Type 0
@@ -54,7 +34,7 @@ AsksFor step feature None old answer new =
 
 abbrev pub Asks : {F : Type 0} → (F → BtfFeature → Bool → F → Type 0) → BtfFeature → F × List FeatureAnswer → Bool → F
     × List FeatureAnswer → Type 0
-Asks step feature old answer new = AsksFor step feature (told old.1 (feature_of feature)) old answer new
+Asks step feature old answer new = AsksFor step feature (told old.1 feature) old answer new
 
 -- The predicate was called for these features, in order, and gave these answers; that and nothing else led from one
 -- state to the other.

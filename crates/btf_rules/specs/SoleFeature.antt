@@ -2,12 +2,13 @@
 use Rattle.std.specs.Prelude.{◌≡◌, if◌then◌else◌, Bool, true, false, Option, Some, None}
 use Rattle.btf_model.specs.Record as kinds
 use Rattle.btf_model.specs.Record.{Kind, Record}
-use Rattle.btf_rewrite_model.specs.Feature as features
-use Rattle.btf_rewrite_model.specs.Feature.{Feature, is_signed}
+use Rattle.btf_rewrite_model.specs.declared.feature.BtfFeature.TheVariants as features
+use Rattle.btf_rewrite_model.specs.Feature.{is_signed}
+use Rattle.btf_rewrite_model.specs.declared.feature.BtfFeature.{BtfFeature}
 use Rattle.btf_rewrite_model.specs.Pass.{Pass, has}
 
 -- the feature that a record of this kind asks for, where it asks for one alone
-abbrev pub sole_feature : Option Kind → Record → Option Feature
+abbrev pub sole_feature : Option Kind → Record → Option BtfFeature
 sole_feature (Some kinds.Var) r = Some features.DataSec
 sole_feature (Some kinds.Float) r = Some features.Float
 sole_feature (Some kinds.DeclTag) r = Some features.DeclTag
@@ -24,6 +25,6 @@ asks_one (Some kinds.DataSec) = false
 asks_one k = true
 
 -- whether the kernel has this feature, where there is one
-abbrev pub IsGranted : Pass → Option Feature → Bool → Type 0
+abbrev pub IsGranted : Pass → Option BtfFeature → Bool → Type 0
 IsGranted p (Some f) granted = has p f ≡ granted
 IsGranted p None granted = granted ≡ true

@@ -1,51 +1,12 @@
 //! What a kernel's BTF may hold, as a caller's predicate says.
 
 ghost use Rattle.std.specs.Prelude.{◌≡◌, IfOk};
-ghost use Rattle.btf_rules.specs.Features.{feature_of, told as told_of, Asks};
+ghost use Rattle.btf_rules.specs.Features.{told as told_of, Asks};
 
 use arrayvec::ArrayVec;
+use btf_rewrite_model::{BtfFeature, FeatureAnswer};
 use std::alloc::AllocError;
 use std::marker::Model;
-
-/// What older kernels refuse in BTF: a kind, or a use of one.
-#[derive(Clone, Copy, Debug, Default, Eq, Hash, PartialEq)]
-pub enum BtfFeature {
-    /// FUNC and FUNC_PROTO.
-    #[default]
-    Func,
-    /// A FUNC whose linkage is Global.
-    FuncGlobal,
-    /// VAR and DATASEC.
-    DataSec,
-    /// A DATASEC without entries.
-    DataSecZero,
-    /// FLOAT.
-    Float,
-    /// DECL_TAG.
-    DeclTag,
-    /// TYPE_TAG.
-    TypeTag,
-    /// ENUM64, and an ENUM with a sign.
-    Enum64,
-}
-
-/// What a rewrite does with a DATASEC that has a size and no entries, for a kernel that takes no DATASEC without
-/// entries.
-#[derive(Clone, Copy, Debug, Default, Eq, PartialEq)]
-pub enum FillPolicy {
-    /// It stays without entries, and the kernel is not asked about it, as in aya.
-    #[default]
-    KeepSized,
-    /// It gets an entry of its own, of its size, as one of size 0 does.
-    FillSized,
-}
-
-/// A feature that was asked for, and whether the kernel has it.
-#[derive(Clone, Copy, Debug, Default, Eq, PartialEq)]
-pub struct FeatureAnswer {
-    pub feature: BtfFeature,
-    pub granted: bool,
-}
 
 /// A predicate that tells which features a kernel has, and what it has said so far. It is called once for a
 /// feature.
@@ -57,7 +18,7 @@ pub struct BtfFeatureResolver<F> {
 
 impl<F> Model for BtfFeatureResolver<F> {
     ghost use Rattle.std.specs.Prelude.{List};
-    ghost use Rattle.btf_rules.specs.declared.features.FeatureAnswer.{FeatureAnswer};
+    ghost use Rattle.btf_rewrite_model.specs.declared.feature.FeatureAnswer.{FeatureAnswer};
 
     ghost Value = { F × List FeatureAnswer };
 
@@ -117,7 +78,7 @@ pub fn copied_answers<F>(
 
 /// The answer for a feature; None where it was not asked for.
 fn told(answers: &[FeatureAnswer], feature: BtfFeature) -> Option<bool>
-    ensures { result ≡ told_of answers.now (feature_of feature) }
+    ensures { result ≡ told_of answers.now feature }
 {
     for answer in answers {
         if answer.feature == feature {

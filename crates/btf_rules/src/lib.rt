@@ -10,9 +10,10 @@ mod int;
 mod single;
 mod var;
 
+pub use btf_rewrite_model::{BtfFeature, FeatureAnswer, FillPolicy};
 pub use data_sec::{known_offset, renamed, section_name, section_size};
 pub use enumeration64::as_union;
-pub use features::{BtfFeature, BtfFeatureResolver, FeatureAnswer, FillPolicy, copied_answers};
+pub use features::{BtfFeatureResolver, copied_answers};
 pub use func::{global, is_builtin, made_static};
 pub use func_proto::{as_enum, param_text, with_names};
 pub use int::int_of_4;

@@ -1,27 +1,25 @@
 //! Types that ask for one feature at most, and change in place: their rule appends nothing, and takes no memory.
 
 ghost use Rattle.std.specs.Prelude.{◌≡◌, ℕ, List, Option, None, Some, length, true, if◌then◌else◌};
-ghost use Rattle.std.specs.Option.{option_map};
 ghost use Rattle.btf_model.specs.Record.{Record, kind_of};
 ghost use Rattle.btf_rewrite_model.specs.Made as model;
 ghost use Rattle.btf_rewrite_model.specs.Pass.{Pass};
 ghost use Rattle.btf_rewrite_model.specs.Rule.{becomes_by};
 ghost use Rattle.btf_rewrite_model.specs.Passing.{is_quiet};
 ghost use Rattle.btf_records.specs.BtfType.{record_of, fallback_of, type_kind};
-ghost use Rattle.btf_rules.specs.Features.{feature_of};
 ghost use Rattle.btf_rules.specs.InPlace.{denied, denied_type};
 ghost use Rattle.btf_rules.specs.SoleFeature.{IsGranted};
 ghost use Rattle.btf_rules.specs.SoleFeature as sole;
 
-use crate::features::BtfFeature;
 use btf_plain::{Const, Int, IntEncoding, Typedef};
 use btf_records::{BtfType, Struct};
+use btf_rewrite_model::BtfFeature;
 use std::alloc::Global;
 
 /// The feature that a type asks for, where it asks for one alone: all but FUNC and DATASEC. None where it asks for
 /// none.
 pub fn sole_feature(btf_type: &BtfType) -> Option<BtfFeature>
-    ensures { option_map feature_of result ≡ sole.sole_feature
+    ensures { result ≡ sole.sole_feature
         (kind_of (record_of btf_type.now).info) (record_of btf_type.now) }
 {
     // The contract speaks of the kind in the info word, which a use of it shows.

@@ -11,7 +11,6 @@ use Rattle.btf_records.specs.BtfType.{record_of, fallback_of, type_kind}
 use Rattle.btf_records.specs.declared.btf_type.BtfType.{BtfType}
 use Rattle.btf_rules.specs.InPlace.{denied}
 use Rattle.btf_model.specs.Table.{Table, type_bytes}
-use Rattle.btf_words.specs.Endianness.{order_of}
 use Rattle.btf_table.specs.declared.table.Btf.TheInside.{Inside}
 use Rattle.btf_table.specs.Btf.{table_of, IsKept}
 use Rattle.btf_table.specs.Changes.{put_all, each, changed}
@@ -100,8 +99,8 @@ kept_denied b types ids kept inside d =
     let rs : List Record = map record_of types.items in
     let head = deny_first (length b.types.items) ids unknown kept.first.0 inside in
     let first : rs ≡ unknown ∷ head.0 = d.records ∙ ap (deny_all ids) kept.first.1 ∙ head.1 in
-    let old_len : sum_by record_len (map record_of b.types.items) ≡ 12 + length (type_bytes (table_of b)) = behind_len (order_of b.endianness) kept.first.0 (map record_of b.types.items) kept.first.1 in
-    let new_len : sum_by record_len rs ≡ 12 + length (type_bytes (table_of (record b { types = types }))) = behind_len (order_of b.endianness) head.0 rs first in
+    let old_len : sum_by record_len (map record_of b.types.items) ≡ 12 + length (type_bytes (table_of b)) = behind_len b.endianness kept.first.0 (map record_of b.types.items) kept.first.1 in
+    let new_len : sum_by record_len rs ≡ 12 + length (type_bytes (table_of (record b { types = types }))) = behind_len b.endianness head.0 rs first in
     record {
       magic = kept.magic;
       version = kept.version;

@@ -5,8 +5,10 @@ use Rattle.std.proofs.lemmas.Bool.{eqb-true, false_from_ne_true}
 use Rattle.btf_model.specs.Record as kinds
 use Rattle.btf_model.specs.Record.{Kind, Record, kind_of, vlen}
 use Rattle.btf_model.specs.Refusal.{Refusal}
-use Rattle.btf_rewrite_model.specs.Feature as features
-use Rattle.btf_rewrite_model.specs.Feature.{Feature, Answer, grants, is_global}
+use Rattle.btf_rewrite_model.specs.declared.feature.BtfFeature.TheVariants as features
+use Rattle.btf_rewrite_model.specs.Feature.{grants, is_global}
+use Rattle.btf_rewrite_model.specs.declared.feature.BtfFeature.{BtfFeature}
+use Rattle.btf_rewrite_model.specs.declared.feature.FeatureAnswer.{FeatureAnswer}
 use Rattle.btf_model.specs.Table.{Table}
 use Rattle.btf_rewrite_model.specs.Passing.{AreAnswersTo}
 use Rattle.btf_rewrite_model.proofs.Passing.{NextAnswers}
@@ -85,18 +87,18 @@ module _ (p : Pass) (id : ℕ) (b : BtfType) (there : IsType p.table id b) (kind
 -- ---- what is asked
 
 module _ (t : Table) (given : Given) (id : ℕ) (b : BtfType) (there : IsType t id b) (kind : kind_of (record_of b).info ≡ Some kinds.Func) (name : List ℕ) (is_name : Ok name ≡ text_at t.strings (record_of b).name)
-    (old : List Answer) (asked : AreAnswersTo (asks_below (pass_on t given old) id) old) where
+    (old : List FeatureAnswer) (asked : AreAnswersTo (asks_below (pass_on t given old) id) old) where
   -- Func is asked for
-  pub one_granted : (new : List Answer) (granted : Bool) → NextAnswers old features.Func granted new → grants new features.Func ≡ granted
+  pub one_granted : (new : List FeatureAnswer) (granted : Bool) → NextAnswers old features.Func granted new → grants new features.Func ≡ granted
   one_granted new granted next = (asked_more (pass_on t given old) id [] old new features.Func granted (asked_none (pass_on t given old) id asked) next).1
 
-  pub one_asked : (new : List Answer) (granted : Bool) → NextAnswers old features.Func granted new → (granted && is_global (record_of b) && not (is_builtin name)) ≡ false → AsksUpTo (pass_on t given old) id new []
+  pub one_asked : (new : List FeatureAnswer) (granted : Bool) → NextAnswers old features.Func granted new → (granted && is_global (record_of b) && not (is_builtin name)) ≡ false → AsksUpTo (pass_on t given old) id new []
   one_asked new granted next alone =
       let has = asked_more (pass_on t given old) id [] old new features.Func granted (asked_none (pass_on t given old) id asked) next in
       (features.Func ∷ [], has.0, asks_func (pass_on t given new) id b there kind name is_name (ap (λ (g : Bool). g && is_global (record_of b) && not (is_builtin name)) has.1 ∙ alone))
 
   -- and FuncGlobal
-  pub both_asked : (mid new : List Answer) (granted : Bool) → NextAnswers old features.Func true mid → NextAnswers mid features.FuncGlobal granted new → is_global (record_of b) ≡ true → is_builtin name ≡ false
+  pub both_asked : (mid new : List FeatureAnswer) (granted : Bool) → NextAnswers old features.Func true mid → NextAnswers mid features.FuncGlobal granted new → is_global (record_of b) ≡ true → is_builtin name ≡ false
       → AsksUpTo (pass_on t given old) id new [] × (grants new features.Func ≡ true) × (grants new features.FuncGlobal ≡ granted)
   both_asked mid new granted first second global other =
       let p : Pass = pass_on t given old in
@@ -155,7 +157,7 @@ pub linkage_other : (n : ℕ) → func_linkage_of n ≢ linkage.Global → (n ==
 linkage_other n other = false_from_ne_true (n == 1) (λ is. other (ap func_linkage_of (eqb-true n 1 is)))
 
 -- nothing is asked
-pub none_asked : (t : Table) (given : Given) (id : ℕ) (old : List Answer) → AreAnswersTo (asks_below (pass_on t given old) id) old → (left : List Feature) × AsksUpTo (pass_on t given old) id old left
+pub none_asked : (t : Table) (given : Given) (id : ℕ) (old : List FeatureAnswer) → AreAnswersTo (asks_below (pass_on t given old) id) old → (left : List BtfFeature) × AsksUpTo (pass_on t given old) id old left
 none_asked t given id old asked = (asks (pass_on t given old) id, ([], asked_none (pass_on t given old) id asked, refl))
 
 -- ---- three tests

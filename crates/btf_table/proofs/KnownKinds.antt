@@ -3,7 +3,7 @@ use Rattle.std.proofs.Common.{◌≡◌, ℕ, zero, suc, List, [], ◌∷◌, �
 use Rattle.std.proofs.lemmas.Bool.{cases_lt}
 use Rattle.std.proofs.lemmas.List.{length-append}
 use Rattle.std.proofs.lemmas.Option.{same_Some, slice_get_within}
-use Rattle.btf_model.specs.Word.{Order}
+use Rattle.btf_model.specs.declared.endianness.Endianness.{Endianness}
 use Rattle.btf_model.specs.Record.{Record, Kind, Unknown, Int, Ptr, Array, Struct, Union, Enum, Fwd, Typedef, Volatile, Const, Restrict, Func, FuncProto, Var, DataSec, Float, DeclTag, TypeTag, Enum64, kind_of, unknown}
 use Rattle.btf_model.specs.Spelling.{kept, IsRecord}
 use Rattle.btf_model.specs.Blob.{AreRecords}
@@ -32,10 +32,10 @@ kept_kind DeclTag r is = is
 kept_kind TypeTag r is = is
 kept_kind Enum64 r is = is
 
-read_has_kind : (order : Order) (bytes : List ℕ) (r : Record) → IsRecord order bytes r → (k : Kind) × (kind_of r.info ≡ Some k)
+read_has_kind : (order : Endianness) (bytes : List ℕ) (r : Record) → IsRecord order bytes r → (k : Kind) × (kind_of r.info ≡ Some k)
 read_has_kind order bytes r h = (h.0, ap (λ (x : Record). kind_of x.info) h.4 ∙ kept_kind h.0 h.1 h.2.kind)
 
-read_have_kinds : (order : Order) (bytes : List ℕ) (rs : List Record) → AreRecords order bytes rs → AllHaveKinds rs
+read_have_kinds : (order : Endianness) (bytes : List ℕ) (rs : List Record) → AreRecords order bytes rs → AllHaveKinds rs
 read_have_kinds order bytes [] h id r is = absurd (omega (arith, slice_get_within [] id r is))
 read_have_kinds order bytes (x ∷ rs) h zero r is = subst (λ (y : Record). (k : Kind) × (kind_of y.info ≡ Some k)) (same_Some x r is) (read_has_kind order h.0 x h.3)
 read_have_kinds order bytes (x ∷ rs) h (suc id) r is = read_have_kinds order h.1 rs h.4 id r is
@@ -49,7 +49,7 @@ pub only_unknown : AllHaveKinds (unknown ∷ [])
 only_unknown = behind_unknown [] (λ id r is. absurd (omega (arith, slice_get_within [] id r is)))
 
 -- the records of a type section
-pub section_has_kinds : (order : Order) (bytes : List ℕ) (rs records : List Record) → records ≡ unknown ∷ rs → AreRecords order bytes rs → AllHaveKinds records
+pub section_has_kinds : (order : Endianness) (bytes : List ℕ) (rs records : List Record) → records ≡ unknown ∷ rs → AreRecords order bytes rs → AllHaveKinds records
 section_has_kinds order bytes rs records is h = subst AllHaveKinds (sym is) (behind_unknown rs (read_have_kinds order bytes rs h))
 
 -- one more

@@ -10,7 +10,7 @@ use Rattle.btf_model.specs.Refusal.{Refusal}
 use Rattle.btf_model.specs.Table.{Table}
 use Rattle.btf_rewrite_model.specs.Made.{Entry, entries, record_at, kind_at}
 use Rattle.btf_rewrite_model.specs.Checks.{Check, first_fault}
-use Rattle.btf_rewrite_model.specs.Ksyms.{is_func, entry_checks}
+use Rattle.btf_rewrite_model.specs.Ksyms.{is_func, ksyms_entry_checks}
 use Rattle.btf_items.specs.Items.{entry_words}
 use Rattle.btf_items.specs.declared.items.DataSecEntry.{DataSecEntry}
 use Rattle.btf_table.specs.KsymsStep.{entry, has, is_this, prototype_of, HasSymbols, FindsSymbols}
@@ -23,18 +23,18 @@ entries_of_words [] = refl
 entries_of_words (e ∷ es) = ap (λ (rest : List Entry). entry e ∷ rest) (entries_of_words es)
 
 -- one more entry passes its tests
-pub one_more_passes : (t : Table) (placeholder : Option ℕ) (es : List DataSecEntry) (e : DataSecEntry) → first_fault (flat_map (entry_checks t placeholder) (map entry es)) ≡ None
-    → first_fault (entry_checks t placeholder (entry e)) ≡ None → first_fault (flat_map (entry_checks t placeholder) (map entry (es ++ e ∷ []))) ≡ None
+pub one_more_passes : (t : Table) (placeholder : Option ℕ) (es : List DataSecEntry) (e : DataSecEntry) → first_fault (flat_map (ksyms_entry_checks t placeholder) (map entry es)) ≡ None
+    → first_fault (ksyms_entry_checks t placeholder (entry e)) ≡ None → first_fault (flat_map (ksyms_entry_checks t placeholder) (map entry (es ++ e ∷ []))) ≡ None
 one_more_passes t placeholder es e before passed =
-    let checks : Entry → List Check = entry_checks t placeholder in
+    let checks : Entry → List Check = ksyms_entry_checks t placeholder in
     ap (λ (xs : List Entry). first_fault (flat_map checks xs)) (map-append entry es (e ∷ [])) ∙ ap first_fault (flat_map-append checks (map entry es) (entry e ∷ []))
     ∙ fault_behind (flat_map checks (map entry es)) (checks (entry e) ++ []) before ∙ ap first_fault (append-nil (checks (entry e))) ∙ passed
 
 -- the first entry that does not pass counts
-pub one_faults : (t : Table) (placeholder : Option ℕ) (es : List DataSecEntry) (e : DataSecEntry) (rest : List DataSecEntry) (refusal : Refusal) → first_fault (flat_map (entry_checks t placeholder) (map entry es)) ≡ None
-    → first_fault (entry_checks t placeholder (entry e)) ≡ Some refusal → first_fault (flat_map (entry_checks t placeholder) (map entry (es ++ e ∷ rest))) ≡ Some refusal
+pub one_faults : (t : Table) (placeholder : Option ℕ) (es : List DataSecEntry) (e : DataSecEntry) (rest : List DataSecEntry) (refusal : Refusal) → first_fault (flat_map (ksyms_entry_checks t placeholder) (map entry es)) ≡ None
+    → first_fault (ksyms_entry_checks t placeholder (entry e)) ≡ Some refusal → first_fault (flat_map (ksyms_entry_checks t placeholder) (map entry (es ++ e ∷ rest))) ≡ Some refusal
 one_faults t placeholder es e rest refusal before faults =
-    let checks : Entry → List Check = entry_checks t placeholder in
+    let checks : Entry → List Check = ksyms_entry_checks t placeholder in
     ap (λ (xs : List Entry). first_fault (flat_map checks xs)) (map-append entry es (e ∷ rest)) ∙ ap first_fault (flat_map-append checks (map entry es) (map entry (e ∷ rest)))
     ∙ fault_behind (flat_map checks (map entry es)) (checks (entry e) ++ flat_map checks (map entry rest)) before ∙ fault_before (checks (entry e)) (flat_map checks (map entry rest)) refusal faults
 
@@ -62,15 +62,15 @@ up_to es i lt =
     let more : i + 1 ≡ suc i = omega arith in
     ap (λ (n : ℕ). take n es) more ∙ take-suc es i zero_entry lt
 
-pub passes_up_to : (t : Table) (placeholder : Option ℕ) (es : List DataSecEntry) (i : ℕ) → i < length es → first_fault (flat_map (entry_checks t placeholder) (map entry (take i es))) ≡ None
-    → first_fault (entry_checks t placeholder (entry (at es i))) ≡ None → first_fault (flat_map (entry_checks t placeholder) (map entry (take (i + 1) es))) ≡ None
+pub passes_up_to : (t : Table) (placeholder : Option ℕ) (es : List DataSecEntry) (i : ℕ) → i < length es → first_fault (flat_map (ksyms_entry_checks t placeholder) (map entry (take i es))) ≡ None
+    → first_fault (ksyms_entry_checks t placeholder (entry (at es i))) ≡ None → first_fault (flat_map (ksyms_entry_checks t placeholder) (map entry (take (i + 1) es))) ≡ None
 passes_up_to t placeholder es i lt before passed =
-    ap (λ (xs : List DataSecEntry). first_fault (flat_map (entry_checks t placeholder) (map entry xs))) (up_to es i lt) ∙ one_more_passes t placeholder (take i es) (at es i) before passed
+    ap (λ (xs : List DataSecEntry). first_fault (flat_map (ksyms_entry_checks t placeholder) (map entry xs))) (up_to es i lt) ∙ one_more_passes t placeholder (take i es) (at es i) before passed
 
-pub faults_at : (t : Table) (placeholder : Option ℕ) (es : List DataSecEntry) (i : ℕ) (refusal : Refusal) → i < length es → first_fault (flat_map (entry_checks t placeholder) (map entry (take i es))) ≡ None
-    → first_fault (entry_checks t placeholder (entry (at es i))) ≡ Some refusal → first_fault (flat_map (entry_checks t placeholder) (map entry es)) ≡ Some refusal
+pub faults_at : (t : Table) (placeholder : Option ℕ) (es : List DataSecEntry) (i : ℕ) (refusal : Refusal) → i < length es → first_fault (flat_map (ksyms_entry_checks t placeholder) (map entry (take i es))) ≡ None
+    → first_fault (ksyms_entry_checks t placeholder (entry (at es i))) ≡ Some refusal → first_fault (flat_map (ksyms_entry_checks t placeholder) (map entry es)) ≡ Some refusal
 faults_at t placeholder es i refusal lt before faults =
-    ap (λ (xs : List DataSecEntry). first_fault (flat_map (entry_checks t placeholder) (map entry xs))) (sym (take-append-drop i es) ∙ ap (λ (xs : List DataSecEntry). take i es ++ xs) (drop-cons es i zero_entry lt))
+    ap (λ (xs : List DataSecEntry). first_fault (flat_map (ksyms_entry_checks t placeholder) (map entry xs))) (sym (take-append-drop i es) ∙ ap (λ (xs : List DataSecEntry). take i es ++ xs) (drop-cons es i zero_entry lt))
     ∙ one_faults t placeholder (take i es) (at es i) (drop (suc i) es) refusal before faults
 
 any_up_to : (test : Entry → Bool) (es : List DataSecEntry) (i : ℕ) → i < length es → list_any test (map entry (take (i + 1) es)) ≡ cond (test (entry (at es i))) true (list_any test (map entry (take i es)))
@@ -78,13 +78,13 @@ any_up_to test es i lt = ap (λ (xs : List DataSecEntry). list_any test (map ent
 
 -- an entry that does not pass is what the search returns
 pub fault_found : (t : Table) (placeholder : Option ℕ) (tail : List ℕ) (es : List DataSecEntry) (i : ℕ) (refusal : Refusal) → tail ≡ flat_map entry_words es → i < length es
-    → first_fault (flat_map (entry_checks t placeholder) (map entry (take i es))) ≡ None → first_fault (entry_checks t placeholder (entry (at es i))) ≡ Some refusal → FindsSymbols t placeholder (entries tail) (Err refusal)
+    → first_fault (flat_map (ksyms_entry_checks t placeholder) (map entry (take i es))) ≡ None → first_fault (ksyms_entry_checks t placeholder (entry (at es i))) ≡ Some refusal → FindsSymbols t placeholder (entries tail) (Err refusal)
 fault_found t placeholder tail es i refusal words lt before faults =
     subst (λ (xs : List Entry). FindsSymbols t placeholder xs (Err refusal)) (sym (entries_of_words es) ∙ ap entries (sym words)) (faults_at t placeholder es i refusal lt before faults)
 
 -- after the last entry, all have passed
 pub found_symbols : (t : Table) (placeholder : Option ℕ) (tail : List ℕ) (es : List DataSecEntry) (i : ℕ) (symbols : Symbols) → tail ≡ flat_map entry_words es → length es ≤ i
-    → (first_fault (flat_map (entry_checks t placeholder) (map entry (take i es))) ≡ None) × HasSymbols t (map entry (take i es)) symbols → FindsSymbols t placeholder (entries tail) (Ok symbols)
+    → (first_fault (flat_map (ksyms_entry_checks t placeholder) (map entry (take i es))) ≡ None) × HasSymbols t (map entry (take i es)) symbols → FindsSymbols t placeholder (entries tail) (Ok symbols)
 found_symbols t placeholder tail es i symbols words end found =
     subst (λ (xs : List Entry). FindsSymbols t placeholder xs (Ok symbols)) (ap (map entry) (take_all i es end) ∙ sym (entries_of_words es) ∙ ap entries (sym words)) found
 

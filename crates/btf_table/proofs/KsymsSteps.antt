@@ -16,7 +16,7 @@ use Rattle.btf_rewrite_model.specs.Checks.{Check, first_fault, has_room, fits, r
 use Rattle.btf_rewrite_model.proofs.Granted.{passed_head, passed_tail, passed_left}
 use Rattle.btf_model.specs.Record as kinds
 use Rattle.btf_model.specs.Record.{Kind, Record, unknown, kind_of}
-use Rattle.btf_model.specs.Word.{Order}
+use Rattle.btf_model.specs.declared.endianness.Endianness.{Endianness}
 use Rattle.btf_model.specs.Spelling.{spell}
 use Rattle.btf_model.specs.Table.{Table, type_bytes, section_limit, with_string, with_type}
 use Rattle.btf_model.specs.Fields.{HaveKinds}
@@ -25,7 +25,8 @@ use Rattle.btf_table.specs.Denied.{AllHaveKinds}
 use Rattle.btf_table.proofs.KnownKinds.{one_more_kind}
 use Rattle.btf_rewrite_model.specs.Made as model
 use Rattle.btf_rewrite_model.specs.Made.{Entry, entries, record_at, c_int}
-use Rattle.btf_rewrite_model.specs.Ksyms.{KsymsIds, stepped, symbols, laid_out, appends_int, each_stepped, ksyms_table, ksyms_fault, int_text, placeholder_checks, data_sec_checks}
+use Rattle.btf_rewrite_model.specs.Ksyms.{stepped, symbols, laid_out, appends_int, each_stepped, ksyms_table, ksyms_fault, int_text, placeholder_checks, data_sec_checks}
+use Rattle.btf_rewrite_model.specs.declared.ksyms_ids.KsymsIds.{KsymsIds}
 use Rattle.btf_records.specs.BtfType.{record_of, fallback_of}
 use Rattle.btf_records.specs.declared.btf_type.BtfType.{BtfType}
 use Rattle.btf_table.specs.declared.table.changes.Changes.{Changes}
@@ -34,15 +35,15 @@ use Rattle.btf_table.specs.KsymsStep.{becomes, laid_out_anew, shape, IsLike, Are
 use Rattle.btf_table.proofs.Put.{length-put, put_kept, put_new, inside_more, inside_next}
 
 -- the symbols are the entries of the DATASEC
-symbols_are : (t : Table) (ids : KsymsIds) (id : ℕ) (r : Record) → slice_get t.records id ≡ Some r → id ≡ ids.datasec → symbols t ids ≡ entries r.tail
+symbols_are : (t : Table) (ids : KsymsIds) (id : ℕ) (r : Record) → slice_get t.records id ≡ Some r → id ≡ ids.datasec_id → symbols t ids ≡ entries r.tail
 symbols_are t ids id r at same =
     ap (λ (n : ℕ). entries (record_at t n).tail) (sym same) ∙ ap (λ (o : Option Record). entries (unwrap_or o unknown).tail) at
 
 -- the DATASEC of the symbols is laid out
-pub section_becomes : (t : Table) (ids : KsymsIds) (id : ℕ) (r : Record) → kind_of r.info ≡ Some kinds.DataSec → slice_get t.records id ≡ Some r → id ≡ ids.datasec → becomes t ids id r ≡ laid_out_anew t ids.placeholder r
+pub section_becomes : (t : Table) (ids : KsymsIds) (id : ℕ) (r : Record) → kind_of r.info ≡ Some kinds.DataSec → slice_get t.records id ≡ Some r → id ≡ ids.datasec_id → becomes t ids id r ≡ laid_out_anew t ids.placeholder_id r
 section_becomes t ids id r kind at same =
-    let made : List Entry → Record = λ es. record r { third = 4 * length es; tail = flat_map model.entry_words (laid_out t ids.placeholder 0 es) } in
-    let here : (id == ids.datasec) ≡ true = eq-eqb id ids.datasec same in
+    let made : List Entry → Record = λ es. record r { third = 4 * length es; tail = flat_map model.entry_words (laid_out t ids.placeholder_id 0 es) } in
+    let here : (id == ids.datasec_id) ≡ true = eq-eqb id ids.datasec_id same in
     ap (λ (k : Option Kind). stepped t ids id k r) kind ∙ ap (λ (b : Bool). if b then made (symbols t ids) else r) here ∙ ap made (symbols_are t ids id r at same)
 
 -- ---- all ids
@@ -132,14 +133,14 @@ stepped_all t ids ts i cs records low high stepped =
 abbrev sizes : List (Option Kind × ℕ) → ℕ
 sizes shapes = sum_by (λ (s : Option Kind × ℕ). 12 + 4 * s.1) shapes
 
-spelled_len : (order : Order) (rs : List Record) → length (flat_map (spell order) rs) ≡ sizes (map shape rs)
+spelled_len : (order : Endianness) (rs : List Record) → length (flat_map (spell order) rs) ≡ sizes (map shape rs)
 spelled_len order [] = refl
 spelled_len order (r ∷ rs) =
     let here : sizes (map shape (r ∷ rs)) ≡ 12 + 4 * length r.tail + sizes (map shape rs) = sum_by-cons (λ (s : Option Kind × ℕ). 12 + 4 * s.1) (shape r) (map shape rs) in
     omega (arith, here, length-append (spell order r) (flat_map (spell order) rs), length-spell order r, spelled_len order rs)
 
 -- records of the same shapes are as long
-same_len : (order : Order) (rs qs : List Record) → map shape rs ≡ map shape qs → length (flat_map (spell order) (drop 1 rs)) ≡ length (flat_map (spell order) (drop 1 qs))
+same_len : (order : Endianness) (rs qs : List Record) → map shape rs ≡ map shape qs → length (flat_map (spell order) (drop 1 rs)) ≡ length (flat_map (spell order) (drop 1 qs))
 same_len order rs qs same = spelled_len order (drop 1 rs) ∙ ap sizes (sym (drop-map shape 1 rs) ∙ ap (drop 1) same ∙ drop-map shape 1 qs) ∙ sym (spelled_len order (drop 1 qs))
 
 -- and have kinds
@@ -175,7 +176,7 @@ module _ (t : Table) (ids : KsymsIds) (c : Changes) (stepped : AreStepped t ids 
   rs_kinds = kinds_of_shapes rs t.records shapes_are have
 
   -- without the INT
-  pub stays_as_stepped : appends_int t ids.placeholder ≡ false → c.new_strings.items ≡ [] → c.new_types.items ≡ [] → c.type_len ≡ length (type_bytes t) → AreOf t c × (changed t c ≡ ksyms_table t ids)
+  pub stays_as_stepped : appends_int t ids.placeholder_id ≡ false → c.new_strings.items ≡ [] → c.new_types.items ≡ [] → c.type_len ≡ length (type_bytes t) → AreOf t c × (changed t c ≡ ksyms_table t ids)
   stays_as_stepped none strings types len =
       let is_rs : rs ++ map record_of c.new_types.items ≡ rs = ap (λ xs. rs ++ map record_of xs) types ∙ append-nil rs in
       let table : changed t c ≡ each_stepped t ids =
@@ -192,7 +193,7 @@ module _ (t : Table) (ids : KsymsIds) (c : Changes) (stepped : AreStepped t ids 
       )
 
   -- with the INT
-  pub grows_by_int : (rest : List Record) (int : BtfType) → t.records ≡ unknown ∷ rest → appends_int t ids.placeholder ≡ true → c.new_strings.items ≡ int_text ++ 0 ∷ [] → record_of int ≡ c_int (length t.strings) → fallback_of int ≡ None
+  pub grows_by_int : (rest : List Record) (int : BtfType) → t.records ≡ unknown ∷ rest → appends_int t ids.placeholder_id ≡ true → c.new_strings.items ≡ int_text ++ 0 ∷ [] → record_of int ≡ c_int (length t.strings) → fallback_of int ≡ None
       → c.new_types.items ≡ int ∷ [] → c.type_len ≡ length (type_bytes t) + 16 → length t.strings + 4 ≤ section_limit → length (type_bytes t) + 16 ≤ section_limit → AreOf t c × (changed t c ≡ ksyms_table t ids)
   grows_by_int rest int first there strings is none types len string_room type_room =
       let new : Record = c_int (length t.strings) in
@@ -229,8 +230,8 @@ le_of_room a b refusal passed =
     elim (nat_le a b) as (λ (c : Bool). nat_le a b ≡ c → (if c then None else Some refusal) ≡ None → a ≤ b) [ true ↦ λ is _. leb-true a b is | false ↦ λ _ some. absurd (none-some refusal (sym some)) ] refl passed
 
 -- The tests of the step have found room.
-pub int_has_room : (t : Table) (ids : KsymsIds) → ksyms_fault t ids ≡ None → appends_int t ids.placeholder ≡ true → (length t.strings + 4 ≤ section_limit) × (length (type_bytes t) + 16 ≤ section_limit)
-int_has_room t ids passed there = room ids.placeholder (passed_left (placeholder_checks t ids.placeholder) (data_sec_checks t ids.datasec) (passed_left (placeholder_checks t ids.placeholder ++ data_sec_checks t ids.datasec) _ passed)) there
+pub int_has_room : (t : Table) (ids : KsymsIds) → ksyms_fault t ids ≡ None → appends_int t ids.placeholder_id ≡ true → (length t.strings + 4 ≤ section_limit) × (length (type_bytes t) + 16 ≤ section_limit)
+int_has_room t ids passed there = room ids.placeholder_id (passed_left (placeholder_checks t ids.placeholder_id) (data_sec_checks t ids.datasec_id) (passed_left (placeholder_checks t ids.placeholder_id ++ data_sec_checks t ids.datasec_id) _ passed)) there
   where
     room : (placeholder : Option ℕ) → first_fault (placeholder_checks t placeholder) ≡ None → appends_int t placeholder ≡ true → (length t.strings + 4 ≤ section_limit) × (length (type_bytes t) + 16 ≤ section_limit)
     room (Some id) checks is = absurd (false≢true is)

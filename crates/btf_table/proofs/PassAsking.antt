@@ -3,19 +3,19 @@ use Rattle.std.proofs.Common.{◌≡◌, ℕ, suc, ◌<◌, length, arith, Bool,
 use Rattle.std.specs.Prelude.{if◌then◌else◌}
 use Rattle.std.specs.List.{list_any, find}
 use Rattle.std.specs.Option.{option_map}
-use Rattle.std.proofs.lemmas.List.{map-append, append-nil, append_assoc}
+use Rattle.std.proofs.lemmas.List.{append-nil, append_assoc}
 use Rattle.std.proofs.lemmas.List.Folds.{list_any-append}
 use Rattle.std.proofs.lemmas.Bool.{or_right}
-use Rattle.btf_rewrite_model.specs.Feature.{Feature, Answer, same_feature, grants}
+use Rattle.btf_rewrite_model.specs.Feature.{same_feature, grants}
+use Rattle.btf_rewrite_model.specs.declared.feature.BtfFeature.{BtfFeature}
+use Rattle.btf_rewrite_model.specs.declared.feature.FeatureAnswer.{FeatureAnswer}
 use Rattle.btf_rewrite_model.specs.Pass.{Pass, asks_below, each_once, Asked}
 use Rattle.btf_rewrite_model.specs.Pass.{asks as model_asks}
 use Rattle.btf_rewrite_model.specs.RewriteLaws.{IsAmong}
 use Rattle.btf_rewrite_model.specs.Passing.{AreAnswersTo, features_of, IsAt}
 use Rattle.btf_rewrite_model.proofs.Passing.{NextAnswers, AnswersWith, answer_to, asked_next, grants_append, among_each, further_same, asks_begin, each_once_begins}
-use Rattle.btf_rules.specs.Features.{feature_of, answer_of, answers_of, told, Asks, AsksFor, Called, IsFurther}
+use Rattle.btf_rules.specs.Features.{told, Asks, AsksFor, Called, IsFurther}
 use Rattle.btf_table.specs.PassStep.{HasAsked, AsksUpTo, BeginsAsked}
-use Rattle.btf_rules.specs.declared.features.BtfFeature.{BtfFeature}
-use Rattle.btf_rules.specs.declared.features.FeatureAnswer.{FeatureAnswer}
 
 -- ---- the predicate
 
@@ -27,7 +27,7 @@ called_next step first before after (a ∷ answers) f granted called now = (call
 -- asking is a call, or nothing
 pub asks_called : {F : Type 0} (step : F → BtfFeature → Bool → F → Type 0) (first : F) (f : BtfFeature) (old new : F × List FeatureAnswer) (granted : Bool) → Asks step f old granted new → Called step first old.1 old.0 → Called step first new.1 new.0
 asks_called {F} step first f old new granted asks called =
-    elim (told old.1 (feature_of f)) as (λ (o : Option Bool). AsksFor step f o old granted new → Called step first new.1 new.0) [
+    elim (told old.1 f) as (λ (o : Option Bool). AsksFor step f o old granted new → Called step first new.1 new.0) [
       | None ↦ λ one. subst (λ answers. Called step first answers new.0) (sym one.1) (called_next step first old.0 new.0 old.1 f granted called one.0)
       | Some was ↦ λ same. subst (λ (s : F × List FeatureAnswer). Called step first s.1 s.0) (sym same.1) called
     ] asks
@@ -35,7 +35,7 @@ asks_called {F} step first f old new granted asks called =
 -- and puts an answer after the others, or none
 pub asks_further : {F : Type 0} (step : F → BtfFeature → Bool → F → Type 0) (f : BtfFeature) (old new : F × List FeatureAnswer) (granted : Bool) → Asks step f old granted new → IsFurther old.1 new.1
 asks_further {F} step f old new granted asks =
-    elim (told old.1 (feature_of f)) as (λ (o : Option Bool). AsksFor step f o old granted new → IsFurther old.1 new.1) [
+    elim (told old.1 f) as (λ (o : Option Bool). AsksFor step f o old granted new → IsFurther old.1 new.1) [
       | None ↦ λ one. (record { feature = f; granted = granted } ∷ [], one.1)
       | Some was ↦ λ same. ([], ap (λ (s : F × List FeatureAnswer). s.1) same.1 ∙ sym (append-nil old.1))
     ] asks
@@ -47,25 +47,25 @@ pub further_none : (old : List FeatureAnswer) → IsFurther old old
 further_none old = ([], sym (append-nil old))
 
 -- as the definitions have answers
-pub further_answers : (old new : List FeatureAnswer) (further : IsFurther old new) → answers_of new ≡ answers_of old ++ answers_of further.0
-further_answers old new further = ap answers_of further.1 ∙ map-append answer_of old further.0
+pub further_answers : (old new : List FeatureAnswer) (further : IsFurther old new) → new ≡ old ++ further.0
+further_answers old new further = further.1
 
 -- ---- the answers
 
-told_is : (answers : List FeatureAnswer) (f : Feature) → told answers f ≡ answer_to (answers_of answers) f
+told_is : (answers : List FeatureAnswer) (f : BtfFeature) → told answers f ≡ answer_to answers f
 told_is [] f = refl
 told_is (a ∷ answers) f =
-    elim (same_feature (feature_of a.feature) f) as (λ (b : Bool).
-    option_map (λ (x : FeatureAnswer). x.granted) (if b then Some a else find (λ (x : FeatureAnswer). same_feature (feature_of x.feature) f) answers) ≡ (if b then Some a.granted else answer_to (answers_of answers) f))
+    elim (same_feature a.feature f) as (λ (b : Bool).
+    option_map (λ (x : FeatureAnswer). x.granted) (if b then Some a else find (λ (x : FeatureAnswer). same_feature x.feature f) answers) ≡ (if b then Some a.granted else answer_to answers f))
     [ true ↦ refl | false ↦ told_is answers f ]
 
 pub asks_next : {F : Type 0} (step : F → BtfFeature → Bool → F → Type 0) (f : BtfFeature) (old new : F × List FeatureAnswer) (granted : Bool) → Asks step f old granted new
-    → NextAnswers (answers_of old.1) (feature_of f) granted (answers_of new.1)
+    → NextAnswers old.1 f granted new.1
 asks_next {F} step f old new granted asks =
-    subst (λ (o : Option Bool). AnswersWith o (answers_of old.1) (feature_of f) granted (answers_of new.1)) (told_is old.1 (feature_of f)) (
-    elim (told old.1 (feature_of f)) as (λ (o : Option Bool). AsksFor step f o old granted new → AnswersWith o (answers_of old.1) (feature_of f) granted (answers_of new.1)) [
-      | None ↦ λ one. ap answers_of one.1 ∙ map-append answer_of old.1 (record { feature = f; granted = granted } ∷ [])
-      | Some was ↦ λ same. (same.0, ap (λ (s : F × List FeatureAnswer). answers_of s.1) same.1)
+    subst (λ (o : Option Bool). AnswersWith o old.1 f granted new.1) (told_is old.1 f) (
+    elim (told old.1 f) as (λ (o : Option Bool). AsksFor step f o old granted new → AnswersWith o old.1 f granted new.1) [
+      | None ↦ λ one. one.1
+      | Some was ↦ λ same. (same.0, ap (λ (s : F × List FeatureAnswer). s.1) same.1)
     ] asks)
 
 -- ---- an id
@@ -78,7 +78,7 @@ asked_none p id asked = record {
 }
 
 -- one more is asked for
-pub asked_more : (p : Pass) (id : ℕ) (some : List Feature) (answers new : List Answer) (f : Feature) (granted : Bool) → HasAsked p id some answers → NextAnswers answers f granted new → HasAsked p id (some ++ f ∷ []) new × (grants new f ≡ granted)
+pub asked_more : (p : Pass) (id : ℕ) (some : List BtfFeature) (answers new : List FeatureAnswer) (f : BtfFeature) (granted : Bool) → HasAsked p id some answers → NextAnswers answers f granted new → HasAsked p id (some ++ f ∷ []) new × (grants new f ≡ granted)
 asked_more p id some answers new f granted has next =
     let n = asked_next (asks_below p id ++ some) answers new f granted has.asked next in (
       record {
@@ -90,7 +90,7 @@ asked_more p id some answers new f granted has next =
     )
 
 -- what was asked for before has the answer that it had
-pub asked_kept : (p : Pass) (id : ℕ) (some : List Feature) (answers new : List Answer) (f g : Feature) (granted : Bool) → HasAsked p id some answers → NextAnswers answers f granted new → IsAmong g some → grants new g ≡ grants answers g
+pub asked_kept : (p : Pass) (id : ℕ) (some : List BtfFeature) (answers new : List FeatureAnswer) (f g : BtfFeature) (granted : Bool) → HasAsked p id some answers → NextAnswers answers f granted new → IsAmong g some → grants new g ≡ grants answers g
 asked_kept p id some answers new f g granted has next among =
     let n = asked_next (asks_below p id ++ some) answers new f granted has.asked next in
     let there : IsAmong g (asks_below p id ++ some) = list_any-append (same_feature g) (asks_below p id) some ∙ or_right (list_any (same_feature g) (asks_below p id)) (list_any (same_feature g) some) among in
@@ -99,13 +99,13 @@ asked_kept p id some answers new f g granted has next among =
 -- ---- the whole pass
 
 -- what is asked of an id are the first features of all
-pub begins_at : (p : Pass) (id : ℕ) (answers : List Answer) (left : List Feature) → IsAt p id → id < length p.table.records → AsksUpTo p id answers left → BeginsAsked (record p { answers = answers })
+pub begins_at : (p : Pass) (id : ℕ) (answers : List FeatureAnswer) (left : List BtfFeature) → IsAt p id → id < length p.table.records → AsksUpTo p id answers left → BeginsAsked (record p { answers = answers })
 begins_at p id answers left at lt asks =
     let q : Pass = record p { answers = answers } in
     let has : HasAsked p id asks.0 answers = asks.1 in
     let below : asks_below q id ≡ asks_below p id =
-    ap (λ (xs : List Answer). asks_below (record p { answers = xs }) id) has.further ∙ (further_same p id has.more at).asks in
-    let some : List Feature = asks_below p id ++ asks.0 in
+    ap (λ (xs : List FeatureAnswer). asks_below (record p { answers = xs }) id) has.further ∙ (further_same p id has.more at).asks in
+    let some : List BtfFeature = asks_below p id ++ asks.0 in
     let next : asks_below q (suc id) ≡ some ++ left = ap (λ fs. fs ++ model_asks q id) below ∙ ap (λ fs. asks_below p id ++ fs) asks.2 ∙ sym (append_assoc (asks_below p id) asks.0 left) in
     let others = asks_begin q (suc id) (length p.table.records) (omega (arith, lt)) in
     let all : asks_below q (length p.table.records) ≡ some ++ (left ++ others.0) = others.1 ∙ ap (λ fs. fs ++ others.0) next ∙ append_assoc some left others.0 in
@@ -118,4 +118,4 @@ begins_all p at = ([], sym at.asked ∙ sym (append-nil (features_of p.answers))
 
 -- nothing is asked yet
 pub begins_none : (p : Pass) → p.answers ≡ [] → BeginsAsked p
-begins_none p none = (Asked p, ap (λ (xs : List Answer). features_of xs ++ Asked p) (sym none))
+begins_none p none = (Asked p, ap (λ (xs : List FeatureAnswer). features_of xs ++ Asked p) (sym none))

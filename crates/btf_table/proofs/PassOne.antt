@@ -5,8 +5,10 @@ use Rattle.std.proofs.lemmas.Bool.{false≢true}
 use Rattle.btf_model.specs.Record as kinds
 use Rattle.btf_model.specs.Record.{Kind, Record, kind_of}
 use Rattle.btf_model.specs.Table.{Table}
-use Rattle.btf_rewrite_model.specs.Feature as features
-use Rattle.btf_rewrite_model.specs.Feature.{Feature, Answer, grants, is_signed}
+use Rattle.btf_rewrite_model.specs.declared.feature.BtfFeature.TheVariants as features
+use Rattle.btf_rewrite_model.specs.Feature.{grants, is_signed}
+use Rattle.btf_rewrite_model.specs.declared.feature.BtfFeature.{BtfFeature}
+use Rattle.btf_rewrite_model.specs.declared.feature.FeatureAnswer.{FeatureAnswer}
 use Rattle.btf_rewrite_model.specs.Made.{record_at}
 use Rattle.btf_rewrite_model.specs.Pass.{Pass, asks, asks_by, asks_below}
 use Rattle.btf_rewrite_model.specs.Passing.{AreAnswersTo}
@@ -19,7 +21,7 @@ use Rattle.btf_rules.specs.SoleFeature.{sole_feature, asks_one, IsGranted}
 use Rattle.btf_table.proofs.PassAsking.{asked_none, asked_more}
 use Rattle.btf_table.proofs.PassRules.{record_there, kind_there}
 
-abbrev listed : Option Feature → List Feature
+abbrev listed : Option BtfFeature → List BtfFeature
 listed (Some f) = f ∷ []
 listed None = []
 
@@ -30,22 +32,22 @@ sole_asks p id (Some kinds.Enum) r one =
     elim (is_signed r) as (λ (b : Bool). (if b then features.Enum64 ∷ [] else []) ≡ listed (if b then Some features.Enum64 else None)) [ true ↦ refl | false ↦ refl ]
 sole_asks p id k r one = refl
 
-module _ (t : Table) (given : Given) (id : ℕ) (b : BtfType) (old : List Answer) (asked : AreAnswersTo (asks_below (pass_on t given old) id) old) where
+module _ (t : Table) (given : Given) (id : ℕ) (b : BtfType) (old : List FeatureAnswer) (asked : AreAnswersTo (asks_below (pass_on t given old) id) old) where
   abbrev k : Option Kind
   k = kind_of (record_of b).info
 
-  asks_are : (new : List Answer) → IsType t id b → asks_one k ≡ true → asks (pass_on t given new) id ≡ listed (sole_feature k (record_of b))
+  asks_are : (new : List FeatureAnswer) → IsType t id b → asks_one k ≡ true → asks (pass_on t given new) id ≡ listed (sole_feature k (record_of b))
   asks_are new there one =
       ap (λ (j : Option Kind). asks_by (pass_on t given new) id j (record_at t id)) (kind_there t id b there) ∙ ap (asks_by (pass_on t given new) id k) (record_there t id b there)
       ∙ sole_asks (pass_on t given new) id k (record_of b) one
 
   -- it asks for one
-  pub one_asked : (new : List Answer) (f : Feature) (granted : Bool) → NextAnswers old f granted new → sole_feature k (record_of b) ≡ Some f → IsType t id b → asks_one k ≡ true → AsksUpTo (pass_on t given old) id new []
+  pub one_asked : (new : List FeatureAnswer) (f : BtfFeature) (granted : Bool) → NextAnswers old f granted new → sole_feature k (record_of b) ≡ Some f → IsType t id b → asks_one k ≡ true → AsksUpTo (pass_on t given old) id new []
   one_asked new f granted next is there one = (f ∷ [], (asked_more (pass_on t given old) id [] old new f granted (asked_none (pass_on t given old) id asked) next).0, asks_are new there one ∙ ap listed is)
 
-  pub one_granted : (new : List Answer) (f : Feature) (granted : Bool) → NextAnswers old f granted new → sole_feature k (record_of b) ≡ Some f → IsGranted (pass_on t given new) (sole_feature k (record_of b)) granted
+  pub one_granted : (new : List FeatureAnswer) (f : BtfFeature) (granted : Bool) → NextAnswers old f granted new → sole_feature k (record_of b) ≡ Some f → IsGranted (pass_on t given new) (sole_feature k (record_of b)) granted
   one_granted new f granted next is =
-      subst (λ (o : Option Feature). IsGranted (pass_on t given new) o granted) (sym is) (asked_more (pass_on t given old) id [] old new f granted (asked_none (pass_on t given old) id asked) next).1
+      subst (λ (o : Option BtfFeature). IsGranted (pass_on t given new) o granted) (sym is) (asked_more (pass_on t given old) id [] old new f granted (asked_none (pass_on t given old) id asked) next).1
 
   -- it asks for none
   pub none_asked : sole_feature k (record_of b) ≡ None → IsType t id b → asks_one k ≡ true → AsksUpTo (pass_on t given old) id old []

@@ -8,7 +8,7 @@ use Rattle.btf_model.specs.Record as kinds
 use Rattle.btf_model.specs.Record.{Kind, Record, unknown, kind_of, vlen}
 use Rattle.btf_model.specs.Refusal.{Refusal}
 use Rattle.btf_model.specs.Table.{Table, Fallback}
-use Rattle.btf_rewrite_model.specs.Feature as features
+use Rattle.btf_rewrite_model.specs.declared.feature.BtfFeature.TheVariants as features
 use Rattle.btf_rewrite_model.specs.Feature.{fills_sized, has_no_entries, is_sized_and_empty}
 use Rattle.btf_rewrite_model.specs.Made as model
 use Rattle.btf_rewrite_model.specs.Made.{record_at, kind_at, byte_int}

@@ -15,8 +15,10 @@ use Rattle.btf_model.specs.Record as kinds
 use Rattle.btf_model.specs.Record.{Kind, Record, unknown, kind_of}
 use Rattle.btf_model.specs.Refusal.{Refusal}
 use Rattle.btf_model.specs.Table.{Table, Fallback, type_bytes, no_fallbacks}
-use Rattle.btf_rewrite_model.specs.Feature as features
-use Rattle.btf_rewrite_model.specs.Feature.{Feature, Answer, same_feature}
+use Rattle.btf_rewrite_model.specs.declared.feature.BtfFeature.TheVariants as features
+use Rattle.btf_rewrite_model.specs.Feature.{same_feature}
+use Rattle.btf_rewrite_model.specs.declared.feature.BtfFeature.{BtfFeature}
+use Rattle.btf_rewrite_model.specs.declared.feature.FeatureAnswer.{FeatureAnswer}
 use Rattle.btf_rewrite_model.specs.Made as model
 use Rattle.btf_rewrite_model.specs.Made.{record_at, kind_at}
 use Rattle.btf_rewrite_model.specs.Checks.{record_len}
@@ -37,8 +39,6 @@ use Rattle.btf_records.specs.declared.btf_type.BtfType.{BtfType}
 use Rattle.btf_table.specs.Adding.{HasRoom}
 use Rattle.btf_table.specs.Changes.{put_all, each, AreInside, AreOf, changed}
 use Rattle.btf_table.specs.Denied.{AllHaveKinds, AreIds, deny_all, with_denied}
-use Rattle.btf_rules.specs.Features.{answers_of}
-use Rattle.btf_rules.specs.declared.features.FeatureAnswer.{FeatureAnswer}
 use Rattle.btf_table.specs.PassStep.{kept_changes, kept_ids, made_of, placed_of, placed_below, IsType, IsHere, IsRuled, HasAsked, AsksUpTo, IsMade, Steps, Passes, growth}
 use Rattle.btf_table.specs.declared.sanitize.made.Made.{Made}
 use Rattle.btf_table.specs.declared.sanitize.outcome.Outcome.{Outcome}
@@ -51,7 +51,7 @@ use Rattle.btf_table.proofs.Put.{length-put, put_kept, put_new, inside_more, ins
 
 -- ---- what agrees up to an id agrees up to lower ones
 
-among_lower : (p : Pass) (id j : ℕ) (f : Feature) → j ≤ id → IsAmong f (asks_below p j) → IsAmong f (asks_below p id)
+among_lower : (p : Pass) (id j : ℕ) (f : BtfFeature) → j ≤ id → IsAmong f (asks_below p j) → IsAmong f (asks_below p id)
 among_lower p zero j f le among =
     let none : j ≡ 0 = omega (arith, le) in
     subst (λ (n : ℕ). IsAmong f (asks_below p n)) none among
@@ -64,20 +64,20 @@ among_lower p (suc id) j f le among =
       ]
     ]
 
-agree_lower : (p : Pass) (answers : List Answer) (id j : ℕ) → j ≤ id → Agree p answers id → Agree p answers j
+agree_lower : (p : Pass) (answers : List FeatureAnswer) (id j : ℕ) → j ≤ id → Agree p answers id → Agree p answers j
 agree_lower p answers id j le agree f among = agree f (among_lower p id j f le among)
 
 -- so the ids of lower ids stay
-free_lower : (p : Pass) (answers : List Answer) (id j : ℕ) → Agree p answers id → AreRuled p id → j < id → free_id (with_answers p answers) j ≡ free_id p j
+free_lower : (p : Pass) (answers : List FeatureAnswer) (id j : ℕ) → Agree p answers id → AreRuled p id → j < id → free_id (with_answers p answers) j ≡ free_id p j
 free_lower p answers id j agree ruled lt =
     ap (λ (rs : List Record). length p.table.records + length rs) (same_below p answers j (agree_lower p answers id j (omega (arith, lt)) agree) (λ k below. ruled k (omega (arith, below, lt)))).added
 
 -- and what they fall back to
-falls_back_alike : (p : Pass) (answers : List Answer) (id : ℕ) (k : Option Kind) (r : Record) (old : Option Fallback) → kind_at p.table id ≡ k → AgreeAt p answers id → falls_back_by (with_answers p answers) k r old ≡ falls_back_by p k r old
+falls_back_alike : (p : Pass) (answers : List FeatureAnswer) (id : ℕ) (k : Option Kind) (r : Record) (old : Option Fallback) → kind_at p.table id ≡ k → AgreeAt p answers id → falls_back_by (with_answers p answers) k r old ≡ falls_back_by p k r old
 falls_back_alike p answers id (Some kinds.Enum64) r old kind agree = ap (λ (b : Bool). if b then old else Some (model.fallback_of r)) (agree_of p answers id (Some kinds.Enum64) features.Enum64 agree kind refl)
 falls_back_alike p answers id k r old kind agree = refl
 
-falls_back_lower : (p : Pass) (answers : List Answer) (id j : ℕ) → Agree p answers id → j < id → falls_back (with_answers p answers) j ≡ falls_back p j
+falls_back_lower : (p : Pass) (answers : List FeatureAnswer) (id j : ℕ) → Agree p answers id → j < id → falls_back (with_answers p answers) j ≡ falls_back p j
 falls_back_lower p answers id j agree lt =
     falls_back_alike p answers j (kind_at p.table j) (record_at p.table j) (unwrap_or (slice_get p.table.fallbacks j) None) refl (agree_at p answers id j lt agree)
 
@@ -95,12 +95,12 @@ range_alike f g (suc n) alike =
 -- ---- what is there at an id
 
 -- Further answers change nothing of what was made.
-pub here_of_made : (p : Pass) (id : ℕ) (m : Made) (ids : List ℕ) (answers more : List Answer) → answers ≡ p.answers ++ more → IsAt p id → IsMade p id m ids → IsHere (record p { answers = answers }) id m
-here_of_made p id m ids answers more is at made = subst (λ (told : List Answer). IsHere (with_answers p told) id m) (sym is) here
+pub here_of_made : (p : Pass) (id : ℕ) (m : Made) (ids : List ℕ) (answers more : List FeatureAnswer) → answers ≡ p.answers ++ more → IsAt p id → IsMade p id m ids → IsHere (record p { answers = answers }) id m
+here_of_made p id m ids answers more is at made = subst (λ (told : List FeatureAnswer). IsHere (with_answers p told) id m) (sym is) here
   where
     here : IsHere (with_answers p (p.answers ++ more)) id m
     here =
-        let all : List Answer = p.answers ++ more in
+        let all : List FeatureAnswer = p.answers ++ more in
         let q : Pass = with_answers p all in
         let agree : Agree p all id = further_agree p id more at.asked in
         let same : IsSameBelow p all id = further_same p id more at in
@@ -120,13 +120,13 @@ here_of_made p id m ids answers more is at made = subst (λ (told : List Answer)
 -- ---- from id to id
 
 -- An id is gone past, where all that it asks for is answered and it is not refused.
-pub at_next : (p : Pass) (id : ℕ) (answers : List Answer) → IsAt p id → AsksUpTo p id answers [] → fault (record p { answers = answers }) id ≡ None → IsAt (record p { answers = answers }) (suc id)
+pub at_next : (p : Pass) (id : ℕ) (answers : List FeatureAnswer) → IsAt p id → AsksUpTo p id answers [] → fault (record p { answers = answers }) id ≡ None → IsAt (record p { answers = answers }) (suc id)
 at_next p id answers at asks_up passed =
-    let some : List Feature = asks_up.0 in
+    let some : List BtfFeature = asks_up.0 in
     let has : HasAsked p id some answers = asks_up.1 in
     let all_asked : AreAnswersTo (asks_below p id ++ asks (with_answers p answers) id) answers =
     subst (λ fs. AreAnswersTo (asks_below p id ++ fs) answers) (sym (asks_up.2 ∙ append-nil some)) has.asked in
-    subst (λ (told : List Answer). AreAnswersTo (asks_below p id ++ asks (with_answers p told) id) told → fault (with_answers p told) id ≡ None → IsAt (with_answers p told) (suc id))
+    subst (λ (told : List FeatureAnswer). AreAnswersTo (asks_below p id ++ asks (with_answers p told) id) told → fault (with_answers p told) id ≡ None → IsAt (with_answers p told) (suc id))
     (sym has.further) (goes_on p id has.more at) all_asked passed
 
 -- What is kept of an id, with the ids that are to be denied before and after.
@@ -182,7 +182,7 @@ one_len r = sum_by-cons record_len r [] ∙ plus_none (record_len r)
     plus_none : (n : ℕ) → n + 0 ≡ n
     plus_none n = omega arith
 
-one_more : (p : Pass) (id : ℕ) (more : List Answer) (b : BtfType) (o : Outcome) (before mid after : Made) (ids more_ids : List ℕ) → 0 < id → IsAt p id → IsMade p id before ids → IsType p.table id b
+one_more : (p : Pass) (id : ℕ) (more : List FeatureAnswer) (b : BtfType) (o : Outcome) (before mid after : Made) (ids more_ids : List ℕ) → 0 < id → IsAt p id → IsMade p id before ids → IsType p.table id b
     → Keeps id b o mid after ids more_ids → IsRuled (with_answers p (p.answers ++ more)) id b before mid (made_of o b) → IsMade (with_answers p (p.answers ++ more)) (suc id) after more_ids
 one_more p id more b o before mid after ids more_ids low at made there keeps ruled =
     let q : Pass = with_answers p (p.answers ++ more) in
@@ -237,41 +237,41 @@ one_more p id more b o before mid after ids more_ids low at made there keeps rul
     }
 
 -- What is made when the next id is come to: what its rule appends, and what it becomes.
-pub made_on_next : (p : Pass) (id : ℕ) (answers more : List Answer) → answers ≡ p.answers ++ more → (b : BtfType) (o : Outcome) (before mid after : Made) (ids more_ids : List ℕ) → 0 < id → IsAt p id → IsMade p id before ids → IsType p.table id b
+pub made_on_next : (p : Pass) (id : ℕ) (answers more : List FeatureAnswer) → answers ≡ p.answers ++ more → (b : BtfType) (o : Outcome) (before mid after : Made) (ids more_ids : List ℕ) → 0 < id → IsAt p id → IsMade p id before ids → IsType p.table id b
     → IsRuled (record p { answers = answers }) id b before mid (made_of o b) → Keeps id b o mid after ids more_ids → IsMade (record p { answers = answers }) (suc id) after more_ids
 made_on_next p id answers more is b o before mid after ids more_ids low at made there ruled keeps =
-    subst (λ (told : List Answer). IsRuled (with_answers p told) id b before mid (made_of o b) → IsMade (with_answers p told) (suc id) after more_ids) (sym is)
+    subst (λ (told : List FeatureAnswer). IsRuled (with_answers p told) id b before mid (made_of o b) → IsMade (with_answers p told) (suc id) after more_ids) (sym is)
     (one_more p id more b o before mid after ids more_ids low at made there keeps) ruled
 
 -- An id whose asks are answered and whose rule is kept is gone past.
 pub steps_on : (p : Pass) (id : ℕ) (answers : List FeatureAnswer) (b : BtfType) (o : Outcome) (before mid after : Made) (ids more_ids : List ℕ) → 0 < id → IsAt p id → IsMade p id before ids → IsType p.table id b
     → Steps p id answers b before mid (Ok (made_of o b)) → Keeps id b o mid after ids more_ids
-    → IsAt (record p { answers = answers_of answers }) (suc id) × IsMade (record p { answers = answers_of answers }) (suc id) after more_ids
+    → IsAt (record p { answers = answers }) (suc id) × IsMade (record p { answers = answers }) (suc id) after more_ids
 steps_on p id answers b o before mid after ids more_ids low at made there steps keeps =
-    let has : HasAsked p id steps.0.0 (answers_of answers) = steps.0.1 in
-    (at_next p id (answers_of answers) at steps.0 steps.1.passed, made_on_next p id (answers_of answers) has.more has.further b o before mid after ids more_ids low at made there steps.1 keeps)
+    let has : HasAsked p id steps.0.0 answers = steps.0.1 in
+    (at_next p id answers at steps.0 steps.1.passed, made_on_next p id answers has.more has.further b o before mid after ids more_ids low at made there steps.1 keeps)
 
 -- Further answers do not change that lower ids are not refused.
-still_ruled : (p : Pass) (id : ℕ) (more : List Answer) → IsAt p id → AreRuled (with_answers p (p.answers ++ more)) id
+still_ruled : (p : Pass) (id : ℕ) (more : List FeatureAnswer) → IsAt p id → AreRuled (with_answers p (p.answers ++ more)) id
 still_ruled p id more at j lt =
     let agree : Agree p (p.answers ++ more) id = further_agree p id more at.asked in
     same_refused p (p.answers ++ more) j (agree_lower p (p.answers ++ more) id (suc j) (omega (arith, lt)) agree) (λ k below. at.ruled k (omega (arith, below, lt))) ∙ at.ruled j lt
 
 -- One whose asks are answered and that is refused ends the pass.
-pub refused_at : (p : Pass) (id : ℕ) (answers : List Answer) (refusal : Refusal) → id < length p.table.records → IsAt p id → AsksUpTo p id answers [] → fault (record p { answers = answers }) id ≡ Some refusal
+pub refused_at : (p : Pass) (id : ℕ) (answers : List FeatureAnswer) (refusal : Refusal) → id < length p.table.records → IsAt p id → AsksUpTo p id answers [] → fault (record p { answers = answers }) id ≡ Some refusal
     → Passes (record p { answers = answers }) (Err refusal)
 refused_at p id answers refusal lt at asks_up faults =
-    let some : List Feature = asks_up.0 in
+    let some : List BtfFeature = asks_up.0 in
     let has : HasAsked p id some answers = asks_up.1 in
     let all_asked : AreAnswersTo (asks_below p id ++ asks (with_answers p answers) id) answers =
     subst (λ fs. AreAnswersTo (asks_below p id ++ fs) answers) (sym (asks_up.2 ∙ append-nil some)) has.asked in
-    subst (λ (told : List Answer). AreAnswersTo (asks_below p id ++ asks (with_answers p told) id) told → fault (with_answers p told) id ≡ Some refusal → Passes (with_answers p told) (Err refusal)) (sym has.further)
+    subst (λ (told : List FeatureAnswer). AreAnswersTo (asks_below p id ++ asks (with_answers p told) id) told → fault (with_answers p told) id ≡ Some refusal → Passes (with_answers p told) (Err refusal)) (sym has.further)
     (λ asked refused. (
       id,
       lt,
       still_ruled p id has.more at,
       refused,
-      asked ∙ ap (λ (fs : List Feature). each_once (fs ++ asks (with_answers p (p.answers ++ has.more)) id)) (sym (further_same p id has.more at).asks),
+      asked ∙ ap (λ (fs : List BtfFeature). each_once (fs ++ asks (with_answers p (p.answers ++ has.more)) id)) (sym (further_same p id has.more at).asks),
     )) all_asked faults
 
 -- ---- the end

@@ -2,11 +2,13 @@
 use Rattle.std.proofs.Common.{◌≡◌, ℕ, Bool, true, false, List, length, Option, None, Some, Result, Ok, Err, refl, ap, subst, ◌∙◌, inr}
 use Rattle.std.specs.Prelude.{if◌then◌else◌, OnOk, IfSome}
 use Rattle.btf_model.specs.Refusal.{Refusal}
-use Rattle.btf_model.specs.Word.{Order}
+use Rattle.btf_model.specs.declared.endianness.Endianness.{Endianness}
 use Rattle.btf_model.specs.Table.{Table, strip, with_string, with_type}
 use Rattle.btf_model.specs.Blob.{IsTable}
-use Rattle.btf_rewrite_model.specs.Feature.{Answer, FillPolicy}
-use Rattle.btf_rewrite_model.specs.Ksyms.{KsymsIds, appends_int, each_stepped, int_text}
+use Rattle.btf_rewrite_model.specs.declared.feature.FeatureAnswer.{FeatureAnswer}
+use Rattle.btf_rewrite_model.specs.declared.feature.FillPolicy.{FillPolicy}
+use Rattle.btf_rewrite_model.specs.Ksyms.{appends_int, each_stepped, int_text}
+use Rattle.btf_rewrite_model.specs.declared.ksyms_ids.KsymsIds.{KsymsIds}
 use Rattle.btf_rewrite_model.specs.Made.{c_int}
 use Rattle.btf_rewrite_model.specs.Rewritten.{begun, pass_with, step_fault, RewrittenWith}
 use Rattle.btf_rewrite_model.proofs.GrantedAll.{suffice}
@@ -20,15 +22,15 @@ use Rattle.btf_table.specs.PassStep.{Given, pass_on}
 use Rattle.btf_table.specs.Rewrites.{RewritesWith, Sanitizes, NeedsAreGrantedWith, KeepsSizes, KeepsResolutions, KeepsValues, AppendsAtMost, OfTables}
 
 -- a pass over the table as it begins, after the step
-sanitized : {X : Type 0} (old new : Table) (k : Option KsymsIds) (given : Given) (answers : List Answer) (r : Result X Refusal) → step_fault old k ≡ None → Sanitizes (pass_with given.policy old k given.layout answers) new r → RewritesWith given.policy old k given.layout answers new r
+sanitized : {X : Type 0} (old new : Table) (k : Option KsymsIds) (given : Given) (answers : List FeatureAnswer) (r : Result X Refusal) → step_fault old k ≡ None → Sanitizes (pass_with given.policy old k given.layout answers) new r → RewritesWith given.policy old k given.layout answers new r
 sanitized old new k given answers (Ok x) step s = (record { step = step; ruled = s.0; table = s.1 }, s.2)
 sanitized old new k given answers (Err refusal) step s = inr (step, s)
 
-pub stepped_by : {X : Type 0} (old t new : Table) (k : Option KsymsIds) (given : Given) (answers : List Answer) (r : Result X Refusal) → step_fault old k ≡ None → t ≡ begun old k → Sanitizes (pass_on t given answers) new r → RewritesWith given.policy old k given.layout answers new r
+pub stepped_by : {X : Type 0} (old t new : Table) (k : Option KsymsIds) (given : Given) (answers : List FeatureAnswer) (r : Result X Refusal) → step_fault old k ≡ None → t ≡ begun old k → Sanitizes (pass_on t given answers) new r → RewritesWith given.policy old k given.layout answers new r
 stepped_by old t new k given answers r step is s = sanitized old new k given answers r step (subst (λ u. Sanitizes (pass_on u given answers) new r) is s)
 
 -- the same of what a call returns
-pub rewrites_by : {X Y : Type 0} (view : X → Y) (r : Result X BtfError) (old t new : Table) (k : Option KsymsIds) (given : Given) (answers : List Answer) → step_fault old k ≡ None → t ≡ begun old k
+pub rewrites_by : {X Y : Type 0} (view : X → Y) (r : Result X BtfError) (old t new : Table) (k : Option KsymsIds) (given : Given) (answers : List FeatureAnswer) → step_fault old k ≡ None → t ≡ begun old k
     → MeetsOrNoMemory view r (Sanitizes (pass_on t given answers) new) → MeetsOrNoMemory view r (RewritesWith given.policy old k given.layout answers new)
 rewrites_by view (Ok x) old t new k given answers step is told = stepped_by old t new k given answers (Ok (view x)) step is told
 rewrites_by {X} {Y} view (Err e) old t new k given answers step is told = refused (refusal_of e) told
@@ -40,7 +42,7 @@ rewrites_by {X} {Y} view (Err e) old t new k given answers step is told = refuse
 -- ---- what follows
 
 -- What a rewrite grants and keeps.
-pub record Keeps (policy : FillPolicy) (old : Table) (k : Option KsymsIds) (answers : List Answer) (new : Table) : Type 0 where
+pub record Keeps (policy : FillPolicy) (old : Table) (k : Option KsymsIds) (answers : List FeatureAnswer) (new : Table) : Type 0 where
   pub granted : NeedsAreGrantedWith policy old k answers new
   pub sizes : KeepsSizes old new
   pub resolutions : KeepsResolutions old new
@@ -48,7 +50,7 @@ pub record Keeps (policy : FillPolicy) (old : Table) (k : Option KsymsIds) (answ
   pub appended : AppendsAtMost 4 old new
 
 -- one that succeeds does
-pub keeps_of : {X : Type 0} (old new : Table) (k : Option KsymsIds) (given : Given) (answers : List Answer) (x : X) → RewritesWith given.policy old k given.layout answers new (Ok x) → Keeps given.policy old k answers new
+pub keeps_of : {X : Type 0} (old new : Table) (k : Option KsymsIds) (given : Given) (answers : List FeatureAnswer) (x : X) → RewritesWith given.policy old k given.layout answers new (Ok x) → Keeps given.policy old k answers new
 keeps_of old new k given answers x h = record {
   granted = suffice given.policy old new k given.layout answers h.0 h.1;
   sizes = kept.sizes_stay given.policy old new k given.layout answers h.0;
@@ -58,7 +60,7 @@ keeps_of old new k given answers x h = record {
 }
 
 -- of the tables that bytes stand for there is one each
-pub of_tables : (order : Order) (bytes written : List ℕ) (old new : Table) (P : Table → Table → Type 0) → IsTable order bytes old → IsTable order written (strip new) → P old (strip new) → OfTables order bytes written P
+pub of_tables : (order : Endianness) (bytes written : List ℕ) (old new : Table) (P : Table → Table → Type 0) → IsTable order bytes old → IsTable order written (strip new) → P old (strip new) → OfTables order bytes written P
 of_tables order bytes written old new P parsed again holds = λ t u is_t is_u.
     subst (P t) (same_table order written (strip new) u again is_u) (subst (λ (x : Table). P x (strip new)) (same_table order bytes old t parsed is_t) holds)
 
@@ -71,13 +73,13 @@ on_ok view (Err e) P Q given then_q = tt
 begun_order : (old : Table) (k : Option KsymsIds) → (begun old k).order ≡ old.order
 begun_order old None = refl
 begun_order old (Some ids) =
-    elim (appends_int old ids.placeholder) as (λ (b : Bool). (if b then with_type (c_int (length old.strings)) None (with_string int_text (each_stepped old ids)) else each_stepped old ids).order ≡ old.order) [ true ↦ refl | false ↦ refl ]
+    elim (appends_int old ids.placeholder_id) as (λ (b : Bool). (if b then with_type (c_int (length old.strings)) None (with_string int_text (each_stepped old ids)) else each_stepped old ids).order ≡ old.order) [ true ↦ refl | false ↦ refl ]
 
-pub rewritten_order : (old new : Table) (k : Option KsymsIds) (given : Given) (answers : List Answer) → RewrittenWith given.policy old k given.layout answers new → new.order ≡ old.order
+pub rewritten_order : (old new : Table) (k : Option KsymsIds) (given : Given) (answers : List FeatureAnswer) → RewrittenWith given.policy old k given.layout answers new → new.order ≡ old.order
 rewritten_order old new k given answers h = ap (λ (t : Table). t.order) h.table ∙ begun_order old k
 
 -- what is written stands for the new table in the order of the bytes that were parsed
-pub written_again : (order : Order) (bytes written : List ℕ) (old new : Table) (k : Option KsymsIds) (given : Given) (answers : List Answer) → IsTable order bytes old → RewrittenWith given.policy old k given.layout answers new
+pub written_again : (order : Endianness) (bytes written : List ℕ) (old new : Table) (k : Option KsymsIds) (given : Given) (answers : List FeatureAnswer) → IsTable order bytes old → RewrittenWith given.policy old k given.layout answers new
     → IsTable new.order written (strip new) → IsTable order written (strip new)
 written_again order bytes written old new k given answers parsed h again =
-    subst (λ (o : Order). IsTable o written (strip new)) (rewritten_order old new k given answers h ∙ parsed.same_order) again
+    subst (λ (o : Endianness). IsTable o written (strip new)) (rewritten_order old new k given answers h ∙ parsed.same_order) again

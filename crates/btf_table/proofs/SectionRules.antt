@@ -13,8 +13,11 @@ use Rattle.btf_model.specs.Record.{Kind, Record, kind_of, vlen}
 use Rattle.btf_model.specs.Refusal.{Refusal, InvalidTypeInfo}
 use Rattle.btf_model.specs.Table.{section_limit}
 use Rattle.btf_model.specs.Text.{text_at}
-use Rattle.btf_rewrite_model.specs.Feature as features
-use Rattle.btf_rewrite_model.specs.Feature.{Feature, Answer, FillPolicy, fills_sized, grants, has_no_entries, is_sized_and_empty}
+use Rattle.btf_rewrite_model.specs.declared.feature.BtfFeature.TheVariants as features
+use Rattle.btf_rewrite_model.specs.Feature.{fills_sized, grants, has_no_entries, is_sized_and_empty}
+use Rattle.btf_rewrite_model.specs.declared.feature.BtfFeature.{BtfFeature}
+use Rattle.btf_rewrite_model.specs.declared.feature.FeatureAnswer.{FeatureAnswer}
+use Rattle.btf_rewrite_model.specs.declared.feature.FillPolicy.{FillPolicy}
 use Rattle.btf_rewrite_model.specs.Made as model
 use Rattle.btf_rewrite_model.specs.Made.{entries, record_at, kind_at, byte_int, static_var}
 use Rattle.btf_rewrite_model.specs.Checks.{Check, first_fault, is_read, has_room, have_room, fits, record_len}
@@ -45,9 +48,6 @@ use Rattle.btf_table.proofs.SectionItems.{id_stays}
 use Rattle.btf_items.specs.Items.{entry_words}
 use Rattle.btf_items.specs.declared.items.DataSecEntry.{DataSecEntry}
 use Rattle.btf_rules.specs.Features.{Asks, Called, IsFurther}
-use Rattle.btf_rules.specs.declared.features.BtfFeature.{BtfFeature}
-use Rattle.btf_rules.specs.declared.features.BtfFeature.TheVariants as asked_features
-use Rattle.btf_rules.specs.declared.features.FeatureAnswer.{FeatureAnswer}
 use Rattle.btf_table.proofs.PassAsking.{asks_called, asks_further, further_none, asked_none, asked_more, asked_kept}
 use Rattle.btf_table.proofs.PassRules.{record_there, kind_there, becomes_there, fault_there, texts_there, added_there, falls_back_there, made_on, wants_none, grown_by, same_len}
 
@@ -102,9 +102,9 @@ module _ (p : Pass) (id : ℕ) (r : Record) (there : IsType p.table id (DataSec 
   section_asks b is = asks_is ∙ ap (λ (c : Bool). if c then features.DataSec ∷ features.DataSecZero ∷ [] else features.DataSec ∷ []) is
 
   -- DataSec is asked for first
-  pub section_asks_first : (left : List Feature) × (asks p id ≡ (features.DataSec ∷ []) ++ left)
+  pub section_asks_first : (left : List BtfFeature) × (asks p id ≡ (features.DataSec ∷ []) ++ left)
   section_asks_first =
-      elim is_zero_asked as (λ (b : Bool). is_zero_asked ≡ b → (left : List Feature) × (asks p id ≡ (features.DataSec ∷ []) ++ left)) [
+      elim is_zero_asked as (λ (b : Bool). is_zero_asked ≡ b → (left : List BtfFeature) × (asks p id ≡ (features.DataSec ∷ []) ++ left)) [
         | true ↦ λ is. (features.DataSecZero ∷ [], section_asks true is)
         | false ↦ λ is. ([], section_asks false is)
       ] refl
@@ -497,7 +497,7 @@ asks_sized_so true true = refl
 asks_sized_so true false = refl
 asks_sized_so false e = refl
 
-abbrev zero_too : Bool → List Feature
+abbrev zero_too : Bool → List BtfFeature
 zero_too b = features.DataSec ∷ (if b then features.DataSecZero ∷ [] else [])
 
 both_ways : (b : Bool) → (if b then features.DataSec ∷ features.DataSecZero ∷ [] else features.DataSec ∷ []) ≡ zero_too b
@@ -592,14 +592,14 @@ module _ (p : Pass) (id : ℕ) (r : Record) (there : IsType p.table id (DataSec 
       ] refl known)
       ∙ both_ways (asks_zero p.policy r size)
 
-  module _ (below : AreAnswersTo (asks_below p id) p.answers) (one : List Answer) (granted : Bool) (next : NextAnswers p.answers features.DataSec granted one) where
+  module _ (below : AreAnswersTo (asks_below p id) p.answers) (one : List FeatureAnswer) (granted : Bool) (next : NextAnswers p.answers features.DataSec granted one) where
     first_asked : HasAsked p id (features.DataSec ∷ []) one × (grants one features.DataSec ≡ granted)
     first_asked = asked_more p id [] p.answers one features.DataSec granted (asked_none p id below) next
 
     pub granted_one : grants one features.DataSec ≡ granted
     granted_one = first_asked.1
 
-    pub asks_some : (left : List Feature) × AsksUpTo p id one left
+    pub asks_some : (left : List BtfFeature) × AsksUpTo p id one left
     asks_some =
         let first = section_asks_first (record p { answers = one }) id r there kind in
         (first.0, (features.DataSec ∷ [], first_asked.0, first.1))
@@ -607,7 +607,7 @@ module _ (p : Pass) (id : ℕ) (r : Record) (there : IsType p.table id (DataSec 
     pub asks_one : asks (record p { answers = one }) id ≡ features.DataSec ∷ [] → AsksUpTo p id one []
     asks_one is = (features.DataSec ∷ [], first_asked.0, is)
 
-    module _ (size : ℕ) (two : List Answer) (fills : Bool) (quiet : asks_zero p.policy r size ≡ false → (two ≡ one) × (fills ≡ is_fillable p.policy r)) (asked : asks_zero p.policy r size ≡ true → NextAnswers one features.DataSecZero (not fills) two) where
+    module _ (size : ℕ) (two : List FeatureAnswer) (fills : Bool) (quiet : asks_zero p.policy r size ≡ false → (two ≡ one) × (fills ≡ is_fillable p.policy r)) (asked : asks_zero p.policy r size ≡ true → NextAnswers one features.DataSecZero (not fills) two) where
       second_asked : (grants two features.DataSec ≡ granted) × HasAsked p id (zero_too (asks_zero p.policy r size)) two × (fills ≡ (is_fillable p.policy r && ((size == 0) || not (grants two features.DataSecZero))))
       second_asked =
           elim (asks_zero p.policy r size)
@@ -619,7 +619,7 @@ module _ (p : Pass) (id : ℕ) (r : Record) (there : IsType p.table id (DataSec 
                   asked_fills (is_fillable p.policy r) (size == 0) (grants two features.DataSecZero) fills is more.1,
                 )
             | false ↦ λ is. (
-              ap (λ (answers : List Answer). grants answers features.DataSec) (quiet is).0 ∙ first_asked.1,
+              ap (λ (answers : List FeatureAnswer). grants answers features.DataSec) (quiet is).0 ∙ first_asked.1,
               subst (HasAsked p id (features.DataSec ∷ [])) (sym (quiet is).0) first_asked.0,
               (quiet is).1 ∙ quiet_fills (is_fillable p.policy r) (size == 0) (grants two features.DataSecZero) is,
             )
@@ -636,10 +636,10 @@ module _ (p : Pass) (id : ℕ) (r : Record) (there : IsType p.table id (DataSec 
 
 -- the predicate was called for what was asked
 pub zero_called : {F : Type 0} (step : F → BtfFeature → Bool → F → Type 0) (first : F) (policy : FillPolicy) (r : Record) (size : ℕ) (old new : F × List FeatureAnswer) (fills : Bool)
-    → (asks_zero policy r size ≡ false → (new ≡ old) × (fills ≡ is_fillable policy r)) → (asks_zero policy r size ≡ true → Asks step asked_features.DataSecZero old (not fills) new) → Called step first old.1 old.0 → Called step first new.1 new.0
+    → (asks_zero policy r size ≡ false → (new ≡ old) × (fills ≡ is_fillable policy r)) → (asks_zero policy r size ≡ true → Asks step features.DataSecZero old (not fills) new) → Called step first old.1 old.0 → Called step first new.1 new.0
 zero_called {F} step first policy r size old new fills quiet asked called =
     elim (asks_zero policy r size) as (λ (b : Bool). asks_zero policy r size ≡ b → Called step first new.1 new.0) [
-      | true ↦ λ is. asks_called step first asked_features.DataSecZero old new (not fills) (asked is) called
+      | true ↦ λ is. asks_called step first features.DataSecZero old new (not fills) (asked is) called
       | false ↦ λ is. subst (λ (s : F × List FeatureAnswer). Called step first s.1 s.0) (sym (quiet is).0) called
     ] refl
 
@@ -652,9 +652,9 @@ entry_tail r es words count = ap length words ∙ each_three es ∙ ap (λ (m : 
     each_three (x ∷ xs) = omega (arith, each_three xs)
 
 pub zero_further : {F : Type 0} (step : F → BtfFeature → Bool → F → Type 0) (policy : FillPolicy) (r : Record) (size : ℕ) (old new : F × List FeatureAnswer) (fills : Bool) → (asks_zero policy r size ≡ false → (new ≡ old) × (fills ≡ is_fillable policy r))
-    → (asks_zero policy r size ≡ true → Asks step asked_features.DataSecZero old (not fills) new) → IsFurther old.1 new.1
+    → (asks_zero policy r size ≡ true → Asks step features.DataSecZero old (not fills) new) → IsFurther old.1 new.1
 zero_further {F} step policy r size old new fills quiet asked =
     elim (asks_zero policy r size) as (λ (b : Bool). asks_zero policy r size ≡ b → IsFurther old.1 new.1) [
-      | true ↦ λ is. asks_further step asked_features.DataSecZero old new (not fills) (asked is)
+      | true ↦ λ is. asks_further step features.DataSecZero old new (not fills) (asked is)
       | false ↦ λ is. subst (λ (s : F × List FeatureAnswer). IsFurther old.1 s.1) (sym (quiet is).0) (further_none old.1)
     ] refl

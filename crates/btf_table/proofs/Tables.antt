@@ -6,7 +6,7 @@ use Rattle.std.proofs.lemmas.Bool.{le-leb, lt-leb}
 use Rattle.std.proofs.lemmas.List.{append-nil, map-append, length-append, length-map, length-take, length-drop, drop-map}
 use Rattle.std.proofs.lemmas.List.Concat.{flat_map-append}
 use Rattle.std.proofs.lemmas.Option.{IfSome_then}
-use Rattle.btf_model.specs.Word.{Order}
+use Rattle.btf_model.specs.declared.endianness.Endianness.{Endianness}
 use Rattle.btf_model.specs.Record.{Record, Kind, kind_of, unknown}
 use Rattle.btf_model.specs.Refusal.{Refusal, InvalidTypeInfo}
 use Rattle.btf_model.specs.Spelling.{spell, IsWhole}
@@ -17,7 +17,6 @@ use Rattle.btf_model.proofs.Words.{IsBytes, IsBytes-take, IsBytes-drop, half_of_
 use Rattle.btf_model.proofs.Records.{length-spell, length-records, records_are_long}
 use Rattle.btf_model.proofs.Blobs.{same_table, same_refusal, table_not_refused}
 use Rattle.btf_words.specs.declared.error.BtfError.{BtfError}
-use Rattle.btf_words.specs.Endianness.{order_of}
 use Rattle.btf_words.specs.Error.{MeetsOrNoMemory, IsOrNoMemory, refusal_of}
 use Rattle.btf_records.specs.BtfType.{record_of, fallback_of}
 use Rattle.btf_records.specs.declared.btf_type.BtfType.{BtfType}
@@ -30,7 +29,7 @@ use Rattle.btf_table.specs.Header.{header}
 use Rattle.btf_table.specs.Btf.{table_of, IsKept}
 
 -- the type section without id 0
-types_behind : (order : Order) (types : List BtfType) (rs : List Record) → map record_of types ≡ unknown ∷ rs → flat_map (spell order) (drop 1 (map record_of types)) ≡ flat_map (spell order) rs
+types_behind : (order : Endianness) (types : List BtfType) (rs : List Record) → map record_of types ≡ unknown ∷ rs → flat_map (spell order) (drop 1 (map record_of types)) ≡ flat_map (spell order) rs
 types_behind order types rs h = ap (λ (xs : List Record). flat_map (spell order) (drop 1 xs)) h
 
 -- ids have 32 bits
@@ -38,17 +37,17 @@ types_behind order types rs h = ap (λ (xs : List Record). flat_map (spell order
 pub long_types : (b : Inside) → IsKept b → 12 * length b.types.items ≤ length (type_bytes (table_of b)) + 12
 long_types b h =
     let rs = h.first.0 in
-    omega (arith, ap length (types_behind (order_of b.endianness) b.types.items rs h.first.1), records_are_long (order_of b.endianness) rs, ap length h.first.1, length-map b.types.items record_of)
+    omega (arith, ap length (types_behind b.endianness b.types.items rs h.first.1), records_are_long b.endianness rs, ap length h.first.1, length-map b.types.items record_of)
 
 pub few_types : (b : Inside) → IsKept b → length b.types.items < 2 ^ 32
 few_types b h =
     let rs = h.first.0 in
-    omega (arith, h.limit, h.types, ap length (types_behind (order_of b.endianness) b.types.items rs h.first.1), records_are_long (order_of b.endianness) rs, ap length h.first.1, length-map b.types.items record_of)
+    omega (arith, h.limit, h.types, ap length (types_behind b.endianness b.types.items rs h.first.1), records_are_long b.endianness rs, ap length h.first.1, length-map b.types.items record_of)
 
 -- one more type is kept
 pub kept_push : (b : Inside) (types : Vec BtfType Global) (t : BtfType) (size : ℕ) (k : Kind) → IsKept b → kind_of (record_of t).info ≡ Some k → types.items ≡ b.types.items ++ t ∷ [] → size ≡ 12 + 4 * length (record_of t).tail → b.type_len + size ≤ section_limit → IsKept (record b { types = types; type_len = b.type_len + size })
 kept_push b types t size k h kind is size-is fits =
-    let order = order_of b.endianness in
+    let order = b.endianness in
     let rs = h.first.0 in
     let r = record_of t in
     let records : map record_of types.items ≡ unknown ∷ (rs ++ r ∷ []) = ap (map record_of) is ∙ map-append record_of b.types.items (t ∷ []) ∙ ap (λ (xs : List Record). xs ++ r ∷ []) h.first.1 in
@@ -65,7 +64,7 @@ kept_push b types t size k h kind is size-is fits =
     }
 
 -- the type section that was read has the length that the header says
-pub read_len : (order : Order) (bytes : List ℕ) (types : List BtfType) (rs : List Record) → map record_of types ≡ unknown ∷ rs → AreRecords order bytes rs → length bytes ≡ length (flat_map (spell order) (drop 1 (map record_of types)))
+pub read_len : (order : Endianness) (bytes : List ℕ) (types : List BtfType) (rs : List Record) → map record_of types ≡ unknown ∷ rs → AreRecords order bytes rs → length bytes ≡ length (flat_map (spell order) (drop 1 (map record_of types)))
 read_len order bytes types rs is h = sym (ap length (types_behind order types rs is) ∙ length-records order bytes rs h)
 
 -- what is kept can be written
@@ -84,12 +83,12 @@ kept_is_valid b h whole =
     }
 
 -- bytes that stand for a table give it
-pub gives_table : (order : Order) (bytes : List ℕ) (r : Result Btf BtfError) → MeetsOrNoMemory (λ b. b) r (Parses order bytes) → (t : Table) → IsTable order bytes t → IsOrNoMemory (λ b. b) r (Ok t)
+pub gives_table : (order : Endianness) (bytes : List ℕ) (r : Result Btf BtfError) → MeetsOrNoMemory (λ b. b) r (Parses order bytes) → (t : Table) → IsTable order bytes t → IsOrNoMemory (λ b. b) r (Ok t)
 gives_table order bytes (Ok b) h t p = ap (λ (x : Table). Ok x) (same_table order bytes b t h p)
 gives_table order bytes (Err e) h t p = IfSome_then (refusal_of e) h (λ f q. absurd (table_not_refused order bytes t f p q))
 
 -- bytes that are refused give their one refusal
-pub gives_refusal : (order : Order) (bytes : List ℕ) (r : Result Btf BtfError) → MeetsOrNoMemory (λ b. b) r (Parses order bytes) → (f : Refusal) → IsRefusal order bytes f → IsOrNoMemory (λ b. b) r (Err f)
+pub gives_refusal : (order : Endianness) (bytes : List ℕ) (r : Result Btf BtfError) → MeetsOrNoMemory (λ b. b) r (Parses order bytes) → (f : Refusal) → IsRefusal order bytes f → IsOrNoMemory (λ b. b) r (Err f)
 gives_refusal order bytes (Ok b) h f p = absurd (table_not_refused order bytes b f h p)
 gives_refusal order bytes (Err e) h f p = IfSome_then (refusal_of e) h (λ g q. ap (λ (x : Refusal). Err x) (same_refusal order bytes g f q p))
 
@@ -103,7 +102,7 @@ pub record HeaderFits (h : blob.Header) : Type 0 where
   pub type_len : h.type_len ≤ section_limit
   pub str_len : h.str_len ≤ section_limit
 
-header_of_fits : (order : Order) (bytes : List ℕ) → IsBytes bytes → HeaderFits (header_of order bytes)
+header_of_fits : (order : Endianness) (bytes : List ℕ) → IsBytes bytes → HeaderFits (header_of order bytes)
 header_of_fits order bytes fits = record {
   magic = half_of_below order (slice 0 2 bytes) (IsBytes-take 2 (drop 0 bytes) (IsBytes-drop 0 bytes fits));
   version = fits 2;
@@ -112,7 +111,7 @@ header_of_fits order bytes fits = record {
   str_len = omega (arith, word_of_below order (slice 20 4 bytes) (IsBytes-take 4 (drop 20 bytes) (IsBytes-drop 20 bytes fits)));
 }
 
-pub read_header_fits : (order : Order) (bytes : List ℕ) (h : Header) → IsBytes bytes → header h ≡ header_of order bytes → HeaderFits (header h)
+pub read_header_fits : (order : Endianness) (bytes : List ℕ) (h : Header) → IsBytes bytes → header h ≡ header_of order bytes → HeaderFits (header h)
 read_header_fits order bytes h fits is = subst HeaderFits (sym is) (header_of_fits order bytes fits)
 
 pub length-slice : (at len : ℕ) (bytes : List ℕ) → at + len ≤ length bytes → length (slice at len bytes) ≡ len

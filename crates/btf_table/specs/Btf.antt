@@ -3,13 +3,12 @@ use Rattle.std.specs.Prelude.{◌≡◌, ◌<◌, ◌≤◌, ◌^◌, List, ◌�
 use Rattle.btf_model.specs.Record.{Record, unknown}
 use Rattle.btf_model.specs.Table.{Table, type_bytes, section_limit}
 use Rattle.btf_model.specs.Fields.{HaveKinds}
-use Rattle.btf_words.specs.Endianness.{order_of}
 use Rattle.btf_records.specs.BtfType.{record_of, fallback_of}
 use Rattle.btf_table.specs.declared.table.Btf.TheInside.{Inside}
 
 abbrev pub table_of : Inside → Table
 table_of b = record {
-  order = order_of b.endianness;
+  order = b.endianness;
   magic = b.magic;
   version = b.version;
   flags = b.flags;

@@ -10,7 +10,8 @@ use Rattle.btf_model.specs.Refusal.{Refusal}
 use Rattle.btf_model.specs.Table.{Table}
 use Rattle.btf_rewrite_model.specs.Checks.{first_fault}
 use Rattle.btf_rewrite_model.specs.Made.{Entry, entries, entry_words, record_at, kind_at}
-use Rattle.btf_rewrite_model.specs.Ksyms.{KsymsIds, is_func, symbol_type, appends_int, entry_checks, laid_out, symbols, stepped, ksyms_fault, ksyms_table}
+use Rattle.btf_rewrite_model.specs.Ksyms.{is_func, symbol_type, appends_int, ksyms_entry_checks, laid_out, symbols, stepped, ksyms_fault, ksyms_table}
+use Rattle.btf_rewrite_model.specs.declared.ksyms_ids.KsymsIds.{KsymsIds}
 use Rattle.btf_items.specs.declared.items.DataSecEntry.{DataSecEntry}
 use Rattle.btf_records.specs.BtfType.{record_of, fallback_of}
 use Rattle.btf_records.specs.declared.btf_type.BtfType.{BtfType}
@@ -21,7 +22,7 @@ use Rattle.btf_table.specs.declared.sanitize.ksyms.Target.{Target}
 use Rattle.btf_table.specs.declared.sanitize.ksyms.Symbols.{Symbols}
 
 abbrev pub ksyms_ids : ℕ → Option ℕ → KsymsIds
-ksyms_ids datasec placeholder = record { datasec = datasec; placeholder = placeholder }
+ksyms_ids datasec placeholder = record { datasec_id = datasec; placeholder_id = placeholder }
 
 -- what symbols become
 abbrev pub target_of : Table → Option ℕ → Target
@@ -62,14 +63,14 @@ pub record HasSymbols (t : Table) (es : List Entry) (symbols : Symbols) : Type 0
 -- The entries pass their tests, and the sets have what they name; or they do not pass.
 abbrev pub FindsSymbols : Table → Option ℕ → List Entry → Result Symbols Refusal → Type 0
 FindsSymbols t placeholder es (Ok symbols) =
-    (first_fault (flat_map (entry_checks t placeholder) es) ≡ None) × HasSymbols t es symbols
-FindsSymbols t placeholder es (Err refusal) = first_fault (flat_map (entry_checks t placeholder) es) ≡ Some refusal
+    (first_fault (flat_map (ksyms_entry_checks t placeholder) es) ≡ None) × HasSymbols t es symbols
+FindsSymbols t placeholder es (Err refusal) = first_fault (flat_map (ksyms_entry_checks t placeholder) es) ≡ Some refusal
 
 -- the step is the one over this table: it knows what the symbols become, and which they are
 pub record IsStep (t : Table) (ids : KsymsIds) (step : Step) : Type 0 where
-  pub target : step.target ≡ target_of t ids.placeholder
+  pub target : step.target ≡ target_of t ids.placeholder_id
   pub symbols : HasSymbols t (symbols t ids) step.symbols
-  pub datasec : step.datasec_id ≡ ids.datasec
+  pub datasec : step.datasec_id ≡ ids.datasec_id
 
 -- The tests of the step are passed, and this is the step; or they are not.
 abbrev pub StepsWith : Table → KsymsIds → Result Step Refusal → Type 0

@@ -20,7 +20,6 @@ pub use Rattle.btf_rewrite_model.specs.Made
 pub use Rattle.btf_model.specs.Record
 pub use Rattle.btf_rewrite_model.specs.Rewritten
 pub use Rattle.btf_rewrite_model.specs.RewriteLaws
-pub use Rattle.btf_words.specs.Endianness
 pub use Rattle.btf_words.specs.Error
 pub use Rattle.btf_rules.specs.Checked
 pub use Rattle.btf_rules.specs.Features

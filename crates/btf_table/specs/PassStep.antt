@@ -4,8 +4,8 @@ use Rattle.std.specs.List.{flat_map, sum_by, range_with_len}
 use Rattle.btf_model.specs.Record.{Kind, Record, kind_of}
 use Rattle.btf_model.specs.Refusal.{Refusal}
 use Rattle.btf_model.specs.Table.{Table, no_fallbacks}
-use Rattle.btf_rewrite_model.specs.Feature as model
-use Rattle.btf_rewrite_model.specs.Feature.{Feature, Answer}
+use Rattle.btf_rewrite_model.specs.declared.feature.BtfFeature.{BtfFeature}
+use Rattle.btf_rewrite_model.specs.declared.feature.FeatureAnswer.{FeatureAnswer}
 use Rattle.btf_rewrite_model.specs.Checks.{record_len}
 use Rattle.btf_rewrite_model.specs.Pass.{Pass, Layout, asks, asks_below, Asked, texts, added, free_id, offset_at, type_len_at, gets_filler, growth_below, wants_placeholder}
 use Rattle.btf_rewrite_model.specs.Rule.{becomes, ruled_below, falls_back}
@@ -19,9 +19,7 @@ use Rattle.btf_table.specs.Adding.{strings_end, next_id, HasRoom}
 use Rattle.btf_rules.specs.InPlace.{denied_type}
 use Rattle.btf_table.specs.Changes.{put_all, each, AreInside, AreOf, changed}
 use Rattle.btf_table.specs.Denied.{AreIds, deny_all, with_denied}
-use Rattle.btf_rules.specs.Features.{answers_of, policy_of}
-use Rattle.btf_rules.specs.declared.features.FillPolicy.{FillPolicy}
-use Rattle.btf_rules.specs.declared.features.FeatureAnswer.{FeatureAnswer}
+use Rattle.btf_rewrite_model.specs.declared.feature.FillPolicy.{FillPolicy}
 use Rattle.btf_table.specs.declared.sanitize.made.Made.{Made}
 use Rattle.btf_table.specs.declared.sanitize.outcome.Outcome.{Outcome}
 use Rattle.btf_table.specs.declared.sanitize.outcome.Outcome.TheVariants.{Same, Denied, Other}
@@ -30,13 +28,13 @@ use Rattle.btf_table.specs.declared.sanitize.pass.PassChanges.{PassChanges}
 -- what a pass is given beside its table
 pub record Given : Type 0 where
   pub layout : Layout
-  pub policy : model.FillPolicy
+  pub policy : FillPolicy
 
 abbrev pub under : FillPolicy → Layout → Given
-under policy layout = record { layout = layout; policy = policy_of policy }
+under policy layout = record { layout = layout; policy = policy }
 
 -- the pass over a table, with these answers
-abbrev pub pass_on : Table → Given → List Answer → Pass
+abbrev pub pass_on : Table → Given → List FeatureAnswer → Pass
 pass_on t given answers = record { table = t; layout = given.layout; policy = given.policy; answers = answers }
 
 -- what a rule makes of a type that puts another in its place, if one
@@ -111,20 +109,20 @@ Rules p id old before after (Ok new) = IsRuled p id old before after new
 Rules p id old before after (Err refusal) = fault p id ≡ Some refusal
 
 -- The answers are those that a pass had, and those to these features of an id.
-pub record HasAsked (p : Pass) (id : ℕ) (some : List Feature) (answers : List Answer) : Type 0 where
-  pub more : List Answer
+pub record HasAsked (p : Pass) (id : ℕ) (some : List BtfFeature) (answers : List FeatureAnswer) : Type 0 where
+  pub more : List FeatureAnswer
   pub further : answers ≡ p.answers ++ more
   pub asked : AreAnswersTo (asks_below p id ++ some) answers
 
 -- Some of what an id asks for is answered, the first of it, and then these are left.
-abbrev pub AsksUpTo : Pass → ℕ → List Answer → List Feature → Type 0
+abbrev pub AsksUpTo : Pass → ℕ → List FeatureAnswer → List BtfFeature → Type 0
 AsksUpTo p id answers left =
-    (some : List Feature) × HasAsked p id some answers × (asks (record p { answers = answers }) id ≡ some ++ left)
+    (some : List BtfFeature) × HasAsked p id some answers × (asks (record p { answers = answers }) id ≡ some ++ left)
 
 -- All that an id asks for is answered, and its rule is kept under all answers.
 abbrev pub Steps : Pass → ℕ → List FeatureAnswer → BtfType → Made → Made → Result BtfType Refusal → Type 0
 Steps p id answers old before after result =
-    AsksUpTo p id (answers_of answers) [] × Rules (record p { answers = answers_of answers }) id old before after result
+    AsksUpTo p id answers [] × Rules (record p { answers = answers }) id old before after result
 
 -- the records of the ids below one, with the types that take the place of others, before any is denied
 abbrev pub placed_below : Pass → ℕ → Made → List Record
@@ -158,4 +156,4 @@ Passes p (Err refusal) =
 
 -- The answers are those to the first features that a pass asks for.
 abbrev pub BeginsAsked : Pass → Type 0
-BeginsAsked p = (left : List Feature) × (Asked p ≡ map (λ (answer : Answer). answer.feature) p.answers ++ left)
+BeginsAsked p = (left : List BtfFeature) × (Asked p ≡ map (λ (answer : FeatureAnswer). answer.feature) p.answers ++ left)

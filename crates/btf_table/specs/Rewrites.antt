@@ -8,48 +8,48 @@ use Rattle.btf_rewrite_model.specs.Made.{record_at, kind_at}
 use Rattle.btf_model.specs.Walk.{WalkAnswers, Resolves, HasSize}
 use Rattle.btf_model.specs.Value.{Value}
 use Rattle.btf_rewrite_model.specs.RewriteLaws.{FindsKept, IsAmong, IsGrantedOnce}
-use Rattle.btf_model.specs.Word.{Order}
+use Rattle.btf_model.specs.declared.endianness.Endianness.{Endianness}
 use Rattle.btf_model.specs.Table.{Table, strip}
 use Rattle.btf_model.specs.Blob.{IsTable, IsRefusal, canon}
-use Rattle.btf_rewrite_model.specs.Feature.{Feature, Answer, FillPolicy, KeepSized, needs}
+use Rattle.btf_rewrite_model.specs.Feature.{needs}
+use Rattle.btf_rewrite_model.specs.declared.feature.BtfFeature.{BtfFeature}
+use Rattle.btf_rewrite_model.specs.declared.feature.FeatureAnswer.{FeatureAnswer}
+use Rattle.btf_rewrite_model.specs.declared.feature.FillPolicy.{FillPolicy}
+use Rattle.btf_rewrite_model.specs.declared.feature.FillPolicy.TheVariants.{KeepSized}
 use Rattle.btf_rewrite_model.specs.Ksyms as model
 use Rattle.btf_rewrite_model.specs.Pass.{Pass, Layout, asks_below, each_once, Asked}
 use Rattle.btf_rewrite_model.specs.Rewritten.{begun, pass_with, step_fault, FaultsAt, RewrittenWith, rewritten, AreRuled, old_count}
-use Rattle.btf_table.specs.declared.sanitize.KsymsIds.{KsymsIds}
-use Rattle.btf_rules.specs.declared.features.FeatureAnswer.{FeatureAnswer}
+use Rattle.btf_rewrite_model.specs.declared.ksyms_ids.KsymsIds.{KsymsIds}
 use Rattle.btf_table.specs.KsymsStep.{ksyms_ids}
 use Rattle.btf_table.specs.PassStep.{BeginsAsked}
 
-abbrev pub ids_of : Option KsymsIds → Option model.KsymsIds
-ids_of ids = option_map (λ (k : KsymsIds). ksyms_ids k.datasec_id k.placeholder_id) ids
-
 -- the features that were asked for
-abbrev pub features_asked : List Answer → List Feature
-features_asked answers = map (λ (answer : Answer). answer.feature) answers
+abbrev pub features_asked : List FeatureAnswer → List BtfFeature
+features_asked answers = map (λ (answer : FeatureAnswer). answer.feature) answers
 
 -- A rewrite is refused: in the step of `.ksyms`, before anything is asked; or at the least id that has a fault, where
 -- this and all lower ids have been asked for.
-abbrev pub Refuses : FillPolicy → Table → Option model.KsymsIds → Layout → List Answer → Refusal → Type 0
+abbrev pub Refuses : FillPolicy → Table → Option KsymsIds → Layout → List FeatureAnswer → Refusal → Type 0
 Refuses policy old ids layout answers refusal =
     ((step_fault old ids ≡ Some refusal) × (answers ≡ []))
     ⊎ ((step_fault old ids ≡ None) × ((id : ℕ) × FaultsAt (pass_with policy old ids layout answers) id refusal
     × (features_asked answers ≡ each_once (asks_below (pass_with policy old ids layout answers) (suc id)))))
 
 -- The table is rewritten, and what the rewrite asks for is answered; or it is refused.
-abbrev pub RewritesWith : {X : Type 0} → FillPolicy → Table → Option model.KsymsIds → Layout → List Answer → Table
+abbrev pub RewritesWith : {X : Type 0} → FillPolicy → Table → Option KsymsIds → Layout → List FeatureAnswer → Table
     → Result X Refusal → Type 0
 RewritesWith policy old ids layout answers new (Ok x) =
     RewrittenWith policy old ids layout answers new
     × (features_asked answers ≡ Asked (pass_with policy old ids layout answers))
 RewritesWith policy old ids layout answers new (Err refusal) = Refuses policy old ids layout answers refusal
 
-abbrev pub Rewrites : {X : Type 0} → Table → Option model.KsymsIds → Layout → List Answer → Table → Result X Refusal
+abbrev pub Rewrites : {X : Type 0} → Table → Option KsymsIds → Layout → List FeatureAnswer → Table → Result X Refusal
     → Type 0
 Rewrites = RewritesWith KeepSized
 
 -- The bytes stand for a table; it is rewritten, and these bytes are the new table's, or its rewrite is refused. Or the
 -- bytes stand for no table, and nothing is asked.
-abbrev pub RewritesBytesWith : FillPolicy → Order → List ℕ → Option model.KsymsIds → Layout → List Answer
+abbrev pub RewritesBytesWith : FillPolicy → Endianness → List ℕ → Option KsymsIds → Layout → List FeatureAnswer
     → Result (List ℕ × List FeatureAnswer) Refusal → Type 0
 RewritesBytesWith policy order bytes ids layout answers (Ok (written, listed)) =
     (old : Table) × (new : Table) × IsTable order bytes old × RewrittenWith policy old ids layout answers new
@@ -59,7 +59,7 @@ RewritesBytesWith policy order bytes ids layout answers (Err refusal) =
     (IsRefusal order bytes refusal × (answers ≡ []))
     ⊎ ((old : Table) × IsTable order bytes old × Refuses policy old ids layout answers refusal)
 
-abbrev pub RewritesBytes : Order → List ℕ → Option model.KsymsIds → Layout → List Answer
+abbrev pub RewritesBytes : Endianness → List ℕ → Option KsymsIds → Layout → List FeatureAnswer
     → Result (List ℕ × List FeatureAnswer) Refusal → Type 0
 RewritesBytes = RewritesBytesWith KeepSized
 
@@ -70,12 +70,12 @@ Sanitizes p new (Err refusal) =
     (id : ℕ) × FaultsAt p id refusal × (features_asked p.answers ≡ each_once (asks_below p (suc id)))
 
 -- What the kernel needs for the new table was asked for once each, and granted.
-abbrev pub NeedsAreGrantedWith : FillPolicy → Table → Option model.KsymsIds → List Answer → Table → Type 0
+abbrev pub NeedsAreGrantedWith : FillPolicy → Table → Option KsymsIds → List FeatureAnswer → Table → Type 0
 NeedsAreGrantedWith policy old ids answers new =
-    (id : ℕ) (r : Record) → slice_get new.records id ≡ Some r → (f : Feature)
+    (id : ℕ) (r : Record) → slice_get new.records id ≡ Some r → (f : BtfFeature)
     → IsAmong f (needs policy (record_at (begun old ids) id) r) → IsGrantedOnce answers f
 
-abbrev pub NeedsAreGranted : Table → Option model.KsymsIds → List Answer → Table → Type 0
+abbrev pub NeedsAreGranted : Table → Option KsymsIds → List FeatureAnswer → Table → Type 0
 NeedsAreGranted = NeedsAreGrantedWith KeepSized
 
 -- Sizes of types, on walks that meet no VAR, FUNC, FUNC_PROTO, DATASEC or DECL_TAG, are those that they were.
@@ -101,13 +101,13 @@ AppendsAtMost n old new = (length old.records ≤ length new.records) × (length
 
 -- Nothing was asked for; or the bytes stand for a table, and the answers are to the first features that its rewrite
 -- asks for.
-abbrev pub BeginsAskedOfWith : FillPolicy → Order → List ℕ → Option model.KsymsIds → Layout → List Answer → Type 0
+abbrev pub BeginsAskedOfWith : FillPolicy → Endianness → List ℕ → Option KsymsIds → Layout → List FeatureAnswer → Type 0
 BeginsAskedOfWith policy order bytes ids layout answers =
     (answers ≡ []) ⊎ ((old : Table) × IsTable order bytes old × BeginsAsked (pass_with policy old ids layout answers))
 
-abbrev pub BeginsAskedOf : Order → List ℕ → Option model.KsymsIds → Layout → List Answer → Type 0
+abbrev pub BeginsAskedOf : Endianness → List ℕ → Option KsymsIds → Layout → List FeatureAnswer → Type 0
 BeginsAskedOf = BeginsAskedOfWith KeepSized
 
 -- This holds of the table that bytes stand for, and of the one that the written bytes stand for.
-abbrev pub OfTables : Order → List ℕ → List ℕ → (Table → Table → Type 0) → Type 0
+abbrev pub OfTables : Endianness → List ℕ → List ℕ → (Table → Table → Type 0) → Type 0
 OfTables order bytes written P = (old new : Table) → IsTable order bytes old → IsTable order written new → P old new

@@ -6,7 +6,8 @@ use Rattle.btf_rewrite_model.specs.Made.{data_sec}
 use Rattle.btf_rewrite_model.specs.Checks.{first_fault}
 use Rattle.btf_rewrite_model.specs.Pass.{Pass, name_of, renaming, section_size, name_checks}
 use Rattle.btf_rewrite_model.specs.Rule.{new_name}
-use Rattle.btf_rewrite_model.specs.Feature.{FillPolicy, fills_sized, has_no_entries}
+use Rattle.btf_rewrite_model.specs.Feature.{fills_sized, has_no_entries}
+use Rattle.btf_rewrite_model.specs.declared.feature.FillPolicy.{FillPolicy}
 use Rattle.btf_records.specs.declared.btf_type.BtfType.TheVariants.{DataSec}
 use Rattle.btf_table.specs.Adding.{Adds}
 use Rattle.btf_table.specs.PassStep.{IsType, IsHere}

@@ -4,5 +4,6 @@
 mod sanitize;
 mod table;
 
-pub use sanitize::{KsymsIds, rewrite_bytes, rewrite_bytes_with};
+pub use btf_rewrite_model::KsymsIds;
+pub use sanitize::{rewrite_bytes, rewrite_bytes_with};
 pub use table::{Btf, BtfStr, WALK_LIMIT, allocator_of, name_bytes};

@@ -12,37 +12,30 @@ mod read_names;
 mod single;
 
 ghost use Rattle.std.specs.Prelude.{◌≡◌, ℕ, List, [], Option, Some, OnOk, OnErr, IfOk, slice_get};
-ghost use Rattle.btf_rewrite_model.specs.Feature.{Feature, needs};
+ghost use Rattle.btf_rewrite_model.specs.Feature.{needs};
+ghost use Rattle.btf_rewrite_model.specs.declared.feature.BtfFeature.{BtfFeature};
 ghost use Rattle.btf_rewrite_model.specs.Ksyms.{ksyms_fault, ksyms_table};
 ghost use Rattle.btf_rewrite_model.specs.Made.{record_at};
 ghost use Rattle.btf_model.specs.Record.{Record};
 ghost use Rattle.btf_rewrite_model.specs.Rewritten.{begun, pass_of, pass_with};
 ghost use Rattle.btf_rewrite_model.specs.RewriteLaws.{IsAmong, IsGrantedOnce};
-ghost use Rattle.btf_words.specs.Endianness.{order_of};
 ghost use Rattle.btf_words.specs.Error.{MeetsOrNoMemory, IsOrNoMemory};
 ghost use Rattle.btf_rules.specs.Checked.{checked};
-ghost use Rattle.btf_rules.specs.Features.{Called, answers_of, policy_of};
+ghost use Rattle.btf_rules.specs.Features.{Called};
 ghost use Rattle.btf_table.specs.KsymsStep.{ksyms_ids};
 ghost use Rattle.btf_rules.specs.Layout.{layout_of};
 ghost use Rattle.btf_table.specs.PassStep.{pass_on, under, BeginsAsked};
-ghost use Rattle.btf_table.specs.Rewrites.{ids_of, Rewrites, RewritesWith, RewritesBytes, RewritesBytesWith, Sanitizes, NeedsAreGranted, NeedsAreGrantedWith, KeepsSizes, KeepsResolutions, KeepsValues, AppendsAtMost, BeginsAskedOf, BeginsAskedOfWith, OfTables};
+ghost use Rattle.btf_table.specs.Rewrites.{Rewrites, RewritesWith, RewritesBytes, RewritesBytesWith, Sanitizes, NeedsAreGranted, NeedsAreGrantedWith, KeepsSizes, KeepsResolutions, KeepsValues, AppendsAtMost, BeginsAskedOf, BeginsAskedOfWith, OfTables};
 
 use crate::sanitize::ksyms::ksyms_changes;
 use crate::sanitize::pass::pass_changes;
 use crate::table::Btf;
 use arrayvec::ArrayVec;
 use btf_plain::{BtfError, Endianness, SectionIndex};
+use btf_rewrite_model::KsymsIds;
 use btf_rules::{BtfFeature, BtfFeatureResolver, FeatureAnswer, FillPolicy, copied_answers};
 use std::alloc::Global;
 use std::collections::HashMap;
-
-/// The ids of a program's `.ksyms`: of the DATASEC, and of the VAR that takes the place of functions in it, if there is
-/// one.
-#[derive(Clone, Copy, Debug, Eq, PartialEq)]
-pub struct KsymsIds {
-    pub datasec_id: u32,
-    pub placeholder_id: Option<u32>,
-}
 
 impl Btf {
     /// Makes ordinary variables of the kernel's symbols: what the entries of the DATASEC of this id, `.ksyms`, stand
@@ -90,10 +83,10 @@ impl Btf {
         ensures callable { F.IsAlwaysCallable resolver.new.0 }
         ensures called { Called F.step resolver.old.0 resolver.new.1 resolver.new.0 }
         ensures asked { BeginsAsked (pass_on self.old
-            (under policy (layout_of sections.now symbols.now)) (answers_of resolver.new.1)) }
+            (under policy (layout_of sections.now symbols.now)) resolver.new.1) }
         ensures sanitizes { MeetsOrNoMemory (λ a. a.items) result
             (Sanitizes (pass_on self.old (under policy (layout_of sections.now symbols.now))
-            (answers_of resolver.new.1)) self.new) }
+            resolver.new.1) self.new) }
         ensures answers { IfOk result (λ a. a.items ≡ resolver.new.1) }
         ensures err { OnErr result (self.new ≡ self.old) }
     {
@@ -130,17 +123,17 @@ impl Btf {
         // One call of the predicate for each answer, in order, and no other.
         ensures called { Called F.step resolver.old.0 resolver.new.1 resolver.new.0 }
         // In every outcome the answers are to the first features that the rewrite asks for.
-        ensures asked { BeginsAsked (pass_of self.old (ids_of ksyms)
-            (layout_of sections.now symbols.now) (answers_of resolver.new.1)) }
+        ensures asked { BeginsAsked (pass_of self.old ksyms
+            (layout_of sections.now symbols.now) resolver.new.1) }
         // The table is the rewritten one, and all is asked for; or the first cause of refusal.
         ensures rewrites { MeetsOrNoMemory (λ a. a.items) result
-            (Rewrites self.old (ids_of ksyms) (layout_of sections.now symbols.now)
-            (answers_of resolver.new.1) self.new) }
+            (Rewrites self.old ksyms (layout_of sections.now symbols.now)
+            resolver.new.1 self.new) }
         ensures answers { IfOk result (λ a. a.items ≡ resolver.new.1) }
         ensures err { OnErr result (self.new ≡ self.old) }
         // What the kernel needs for the new table was asked for once, and granted.
-        ensures granted { OnOk result (NeedsAreGranted self.old (ids_of ksyms)
-            (answers_of resolver.new.1) self.new) }
+        ensures granted { OnOk result (NeedsAreGranted self.old ksyms
+            resolver.new.1 self.new) }
         // A walk that meets no VAR, FUNC, FUNC_PROTO, DATASEC or DECL_TAG finds the size that it found.
         ensures sizes { OnOk result (KeepsSizes self.old self.new) }
         // What an id stands for, but for a FUNC, it stands for still.
@@ -175,17 +168,17 @@ impl Btf {
         // One call of the predicate for each answer, in order, and no other.
         ensures called { Called F.step resolver.old.0 resolver.new.1 resolver.new.0 }
         // In every outcome the answers are to the first features that the rewrite asks for.
-        ensures asked { BeginsAsked (pass_with (policy_of policy) self.old (ids_of ksyms)
-            (layout_of sections.now symbols.now) (answers_of resolver.new.1)) }
+        ensures asked { BeginsAsked (pass_with policy self.old ksyms
+            (layout_of sections.now symbols.now) resolver.new.1) }
         // The table is the rewritten one, and all is asked for; or the first cause of refusal.
         ensures rewrites { MeetsOrNoMemory (λ a. a.items) result
-            (RewritesWith (policy_of policy) self.old (ids_of ksyms)
-            (layout_of sections.now symbols.now) (answers_of resolver.new.1) self.new) }
+            (RewritesWith policy self.old ksyms
+            (layout_of sections.now symbols.now) resolver.new.1 self.new) }
         ensures answers { IfOk result (λ a. a.items ≡ resolver.new.1) }
         ensures err { OnErr result (self.new ≡ self.old) }
         // What the kernel needs for the new table was asked for once, and granted.
-        ensures granted { OnOk result (NeedsAreGrantedWith (policy_of policy) self.old
-            (ids_of ksyms) (answers_of resolver.new.1) self.new) }
+        ensures granted { OnOk result (NeedsAreGrantedWith policy self.old
+            ksyms resolver.new.1 self.new) }
         // A walk that meets no VAR, FUNC, FUNC_PROTO, DATASEC or DECL_TAG finds the size that it found.
         ensures sizes { OnOk result (KeepsSizes self.old self.new) }
         // What an id stands for, but for a FUNC, it stands for still.
@@ -227,25 +220,25 @@ pub fn rewrite_bytes<F: FnMut(BtfFeature) -> bool>(
     ensures callable { F.IsAlwaysCallable resolver.new.0 }
     ensures called { Called F.step resolver.old.0 resolver.new.1 resolver.new.0 }
     ensures rewrites { MeetsOrNoMemory (λ r. (r.0.items, r.1.items)) result
-        (RewritesBytes (order_of endianness) «data».now (ids_of ksyms)
-        (layout_of sections.now symbols.now) (answers_of resolver.new.1)) }
+        (RewritesBytes endianness «data».now ksyms
+        (layout_of sections.now symbols.now) resolver.new.1) }
     ensures answers { IfOk result (λ r. r.1.items ≡ resolver.new.1) }
     // In every outcome nothing was asked, or the bytes stand for a table, and the answers are to the first features
     // that its rewrite asks for.
-    ensures asked { BeginsAskedOf (order_of endianness) «data».now (ids_of ksyms)
-        (layout_of sections.now symbols.now) (answers_of resolver.new.1) }
+    ensures asked { BeginsAskedOf endianness «data».now ksyms
+        (layout_of sections.now symbols.now) resolver.new.1 }
     // Of the table that the bytes stand for, and the one that the written bytes stand for: what the kernel needs for
     // the new one was asked for once, and granted;
-    ensures granted { IfOk result (λ r. OfTables (order_of endianness) «data».now r.0.items
-        (λ old new. NeedsAreGranted old (ids_of ksyms) (answers_of resolver.new.1) new)) }
+    ensures granted { IfOk result (λ r. OfTables endianness «data».now r.0.items
+        (λ old new. NeedsAreGranted old ksyms resolver.new.1 new)) }
     // sizes that are found without VAR, FUNC, FUNC_PROTO, DATASEC or DECL_TAG stay;
     ensures sizes { IfOk result (λ r. OfTables
-        (order_of endianness) «data».now r.0.items KeepsSizes) }
+        endianness «data».now r.0.items KeepsSizes) }
     // what an id stands for, but for a FUNC, it stands for still;
     ensures resolutions { IfOk result
-        (λ r. OfTables (order_of endianness) «data».now r.0.items KeepsResolutions) }
+        (λ r. OfTables endianness «data».now r.0.items KeepsResolutions) }
     // and no type is taken away, and at most four are appended.
-    ensures appended { IfOk result (λ r. OfTables (order_of endianness) «data».now r.0.items
+    ensures appended { IfOk result (λ r. OfTables endianness «data».now r.0.items
         (AppendsAtMost 4)) }
 {
     let policy = FillPolicy::KeepSized;
@@ -271,27 +264,27 @@ pub fn rewrite_bytes_with<F: FnMut(BtfFeature) -> bool>(
     ensures callable { F.IsAlwaysCallable resolver.new.0 }
     ensures called { Called F.step resolver.old.0 resolver.new.1 resolver.new.0 }
     ensures rewrites { MeetsOrNoMemory (λ r. (r.0.items, r.1.items)) result
-        (RewritesBytesWith (policy_of policy) (order_of endianness) «data».now (ids_of ksyms)
-        (layout_of sections.now symbols.now) (answers_of resolver.new.1)) }
+        (RewritesBytesWith policy endianness «data».now ksyms
+        (layout_of sections.now symbols.now) resolver.new.1) }
     ensures answers { IfOk result (λ r. r.1.items ≡ resolver.new.1) }
     // In every outcome nothing was asked, or the bytes stand for a table, and the answers are to the first features
     // that its rewrite asks for.
-    ensures asked { BeginsAskedOfWith (policy_of policy) (order_of endianness) «data».now
-        (ids_of ksyms)
-        (layout_of sections.now symbols.now) (answers_of resolver.new.1) }
+    ensures asked { BeginsAskedOfWith policy endianness «data».now
+        ksyms
+        (layout_of sections.now symbols.now) resolver.new.1 }
     // Of the table that the bytes stand for, and the one that the written bytes stand for: what the kernel needs for
     // the new one was asked for once, and granted;
-    ensures granted { IfOk result (λ r. OfTables (order_of endianness) «data».now r.0.items
-        (λ old new. NeedsAreGrantedWith (policy_of policy) old (ids_of ksyms)
-        (answers_of resolver.new.1) new)) }
+    ensures granted { IfOk result (λ r. OfTables endianness «data».now r.0.items
+        (λ old new. NeedsAreGrantedWith policy old ksyms
+        resolver.new.1 new)) }
     // sizes that are found without VAR, FUNC, FUNC_PROTO, DATASEC or DECL_TAG stay;
     ensures sizes { IfOk result (λ r. OfTables
-        (order_of endianness) «data».now r.0.items KeepsSizes) }
+        endianness «data».now r.0.items KeepsSizes) }
     // what an id stands for, but for a FUNC, it stands for still;
     ensures resolutions { IfOk result
-        (λ r. OfTables (order_of endianness) «data».now r.0.items KeepsResolutions) }
+        (λ r. OfTables endianness «data».now r.0.items KeepsResolutions) }
     // and no type is taken away, and at most four are appended.
-    ensures appended { IfOk result (λ r. OfTables (order_of endianness) «data».now r.0.items
+    ensures appended { IfOk result (λ r. OfTables endianness «data».now r.0.items
         (AppendsAtMost 4)) }
 {
     let mut btf = Btf::parse(alloc, data, endianness)?;

@@ -19,7 +19,6 @@ ghost use Rattle.btf_model.specs.Text as model;
 ghost use Rattle.btf_model.specs.Text.{FindsName};
 ghost use Rattle.btf_model.specs.Walk.{Resolves, HasSize};
 ghost use Rattle.btf_words.specs.Error.{MeetsOrNoMemory, IsOrNoMemory, Meets};
-ghost use Rattle.btf_words.specs.Endianness.{order_of};
 ghost use Rattle.btf_words.specs.Kind as kinds;
 ghost use Rattle.btf_records.specs.BtfType.{record_of, fallback_of, type_kind};
 ghost use Rattle.btf_table.specs.BtfStr.{text_bytes};
@@ -146,11 +145,11 @@ impl Btf {
     /// as they are, and not looked at.
     pub fn parse(alloc: Global, data: &[u8], endianness: Endianness) -> Result<Btf, BtfError>
         // What the bytes stand for, or the first cause of refusal.
-        ensures parsed { MeetsOrNoMemory (λ b. b) result (Parses (order_of endianness) «data».now) }
+        ensures parsed { MeetsOrNoMemory (λ b. b) result (Parses endianness «data».now) }
         // Bytes that stand for a table are not refused, and no others stand for one.
-        ensures only_table { (t : Table) → IsTable (order_of endianness) «data».now t
+        ensures only_table { (t : Table) → IsTable endianness «data».now t
             → IsOrNoMemory (λ b. b) result (Ok t) }
-        ensures only_refusal { (f : Refusal) → IsRefusal (order_of endianness) «data».now f
+        ensures only_refusal { (f : Refusal) → IsRefusal endianness «data».now f
             → IsOrNoMemory (λ b. b) result (Err f) }
     {
         read_table(alloc, data, endianness)
@@ -373,7 +372,7 @@ impl Btf {
 
     /// The byte order in which the table is written.
     pub fn endianness(&self) -> Endianness
-        ensures { order_of result ≡ self.now.order }
+        ensures { result ≡ self.now.order }
     {
         self.endianness
     }
@@ -398,7 +397,7 @@ pub fn name_bytes<'a>(table: &'a Btf, btf_type: &BtfType) -> Option<&'a [u8]>
 
 /// The table that a blob stands for, or the first cause of refusal.
 fn read_table(alloc: Global, data: &[u8], endianness: Endianness) -> Result<Btf, BtfError>
-    ensures { MeetsOrNoMemory (λ b. b) result (Parses (order_of endianness) «data».now) }
+    ensures { MeetsOrNoMemory (λ b. b) result (Parses endianness «data».now) }
 {
     let header = Header::read(data, endianness)?;
     let Some(strings) = section(data, header.hdr_len, header.str_off, header.str_len) else {

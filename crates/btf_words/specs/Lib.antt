@@ -1,3 +1,2 @@
 pub mod Error
-pub mod Endianness
 pub mod Kind

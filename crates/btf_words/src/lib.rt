@@ -3,8 +3,9 @@
 
 mod error;
 mod kind;
-mod words;
+mod section_index;
 
+pub use btf_model::Endianness;
 pub use error::BtfError;
 pub use kind::BtfKind;
-pub use words::{Endianness, SectionIndex};
+pub use section_index::SectionIndex;

@@ -3,7 +3,7 @@ use Rattle.std.proofs.Common.{◌≡◌, ℕ, List, Bool, true, false, Option, S
 use Rattle.std.specs.Prelude.{is_some}
 use Rattle.std.proofs.lemmas.Bool.{true≢false}
 use Rattle.btf_model.specs.Refusal.{Refusal}
-use Rattle.btf_model.specs.Word.{Order}
+use Rattle.btf_model.specs.declared.endianness.Endianness.{Endianness}
 use Rattle.vbtf.specs.declared.opened.Opened.{Opened}
 use Rattle.vbtf.specs.Ext.{AddsExt}
 
@@ -17,7 +17,7 @@ none_by_test None is = refl
 none_by_test (Some x) is = absurd (true≢false is)
 
 -- the same of what is equal
-pub adds_same : (o order : Order) (bytes : List ℕ) (d old n new : Opened) (answer : Result Bool Refusal) → o ≡ order → d ≡ old → new ≡ n → AddsExt o bytes d n answer → AddsExt order bytes old new answer
+pub adds_same : (o order : Endianness) (bytes : List ℕ) (d old n new : Opened) (answer : Result Bool Refusal) → o ≡ order → d ≡ old → new ≡ n → AddsExt o bytes d n answer → AddsExt order bytes old new answer
 adds_same o order bytes d old n new answer same_order same_old same_new adds =
     subst (λ x. AddsExt x bytes old new answer) same_order
     (subst (λ x. AddsExt o bytes x new answer) same_old (subst (λ x. AddsExt o bytes d x answer) (sym same_new) adds))

@@ -4,21 +4,21 @@ use Rattle.std.specs.Prelude.{IfSome}
 use Rattle.arrayvec.specs.declared.array_vec.ArrayVec.{ArrayVec}
 use Rattle.btf_model.specs.Refusal.{Refusal}
 use Rattle.btf_model.specs.Table.{Table}
-use Rattle.btf_rewrite_model.specs.Feature.{FillPolicy}
-use Rattle.btf_rewrite_model.specs.Ksyms.{KsymsIds}
+use Rattle.btf_rewrite_model.specs.declared.feature.FillPolicy.{FillPolicy}
+use Rattle.btf_rewrite_model.specs.declared.ksyms_ids.KsymsIds.{KsymsIds}
 use Rattle.btf_rewrite_model.specs.Pass.{Layout}
-use Rattle.btf_rules.specs.declared.features.BtfFeature.{BtfFeature}
-use Rattle.btf_rules.specs.declared.features.FeatureAnswer.{FeatureAnswer}
+use Rattle.btf_rewrite_model.specs.declared.feature.BtfFeature.{BtfFeature}
+use Rattle.btf_rewrite_model.specs.declared.feature.FeatureAnswer.{FeatureAnswer}
 use Rattle.btf_table.specs.Rewrites.{RewritesWith}
-use Rattle.btf_types.specs.Features.{feature_of, answers_of, Called}
+use Rattle.btf_types.specs.Features.{Called}
 use Rattle.btf_words.specs.declared.error.BtfError.{BtfError}
 use Rattle.btf_words.specs.Error.{MeetsOrNoMemory, refusal_of}
 use Rattle.vbtf.specs.Kernel.{has_bit, AreOf, RewritesFor}
 
 -- a predicate that answers so, whatever it is called for
 pub all_of : {F : Type 0} (step : F → BtfFeature → Bool → F → Type 0) (features : ℕ) (Is : F → Type 0)
-    → ((f g : F) (feature : BtfFeature) (granted : Bool) → Is f → step f feature granted g → (granted ≡ has_bit features (feature_of feature)) × Is g)
-    → (before : F) (answers : List FeatureAnswer) (after : F) → Is before → Called step before answers after → AreOf features (answers_of answers)
+    → ((f g : F) (feature : BtfFeature) (granted : Bool) → Is f → step f feature granted g → (granted ≡ has_bit features feature) × Is g)
+    → (before : F) (answers : List FeatureAnswer) (after : F) → Is before → Called step before answers after → AreOf features answers
 all_of step features Is each before [] after is called = tt
 all_of step features Is each before (a ∷ answers) after is called =
     let one = each before called.0 a.feature a.granted is called.1 in (one.0, all_of step features Is each called.0 answers after one.1 called.2)
@@ -29,12 +29,12 @@ some_map (Some r) f p = f r p
 
 -- a rewrite with these answers is one for the kernel
 pub for_kernel : (features : ℕ) (policy : FillPolicy) (old : Table) (ids : Option KsymsIds) (layout : Layout) (new : Table) (asked : List FeatureAnswer) (r : Result (ArrayVec FeatureAnswer 8 (Unit {0})) BtfError)
-    → AreOf features (answers_of asked) → IfOk r (λ a. a.items ≡ asked) → MeetsOrNoMemory (λ a. a.items) r (RewritesWith policy old ids layout (answers_of asked) new)
+    → AreOf features asked → IfOk r (λ a. a.items ≡ asked) → MeetsOrNoMemory (λ a. a.items) r (RewritesWith policy old ids layout asked new)
     → MeetsOrNoMemory (λ a. a.items) r (RewritesFor features policy old ids layout new)
 for_kernel features policy old ids layout new asked (Ok a) of is rewrites =
-    (subst (λ xs. AreOf features (answers_of xs)) (sym is) of, subst (λ xs. RewritesWith {X = List FeatureAnswer} policy old ids layout (answers_of xs) new (Ok a.items)) (sym is) rewrites)
+    (subst (λ xs. AreOf features xs) (sym is) of, subst (λ xs. RewritesWith {X = List FeatureAnswer} policy old ids layout xs new (Ok a.items)) (sym is) rewrites)
 for_kernel features policy old ids layout new asked (Err e) of is refused =
-    some_map (refusal_of e) (λ r found. (answers_of asked, of, found)) refused
+    some_map (refusal_of e) (λ r found. (asked, of, found)) refused
 
 -- the same of tables and layouts that are equal
 pub for_handle : (features : ℕ) (policy : FillPolicy) (ids : Option KsymsIds) (t old : Table) (l layout : Layout) (n new : Table) (r : Result (List FeatureAnswer) Refusal)

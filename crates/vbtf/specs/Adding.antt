@@ -4,7 +4,7 @@ use Rattle.btf_model.specs.Blob.{ReadsFront}
 use Rattle.btf_model.specs.Record.{Record}
 use Rattle.btf_model.specs.Refusal.{Refusal}
 use Rattle.btf_model.specs.Table.{Table, with_type, type_place}
-use Rattle.btf_model.specs.Word.{Order}
+use Rattle.btf_model.specs.declared.endianness.Endianness.{Endianness}
 use Rattle.vbtf.specs.declared.fault.Fault.{Fault}
 use Rattle.vbtf.specs.declared.handle.Handle.{Handle}
 use Rattle.vbtf.specs.Status.{Reports, no_memory}
@@ -24,7 +24,7 @@ record_len r = 12 + 4 * length r.tail
 
 -- What adding the type of a record that bytes are returns: its id, and the table has it; none where bytes follow the
 -- record; or why no record begins the bytes, or why it has no room. In these two cases the table is unchanged.
-abbrev pub AddsRecord : Order → List ℕ → Table → Table → Result (Option ℕ) Refusal → Type 0
+abbrev pub AddsRecord : Endianness → List ℕ → Table → Table → Result (Option ℕ) Refusal → Type 0
 AddsRecord order bytes old new (Ok (Some id)) =
     (r : Record) × ReadsFront order bytes (Ok r) × (record_len r ≡ length bytes) × (Ok id ≡ type_place r old)
     × (new ≡ with_type r None old)
@@ -36,7 +36,7 @@ AddsRecord order bytes old new (Err refusal) =
 
 -- How a call ends that adds a type: with status 0 and its id, with status 102 where bytes follow the record, with a
 -- refusal, or with a failed allocation. What was opened beside the table is unchanged.
-abbrev pub EndsAddingType : ℕ → Order → List ℕ → Handle → Handle → ℕ → Fault → Type 0
+abbrev pub EndsAddingType : ℕ → Endianness → List ℕ → Handle → Handle → ℕ → Fault → Type 0
 EndsAddingType status order bytes old new id fault =
     (new.state ≡ 1) × (new.opened.ext ≡ old.opened.ext)
     × (((status ≡ 0) × AddsRecord order bytes old.opened.btf new.opened.btf (Ok (Some id)))

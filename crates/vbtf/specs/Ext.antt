@@ -9,7 +9,7 @@ use Rattle.btf_ext.specs.declared.ext.BtfExt.{BtfExt}
 use Rattle.btf_ext.specs.BtfExt.{ext as said}
 use Rattle.btf_model.specs.Ext.{IsExt}
 use Rattle.btf_model.specs.Refusal.{Refusal}
-use Rattle.btf_model.specs.Word.{Order}
+use Rattle.btf_model.specs.declared.endianness.Endianness.{Endianness}
 use Rattle.vbtf.specs.declared.ext.ExtSizes.{ExtSizes}
 use Rattle.vbtf.specs.declared.fault.Fault.{Fault}
 use Rattle.vbtf.specs.declared.handle.Handle.{Handle}
@@ -22,7 +22,7 @@ OpenedExt = BtfExt RandomState DefaultHasher
 
 -- What opening returns: true, and what is opened has what the bytes say, in names that the table's strings have; false
 -- where a .BTF.ext is open, or why the bytes are refused. In these two cases what is opened is unchanged.
-abbrev pub AddsExt : Order → List ℕ → Opened → Opened → Result Bool Refusal → Type 0
+abbrev pub AddsExt : Endianness → List ℕ → Opened → Opened → Result Bool Refusal → Type 0
 AddsExt order bytes old new (Ok true) =
     (old.ext ≡ None) × (ext : OpenedExt) × (new ≡ record old { ext = Some ext })
     × IsExt order bytes old.btf.strings (Ok (said ext))
@@ -32,7 +32,7 @@ AddsExt order bytes old new (Err refusal) =
 
 -- How a call ends that opens it: with status 0, with status 102 where one is open, with a refusal, or with a failed
 -- allocation.
-abbrev pub EndsOpeningExt : ℕ → Order → List ℕ → Handle → Handle → Fault → Type 0
+abbrev pub EndsOpeningExt : ℕ → Endianness → List ℕ → Handle → Handle → Fault → Type 0
 EndsOpeningExt status order bytes old new fault =
     (new.state ≡ 1)
     × (((status ≡ 0) × AddsExt order bytes old.opened new.opened (Ok true))

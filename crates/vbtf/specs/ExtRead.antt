@@ -21,9 +21,9 @@ NamesOf ext zero = ListsNames (said ext).func
 NamesOf ext (suc n) = ListsNames (said ext).line
 
 -- A section of relocations has the name at this string offset, with status 0; or status 103 says that there is none.
-abbrev pub IsNamed : ℕ → ℕ → Option RelocationSection → Type 0
-IsNamed status name (Some section) = (status ≡ 0) × (name ≡ section.0)
-IsNamed status name None = status ≡ 103
+abbrev pub HasSectionName : ℕ → ℕ → Option RelocationSection → Type 0
+HasSectionName status name (Some section) = (status ≡ 0) × (name ≡ section.0)
+HasSectionName status name None = status ≡ 103
 
 -- the bytes of the records of a section, as little-endian words
 abbrev pub record_bytes : Option Records → List ℕ

@@ -3,11 +3,13 @@ use Rattle.std.specs.Prelude.{◌≡◌, ℕ, ◌/◌, ◌%◌, ◌^◌, ◌==�
 use Rattle.std.specs.List.{AllByRecursion}
 use Rattle.btf_model.specs.Refusal.{Refusal}
 use Rattle.btf_model.specs.Table.{Table}
-use Rattle.btf_rewrite_model.specs.Feature.{Feature, Answer, FillPolicy, KeepSized, FillSized, number}
-use Rattle.btf_rewrite_model.specs.Ksyms.{KsymsIds}
+use Rattle.btf_rewrite_model.specs.Feature.{number}
+use Rattle.btf_rewrite_model.specs.declared.feature.BtfFeature.{BtfFeature}
+use Rattle.btf_rewrite_model.specs.declared.feature.FeatureAnswer.{FeatureAnswer}
+use Rattle.btf_rewrite_model.specs.declared.feature.FillPolicy.{FillPolicy}
+use Rattle.btf_rewrite_model.specs.declared.feature.FillPolicy.TheVariants.{KeepSized, FillSized}
+use Rattle.btf_rewrite_model.specs.declared.ksyms_ids.KsymsIds.{KsymsIds}
 use Rattle.btf_rewrite_model.specs.Pass.{Layout}
-use Rattle.btf_rules.specs.declared.features.FeatureAnswer.{FeatureAnswer}
-use Rattle.btf_types.specs.Features.{answers_of}
 use Rattle.btf_table.specs.KsymsStep.{ksyms_ids}
 use Rattle.btf_table.specs.Rewrites.{RewritesWith}
 use Rattle.vbtf.specs.declared.kernel.Kernel.{Kernel}
@@ -17,7 +19,7 @@ use Rattle.vbtf.specs.declared.handle.Handle.{Handle}
 use Rattle.vbtf.specs.Status.{Reports, no_memory}
 
 -- the bit of a feature is set
-abbrev pub has_bit : ℕ → Feature → Bool
+abbrev pub has_bit : ℕ → BtfFeature → Bool
 has_bit features f = features / 2 ^ number f % 2 == 1
 
 abbrev pub policy_chosen : Kernel → FillPolicy
@@ -31,15 +33,15 @@ abbrev pub ids_chosen : Kernel → Option KsymsIds
 ids_chosen kernel = if kernel.ksyms == 0 then None else Some (ksyms_ids kernel.ksyms (id_or_none kernel.placeholder))
 
 -- each answer is what the kernel's bits say
-abbrev pub AreOf : ℕ → List Answer → Type 0
+abbrev pub AreOf : ℕ → List FeatureAnswer → Type 0
 AreOf features answers = AllByRecursion (λ answer. answer.granted ≡ has_bit features answer.feature) answers
 
 -- The number of a feature, and 1 for one that is granted.
-abbrev pub granted_number : Answer → ℕ
+abbrev pub granted_number : FeatureAnswer → ℕ
 granted_number answer = if answer.granted then 1 else 0
 
 -- What is reported are the answers, in order.
-pub record ListsAnswers (asked : Asked) (answers : List Answer) : Type 0 where
+pub record ListsAnswers (asked : Asked) (answers : List FeatureAnswer) : Type 0 where
   pub count : asked.count ≡ length answers
   pub features : take asked.count asked.features ≡ map (λ answer. number answer.feature) answers
   pub granted : take asked.count asked.granted ≡ map granted_number answers
@@ -48,10 +50,10 @@ pub record ListsAnswers (asked : Asked) (answers : List Answer) : Type 0 where
 abbrev pub RewritesFor : ℕ → FillPolicy → Table → Option KsymsIds → Layout → Table
     → Result (List FeatureAnswer) Refusal → Type 0
 RewritesFor features policy old ids layout new (Ok listed) =
-    AreOf features (answers_of listed)
-    × RewritesWith {X = List FeatureAnswer} policy old ids layout (answers_of listed) new (Ok listed)
+    AreOf features listed
+    × RewritesWith {X = List FeatureAnswer} policy old ids layout listed new (Ok listed)
 RewritesFor features policy old ids layout new (Err refusal) =
-    (answers : List Answer) × AreOf features answers
+    (answers : List FeatureAnswer) × AreOf features answers
     × RewritesWith {X = List FeatureAnswer} policy old ids layout answers new (Err refusal)
 
 -- How a rewrite ends that C asks for: with status 0, and the handle owns the rewritten table; or with a refusal, or
@@ -59,7 +61,7 @@ RewritesFor features policy old ids layout new (Err refusal) =
 abbrev pub EndsRewriting : ℕ → Kernel → Layout → Handle → Handle → Asked → Fault → Type 0
 EndsRewriting status kernel layout old new asked fault =
     (new.state ≡ 1) × (new.opened.ext ≡ old.opened.ext)
-    × (((status ≡ 0) × (listed : List FeatureAnswer) × ListsAnswers asked (answers_of listed)
+    × (((status ≡ 0) × (listed : List FeatureAnswer) × ListsAnswers asked listed
     × RewritesFor kernel.features (policy_chosen kernel) old.opened.btf (ids_chosen kernel) layout new.opened.btf (Ok listed))
     ⊎ ((new.opened.btf ≡ old.opened.btf)
     × ((status ≡ no_memory) ⊎ ((refusal : Refusal) × Reports status fault refusal

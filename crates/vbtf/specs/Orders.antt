@@ -2,18 +2,19 @@
 -- Source: the kernel's BTF documentation, "BTF Type and String Encoding", `magic`.
 use Rattle.std.specs.Prelude.{ℕ, zero, suc, List, [], ◌∷◌, ◌==◌, if◌then◌else◌}
 use Rattle.std.specs.List.{starts_with}
-use Rattle.btf_model.specs.Word.{Order, Little, Big}
+use Rattle.btf_model.specs.declared.endianness.Endianness.{Endianness}
+use Rattle.btf_model.specs.declared.endianness.Endianness.TheVariants.{Little, Big}
 
 -- The byte order of a number: 0 for the little one, 1 for the big one.
-abbrev pub order_named : ℕ → Order
+abbrev pub order_named : ℕ → Endianness
 order_named zero = Little
 order_named (suc n) = Big
 
 -- The order in which the first two bytes are the magic 0xeb9f: big where they are eb and 9f, else little.
-abbrev pub order_by_magic : List ℕ → Order
+abbrev pub order_by_magic : List ℕ → Endianness
 order_by_magic bytes = if starts_with ◌==◌ bytes (235 ∷ 159 ∷ []) then Big else Little
 
 -- The byte order of a number for these bytes: as above, and 2 for the one that their magic says.
-abbrev pub order_chosen : ℕ → List ℕ → Order
+abbrev pub order_chosen : ℕ → List ℕ → Endianness
 order_chosen (suc (suc n)) bytes = order_by_magic bytes
 order_chosen n bytes = order_named n

@@ -3,7 +3,6 @@
 ghost use Rattle.std.specs.Prelude.{◌≡◌, ◌≢◌, ◌<◌, ◌≤◌, OnErr};
 ghost use Rattle.std.specs.Str.{IsUtf8};
 ghost use Rattle.btf_model.specs.Table.{with_string, string_place};
-ghost use Rattle.btf_words.specs.Endianness.{order_of};
 ghost use Rattle.btf_words.specs.Error.{MeetsOrNoMemory};
 ghost use Rattle.vbtf.specs.Adding.{AddsRecord, EndsAddingType, Adds};
 ghost use Rattle.vbtf.specs.Orders.{order_named};
@@ -98,7 +97,7 @@ fn add_record(
     endianness: Endianness,
 ) -> Result<Option<u32>, BtfError>
     ensures added { MeetsOrNoMemory (λ id. id) result
-        (AddsRecord (order_of endianness) bytes.now btf.old btf.new) }
+        (AddsRecord endianness bytes.now btf.old btf.new) }
     ensures err { OnErr result (btf.new ≡ btf.old) }
 {
     let btf_type = BtfType::read(alloc, bytes, endianness)?;

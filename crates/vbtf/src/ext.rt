@@ -2,7 +2,6 @@
 
 ghost use Rattle.std.specs.Prelude.{◌≡◌, ◌≢◌, ◌<◌, ◌≤◌, Some, None, OnErr};
 ghost use Rattle.std.specs.Option.{MatchOption};
-ghost use Rattle.btf_words.specs.Endianness.{order_of};
 ghost use Rattle.btf_words.specs.Error.{MeetsOrNoMemory};
 ghost use Rattle.vbtf.specs.Ext.{OpenedExt, AddsExt, EndsOpeningExt, HasSizes};
 ghost use Rattle.vbtf.specs.Orders.{order_chosen};
@@ -114,7 +113,7 @@ fn add_ext(
     seed: u64,
 ) -> Result<bool, BtfError>
     ensures added { MeetsOrNoMemory (λ b. b) result
-        (AddsExt (order_of endianness) «data».now opened.old opened.new) }
+        (AddsExt endianness «data».now opened.old opened.new) }
     ensures err { OnErr result (opened.new ≡ opened.old) }
 {
     if opened.ext.is_some() {

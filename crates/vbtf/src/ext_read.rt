@@ -7,7 +7,7 @@ ghost use Rattle.std.specs.Str.{IsUtf8};
 ghost use Rattle.btf_ext.specs.BtfExt.{ext as said};
 ghost use Rattle.btf_words.specs.Error.{MeetsOrNoMemory, IsOrNoMemory};
 ghost use Rattle.vbtf.specs.Ext.{OpenedExt};
-ghost use Rattle.vbtf.specs.ExtRead.{NamesOf, ListsNames, IsNamed, RecordsOf, RelocationsOf, record_bytes};
+ghost use Rattle.vbtf.specs.ExtRead.{NamesOf, ListsNames, HasSectionName, RecordsOf, RelocationsOf, record_bytes};
 ghost use Rattle.vbtf.specs.Status.{EndsFilling, Keeps};
 
 use crate::fault::{CLOSED, Fault, INVALID_ARGUMENT, NO_ITEM, report};
@@ -58,7 +58,7 @@ pub extern "C" fn vbtf_lent_ext_names(
 #[unsafe(no_mangle)]
 pub extern "C" fn vbtf_lent_ext_section(table: &mut Handle, index: u32, name: &mut u32) -> u32
     ensures found { table.old.state ≡ 2 → (ext : OpenedExt) → table.old.opened.ext ≡ Some ext
-        → IsNamed result name.new (slice_get (said ext).relocations index) }
+        → HasSectionName result name.new (slice_get (said ext).relocations index) }
     ensures none { table.old.state ≡ 2 → table.old.opened.ext ≡ None → result ≡ CLOSED }
     ensures closed { table.old.state ≢ 2 → result ≡ CLOSED }
     ensures kept { Keeps table.old table.new }
@@ -210,7 +210,7 @@ fn push_name(names: &mut Vec<u8>, name: &str) -> Result<(), AllocError>
 /// Writes the string offset of the name of a relocation section.
 fn write_section(opened: &Opened, index: u32, name: &mut u32) -> u32
     ensures found { (ext : OpenedExt) → opened.now.ext ≡ Some ext
-        → IsNamed result name.new (slice_get (said ext).relocations index) }
+        → HasSectionName result name.new (slice_get (said ext).relocations index) }
     ensures none { opened.now.ext ≡ None → result ≡ CLOSED }
 {
     let Some(ext) = &opened.ext else {

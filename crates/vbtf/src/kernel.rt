@@ -1,8 +1,6 @@
 //! What C says of a kernel, and what a rewrite asked about it.
 
 ghost use Rattle.std.specs.Prelude.{◌≡◌, ◌≤◌, List, length};
-ghost use Rattle.btf_types.specs.Features.{feature_of, policy_of, answers_of};
-ghost use Rattle.btf_table.specs.Rewrites.{ids_of};
 ghost use Rattle.vbtf.specs.Kernel.{has_bit, policy_chosen, ids_chosen, ListsAnswers};
 
 use btf::{BtfFeature, FeatureAnswer, FillPolicy, KsymsIds};
@@ -38,14 +36,14 @@ pub struct Asked {
 impl Kernel {
     /// Whether the kernel has a feature.
     pub(crate) fn has(&self, feature: BtfFeature) -> bool
-        ensures { result ≡ has_bit self.now.features (feature_of feature) }
+        ensures { result ≡ has_bit self.now.features feature }
     {
         (self.features >> (feature as u32)) % 2 == 1
     }
 
     /// What becomes of DATASECs that have a size and no entries.
     pub(crate) fn policy(&self) -> FillPolicy
-        ensures { policy_of result ≡ policy_chosen self.now }
+        ensures { result ≡ policy_chosen self.now }
     {
         if self.fill_sized == 0 {
             FillPolicy::KeepSized
@@ -56,7 +54,7 @@ impl Kernel {
 
     /// The ids of `.ksyms`.
     pub(crate) fn ksyms_ids(&self) -> Option<KsymsIds>
-        ensures { ids_of result ≡ ids_chosen self.now }
+        ensures { result ≡ ids_chosen self.now }
     {
         if self.ksyms == 0 {
             return None;
@@ -76,7 +74,7 @@ impl Asked {
     /// Writes what was asked, in order.
     pub(crate) fn list(&mut self, answers: &[FeatureAnswer])
         requires { length answers.now ≤ 8 }
-        ensures { ListsAnswers self.new (answers_of answers.now) }
+        ensures { ListsAnswers self.new answers.now }
     {
         for index in 0..answers.len() {
             let answer = answers[index];

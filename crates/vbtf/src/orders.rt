@@ -2,7 +2,6 @@
 
 ghost use Rattle.std.specs.Prelude.{◌≡◌, ◌<◌, ◌≤◌};
 ghost use Rattle.std.specs.Option.{MatchOption};
-ghost use Rattle.btf_words.specs.Endianness.{order_of};
 ghost use Rattle.vbtf.specs.Orders.{order_named, order_by_magic, order_chosen};
 
 use btf::Endianness;
@@ -10,7 +9,7 @@ use btf::Endianness;
 /// The byte order of a number: 0 for little, 1 for big. None for another number.
 pub(crate) fn named_order(order: u32) -> Option<Endianness>
     ensures { MatchOption result (1 < order)
-        (λ endianness. (order ≤ 1) × (order_of endianness ≡ order_named order)) }
+        (λ endianness. (order ≤ 1) × (endianness ≡ order_named order)) }
 {
     match order {
         0 => Some(Endianness::Little),
@@ -23,7 +22,7 @@ pub(crate) fn named_order(order: u32) -> Option<Endianness>
 /// another number.
 pub(crate) fn chosen_order(order: u32, bytes: &[u8]) -> Option<Endianness>
     ensures { MatchOption result (2 < order)
-        (λ endianness. (order ≤ 2) × (order_of endianness ≡ order_chosen order bytes.now)) }
+        (λ endianness. (order ≤ 2) × (endianness ≡ order_chosen order bytes.now)) }
 {
     match order {
         2 => Some(order_by_magic(bytes)),
@@ -33,7 +32,7 @@ pub(crate) fn chosen_order(order: u32, bytes: &[u8]) -> Option<Endianness>
 
 /// The byte order in which the first two bytes are the magic 0xeb9f; little where they are that in neither.
 fn order_by_magic(bytes: &[u8]) -> Endianness
-    ensures { order_of result ≡ order_by_magic bytes.now }
+    ensures { result ≡ order_by_magic bytes.now }
 {
     if bytes.starts_with(&[0xeb, 0x9f]) {
         Endianness::Big

@@ -1,7 +1,6 @@
 //! The rewrite of a table for a kernel that lacks some features.
 
 ghost use Rattle.std.specs.Prelude.{◌≡◌, ◌≢◌, ◌⊎◌, OnOk, OnErr};
-ghost use Rattle.btf_types.specs.Features.{feature_of};
 ghost use Rattle.btf_types.specs.Layout.{layout_of};
 ghost use Rattle.btf_table.specs.Rewrites.{KeepsSizes, KeepsResolutions, KeepsValues, AppendsAtMost};
 ghost use Rattle.btf_words.specs.Error.{MeetsOrNoMemory};
@@ -90,7 +89,7 @@ fn rewritten(
     ensures appended { OnOk result (AppendsAtMost 4 btf.old btf.new) }
 {
     let is_granted = |feature: BtfFeature| -> bool
-        ensures { result ≡ has_bit kernel.entry.now.features (feature_of feature) }
+        ensures { result ≡ has_bit kernel.entry.now.features feature }
     { kernel.has(feature) };
     let mut resolver = BtfFeatureResolver::new(is_granted);
     let Program { sections, symbols } = program;

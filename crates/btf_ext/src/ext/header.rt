@@ -3,7 +3,6 @@
 ghost use Rattle.std.specs.Prelude.{◌≡◌, ◌++◌, ◌-◌, ◌≤◌, length, replicate, MatchOption};
 ghost use Rattle.btf_model.specs.Ext.{HasHeader, HasPart, IsRange, part_of, header_words};
 ghost use Rattle.btf_words.specs.Error.{Meets};
-ghost use Rattle.btf_words.specs.Endianness.{order_of};
 ghost use Rattle.btf_ext.specs.ExtHeader.{header, range, part};
 
 use crate::words::word_at;
@@ -46,7 +45,7 @@ impl Header {
     /// The header of data, or `InvalidHeader` where fewer than 8 bytes stand there, or fewer than its length says.
     /// What a header that is shorter than 32 bytes leaves out is 0.
     pub fn read(data: &[u8], endianness: Endianness) -> Result<Header, BtfError>
-        ensures { Meets header result (HasHeader (order_of endianness) «data».now) }
+        ensures { Meets header result (HasHeader endianness «data».now) }
     {
         if data.len() < MINIMAL_LEN {
             return Err(BtfError::InvalidHeader);
@@ -61,7 +60,7 @@ impl Header {
 
     /// The header of just its bytes.
     fn of_bytes(bytes: &[u8; 32], endianness: Endianness) -> Header
-        ensures { header result ≡ header_words (order_of endianness) bytes.now }
+        ensures { header result ≡ header_words endianness bytes.now }
     {
         let word = |at: usize| word_at(bytes, at, endianness);
         let hdr_len = word(4);
@@ -102,7 +101,7 @@ impl Range {
     /// What the range says, or `InvalidInfo` where it does not lie in the data, or is not empty and begins with no
     /// word, or with one below the least size.
     pub fn read<'a>(&self, data: &'a [u8], endianness: Endianness) -> Result<Part<'a>, BtfError>
-        ensures { Meets part result (HasPart (order_of endianness) «data».now (range self.now)) }
+        ensures { Meets part result (HasPart endianness «data».now (range self.now)) }
     {
         match self.find(data, endianness) {
             Some(part) => Ok(part),
@@ -124,9 +123,9 @@ impl Range {
     /// What the range says; None where it is none.
     fn find<'a>(&self, data: &'a [u8], endianness: Endianness) -> Option<Part<'a>>
         ensures { MatchOption result
-            (¬ (IsRange (order_of endianness) «data».now (range self.now)))
-            (λ p. IsRange (order_of endianness) «data».now (range self.now)
-            × (part p ≡ part_of (order_of endianness) «data».now (range self.now))) }
+            (¬ (IsRange endianness «data».now (range self.now)))
+            (λ p. IsRange endianness «data».now (range self.now)
+            × (part p ≡ part_of endianness «data».now (range self.now))) }
     {
         let start = self.start();
         let bytes = data.get(start..start + self.len as usize)?;

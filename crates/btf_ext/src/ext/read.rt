@@ -5,7 +5,6 @@ ghost use Rattle.std.specs.List.{AllByRecursion};
 ghost use Rattle.btf_model.specs.Ext.{AreSections, IsSection, relocation_section};
 ghost use Rattle.btf_model.specs.Text.{text_at};
 ghost use Rattle.btf_words.specs.Error.{MeetsOrNoMemory, IsOrNoMemory};
-ghost use Rattle.btf_words.specs.Endianness.{order_of};
 ghost use Rattle.btf_ext.specs.SecInfo.{section_of, AreReadable};
 ghost use Rattle.btf_ext.specs.Relocation.{relocation};
 
@@ -34,7 +33,7 @@ pub fn read_sections<'a>(
     endianness: Endianness,
 ) -> Result<Vec<SecInfo<'a>>, BtfError>
     ensures { MeetsOrNoMemory (λ v. map section_of v.items) result
-        (AreSections (order_of endianness) part.now.rec_size part.now.sections.now) }
+        (AreSections endianness part.now.rec_size part.now.sections.now) }
 {
     let mut sections = Vec::new(alloc);
     for section in SecInfoIter::new(part.sections, part.rec_size, endianness) {
@@ -55,7 +54,7 @@ pub fn readable_sections<'a>(
     btf: &Btf,
 ) -> Result<Vec<SecInfo<'a>>, BtfError>
     ensures { MeetsOrNoMemory (λ v. map section_of v.items) result (AreReadable
-        (order_of endianness) part.now.rec_size btf.now.strings part.now.sections.now) }
+        endianness part.now.rec_size btf.now.strings part.now.sections.now) }
 {
     let mut sections = Vec::new(alloc);
     let mut met = BTreeSet::new(alloc);
@@ -80,7 +79,7 @@ pub fn read_relocations(
     requires whole { AllByRecursion (IsSection rec_size) (map section_of sections.now) }
     requires wide { 0 < length sections.now → 16 ≤ rec_size }
     ensures { IfOk result (λ v. map relocation v.items ≡ map
-        (relocation_section (order_of endianness) rec_size) (map section_of sections.now)) }
+        (relocation_section endianness rec_size) (map section_of sections.now)) }
 {
     let mut relocations = Vec::with_capacity(alloc, sections.len())?;
     for section in sections {

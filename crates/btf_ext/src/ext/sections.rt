@@ -4,7 +4,6 @@ ghost use Rattle.std.specs.Prelude.{◌≡◌, ◌<◌, ◌≤◌, ◌++◌, len
 ghost use Rattle.btf_model.specs.Blob.{word_at};
 ghost use Rattle.btf_model.specs.Ext.{IsSection, BeginsNoSection, section_bytes, cut_refusal};
 ghost use Rattle.btf_words.specs.Error.{refusal_of};
-ghost use Rattle.btf_words.specs.Endianness.{order_of};
 ghost use Rattle.btf_ext.specs.SecInfo.{section_of};
 
 use btf_plain::{BtfError, Endianness};
@@ -40,10 +39,8 @@ impl<'a> Model for SecInfoIter<'a> {
 
     ghost Value = { SectionBytes };
 
-    ghost use Rattle.btf_words.specs.Endianness.{order_of};
-
     ghost view = { λ i. record {
-      order = order_of i.endianness;
+      order = i.endianness;
       size = i.rec_size;
       bytes =
           i.bytes.now;
@@ -54,7 +51,7 @@ impl<'a> SecInfoIter<'a> {
     /// The sections of bytes, whose words are in this order, with records of so many bytes.
     pub fn new(data: &'a [u8], rec_size: usize, endianness: Endianness) -> Self
         ensures { result ≡ record {
-          order = order_of endianness;
+          order = endianness;
           size = rec_size;
           bytes =
               «data».now;
@@ -100,8 +97,8 @@ impl<'a> Iterator for SecInfoIter<'a> {
 fn split_head(bytes: &[u8], endianness: Endianness) -> Option<(u32, u32, &[u8])>
     ensures { MatchOption result
         (length bytes.now < 8)
-        (λ x. (8 ≤ length bytes.now) × (x.0 ≡ word_at (order_of endianness) 0 bytes.now)
-        × (x.1 ≡ word_at (order_of endianness) 4 bytes.now)
+        (λ x. (8 ≤ length bytes.now) × (x.0 ≡ word_at endianness 0 bytes.now)
+        × (x.1 ≡ word_at endianness 4 bytes.now)
         × (x.2.now ≡ drop 4 (drop 4 bytes.now))) }
 {
     let (name_offset, rest) = bytes.split_first_chunk::<4>()?;
@@ -121,9 +118,9 @@ fn split_section(
 ) -> Result<(SecInfo<'_>, &[u8]), BtfError>
     ensures { MatchResult result
         (λ x. IsSection rec_size (section_of x.0)
-        × (bytes.now ≡ section_bytes (order_of endianness) (section_of x.0) ++ x.1.now))
-        (λ e. BeginsNoSection (order_of endianness) rec_size bytes.now
-        × (refusal_of e ≡ Some (cut_refusal (order_of endianness) rec_size bytes.now))) }
+        × (bytes.now ≡ section_bytes endianness (section_of x.0) ++ x.1.now))
+        (λ e. BeginsNoSection endianness rec_size bytes.now
+        × (refusal_of e ≡ Some (cut_refusal endianness rec_size bytes.now))) }
 {
     let section_len = bytes.len();
     let Some((name_offset, num_info, rest)) = split_head(bytes, endianness) else {

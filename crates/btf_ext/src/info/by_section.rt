@@ -4,7 +4,6 @@ ghost use Rattle.std.specs.Prelude.{◌≡◌, ℕ, ◌*◌, ◌<◌, ◌≤◌,
 ghost use Rattle.btf_model.specs.Ext.{Records, IsSection, instruction_records, no_records};
 ghost use Rattle.btf_model.specs.Text.{text_at};
 ghost use Rattle.btf_words.specs.Error.{MeetsOrNoMemory, IsOrNoMemory, refusal_of};
-ghost use Rattle.btf_words.specs.Endianness.{order_of};
 ghost use Rattle.btf_ext.specs.SecInfo.{section_of};
 ghost use Rattle.btf_ext.specs.ExtHeader.{part as part_of};
 ghost use Rattle.btf_ext.specs.Info.{by_name, AreByName, GainsUnder};
@@ -40,7 +39,7 @@ pub trait SectionRecords: Sized + Drop {
         requires whole { IsSection rec_size (section_of section.now) }
         requires wide { 4 * width ≤ rec_size }
         ensures { IfOk result (λ s. records s
-            ≡ instruction_records (order_of endianness) rec_size width (section_of section.now)) };
+            ≡ instruction_records endianness rec_size width (section_of section.now)) };
 
     /// Equal records. `OutOfMemory` is the only error.
     fn copied(&self) -> Result<Self, BtfError>
@@ -83,7 +82,7 @@ impl<S: SectionRecords, H: BuildHasher> BySection<S, H> {
         H: Drop,
         requires { 0 < part.now.rec_size → 4 * S.width ≤ part.now.rec_size }
         ensures { MeetsOrNoMemory (by_name S.records) result
-            (AreByName (order_of endianness) S.width btf.now.strings (part_of part.now)) }
+            (AreByName endianness S.width btf.now.strings (part_of part.now)) }
     {
         let sections = readable_sections(alloc, part, endianness, btf)?;
         let mut info = Self::with_hasher(alloc, hash_builder);
@@ -112,7 +111,7 @@ impl<S: SectionRecords, H: BuildHasher> BySection<S, H> {
         requires wide { 4 * S.width ≤ rec_size }
         ensures added { OnOk result ((text : List ℕ)
             → text_at btf.now.strings section.now.name_offset ≡ Ok text
-            → GainsUnder text (instruction_records (order_of endianness) rec_size S.width
+            → GainsUnder text (instruction_records endianness rec_size S.width
             (section_of section.now)) (by_name S.records self.old) (by_name S.records self.new)) }
         ensures refused { IfErr result (λ e. IfSome (refusal_of e)
             (λ f. text_at btf.now.strings section.now.name_offset ≡ Err f)) }

@@ -3,7 +3,6 @@
 ghost use Rattle.std.specs.Prelude.{◌≡◌, ℕ, ◌*◌, ◌≤◌, List, length, map, IfOk};
 ghost use Rattle.btf_model.specs.Word.{words_at};
 ghost use Rattle.btf_model.specs.Ext.{IsSection, record_words};
-ghost use Rattle.btf_words.specs.Endianness.{order_of};
 ghost use Rattle.btf_ext.specs.SecInfo.{section_of};
 
 use crate::ext::SecInfo;
@@ -28,7 +27,7 @@ pub trait Record: Sized + Drop {
     /// The record at the front of bytes.
     fn read(bytes: &[u8], endianness: Endianness) -> Self
         requires { 4 * width ≤ length bytes.now }
-        ensures { words result ≡ read_as (words_at (order_of endianness) width bytes.now) };
+        ensures { words result ≡ read_as (words_at endianness width bytes.now) };
 }
 
 /// Four words as they stand.
@@ -54,7 +53,7 @@ pub fn read_records<T: Record>(
     requires whole { IsSection rec_size (section_of section.now) }
     requires wide { 4 * T.width ≤ rec_size }
     ensures { IfOk result (λ v. map T.words v.items ≡ map T.read_as
-        (record_words (order_of endianness) rec_size T.width section.now.num_info
+        (record_words endianness rec_size T.width section.now.num_info
         section.now.bytes.now)) }
 {
     let mut records = Vec::with_capacity(alloc, section.num_info as usize)?;

@@ -4,7 +4,6 @@ ghost use Rattle.std.specs.Prelude.{◌≡◌, ℕ, ◌*◌, ◌++◌, [], ◌�
 ghost use Rattle.std.specs.List.{flat_map};
 ghost use Rattle.btf_model.specs.Record.{Kind, Record, kind_of, vlen, tail_words};
 ghost use Rattle.btf_model.specs.Spelling.{spell, kept, IsWhole};
-ghost use Rattle.btf_words.specs.Endianness.{order_of};
 ghost use Rattle.btf_words.specs.Error.{MeetsOrNoMemory};
 ghost use Rattle.btf_items.specs.ReadItems.{ReadsItems};
 ghost use Rattle.btf_records.specs.BtfType.{record_of, fallback_of};
@@ -42,7 +41,7 @@ pub trait WithList: Sized {
         count: usize,
     ) -> Result<Self::Items, BtfError>
         ensures { MeetsOrNoMemory listed result
-            (ReadsItems Self.Element.width Self.Element.item_words (order_of endianness)
+            (ReadsItems Self.Element.width Self.Element.item_words endianness
             bytes.now count) };
 
     /// The record of these words, for what is read.
@@ -92,7 +91,7 @@ pub fn append_with_list<R: WithList>(
     endianness: Endianness,
 ) -> Result<(), AllocError>
     ensures written { OnOk result (out.new.items ≡ out.old.items
-        ++ spell (order_of endianness) (R.words list.now)) }
+        ++ spell endianness (R.words list.now)) }
     ensures whole { OnOk result (IsWhole (R.words list.now)) }
 {
     push_array(out, endianness, &list.front())?;

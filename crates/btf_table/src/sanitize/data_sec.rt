@@ -8,8 +8,9 @@ ghost use Rattle.std.specs.Prelude.{◌≡◌, ◌==◌, ℕ, List, [], ◌∷�
 ghost use Rattle.std.specs.List.{flat_map};
 ghost use Rattle.std.specs.Option.{unwrap_or};
 ghost use Rattle.btf_model.specs.Record.{Record, vlen};
-ghost use Rattle.btf_rewrite_model.specs.Feature as features;
-ghost use Rattle.btf_rewrite_model.specs.Feature.{Feature, Answer};
+ghost use Rattle.btf_rewrite_model.specs.declared.feature.BtfFeature.TheVariants as features;
+ghost use Rattle.btf_rewrite_model.specs.declared.feature.BtfFeature.{BtfFeature};
+ghost use Rattle.btf_rewrite_model.specs.declared.feature.FeatureAnswer.{FeatureAnswer};
 ghost use Rattle.btf_rewrite_model.specs.Made as model;
 ghost use Rattle.btf_rewrite_model.specs.Made.{entries};
 ghost use Rattle.btf_rewrite_model.specs.Checks.{first_fault, is_read, in_a_word};
@@ -22,7 +23,7 @@ ghost use Rattle.btf_words.specs.Error.{MeetsOrNoMemory, IsOrNoMemory};
 ghost use Rattle.btf_records.specs.BtfType.{record_of, fallback_of};
 ghost use Rattle.btf_table.specs.Adding.{HasRoom};
 ghost use Rattle.btf_rules.specs.Checked.{checked};
-ghost use Rattle.btf_rules.specs.Features.{Called, Asks, IsFurther, answers_of, policy_of};
+ghost use Rattle.btf_rules.specs.Features.{Called, Asks, IsFurther};
 ghost use Rattle.btf_rules.specs.Layout.{sizes_of, offsets_of, layout_of};
 ghost use Rattle.btf_table.specs.ReadNames.{AreFound, AreRead};
 ghost use Rattle.btf_table.specs.Readable.{IsReadableEnd};
@@ -146,9 +147,9 @@ fn wants_filler<F: FnMut(BtfFeature) -> bool>(
 ) -> bool
     requires { F.IsAlwaysCallable resolver.old.0 }
     ensures callable { F.IsAlwaysCallable resolver.new.0 }
-    ensures quiet { asks_zero (policy_of policy) data_sec.now size ≡ false
-        → (resolver.new ≡ resolver.old) × (result ≡ is_fillable (policy_of policy) data_sec.now) }
-    ensures asks { asks_zero (policy_of policy) data_sec.now size ≡ true
+    ensures quiet { asks_zero policy data_sec.now size ≡ false
+        → (resolver.new ≡ resolver.old) × (result ≡ is_fillable policy data_sec.now) }
+    ensures asks { asks_zero policy data_sec.now size ≡ true
         → Asks F.step BtfFeature.DataSecZero resolver.old (not result) resolver.new }
 {
     let is_kept = match policy {
@@ -175,7 +176,7 @@ impl Made {
         size: u32,
     ) -> Result<Option<BtfType>, BtfError>
         requires { HasRoom btf.now self.old.changes }
-        ensures { (given : Given) (answers : List Answer) (id : ℕ) (r : Record) (before : Made)
+        ensures { (given : Given) (answers : List FeatureAnswer) (id : ℕ) (r : Record) (before : Made)
             → HasNewName (pass_on btf.now given answers) id r name_offset before self.old
             → gets_filler (pass_on btf.now given answers) id ≡ true
             → final_size (pass_on btf.now given answers) id r ≡ Some size
@@ -225,24 +226,24 @@ impl Made {
         ensures called { (first : F) → Called F.step first resolver.old.1 resolver.old.0
             → Called F.step first resolver.new.1 resolver.new.0 }
         ensures further { IsFurther resolver.old.1 resolver.new.1 }
-        ensures asks { (given : Given) (id : ℕ) → given.policy ≡ policy_of policy
+        ensures asks { (given : Given) (id : ℕ) → given.policy ≡ policy
             → given.layout.sections ≡ sizes_of sections.now
             → IsType btf.now id (BtfType.DataSec data_sec.now)
-            → IsHere (pass_on btf.now given (answers_of resolver.new.1)) id self.old
-            → AreAnswersTo (asks_below (pass_on btf.now given (answers_of resolver.old.1)) id)
-            (answers_of resolver.old.1)
-            → (left : List Feature)
-            × AsksUpTo (pass_on btf.now given (answers_of resolver.old.1)) id
-            (answers_of resolver.new.1) left }
-        ensures steps { (given : Given) (id : ℕ) → given.policy ≡ policy_of policy
+            → IsHere (pass_on btf.now given resolver.new.1) id self.old
+            → AreAnswersTo (asks_below (pass_on btf.now given resolver.old.1) id)
+            resolver.old.1
+            → (left : List BtfFeature)
+            × AsksUpTo (pass_on btf.now given resolver.old.1) id
+            resolver.new.1 left }
+        ensures steps { (given : Given) (id : ℕ) → given.policy ≡ policy
             → given.layout.sections ≡ sizes_of sections.now
             → given.layout.symbols ≡ offsets_of symbols.now
             → IsType btf.now id (BtfType.DataSec data_sec.now)
-            → AreAnswersTo (asks_below (pass_on btf.now given (answers_of resolver.old.1)) id)
-            (answers_of resolver.old.1)
-            → IsHere (pass_on btf.now given (answers_of resolver.new.1)) id self.old
+            → AreAnswersTo (asks_below (pass_on btf.now given resolver.old.1) id)
+            resolver.old.1
+            → IsHere (pass_on btf.now given resolver.new.1) id self.old
             → MeetsOrNoMemory (λ new. unwrap_or new (BtfType.DataSec data_sec.now)) result
-            (Steps (pass_on btf.now given (answers_of resolver.old.1)) id resolver.new.1
+            (Steps (pass_on btf.now given resolver.old.1) id resolver.new.1
             (BtfType.DataSec data_sec.now) self.old self.new) }
         ensures read { OnOk result
             (AreRead btf.now.strings (layout_of sections.now symbols.now) names.new) }

@@ -1,13 +1,13 @@
 //! The rule of a FUNC.
 
 ghost use Rattle.std.specs.Prelude.{◌≡◌, ℕ, Bool, List, IfOk, IsTrue, Ok};
-ghost use Rattle.btf_rewrite_model.specs.Feature.{Feature};
+ghost use Rattle.btf_rewrite_model.specs.declared.feature.BtfFeature.{BtfFeature};
 ghost use Rattle.btf_rewrite_model.specs.Made.{with_linkage};
 ghost use Rattle.btf_rewrite_model.specs.Pass as model;
 ghost use Rattle.btf_rewrite_model.specs.Pass.{asks_below};
 ghost use Rattle.btf_rewrite_model.specs.Passing.{AreAnswersTo};
 ghost use Rattle.btf_words.specs.Error.{MeetsOrNoMemory};
-ghost use Rattle.btf_rules.specs.Features.{Called, IsFurther, answers_of};
+ghost use Rattle.btf_rules.specs.Features.{Called, IsFurther};
 ghost use Rattle.btf_table.specs.PassStep.{Given, pass_on, IsType, IsHere, AsksUpTo, Steps, made_of};
 ghost use Rattle.btf_table.specs.Readable.{IsReadableEnd};
 ghost use Rattle.btf_table.specs.declared.sanitize.made.Made as made;
@@ -37,18 +37,18 @@ pub fn rewrite_func<F: FnMut(BtfFeature) -> bool>(
         → Called F.step first resolver.new.1 resolver.new.0 }
     ensures further { IsFurther resolver.old.1 resolver.new.1 }
     ensures asks { (given : Given) (id : ℕ) → IsType btf.now id (BtfType.Func func.now)
-        → AreAnswersTo (asks_below (pass_on btf.now given (answers_of resolver.old.1)) id)
-        (answers_of resolver.old.1)
-        → (left : List Feature)
-        × AsksUpTo (pass_on btf.now given (answers_of resolver.old.1)) id
-        (answers_of resolver.new.1) left }
+        → AreAnswersTo (asks_below (pass_on btf.now given resolver.old.1) id)
+        resolver.old.1
+        → (left : List BtfFeature)
+        × AsksUpTo (pass_on btf.now given resolver.old.1) id
+        resolver.new.1 left }
     ensures steps { (given : Given) (id : ℕ) (made : made.Made)
         → IsType btf.now id (BtfType.Func func.now)
-        → AreAnswersTo (asks_below (pass_on btf.now given (answers_of resolver.old.1)) id)
-        (answers_of resolver.old.1)
-        → IsHere (pass_on btf.now given (answers_of resolver.new.1)) id made
+        → AreAnswersTo (asks_below (pass_on btf.now given resolver.old.1) id)
+        resolver.old.1
+        → IsHere (pass_on btf.now given resolver.new.1) id made
         → MeetsOrNoMemory (λ o. made_of o (BtfType.Func func.now)) result
-        (Steps (pass_on btf.now given (answers_of resolver.old.1)) id resolver.new.1
+        (Steps (pass_on btf.now given resolver.old.1) id resolver.new.1
         (BtfType.Func func.now) made made) }
 {
     // The contract speaks of the kind in the info word, which a use of it shows.

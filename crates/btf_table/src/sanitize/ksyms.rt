@@ -6,7 +6,7 @@ ghost use Rattle.btf_model.specs.Record.{kind_of};
 ghost use Rattle.btf_rewrite_model.specs.Made.{Entry, entries, record_at, wants_name, with_linkage};
 ghost use Rattle.btf_rewrite_model.specs.Checks.{first_fault};
 ghost use Rattle.btf_rewrite_model.specs.Ksyms as model;
-ghost use Rattle.btf_rewrite_model.specs.Ksyms.{placeholder_checks, data_sec_checks, entry_checks, named};
+ghost use Rattle.btf_rewrite_model.specs.Ksyms.{placeholder_checks, data_sec_checks, ksyms_entry_checks, named};
 ghost use Rattle.btf_words.specs.Error.{IsOrNoMemory, MeetsOrNoMemory};
 ghost use Rattle.btf_records.specs.BtfType.{record_of};
 ghost use Rattle.btf_rules.specs.Checked.{checked};
@@ -149,7 +149,7 @@ fn symbol_prototype(
     requires { IsReadableEnd btf.now.strings readable_end }
     ensures { (e : Entry) → e.type ≡ id
         → IsOrNoMemory (λ p. p) result
-        (checked (first_fault (entry_checks btf.now placeholder_id e))
+        (checked (first_fault (ksyms_entry_checks btf.now placeholder_id e))
         (prototype_of btf.now id)) }
 {
     let symbol = btf.type_by_id(id)?;
@@ -258,7 +258,7 @@ struct Step {
 impl Step {
     ghost use Rattle.std.specs.Prelude.{IfSome, Some, slice_get};
     ghost use Rattle.std.specs.Option.{unwrap_or};
-    ghost use Rattle.btf_rewrite_model.specs.Ksyms.{KsymsIds};
+    ghost use Rattle.btf_rewrite_model.specs.declared.ksyms_ids.KsymsIds.{KsymsIds};
     ghost use Rattle.btf_table.specs.KsymsStep.{IsStep, becomes, IsLike, StepsAll};
 
     /// The step over a table, or why it is refused.

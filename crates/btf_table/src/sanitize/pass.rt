@@ -2,14 +2,14 @@
 
 ghost use Rattle.std.specs.Prelude.{◌≡◌, ℕ, List, [], Some, OnOk, true};
 ghost use Rattle.btf_model.specs.Record.{kind_of};
-ghost use Rattle.btf_rewrite_model.specs.Feature.{Feature};
+ghost use Rattle.btf_rewrite_model.specs.declared.feature.BtfFeature.{BtfFeature};
 ghost use Rattle.btf_rewrite_model.specs.Pass.{asks_below};
 ghost use Rattle.btf_model.specs.Table.{Table};
 ghost use Rattle.btf_rewrite_model.specs.Passing.{AreAnswersTo};
 ghost use Rattle.btf_words.specs.Error.{MeetsOrNoMemory};
 ghost use Rattle.btf_records.specs.BtfType.{record_of};
 ghost use Rattle.btf_table.specs.Adding.{HasRoom};
-ghost use Rattle.btf_rules.specs.Features.{Called, IsFurther, answers_of, policy_of};
+ghost use Rattle.btf_rules.specs.Features.{Called, IsFurther};
 ghost use Rattle.btf_rules.specs.Layout.{sizes_of, offsets_of, layout_of};
 ghost use Rattle.btf_rules.specs.SoleFeature as step;
 ghost use Rattle.btf_table.specs.PassStep.{Given, pass_on, under, IsType, IsHere, AsksUpTo, Steps, Passes, BeginsAsked, made_of};
@@ -39,13 +39,13 @@ fn has_sole_feature<F: FnMut(BtfFeature) -> bool>(
     ensures further { IsFurther resolver.old.1 resolver.new.1 }
     ensures asks { (t : Table) (given : Given) (id : ℕ) → IsType t id btf_type.now
         → asks_one (kind_of (record_of btf_type.now).info) ≡ true
-        → AreAnswersTo (asks_below (pass_on t given (answers_of resolver.old.1)) id)
-        (answers_of resolver.old.1)
-        → AsksUpTo (pass_on t given (answers_of resolver.old.1)) id (answers_of resolver.new.1) [] }
+        → AreAnswersTo (asks_below (pass_on t given resolver.old.1) id)
+        resolver.old.1
+        → AsksUpTo (pass_on t given resolver.old.1) id resolver.new.1 [] }
     ensures granted { (t : Table) (given : Given) (id : ℕ)
-        → AreAnswersTo (asks_below (pass_on t given (answers_of resolver.old.1)) id)
-        (answers_of resolver.old.1)
-        → IsGranted (pass_on t given (answers_of resolver.new.1))
+        → AreAnswersTo (asks_below (pass_on t given resolver.old.1) id)
+        resolver.old.1
+        → IsGranted (pass_on t given resolver.new.1)
         (step.sole_feature (kind_of (record_of btf_type.now).info) (record_of btf_type.now))
         result }
 {
@@ -78,22 +78,22 @@ impl Made {
         ensures called { (first : F) → Called F.step first resolver.old.1 resolver.old.0
             → Called F.step first resolver.new.1 resolver.new.0 }
         ensures further { IsFurther resolver.old.1 resolver.new.1 }
-        ensures asks { (given : Given) (id : ℕ) → given.policy ≡ policy_of policy
+        ensures asks { (given : Given) (id : ℕ) → given.policy ≡ policy
             → given.layout.sections ≡ sizes_of sections.now → IsType btf.now id btf_type.now
-            → IsHere (pass_on btf.now given (answers_of resolver.new.1)) id self.old
-            → AreAnswersTo (asks_below (pass_on btf.now given (answers_of resolver.old.1)) id)
-            (answers_of resolver.old.1)
-            → (left : List Feature)
-            × AsksUpTo (pass_on btf.now given (answers_of resolver.old.1)) id
-            (answers_of resolver.new.1) left }
-        ensures steps { (given : Given) (id : ℕ) → given.policy ≡ policy_of policy
+            → IsHere (pass_on btf.now given resolver.new.1) id self.old
+            → AreAnswersTo (asks_below (pass_on btf.now given resolver.old.1) id)
+            resolver.old.1
+            → (left : List BtfFeature)
+            × AsksUpTo (pass_on btf.now given resolver.old.1) id
+            resolver.new.1 left }
+        ensures steps { (given : Given) (id : ℕ) → given.policy ≡ policy
             → given.layout.sections ≡ sizes_of sections.now
             → given.layout.symbols ≡ offsets_of symbols.now → IsType btf.now id btf_type.now
-            → AreAnswersTo (asks_below (pass_on btf.now given (answers_of resolver.old.1)) id)
-            (answers_of resolver.old.1)
-            → IsHere (pass_on btf.now given (answers_of resolver.new.1)) id self.old
+            → AreAnswersTo (asks_below (pass_on btf.now given resolver.old.1) id)
+            resolver.old.1
+            → IsHere (pass_on btf.now given resolver.new.1) id self.old
             → MeetsOrNoMemory (λ o. made_of o btf_type.now) result
-            (Steps (pass_on btf.now given (answers_of resolver.old.1)) id resolver.new.1
+            (Steps (pass_on btf.now given resolver.old.1) id resolver.new.1
             btf_type.now self.old self.new) }
         ensures read { OnOk result
             (AreRead btf.now.strings (layout_of sections.now symbols.now) names.new) }
@@ -137,10 +137,10 @@ pub fn pass_changes<F: FnMut(BtfFeature) -> bool>(
     ensures callable { F.IsAlwaysCallable resolver.new.0 }
     ensures called { Called F.step resolver.old.0 resolver.new.1 resolver.new.0 }
     ensures asks { BeginsAsked (pass_on btf.now (under policy (layout_of sections.now symbols.now))
-        (answers_of resolver.new.1)) }
+        resolver.new.1) }
     ensures passes { MeetsOrNoMemory (λ c. c) result
         (Passes (pass_on btf.now (under policy (layout_of sections.now symbols.now))
-        (answers_of resolver.new.1))) }
+        resolver.new.1)) }
 {
     let types = btf.as_slice();
     let mut made = Made::new(btf)?;

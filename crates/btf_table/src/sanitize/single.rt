@@ -9,7 +9,6 @@ ghost use Rattle.btf_rewrite_model.specs.Rule.{becomes_by};
 ghost use Rattle.btf_rewrite_model.specs.Passing.{is_quiet};
 ghost use Rattle.btf_words.specs.Error.{MeetsOrNoMemory, IsOrNoMemory};
 ghost use Rattle.btf_records.specs.BtfType.{record_of, fallback_of};
-ghost use Rattle.btf_rules.specs.Features.{feature_of};
 ghost use Rattle.btf_table.specs.Adding.{HasRoom};
 ghost use Rattle.btf_rules.specs.SoleFeature as step;
 ghost use Rattle.btf_table.specs.PassStep.{Given, IsHere, Rules, made_of};
@@ -27,8 +26,9 @@ use std::alloc::{AllocError, Global};
 impl Made {
     ghost use Rattle.btf_table.specs.PassStep.{IsType};
     ghost use Rattle.btf_model.specs.Record as kinds;
-    ghost use Rattle.btf_rewrite_model.specs.Feature as features;
-    ghost use Rattle.btf_rewrite_model.specs.Feature.{Answer, grants};
+    ghost use Rattle.btf_rewrite_model.specs.declared.feature.BtfFeature.TheVariants as features;
+    ghost use Rattle.btf_rewrite_model.specs.Feature.{grants};
+    ghost use Rattle.btf_rewrite_model.specs.declared.feature.FeatureAnswer.{FeatureAnswer};
     ghost use Rattle.std.specs.Prelude.{false};
     ghost use Rattle.btf_table.specs.PassStep.{pass_on};
     ghost use Rattle.btf_rules.specs.SoleFeature.{asks_one};
@@ -43,7 +43,7 @@ impl Made {
         granted: bool,
     ) -> Result<Option<BtfType>, BtfError>
         requires { HasRoom btf.now self.old.changes }
-        ensures { (given : Given) (answers : List Answer) (id : ℕ)
+        ensures { (given : Given) (answers : List FeatureAnswer) (id : ℕ)
             → IsType btf.now id (BtfType.FuncProto proto.now)
             → IsHere (pass_on btf.now given answers) id self.old
             → grants answers features.Func ≡ granted
@@ -68,7 +68,7 @@ impl Made {
     #[inline(never)]
     fn rewrite_enum64(&mut self, btf: &Btf, enum64: &Enum64) -> Result<BtfType, BtfError>
         requires { HasRoom btf.now self.old.changes }
-        ensures { (given : Given) (answers : List Answer) (id : ℕ)
+        ensures { (given : Given) (answers : List FeatureAnswer) (id : ℕ)
             → IsType btf.now id (BtfType.Enum64 enum64.now)
             → IsHere (pass_on btf.now given answers) id self.old
             → grants answers features.Enum64 ≡ false
@@ -93,7 +93,7 @@ impl Made {
         granted: bool,
     ) -> Result<Outcome, BtfError>
         requires { HasRoom btf.now self.old.changes }
-        ensures { (given : Given) (answers : List Answer) (id : ℕ) → IsType btf.now id btf_type.now
+        ensures { (given : Given) (answers : List FeatureAnswer) (id : ℕ) → IsType btf.now id btf_type.now
             → IsHere (pass_on btf.now given answers) id self.old
             → asks_one (kind_of (record_of btf_type.now).info) ≡ true
             → IsGranted (pass_on btf.now given answers)

@@ -4,7 +4,6 @@ ghost use Rattle.std.specs.Prelude.{◌≡◌, ◌++◌, map, Ok, OnOk};
 ghost use Rattle.std.specs.List.{flat_map, AllByRecursion};
 ghost use Rattle.btf_model.specs.Spelling.{spell, IsWhole};
 ghost use Rattle.btf_words.specs.Error.{MeetsOrNoMemory, IsOrNoMemory};
-ghost use Rattle.btf_words.specs.Endianness.{order_of};
 ghost use Rattle.btf_records.specs.BtfType.{record_of, fallback_of};
 ghost use Rattle.btf_table.specs.Records.{ReadsTypes};
 
@@ -21,7 +20,7 @@ pub fn read_types(
     data: &[u8],
     endianness: Endianness,
 ) -> Result<Vec<BtfType>, BtfError>
-    ensures { MeetsOrNoMemory (λ v. v.items) result (ReadsTypes (order_of endianness) «data».now) }
+    ensures { MeetsOrNoMemory (λ v. v.items) result (ReadsTypes endianness «data».now) }
 {
     let mut types = Vec::new(alloc);
     types.push(BtfType::Unknown)?;
@@ -41,7 +40,7 @@ pub fn append_types(
     endianness: Endianness,
 ) -> Result<(), AllocError>
     ensures written { OnOk result (out.new.items ≡ out.old.items
-        ++ flat_map (spell (order_of endianness)) (map record_of types.now)) }
+        ++ flat_map (spell endianness) (map record_of types.now)) }
     // What is written is read as these records.
     ensures whole { OnOk result (AllByRecursion IsWhole (map record_of types.now)) }
 {

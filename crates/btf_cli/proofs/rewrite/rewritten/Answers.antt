@@ -1,5 +1,4 @@
 use Rattle.std.proofs.Common.{◌≡◌, ap, rules, ◌∙◌}
-use Rattle.btf_types.specs.Features.{answers_of, policy_of}
 use Rattle.btf_types.specs.Layout.{layout_of}
 use Rattle.btf_cli.proofs.Kernel.{AreNamed, all_named, kernel_agrees, policy_is}
 use Rattle.btf_cli.proofs.Rewritings.{layout_is, IsFor, rewritten_answer, rewritten_declined, told_through}
@@ -7,7 +6,7 @@ use Rattle.btf_cli.proofs.rewrite.rewritten.Goals as goal
 use Rattle.btf_cli.proofs.rewrite.rewritten.Goals.{After-rewrite_bytes_with}
 
 -- what was asked was answered as the words say, and the maps have what they say
-for_request : (c : After-rewrite_bytes_with) → IsFor c.args.request (layout_of c.in_ok-sections.sections c.in_ok-symbols.symbols) (policy_of c.policy.result) (answers_of c.rewrite_bytes_with.new.resolver.1) c.requires.0
+for_request : (c : After-rewrite_bytes_with) → IsFor c.args.request (layout_of c.in_ok-sections.sections c.in_ok-symbols.symbols) c.policy.result c.rewrite_bytes_with.new.resolver.1 c.requires.0
 for_request c =
     let before : c.new-resolver.result.0.0.now ≡ c.args.request = ap (λ r. r.0.0.now) c.new-resolver.ensures in
     let named : AreNamed c.args.request c.rewrite_bytes_with.new.resolver.1 =
@@ -21,12 +20,12 @@ for_request c =
 
 pub returns-clause-made : goal.returns-clause-made
 returns-clause-made c =
-    rewritten_answer c.args.request (layout_of c.in_ok-sections.sections c.in_ok-symbols.symbols) (policy_of c.policy.result) (answers_of c.rewrite_bytes_with.new.resolver.1) c.requires.0 (for_request (goal.at.returns-clause-made c).After-rewrite_bytes_with) c.args.endianness
+    rewritten_answer c.args.request (layout_of c.in_ok-sections.sections c.in_ok-symbols.symbols) c.policy.result c.rewrite_bytes_with.new.resolver.1 c.requires.0 (for_request (goal.at.returns-clause-made c).After-rewrite_bytes_with) c.args.endianness
     c.args.blob.now c.in_ok-bytes.bytes.items c.in_ok-bytes.field-0-1.items c.in_ok-bytes.ensures.rewrites
 
 pub returns-in_err-bytes-clause-told : goal.returns-in_err-bytes-clause-told
 returns-in_err-bytes-clause-told c =
     told_through _ _ c.in_err-bytes.field-0.0 c.from_residual-in_err-bytes.result
-    (rewritten_declined c.args.request (layout_of c.in_ok-sections.sections c.in_ok-symbols.symbols) (policy_of c.policy.result) (answers_of c.rewrite_bytes_with.new.resolver.1) c.requires.0 (for_request (goal.at.returns-in_err-bytes-clause-told c).After-rewrite_bytes_with)
+    (rewritten_declined c.args.request (layout_of c.in_ok-sections.sections c.in_ok-symbols.symbols) c.policy.result c.rewrite_bytes_with.new.resolver.1 c.requires.0 (for_request (goal.at.returns-in_err-bytes-clause-told c).After-rewrite_bytes_with)
     c.args.endianness c.args.blob.now)
     c.in_err-bytes.ensures.rewrites c.from_residual-in_err-bytes.ensures.1

@@ -2,11 +2,9 @@ use Rattle.btf_model.specs.Refusal.{Refusal}
 use Rattle.btf_model.specs.Blob.{IsTable}
 use Rattle.btf_model.specs.Table.{Table, strip}
 use Rattle.btf_model.proofs.Comparisons.{same_ok}
-use Rattle.btf_words.specs.Endianness.{order_of}
-use Rattle.btf_rules.specs.Features.{answers_of, policy_of}
 use Rattle.btf_rules.specs.Layout.{layout_of}
 use Rattle.btf_table.specs.PassStep.{under}
-use Rattle.btf_table.specs.Rewrites.{ids_of, NeedsAreGrantedWith, KeepsSizes, KeepsResolutions, AppendsAtMost, OfTables}
+use Rattle.btf_table.specs.Rewrites.{NeedsAreGrantedWith, KeepsSizes, KeepsResolutions, AppendsAtMost, OfTables}
 use Rattle.btf_table.proofs.Rewriting.{written_again, of_tables}
 use Rattle.btf_table.proofs.sanitize.rewrite_bytes_with.Given.{Over}
 use Rattle.btf_table.proofs.sanitize.rewrite_bytes_with.Goals as goal
@@ -14,14 +12,14 @@ use Rattle.btf_table.proofs.sanitize.rewrite_bytes_with.Goals.{In_ok-to_bytes}
 
 module _ (g : Over) (c : In_ok-to_bytes g) where
   -- the written bytes stand for the new table
-  written_is : IsTable (order_of c.args.endianness) c.in_ok-to_bytes.field-0.items (strip c.fixup_and_sanitize_with.new.self)
+  written_is : IsTable c.args.endianness c.in_ok-to_bytes.field-0.items (strip c.fixup_and_sanitize_with.new.self)
   written_is =
-      written_again (order_of c.args.endianness) c.args.data.now c.in_ok-to_bytes.field-0.items c.in_ok-btf.btf c.fixup_and_sanitize_with.new.self (ids_of c.args.ksyms) (under c.args.policy (layout_of c.args.sections.now c.args.symbols.now)) (answers_of c.fixup_and_sanitize_with.new.resolver.1)
+      written_again c.args.endianness c.args.data.now c.in_ok-to_bytes.field-0.items c.in_ok-btf.btf c.fixup_and_sanitize_with.new.self c.args.ksyms (under c.args.policy (layout_of c.args.sections.now c.args.symbols.now)) c.fixup_and_sanitize_with.new.resolver.1
       c.in_ok-btf.ensures.parsed c.in_ok-answers.ensures.rewrites.0 c.in_ok-to_bytes.ensures.parses_back
 
   -- what holds of both tables holds of those that the bytes stand for
-  of_bytes : (P : Table → Table → Type 0) → P c.in_ok-btf.btf (strip c.fixup_and_sanitize_with.new.self) → OfTables (order_of c.args.endianness) c.args.data.now c.in_ok-to_bytes.field-0.items P
-  of_bytes P = of_tables (order_of c.args.endianness) c.args.data.now c.in_ok-to_bytes.field-0.items c.in_ok-btf.btf c.fixup_and_sanitize_with.new.self P c.in_ok-btf.ensures.parsed written_is
+  of_bytes : (P : Table → Table → Type 0) → P c.in_ok-btf.btf (strip c.fixup_and_sanitize_with.new.self) → OfTables c.args.endianness c.args.data.now c.in_ok-to_bytes.field-0.items P
+  of_bytes P = of_tables c.args.endianness c.args.data.now c.in_ok-to_bytes.field-0.items c.in_ok-btf.btf c.fixup_and_sanitize_with.new.self P c.in_ok-btf.ensures.parsed written_is
 
 pub returns-clause-rewrites : goal.returns-clause-rewrites
 returns-clause-rewrites g c =
@@ -29,7 +27,7 @@ returns-clause-rewrites g c =
     (c.in_ok-btf.btf, c.fixup_and_sanitize_with.new.self, c.in_ok-btf.ensures.parsed, h.0, h.1, same_ok {E = Refusal} c.in_ok-to_bytes.field-0.items _ c.in_ok-to_bytes.ensures.written, written_is g (goal.at.returns-clause-rewrites g c).In_ok-to_bytes)
 
 pub returns-clause-granted : goal.returns-clause-granted
-returns-clause-granted g c = of_bytes g (goal.at.returns-clause-granted g c).In_ok-to_bytes (λ old new. NeedsAreGrantedWith (policy_of c.args.policy) old (ids_of c.args.ksyms) (answers_of c.fixup_and_sanitize_with.new.resolver.1) new) c.in_ok-answers.ensures.granted
+returns-clause-granted g c = of_bytes g (goal.at.returns-clause-granted g c).In_ok-to_bytes (λ old new. NeedsAreGrantedWith c.args.policy old c.args.ksyms c.fixup_and_sanitize_with.new.resolver.1 new) c.in_ok-answers.ensures.granted
 
 pub returns-clause-sizes : goal.returns-clause-sizes
 returns-clause-sizes g c = of_bytes g (goal.at.returns-clause-sizes g c).In_ok-to_bytes KeepsSizes c.in_ok-answers.ensures.sizes

@@ -1,7 +1,6 @@
 use Rattle.std.proofs.Common.{◌≡◌, ◌∙◌, ap, subst, sym, inl, inr, ℕ, Option, Err}
 use Rattle.btf_model.specs.Table.{Table}
-use Rattle.btf_model.specs.Word.{Order}
-use Rattle.btf_words.specs.Endianness.{order_of}
+use Rattle.btf_model.specs.declared.endianness.Endianness.{Endianness}
 use Rattle.btf_words.specs.Error.{refusal_of}
 use Rattle.vbtf.specs.Adding.{AddsRecord}
 use Rattle.vbtf.specs.Orders.{order_named}
@@ -13,9 +12,9 @@ returns-in-Err-clause-added c owned low =
     let old = c.deref_mut.ensures.value ∙ c.in-Some-taken.ensures.2 in
     let new = c.owner.ensures.1 in
     let table = ap (λ o. o.btf) new ∙ c.in-Err.ensures.err ∙ ap (λ o. o.btf) old in
-    let order : order_of c.in-Some.endianness ≡ order_named c.args.order = c.in-Some.ensures.1 in
+    let order : c.in-Some.endianness ≡ order_named c.args.order = c.in-Some.ensures.1 in
     let ended = refused {Y = Option ℕ} c.report.result c.report.new.fault (refusal_of c.in-Err.error)
-    (AddsRecord (order_of c.in-Some.endianness) c.args.bytes.now c.deref_mut.result.now.btf c.add_record-answer.new.btf) c.in-Err.ensures.added c.report.ensures in (
+    (AddsRecord c.in-Some.endianness c.args.bytes.now c.deref_mut.result.now.btf c.add_record-answer.new.btf) c.in-Err.ensures.added c.report.ensures in (
       c.owner.ensures.0,
       ap (λ o. o.ext) new ∙ ap (λ o. o.ext) old,
       inr (inr (elim ended [
@@ -23,7 +22,7 @@ returns-in-Err-clause-added c owned low =
         | inr (refusal, reported, adds) ↦ inr (
           refusal,
           reported,
-          subst (λ (p : Order × Table × Table). AddsRecord p.0 c.args.bytes.now p.1 p.2 (Err refusal))
+          subst (λ (p : Endianness × Table × Table). AddsRecord p.0 c.args.bytes.now p.1 p.2 (Err refusal))
               (λ i. (order i, (old i).btf, sym (ap (λ o. o.btf) new) i)) adds,
         )
       ])),

@@ -1,7 +1,5 @@
 use Rattle.std.proofs.Common.{◌≡◌, rules, ap, subst}
-use Rattle.btf_types.specs.Features.{policy_of}
 use Rattle.btf_types.specs.Layout.{layout_of}
-use Rattle.btf_table.specs.Rewrites.{ids_of}
 use Rattle.btf_words.specs.Error.{MeetsOrNoMemory}
 use Rattle.vbtf.specs.Kernel.{RewritesFor, policy_chosen}
 use Rattle.vbtf.proofs.Kernels.{all_of, for_kernel}
@@ -14,6 +12,6 @@ returns-clause-rewrites c =
     let layout = layout_of c.args.program.now.sections c.args.program.now.symbols in
     let before = ap (λ r. r.0.0.now) c.new-resolver.ensures in
     let of = all_of _ kernel.features (λ f. f.0.now ≡ kernel) (λ f g feature granted is s. (search rules, search rules)) c.new-resolver.result.0 call.new.resolver.1 call.new.resolver.0 before call.ensures.called in
-    let for = for_kernel kernel.features (policy_of c.policy.result) c.args.btf.now (ids_of c.ksyms_ids-ids.result) layout call.new.self call.new.resolver.1 call.result of call.ensures.answers call.ensures.rewrites in
+    let for = for_kernel kernel.features c.policy.result c.args.btf.now c.ksyms_ids-ids.result layout call.new.self call.new.resolver.1 call.result of call.ensures.answers call.ensures.rewrites in
     subst (λ ids. MeetsOrNoMemory (λ a. a.items) call.result (RewritesFor kernel.features (policy_chosen kernel) c.args.btf.now ids layout call.new.self)) c.ksyms_ids-ids.ensures
-    (subst (λ policy. MeetsOrNoMemory (λ a. a.items) call.result (RewritesFor kernel.features policy c.args.btf.now (ids_of c.ksyms_ids-ids.result) layout call.new.self)) c.policy.ensures for)
+    (subst (λ policy. MeetsOrNoMemory (λ a. a.items) call.result (RewritesFor kernel.features policy c.args.btf.now c.ksyms_ids-ids.result layout call.new.self)) c.policy.ensures for)

@@ -1,8 +1,7 @@
 use Rattle.std.proofs.Common.{◌≡◌, List, Ok, Err, refl, ap, subst, ◌∙◌, inl, inr}
 use Rattle.std.specs.Prelude.{IfSome}
-use Rattle.btf_rules.specs.declared.features.FeatureAnswer.{FeatureAnswer}
+use Rattle.btf_rewrite_model.specs.declared.feature.FeatureAnswer.{FeatureAnswer}
 use Rattle.btf_table.specs.Rewrites.{KeepsSizes, KeepsResolutions, KeepsValues}
-use Rattle.btf_types.specs.Features.{answers_of}
 use Rattle.btf_types.specs.Layout.{layout_of}
 use Rattle.btf_words.specs.Error.{refusal_of}
 use Rattle.vbtf.specs.Kernel.{RewritesFor, ListsAnswers, policy_chosen, ids_chosen}
@@ -60,7 +59,7 @@ returns-in-Ok-clause-rewritten c = λ owned sections symbols.
       inl (
         refl,
         listed,
-        subst (λ xs. ListsAnswers c.list.new.self (answers_of xs)) c.deref.ensures.0 c.list.ensures,
+        subst (λ xs. ListsAnswers c.list.new.self xs) c.deref.ensures.0 c.list.ensures,
         for_handle kernel.features (policy_chosen kernel) (ids_chosen kernel) c.deref_mut.result.now.btf c.args.table.now.opened.btf _ (layout_named c.args.section_names.now c.args.sections.now c.args.symbol_names.now c.args.symbols.now) c.rewritten-answer.new.btf c.owner.result.opened.btf (Ok listed) (same_old w) (same_layout w) (same_new w) c.in-Ok.ensures.rewrites,
       ),
     )

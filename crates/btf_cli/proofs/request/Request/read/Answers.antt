@@ -1,6 +1,5 @@
 use Rattle.std.proofs.Common.{refl, ap, ◌∙◌, map}
 use Rattle.std.proofs.lemmas.Bool.{false≢true}
-use Rattle.btf_types.specs.Rewrites.{ids_of}
 use Rattle.btf_cli.specs.Saying.{Saying, texts}
 use Rattle.btf_cli.specs.Sayings.{SayIds, ksyms_said, placeholder_said}
 use Rattle.btf_cli.specs.Word.{saying_of}
@@ -25,7 +24,7 @@ returns-in_err-keep-in-Ksyms-clause-none c =
     rw c.from_residual-in_err-keep-in-Ksyms.ensures
     (λ request asked.
     ksyms_again c.args.words.now c.loop-word.word-index c.word-item.result c.as_str.result.now (saying_of c.in_ok-id.field-0) c.in-Ksyms.id c.loop-word.ksyms c.loop-word.placeholder met
-    (λ none. false≢true (c.in_err-keep-in-Ksyms.ensures.first.1 none)) c.in_ok-id.ensures.some (ap saying_of c.in-Ksyms.is) asked.1.0 (ids_of request.ksyms) (rw asked.0 at asked.1.1.all) asked.1.1.ids)
+    (λ none. false≢true (c.in_err-keep-in-Ksyms.ensures.first.1 none)) c.in_ok-id.ensures.some (ap saying_of c.in-Ksyms.is) asked.1.0 request.ksyms (rw asked.0 at asked.1.1.all) asked.1.1.ids)
 
 pub returns-in_err-keep-in-Placeholder-clause-none : goal.returns-in_err-keep-in-Placeholder-clause-none
 returns-in_err-keep-in-Placeholder-clause-none c =
@@ -34,7 +33,7 @@ returns-in_err-keep-in-Placeholder-clause-none c =
     rw c.from_residual-in_err-keep-in-Placeholder.ensures
     (λ request asked.
     placeholder_again c.args.words.now c.loop-word.word-index c.word-item.result c.as_str.result.now (saying_of c.in_ok-id.field-0) c.in-Placeholder.id c.loop-word.ksyms c.loop-word.placeholder met
-    (λ none. false≢true (c.in_err-keep-in-Placeholder.ensures.first.1 none)) c.in_ok-id.ensures.some (ap saying_of c.in-Placeholder.is) asked.1.0 (ids_of request.ksyms) (rw asked.0 at asked.1.1.all) asked.1.1.ids)
+    (λ none. false≢true (c.in_err-keep-in-Placeholder.ensures.first.1 none)) c.in_ok-id.ensures.some (ap saying_of c.in-Placeholder.is) asked.1.0 request.ksyms (rw asked.0 at asked.1.1.all) asked.1.1.ids)
 
 pub loop-word-preserved : goal.loop-word-preserved
 loop-word-preserved c =
@@ -58,15 +57,15 @@ loop-word-preserved c =
 pub returns-in-None-Some-clause-none : goal.returns-in-None-Some-clause-none
 returns-in-None-Some-clause-none c = λ request asked.
     let read = read_whole c.args.words.now c.loop-word.word-index c.loop-word.ksyms c.loop-word.placeholder c.loop-word-test.false c.loop-word.invariant in
-    placeholder_alone (texts c.args.words.now) c.loop-word.ksyms c.loop-word.placeholder c.in-None-Some.field-0-1 c.in-None-Some.is-0 c.in-None-Some.is-1 asked.1.0 (ids_of request.ksyms) read (rw asked.0 at asked.1.1.all) asked.1.1.ids
+    placeholder_alone (texts c.args.words.now) c.loop-word.ksyms c.loop-word.placeholder c.in-None-Some.field-0-1 c.in-None-Some.is-0 c.in-None-Some.is-1 asked.1.0 request.ksyms read (rw asked.0 at asked.1.1.all) asked.1.1.ids
 
 pub returns-clause-some : goal.returns-clause-some
 returns-clause-some c =
     let read = read_whole c.args.words.now c.loop-word.word-index c.loop-word.ksyms c.loop-word.placeholder c.loop-word-test.false c.loop-word.invariant in
     let words_said = map told (texts c.args.words.now) in
-    let ids_said : SayIds words_said (ids_of c.match-ksyms.ksyms) =
+    let ids_said : SayIds words_said c.match-ksyms.ksyms =
     elim c.match-ksyms.branch [
-      | in-Some-default w ↦ some_ids (texts c.args.words.now) c.loop-word.ksyms c.loop-word.placeholder w.in-Some-default.datasec_id (ids_of c.match-ksyms.ksyms) read w.in-Some-default.is-0 (ap ids_of w.ksyms-is)
-      | in-None-None w ↦ no_ids (texts c.args.words.now) c.loop-word.ksyms c.loop-word.placeholder (ids_of c.match-ksyms.ksyms) read w.in-None-None.is-0 w.in-None-None.is-1 (ap ids_of w.ksyms-is)
+      | in-Some-default w ↦ some_ids (texts c.args.words.now) c.loop-word.ksyms c.loop-word.placeholder w.in-Some-default.datasec_id c.match-ksyms.ksyms read w.in-Some-default.is-0 w.ksyms-is
+      | in-None-None w ↦ no_ids (texts c.args.words.now) c.loop-word.ksyms c.loop-word.placeholder c.match-ksyms.ksyms read w.in-None-None.is-0 w.in-None-None.is-1 w.ksyms-is
     ] in
     (refl, (words_said, record { all = read.say; ids = ids_said }))

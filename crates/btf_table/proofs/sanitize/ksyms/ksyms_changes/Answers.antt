@@ -30,7 +30,7 @@ returns c =
     let string_room : length t.strings ≤ section_limit = omega (arith, c.string_len-name_offset.ensures.len, c.string_len-name_offset.ensures.limit) in
     let type_room : length (type_bytes t) ≤ section_limit = omega (arith, c.type_len.ensures.len, c.type_len.ensures.limit) in
     let stepped : AreStepped t ids (length t.records) c.in_ok-new_types.field-0.items = c.in_ok-new_types.ensures ids c.in_ok-step.ensures.1 in
-    let is_int : appends_int t ids.placeholder ≡ c.in_ok-step.step.target.appends_int = ap (λ x. x.appends_int) (sym c.in_ok-step.ensures.1.target) in
+    let is_int : appends_int t ids.placeholder_id ≡ c.in_ok-step.step.target.appends_int = ap (λ x. x.appends_int) (sym c.in_ok-step.ensures.1.target) in
     let both : AreOf t c.if-step.changes × (changed t c.if-step.changes ≡ ksyms_table t ids) =
     elim c.if-step.branch [
       | then-step+in_ok-push_text+in_ok-push_type w ↦

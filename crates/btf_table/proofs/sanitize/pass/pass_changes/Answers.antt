@@ -6,7 +6,7 @@ use Rattle.btf_rewrite_model.specs.Pass.{Pass}
 use Rattle.btf_rewrite_model.specs.Passing.{IsAt}
 use Rattle.btf_records.specs.BtfType.{record_of, fallback_of}
 use Rattle.btf_records.specs.declared.btf_type.BtfType.{BtfType}
-use Rattle.btf_rules.specs.Features.{answers_of, Called}
+use Rattle.btf_rules.specs.Features.{Called}
 use Rattle.btf_rules.specs.Layout.{layout_of}
 use Rattle.btf_table.specs.PassStep.{Given, pass_on, under, IsType, IsHere, IsMade, Passes, BeginsAsked}
 use Rattle.btf_table.specs.declared.sanitize.outcome.Outcome.{Outcome}
@@ -20,19 +20,19 @@ use Rattle.btf_table.proofs.sanitize.pass.pass_changes.Goals as goal
 use Rattle.btf_table.proofs.sanitize.pass.pass_changes.Goals.{After-rewrite}
 
 pub returns-in_err-made-clause-asks : goal.returns-in_err-made-clause-asks
-returns-in_err-made-clause-asks g c = begins_none (pass_on c.args.btf.now (under c.args.policy (layout_of c.args.sections.now c.args.symbols.now)) (answers_of c.args.resolver.now.1)) (ap answers_of c.requires.unasked)
+returns-in_err-made-clause-asks g c = begins_none (pass_on c.args.btf.now (under c.args.policy (layout_of c.args.sections.now c.args.symbols.now)) c.args.resolver.now.1) c.requires.unasked
 
 pub loop-id-init : goal.loop-id-init
 loop-id-init g c =
     let t : Table = c.args.btf.now in
     let ts : List BtfType = c.as_slice-types.result.now in
-    let p : Pass = pass_on t (under c.args.policy (layout_of c.args.sections.now c.args.symbols.now)) (answers_of c.args.resolver.now.1) in
+    let p : Pass = pass_on t (under c.args.policy (layout_of c.args.sections.now c.args.symbols.now)) c.args.resolver.now.1 in
     let none : c.args.resolver.now.1 ≡ [] = c.requires.unasked in
     let first = c.as_slice-types.ensures.first in
     let some : 0 < length ts = omega (arith, ap length c.as_slice-types.ensures.records, ap length first.1, length-map ts record_of) in
     let b : BtfType = get_or ts 0 Unknown in
     let there : IsType t 0 b = type_there t ts c.as_slice-types.ensures.records c.as_slice-types.ensures.fallbacks 0 b some (get_or_default ts 0 Unknown b some) in
-    let start = made_at_start p c.in_ok-made.made first.0 (fallback_of b) first.1 there.fallback_is (ap answers_of none)
+    let start = made_at_start p c.in_ok-made.made first.0 (fallback_of b) first.1 there.fallback_is none
     (record {
       types = c.in_ok-made.ensures.types;
       strings = c.in_ok-made.ensures.strings;
@@ -52,10 +52,10 @@ module _ (g : Over) (c : After-rewrite g) where
   given = under c.args.policy (layout_of c.args.sections.now c.args.symbols.now)
 
   abbrev before : Pass
-  before = pass_on c.args.btf.now given (answers_of c.loop-id.resolver.1)
+  before = pass_on c.args.btf.now given c.loop-id.resolver.1
 
   abbrev after : Pass
-  after = pass_on c.args.btf.now given (answers_of c.rewrite.new.resolver.1)
+  after = pass_on c.args.btf.now given c.rewrite.new.resolver.1
 
   -- the table has the type there
   type_is : IsType c.args.btf.now c.loop-id.id c.index-types-id.result
@@ -65,7 +65,7 @@ module _ (g : Over) (c : After-rewrite g) where
   here_is : IsHere after c.loop-id.id c.loop-id.made
   here_is =
       let further = c.rewrite.ensures.further in
-      here_of_made before c.loop-id.id c.loop-id.made c.loop-id.denied.items after.answers (answers_of further.0) (further_answers c.loop-id.resolver.1 c.rewrite.new.resolver.1 further) c.loop-id.invariant.2 c.loop-id.invariant.3
+      here_of_made before c.loop-id.id c.loop-id.made c.loop-id.denied.items after.answers further.0 (further_answers c.loop-id.resolver.1 c.rewrite.new.resolver.1 further) c.loop-id.invariant.2 c.loop-id.invariant.3
 
   -- the id is one of the table
   is_below : c.loop-id.id < length c.args.btf.now.records
@@ -89,7 +89,7 @@ returns-in_err-outcome-clause-passes g c =
     let id : ℕ = c.loop-id.id in
     let at : IsAt (before g s) id = c.loop-id.invariant.2 in
     handed_on (λ c. c) c.in_err-outcome.field-0.0 c.from_residual-in_err-outcome.result (Passes (after g s)) c.from_residual-in_err-outcome.ensures.1
-    (IfSome_then _ (c.in_err-outcome.ensures.steps (given g s) id refl refl refl (type_is g s) at.asked (here_is g s)) (λ refusal h. refused_at (before g s) id (answers_of c.rewrite.new.resolver.1) refusal (is_below g s) at h.0 h.1))
+    (IfSome_then _ (c.in_err-outcome.ensures.steps (given g s) id refl refl refl (type_is g s) at.asked (here_is g s)) (λ refusal h. refused_at (before g s) id c.rewrite.new.resolver.1 refusal (is_below g s) at h.0 h.1))
 
 pub returns-in_err-keep-clause-called : goal.returns-in_err-keep-clause-called
 returns-in_err-keep-clause-called g c = c.rewrite.ensures.called c.args.resolver.now.0 c.loop-id.invariant.1
@@ -127,7 +127,7 @@ pub returns-clause-asks : goal.returns-clause-asks
 returns-clause-asks g c =
     let t : Table = c.args.btf.now in
     let ts : List BtfType = c.as_slice-types.result.now in
-    let p : Pass = pass_on t (under c.args.policy (layout_of c.args.sections.now c.args.symbols.now)) (answers_of c.loop-id.resolver.1) in
+    let p : Pass = pass_on t (under c.args.policy (layout_of c.args.sections.now c.args.symbols.now)) c.loop-id.resolver.1 in
     let id : ℕ = c.loop-id.id in
     let at : IsAt p id = c.loop-id.invariant.2 in
     let end : id ≡ length t.records = omega (arith, c.loop-id-test.false, c.loop-id.auto.id-end, ap length c.as_slice-types.ensures.first.1, ap length c.as_slice-types.ensures.records, length-map ts record_of) in
@@ -137,7 +137,7 @@ pub returns-clause-passes : goal.returns-clause-passes
 returns-clause-passes g c =
     let t : Table = c.args.btf.now in
     let ts : List BtfType = c.as_slice-types.result.now in
-    let p : Pass = pass_on t (under c.args.policy (layout_of c.args.sections.now c.args.symbols.now)) (answers_of c.loop-id.resolver.1) in
+    let p : Pass = pass_on t (under c.args.policy (layout_of c.args.sections.now c.args.symbols.now)) c.loop-id.resolver.1 in
     let id : ℕ = c.loop-id.id in
     let at : IsAt p id = c.loop-id.invariant.2 in
     let made : IsMade p id c.loop-id.made c.loop-id.denied.items = c.loop-id.invariant.3 in

@@ -1,5 +1,5 @@
 use Rattle.btf_rewrite_model.specs.Passing.{IsAt}
-use Rattle.btf_rules.specs.Features.{answers_of, Called}
+use Rattle.btf_rules.specs.Features.{Called}
 use Rattle.btf_rules.specs.Layout.{layout_of}
 use Rattle.btf_table.specs.PassStep.{pass_on, under, IsMade}
 use Rattle.btf_table.specs.ReadNames.{AreRead}
@@ -10,6 +10,6 @@ abbrev pub invariant-loop-id : goal.invariant-loop-id
 invariant-loop-id g l =
     goal.F-IsAlwaysCallable g l.resolver.0
     × Called (words g.row.F g.F.FnMut).step l.fn.resolver.0 l.resolver.1 l.resolver.0
-    × IsAt (pass_on l.btf (under l.policy (layout_of l.sections l.symbols)) (answers_of l.resolver.1)) l.id
-    × IsMade (pass_on l.btf (under l.policy (layout_of l.sections l.symbols)) (answers_of l.resolver.1)) l.id l.made l.denied.items
+    × IsAt (pass_on l.btf (under l.policy (layout_of l.sections l.symbols)) l.resolver.1) l.id
+    × IsMade (pass_on l.btf (under l.policy (layout_of l.sections l.symbols)) l.resolver.1) l.id l.made l.denied.items
     × AreRead l.btf.strings (layout_of l.sections l.symbols) l.names

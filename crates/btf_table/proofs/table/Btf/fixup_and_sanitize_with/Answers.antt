@@ -6,13 +6,12 @@ use Rattle.btf_rewrite_model.specs.Ksyms as model
 use Rattle.btf_rewrite_model.specs.Ksyms.{ksyms_table, ksyms_fault}
 use Rattle.btf_rewrite_model.specs.Rewritten.{begun, pass_with}
 use Rattle.btf_words.specs.Error.{refusal_of}
-use Rattle.btf_rules.specs.Features.{answers_of, policy_of}
 use Rattle.btf_table.specs.KsymsStep.{ksyms_ids}
 use Rattle.btf_rules.specs.Layout.{layout_of}
 use Rattle.btf_table.specs.PassStep.{Given, under}
-use Rattle.btf_table.specs.Rewrites.{ids_of, RewritesWith}
-use Rattle.btf_table.specs.declared.sanitize.KsymsIds.{KsymsIds}
-use Rattle.btf_rules.specs.declared.features.FeatureAnswer.{FeatureAnswer}
+use Rattle.btf_table.specs.Rewrites.{RewritesWith}
+use Rattle.btf_rewrite_model.specs.declared.ksyms_ids.KsymsIds.{KsymsIds}
+use Rattle.btf_rewrite_model.specs.declared.feature.FeatureAnswer.{FeatureAnswer}
 use Rattle.btf_table.proofs.PassAsking.{begins_none}
 use Rattle.btf_table.proofs.Rewriting.{stepped_by, rewrites_by, Keeps, keeps_of, on_ok}
 use Rattle.btf_table.proofs.table.Btf.fixup_and_sanitize_with.Given.{Over}
@@ -20,14 +19,14 @@ use Rattle.btf_table.proofs.table.Btf.fixup_and_sanitize_with.Goals as goal
 use Rattle.btf_table.proofs.table.Btf.fixup_and_sanitize_with.Goals.{After-sanitize, After-drop-undo}
 
 -- without symbols: what is kept of the table, where it is rewritten
-keeps_alone : (g : Over) (c : After-sanitize g) (Q : Type 0) → (Keeps (policy_of c.args.policy) c.args.self.now (ids_of c.args.ksyms) (answers_of c.sanitize.new.resolver.1) c.sanitize.new.self → Q) → OnOk c.sanitize.result Q
+keeps_alone : (g : Over) (c : After-sanitize g) (Q : Type 0) → (Keeps c.args.policy c.args.self.now c.args.ksyms c.sanitize.new.resolver.1 c.sanitize.new.self → Q) → OnOk c.sanitize.result Q
 keeps_alone g c Q follows =
     let old : Table = c.args.self.now in
     let new : Table = c.sanitize.new.self in
     let given : Given = under c.args.policy (layout_of c.args.sections.now c.args.symbols.now) in
-    let answers = answers_of c.sanitize.new.resolver.1 in
+    let answers = c.sanitize.new.resolver.1 in
     on_ok (λ a. a.items) c.sanitize.result (RewritesWith given.policy old None given.layout answers new) Q (rewrites_by (λ a. a.items) c.sanitize.result old old new None given answers refl refl c.sanitize.ensures.sanitizes)
-    (λ items h. follows (subst (λ (k : Option KsymsIds). Keeps given.policy old (ids_of k) answers new) (sym c.in_default.is) (keeps_of old new None given answers items h)))
+    (λ items h. follows (subst (λ (k : Option KsymsIds). Keeps given.policy old k answers new) (sym c.in_default.is) (keeps_of old new None given answers items h)))
 
 pub returns-in_default-clause-granted : goal.returns-in_default-clause-granted
 returns-in_default-clause-granted g c = keeps_alone g c _ (λ k. k.granted)
@@ -45,22 +44,22 @@ pub returns-in_default-clause-appended : goal.returns-in_default-clause-appended
 returns-in_default-clause-appended g c = keeps_alone g c _ (λ k. k.appended)
 
 pub returns-in_err-changes-clause-asked : goal.returns-in_err-changes-clause-asked
-returns-in_err-changes-clause-asked g c = begins_none (pass_with (policy_of c.args.policy) c.args.self.now (ids_of c.args.ksyms) (layout_of c.args.sections.now c.args.symbols.now) (answers_of c.args.resolver.now.1)) (ap answers_of c.requires.unasked)
+returns-in_err-changes-clause-asked g c = begins_none (pass_with c.args.policy c.args.self.now c.args.ksyms (layout_of c.args.sections.now c.args.symbols.now) c.args.resolver.now.1) c.requires.unasked
 
 pub returns-in_err-undo-clause-asked : goal.returns-in_err-undo-clause-asked
-returns-in_err-undo-clause-asked g c = begins_none (pass_with (policy_of c.args.policy) c.args.self.now (ids_of c.args.ksyms) (layout_of c.args.sections.now c.args.symbols.now) (answers_of c.args.resolver.now.1)) (ap answers_of c.requires.unasked)
+returns-in_err-undo-clause-asked g c = begins_none (pass_with c.args.policy c.args.self.now c.args.ksyms (layout_of c.args.sections.now c.args.symbols.now) c.args.resolver.now.1) c.requires.unasked
 
 -- with symbols: what is kept of the table
-keeps_stepped : (g : Over) (c : After-drop-undo g) → Keeps (policy_of c.args.policy) c.args.self.now (ids_of c.args.ksyms) (answers_of c.sanitize-2.new.resolver.1) c.sanitize-2.new.self
+keeps_stepped : (g : Over) (c : After-drop-undo g) → Keeps c.args.policy c.args.self.now c.args.ksyms c.sanitize-2.new.resolver.1 c.sanitize-2.new.self
 keeps_stepped g c =
     let old : Table = c.args.self.now in
     let new : Table = c.sanitize-2.new.self in
     let given : Given = under c.args.policy (layout_of c.args.sections.now c.args.symbols.now) in
-    let ids : model.KsymsIds = ksyms_ids c.in-Some.ids.datasec_id c.in-Some.ids.placeholder_id in
+    let ids : KsymsIds = ksyms_ids c.in-Some.ids.datasec_id c.in-Some.ids.placeholder_id in
     let there : c.apply.new.self ≡ begun old (Some ids) = c.in_ok-undo.ensures.ok ∙ c.in_ok-changes.ensures.2 in
-    let answers = answers_of c.sanitize-2.new.resolver.1 in
+    let answers = c.sanitize-2.new.resolver.1 in
     let h = stepped_by old c.apply.new.self new (Some ids) given answers (Ok c.in-Ok.answers.items) c.in_ok-changes.ensures.0 there c.in-Ok.ensures.sanitizes in
-    subst (λ (k : Option KsymsIds). Keeps given.policy old (ids_of k) answers new) (sym c.in-Some.is) (keeps_of old new (Some ids) given answers c.in-Ok.answers.items h)
+    subst (λ (k : Option KsymsIds). Keeps given.policy old k answers new) (sym c.in-Some.is) (keeps_of old new (Some ids) given answers c.in-Ok.answers.items h)
 
 pub returns-in-Ok-clause-granted : goal.returns-in-Ok-clause-granted
 returns-in-Ok-clause-granted g c = (keeps_stepped g c).granted
@@ -81,8 +80,8 @@ pub returns-in-Err-clause-rewrites : goal.returns-in-Err-clause-rewrites
 returns-in-Err-clause-rewrites g c =
     let old : Table = c.args.self.now in
     let given : Given = under c.args.policy (layout_of c.args.sections.now c.args.symbols.now) in
-    let ids : model.KsymsIds = ksyms_ids c.in-Some.ids.datasec_id c.in-Some.ids.placeholder_id in
+    let ids : KsymsIds = ksyms_ids c.in-Some.ids.datasec_id c.in-Some.ids.placeholder_id in
     let there : c.apply.new.self ≡ begun old (Some ids) = c.in_ok-undo.ensures.ok ∙ c.in_ok-changes.ensures.2 in
-    let answers = answers_of c.sanitize-2.new.resolver.1 in
-    subst (λ (k : Option KsymsIds). IfSome (refusal_of c.in-Err.error) (λ refusal. RewritesWith {X = List FeatureAnswer} given.policy old (ids_of k) given.layout answers c.undo.new.self (Err refusal))) (sym c.in-Some.is)
+    let answers = c.sanitize-2.new.resolver.1 in
+    subst (λ (k : Option KsymsIds). IfSome (refusal_of c.in-Err.error) (λ refusal. RewritesWith {X = List FeatureAnswer} given.policy old k given.layout answers c.undo.new.self (Err refusal))) (sym c.in-Some.is)
     (IfSome_then _ c.in-Err.ensures.sanitizes (λ refusal s. stepped_by {X = List FeatureAnswer} old c.apply.new.self c.undo.new.self (Some ids) given answers (Err refusal) c.in_ok-changes.ensures.0 there s))

@@ -1,7 +1,7 @@
 use Rattle.std.proofs.Common.{◌≡◌, ◌++◌, List, [], ◌∷◌, length, map, sym, ap, subst, ◌∙◌, arith}
 use Rattle.std.specs.List.{flat_map}
 use Rattle.std.proofs.Common.{drop}
-use Rattle.btf_model.specs.Word.{Little}
+use Rattle.btf_model.specs.declared.endianness.Endianness.TheVariants.{Little}
 use Rattle.btf_model.specs.Record.{Record, unknown}
 use Rattle.btf_model.specs.Spelling.{spell}
 use Rattle.btf_records.specs.BtfType.{record_of}

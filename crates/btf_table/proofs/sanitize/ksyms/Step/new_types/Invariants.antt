@@ -1,4 +1,4 @@
-use Rattle.btf_rewrite_model.specs.Ksyms.{KsymsIds}
+use Rattle.btf_rewrite_model.specs.declared.ksyms_ids.KsymsIds.{KsymsIds}
 use Rattle.btf_table.specs.KsymsStep.{IsStep, AreStepped}
 use Rattle.btf_table.proofs.sanitize.ksyms.Step.new_types.Given as goal
 

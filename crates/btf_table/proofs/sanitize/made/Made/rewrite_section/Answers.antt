@@ -6,20 +6,20 @@ use Rattle.std.proofs.lemmas.Bool.{eq-eqb, ne_eqb}
 use Rattle.std.proofs.lemmas.Option.{none-some, IfSome_then}
 use Rattle.btf_model.specs.Record as kinds
 use Rattle.btf_model.specs.Record.{Record, kind_of, vlen}
-use Rattle.btf_rewrite_model.specs.Feature as features
-use Rattle.btf_rewrite_model.specs.Feature.{Feature, Answer, grants}
+use Rattle.btf_rewrite_model.specs.declared.feature.BtfFeature.TheVariants as features
+use Rattle.btf_rewrite_model.specs.Feature.{grants}
+use Rattle.btf_rewrite_model.specs.declared.feature.BtfFeature.{BtfFeature}
+use Rattle.btf_rewrite_model.specs.declared.feature.FeatureAnswer.{FeatureAnswer}
 use Rattle.btf_rewrite_model.specs.Pass.{Pass, has, asks, asks_below, section_size, gets_filler}
 use Rattle.btf_rewrite_model.specs.Rule.{ruled_below}
 use Rattle.btf_rewrite_model.proofs.Passing.{NextAnswers}
 use Rattle.btf_records.specs.declared.btf_type.BtfType.TheVariants.{DataSec}
 use Rattle.btf_table.specs.Adding.{strings_end}
 use Rattle.btf_rewrite_model.specs.Passing.{AreAnswersTo}
-use Rattle.btf_rules.specs.Features.{answers_of, policy_of, Asks, Called, IsFurther}
+use Rattle.btf_rules.specs.Features.{Asks, Called, IsFurther}
 use Rattle.btf_rules.specs.Layout.{sizes_of}
-use Rattle.btf_rules.specs.declared.features.FeatureAnswer.{FeatureAnswer}
 use Rattle.btf_table.specs.PassStep.{Given, pass_on, IsType, IsHere, AsksUpTo, Rules, Steps}
 use Rattle.btf_table.specs.SectionStep.{HasNewName, final_size, is_fillable, asks_zero}
-use Rattle.btf_rules.specs.declared.features.BtfFeature.TheVariants as asked
 use Rattle.btf_table.specs.declared.sanitize.made.Made.{Made}
 use Rattle.btf_rules.proofs.Checks.{checked_err}
 use Rattle.btf_table.proofs.PassAsking.{asks_called, asks_next, asks_further, further_then}
@@ -45,8 +45,8 @@ module _ (g : Over) (c : After-new_name g) where
   abbrev r : Record
   r = c.args.data_sec.now
 
-  abbrev one : List Answer
-  one = answers_of c.is_supported-granted.new.self.1
+  abbrev one : List FeatureAnswer
+  one = c.is_supported-granted.new.self.1
 
   -- it is a DATASEC
   is_section : kind_of r.info ≡ Some kinds.DataSec
@@ -54,22 +54,22 @@ module _ (g : Over) (c : After-new_name g) where
 
   -- the predicate is called for DataSec, if it is called
   called_one : (first : g.row.F.Denot) → Called (words g.row.F g.F.FnMut).step first c.args.resolver.now.1 c.args.resolver.now.0 → Called (words g.row.F g.F.FnMut).step first c.is_supported-granted.new.self.1 c.is_supported-granted.new.self.0
-  called_one first = asks_called _ first asked.DataSec c.args.resolver.now c.is_supported-granted.new.self c.is_supported-granted.result c.is_supported-granted.ensures.asks
+  called_one first = asks_called _ first features.DataSec c.args.resolver.now c.is_supported-granted.new.self c.is_supported-granted.result c.is_supported-granted.ensures.asks
 
   -- its answers are those of before, and perhaps one more
   further_one : IsFurther c.args.resolver.now.1 c.is_supported-granted.new.self.1
-  further_one = asks_further (words g.row.F g.F.FnMut).step asked.DataSec c.args.resolver.now c.is_supported-granted.new.self c.is_supported-granted.result c.is_supported-granted.ensures.asks
+  further_one = asks_further (words g.row.F g.F.FnMut).step features.DataSec c.args.resolver.now c.is_supported-granted.new.self c.is_supported-granted.result c.is_supported-granted.ensures.asks
 
   -- DataSec is asked for, unless it is answered
-  next_one : NextAnswers (answers_of c.args.resolver.now.1) features.DataSec c.is_supported-granted.result one
-  next_one = asks_next (words g.row.F g.F.FnMut).step asked.DataSec c.args.resolver.now c.is_supported-granted.new.self c.is_supported-granted.result c.is_supported-granted.ensures.asks
+  next_one : NextAnswers c.args.resolver.now.1 features.DataSec c.is_supported-granted.result one
+  next_one = asks_next (words g.row.F g.F.FnMut).step features.DataSec c.args.resolver.now c.is_supported-granted.new.self c.is_supported-granted.result c.is_supported-granted.ensures.asks
 
-  module _ (given : Given) (id : ℕ) (there : IsType c.args.btf.now id (DataSec r)) (below : AreAnswersTo (asks_below (pass_on c.args.btf.now given (answers_of c.args.resolver.now.1)) id) (answers_of c.args.resolver.now.1)) where
+  module _ (given : Given) (id : ℕ) (there : IsType c.args.btf.now id (DataSec r)) (below : AreAnswersTo (asks_below (pass_on c.args.btf.now given c.args.resolver.now.1) id) c.args.resolver.now.1) where
     abbrev p : Pass
-    p = pass_on c.args.btf.now given (answers_of c.args.resolver.now.1)
+    p = pass_on c.args.btf.now given c.args.resolver.now.1
 
     -- DataSec is answered, the first that the id asks for
-    some_asked : (left : List Feature) × AsksUpTo p id one left
+    some_asked : (left : List BtfFeature) × AsksUpTo p id one left
     some_asked = asks_some p id r there is_section below one c.is_supported-granted.result next_one
 
     -- and it may be all
@@ -94,8 +94,8 @@ returns-in_err-name_offset-clause-steps g c = λ given id policy sections symbol
     let at = (goal.at.returns-in_err-name_offset-clause-steps g c).After-new_name in
     let r : Record = c.args.data_sec.now in
     let before : Made = c.args.self.now in
-    let p : Pass = pass_on c.args.btf.now given (answers_of c.args.resolver.now.1) in
-    let q : Pass = pass_on c.args.btf.now given (answers_of c.is_supported-granted.new.self.1) in
+    let p : Pass = pass_on c.args.btf.now given c.args.resolver.now.1 in
+    let q : Pass = pass_on c.args.btf.now given c.is_supported-granted.new.self.1 in
     let StepsTo = Steps p id c.is_supported-granted.new.self.1 (DataSec r) before (record before { changes = c.new_name.new.changes }) in
     handed_on (λ new. unwrap_or new (DataSec r)) c.in_err-name_offset.field-0.0 c.from_residual.result StepsTo c.from_residual.ensures.1
     (IfSome_then _ (c.in_err-name_offset.ensures.answer q refl (has_one g at given id there below)) (λ refusal is.
@@ -118,7 +118,7 @@ returns-then-not-granted-clause-steps g c = λ given id policy sections symbols 
     let r : Record = c.args.data_sec.now in
     let before : Made = c.args.self.now in
     let now : Made = record before { changes = c.new_name.new.changes } in
-    let q : Pass = pass_on c.args.btf.now given (answers_of c.is_supported-granted.new.self.1) in
+    let q : Pass = pass_on c.args.btf.now given c.is_supported-granted.new.self.1 in
     let has_it : has q features.DataSec ≡ c.is_supported-granted.result = has_one g at given id there below in
     let denied : has q features.DataSec ≡ false = has_it ∙ c.if-not-granted.true in
     let name : ℕ = c.in_ok-name_offset.name_offset in
@@ -142,8 +142,8 @@ returns-in_err-size-clause-steps g c = λ given id policy sections symbols there
     let r : Record = c.args.data_sec.now in
     let before : Made = c.args.self.now in
     let now : Made = record before { changes = c.new_name.new.changes } in
-    let p : Pass = pass_on c.args.btf.now given (answers_of c.args.resolver.now.1) in
-    let q : Pass = pass_on c.args.btf.now given (answers_of c.is_supported-granted.new.self.1) in
+    let p : Pass = pass_on c.args.btf.now given c.args.resolver.now.1 in
+    let q : Pass = pass_on c.args.btf.now given c.is_supported-granted.new.self.1 in
     let StepsTo = Steps p id c.is_supported-granted.new.self.1 (DataSec r) before now in
     let has_it : has q features.DataSec ≡ c.is_supported-granted.result = has_one g at given id there below in
     let n : HasNewName q id r c.in_ok-name_offset.name_offset before now =
@@ -158,7 +158,7 @@ returns-in_err-size-clause-steps g c = λ given id policy sections symbols there
 -- ---- where DataSecZero may be asked for too
 
 -- What is known once all that a section asks for is answered, and whether the filler is wanted.
-record IsAnswered (p : Pass) (id : ℕ) (r : Record) (name size : ℕ) (before now : Made) (answers : List Answer) (fills : Bool) : Type 0 where
+record IsAnswered (p : Pass) (id : ℕ) (r : Record) (name size : ℕ) (before now : Made) (answers : List FeatureAnswer) (fills : Bool) : Type 0 where
   all_asked : AsksUpTo p id answers []
   granted : has (record p { answers = answers }) features.DataSec ≡ true
   named : HasNewName (record p { answers = answers }) id r name before now
@@ -166,39 +166,39 @@ record IsAnswered (p : Pass) (id : ℕ) (r : Record) (name size : ℕ) (before n
   filled : gets_filler (record p { answers = answers }) id ≡ fills
 
 module _ (g : Over) (c : After-final_size g) (size : ℕ) (was : c.final_size.result ≡ Ok size) (new : g.row.F.Denot × List FeatureAnswer) (fills : Bool)
-    (quiet : asks_zero (policy_of c.args.policy) c.args.data_sec.now size ≡ false → (new ≡ c.is_supported-granted.new.self) × (fills ≡ is_fillable (policy_of c.args.policy) c.args.data_sec.now))
-    (asks_it : asks_zero (policy_of c.args.policy) c.args.data_sec.now size ≡ true → Asks (words g.row.F g.F.FnMut).step asked.DataSecZero c.is_supported-granted.new.self (not fills) new) where
+    (quiet : asks_zero c.args.policy c.args.data_sec.now size ≡ false → (new ≡ c.is_supported-granted.new.self) × (fills ≡ is_fillable c.args.policy c.args.data_sec.now))
+    (asks_it : asks_zero c.args.policy c.args.data_sec.now size ≡ true → Asks (words g.row.F g.F.FnMut).step features.DataSecZero c.is_supported-granted.new.self (not fills) new) where
   -- the predicate is called for DataSec and DataSecZero, if it is called
   called_two : (first : g.row.F.Denot) → Called (words g.row.F g.F.FnMut).step first c.args.resolver.now.1 c.args.resolver.now.0 → Called (words g.row.F g.F.FnMut).step first new.1 new.0
   called_two first called =
-      zero_called _ first (policy_of c.args.policy) c.args.data_sec.now size c.is_supported-granted.new.self new fills quiet asks_it
-      (asks_called _ first asked.DataSec c.args.resolver.now c.is_supported-granted.new.self c.is_supported-granted.result c.is_supported-granted.ensures.asks called)
+      zero_called _ first c.args.policy c.args.data_sec.now size c.is_supported-granted.new.self new fills quiet asks_it
+      (asks_called _ first features.DataSec c.args.resolver.now c.is_supported-granted.new.self c.is_supported-granted.result c.is_supported-granted.ensures.asks called)
 
   -- the answers are those of before, and perhaps one or two more
   further_two : IsFurther c.args.resolver.now.1 new.1
   further_two =
-      further_then c.args.resolver.now.1 c.is_supported-granted.new.self.1 new.1 (asks_further (words g.row.F g.F.FnMut).step asked.DataSec c.args.resolver.now c.is_supported-granted.new.self c.is_supported-granted.result c.is_supported-granted.ensures.asks)
-      (zero_further (words g.row.F g.F.FnMut).step (policy_of c.args.policy) c.args.data_sec.now size c.is_supported-granted.new.self new fills quiet asks_it)
+      further_then c.args.resolver.now.1 c.is_supported-granted.new.self.1 new.1 (asks_further (words g.row.F g.F.FnMut).step features.DataSec c.args.resolver.now c.is_supported-granted.new.self c.is_supported-granted.result c.is_supported-granted.ensures.asks)
+      (zero_further (words g.row.F g.F.FnMut).step c.args.policy c.args.data_sec.now size c.is_supported-granted.new.self new fills quiet asks_it)
 
   -- what the three exits with a size know
-  answered : (given : Given) (id : ℕ) → given.policy ≡ policy_of c.args.policy → given.layout.sections ≡ sizes_of c.args.sections.now → IsType c.args.btf.now id (DataSec c.args.data_sec.now)
-      → AreAnswersTo (asks_below (pass_on c.args.btf.now given (answers_of c.args.resolver.now.1)) id) (answers_of c.args.resolver.now.1) → IsHere (pass_on c.args.btf.now given (answers_of new.1)) id c.args.self.now
-      → IsAnswered (pass_on c.args.btf.now given (answers_of c.args.resolver.now.1)) id c.args.data_sec.now c.in_ok-name_offset.name_offset size c.args.self.now (record c.args.self.now { changes = c.new_name.new.changes }) (answers_of new.1) fills
+  answered : (given : Given) (id : ℕ) → given.policy ≡ c.args.policy → given.layout.sections ≡ sizes_of c.args.sections.now → IsType c.args.btf.now id (DataSec c.args.data_sec.now)
+      → AreAnswersTo (asks_below (pass_on c.args.btf.now given c.args.resolver.now.1) id) c.args.resolver.now.1 → IsHere (pass_on c.args.btf.now given new.1) id c.args.self.now
+      → IsAnswered (pass_on c.args.btf.now given c.args.resolver.now.1) id c.args.data_sec.now c.in_ok-name_offset.name_offset size c.args.self.now (record c.args.self.now { changes = c.new_name.new.changes }) new.1 fills
   answered given id policy sections there below here =
       let r : Record = c.args.data_sec.now in
       let before : Made = c.args.self.now in
       let now : Made = record before { changes = c.new_name.new.changes } in
       let kind : kind_of r.info ≡ Some kinds.DataSec = ap kind_of (sym c.info.ensures.value) ∙ c.info.ensures.kind in
       let granted : Bool = c.is_supported-granted.result in
-      let p : Pass = pass_on c.args.btf.now given (answers_of c.args.resolver.now.1) in
-      let one : List Answer = answers_of c.is_supported-granted.new.self.1 in
-      let next : NextAnswers p.answers features.DataSec granted one = asks_next (words g.row.F g.F.FnMut).step asked.DataSec c.args.resolver.now c.is_supported-granted.new.self granted c.is_supported-granted.ensures.asks in
-      let two : List Answer = answers_of new.1 in
+      let p : Pass = pass_on c.args.btf.now given c.args.resolver.now.1 in
+      let one : List FeatureAnswer = c.is_supported-granted.new.self.1 in
+      let next : NextAnswers p.answers features.DataSec granted one = asks_next (words g.row.F g.F.FnMut).step features.DataSec c.args.resolver.now c.is_supported-granted.new.self granted c.is_supported-granted.ensures.asks in
+      let two : List FeatureAnswer = new.1 in
       let q : Pass = pass_on c.args.btf.now given two in
       let quiet_so : asks_zero given.policy r size ≡ false → (two ≡ one) × (fills ≡ is_fillable given.policy r) =
-      λ is. let told = quiet (ap (λ pol. asks_zero pol r size) (sym policy) ∙ is) in (ap (λ s. answers_of s.1) told.0, told.1 ∙ ap (λ pol. is_fillable pol r) (sym policy)) in
+      λ is. let told = quiet (ap (λ pol. asks_zero pol r size) (sym policy) ∙ is) in (ap (λ s. s.1) told.0, told.1 ∙ ap (λ pol. is_fillable pol r) (sym policy)) in
       let zero : asks_zero given.policy r size ≡ true → NextAnswers one features.DataSecZero (not fills) two =
-      λ is. asks_next (words g.row.F g.F.FnMut).step asked.DataSecZero c.is_supported-granted.new.self new (not fills) (asks_it (ap (λ pol. asks_zero pol r size) (sym policy) ∙ is)) in
+      λ is. asks_next (words g.row.F g.F.FnMut).step features.DataSecZero c.is_supported-granted.new.self new (not fills) (asks_it (ap (λ pol. asks_zero pol r size) (sym policy) ∙ is)) in
       let has_it : has q features.DataSec ≡ granted = granted_two p id r there kind below one granted next size two fills quiet_so zero in
       let yes : has q features.DataSec ≡ true = has_it ∙ c.if-not-granted.false in
       let n : HasNewName q id r c.in_ok-name_offset.name_offset before now =
@@ -226,7 +226,7 @@ pub returns-then-wants_filler-clause-steps : goal.returns-then-wants_filler-clau
 returns-then-wants_filler-clause-steps g c = λ given id policy sections symbols there below here.
     let r : Record = c.args.data_sec.now in
     let before : Made = c.args.self.now in
-    let q : Pass = pass_on c.args.btf.now given (answers_of c.wants_filler.new.resolver.1) in
+    let q : Pass = pass_on c.args.btf.now given c.wants_filler.new.resolver.1 in
     let known = answered g (goal.at.returns-then-wants_filler-clause-steps g c).After-final_size c.in_ok-size.size c.in_ok-size.was c.wants_filler.new.resolver c.wants_filler.result c.wants_filler.ensures.quiet c.wants_filler.ensures.asks given id policy sections there below here in
     with_fact (λ new. unwrap_or new (DataSec r)) c.filled.result _ (Rules q id (DataSec r) before c.filled.new.self) known.all_asked (c.filled.ensures given q.answers id r before known.named (known.filled ∙ c.if-wants_filler.true) known.sized)
 
@@ -244,7 +244,7 @@ returns-then-size-ne0-clause-steps g c = λ given id policy sections symbols the
     let r : Record = c.args.data_sec.now in
     let before : Made = c.args.self.now in
     let now : Made = record before { changes = c.new_name.new.changes } in
-    let q : Pass = pass_on c.args.btf.now given (answers_of c.wants_filler.new.resolver.1) in
+    let q : Pass = pass_on c.args.btf.now given c.wants_filler.new.resolver.1 in
     let known = answered g (goal.at.returns-then-size-ne0-clause-steps g c).After-final_size c.in_ok-size.size c.in_ok-size.was c.wants_filler.new.resolver c.wants_filler.result c.wants_filler.ensures.quiet c.wants_filler.ensures.asks given id policy sections there below here in
     let sized : (r.third == 0) ≡ false = ne_eqb r.third 0 (λ is. c.if-size-ne0.true (c.size.ensures ∙ is)) in
     with_fact (λ new. unwrap_or new (DataSec r)) c.renamed.result _ (Rules q id (DataSec r) before now) known.all_asked
@@ -264,7 +264,7 @@ returns-clause-steps g c = λ given id policy sections symbols there below here.
     let r : Record = c.args.data_sec.now in
     let before : Made = c.args.self.now in
     let now : Made = record before { changes = c.new_name.new.changes } in
-    let q : Pass = pass_on c.args.btf.now given (answers_of c.wants_filler.new.resolver.1) in
+    let q : Pass = pass_on c.args.btf.now given c.wants_filler.new.resolver.1 in
     let known = answered g (goal.at.returns-clause-steps g c).After-final_size c.in_ok-size.size c.in_ok-size.was c.wants_filler.new.resolver c.wants_filler.result c.wants_filler.ensures.quiet c.wants_filler.ensures.asks given id policy sections there below here in
     let unsized : (r.third == 0) ≡ true = eq-eqb r.third 0 (sym c.size.ensures ∙ c.if-size-ne0.false) in
     with_fact (λ new. unwrap_or new (DataSec r)) c.with_symbol_offsets.result _ (Rules q id (DataSec r) before now) known.all_asked
@@ -272,4 +272,4 @@ returns-clause-steps g c = λ given id policy sections symbols there below here.
 
 pub filled-requires : goal.filled-requires
 filled-requires g c =
-    (c.in_ok-name_offset.ensures.adds (pass_on c.args.btf.now (record { layout = record { sections = λ _. None; symbols = λ _. None }; policy = policy_of c.args.policy }) (record { feature = features.DataSec; granted = c.is_supported-granted.result } ∷ [])) refl refl).room
+    (c.in_ok-name_offset.ensures.adds (pass_on c.args.btf.now (record { layout = record { sections = λ _. None; symbols = λ _. None }; policy = c.args.policy }) (record { feature = features.DataSec; granted = c.is_supported-granted.result } ∷ [])) refl refl).room

@@ -1,8 +1,7 @@
 use Rattle.std.proofs.Common.{◌≡◌, ◌++◌, take}
 use Rattle.std.specs.List.{flat_map}
 use Rattle.btf_model.specs.Word.{word}
-use Rattle.btf_words.specs.Endianness.{order_of}
 use Rattle.btf_table.proofs.table.header.Header.append_to.Given as goal
 
 abbrev pub invariant-loop-word : goal.invariant-loop-word
-invariant-loop-word l = l.out.items ≡ l.initial.out.items ++ flat_map (word (order_of l.endianness)) (take l.word-index l.word-items)
+invariant-loop-word l = l.out.items ≡ l.initial.out.items ++ flat_map (word l.endianness) (take l.word-index l.word-items)

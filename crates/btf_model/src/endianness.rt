@@ -1,8 +1,7 @@
-//! Words in the byte order of a blob, and the index of a section.
+//! The byte order of a blob, and words in it.
 
 ghost use Rattle.std.specs.Prelude.{◌≡◌};
 ghost use Rattle.btf_model.specs.Word.{half, half_of, word, word_of};
-ghost use Rattle.btf_words.specs.Endianness.{order_of};
 
 /// The byte order of a blob: that of the machine that its program is for.
 #[derive(Clone, Copy, Debug, Default, PartialEq, Eq)]
@@ -17,7 +16,7 @@ pub enum Endianness {
 impl Endianness {
     /// The number of two bytes.
     pub fn read_u16(self, bytes: [u8; 2]) -> u16
-        ensures { result ≡ half_of (order_of self) bytes }
+        ensures { result ≡ half_of self bytes }
     {
         match self {
             Endianness::Little => u16::from_le_bytes(bytes),
@@ -27,7 +26,7 @@ impl Endianness {
 
     /// The two bytes of a number.
     pub fn write_u16(self, value: u16) -> [u8; 2]
-        ensures { result ≡ half (order_of self) value }
+        ensures { result ≡ half self value }
     {
         match self {
             Endianness::Little => u16::to_le_bytes(value),
@@ -37,7 +36,7 @@ impl Endianness {
 
     /// The number of four bytes.
     pub fn read_u32(self, bytes: [u8; 4]) -> u32
-        ensures { result ≡ word_of (order_of self) bytes }
+        ensures { result ≡ word_of self bytes }
     {
         match self {
             Endianness::Little => u32::from_le_bytes(bytes),
@@ -47,7 +46,7 @@ impl Endianness {
 
     /// The four bytes of a number.
     pub fn write_u32(self, value: u32) -> [u8; 4]
-        ensures { result ≡ word (order_of self) value }
+        ensures { result ≡ word self value }
     {
         match self {
             Endianness::Little => u32::to_le_bytes(value),
@@ -55,7 +54,3 @@ impl Endianness {
         }
     }
 }
-
-/// The index of a section of an object file.
-#[derive(Clone, Copy, Debug, PartialEq, Eq)]
-pub struct SectionIndex(pub usize);
