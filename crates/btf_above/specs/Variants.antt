@@ -9,9 +9,11 @@ use Rattle.btf_model.specs.Value.{HasVariants}
 use Rattle.btf_items.specs.declared.items.BtfEnum.{BtfEnum}
 use Rattle.btf_items.specs.declared.items.BtfEnum64.{BtfEnum64}
 
+-- a variant of an ENUM, as the definitions have variants
 abbrev pub enum_variant : BtfEnum → Variant
 enum_variant v = record { name = v.name_offset; value = v.value }
 
+-- a variant of an ENUM64, its two halves as one value
 abbrev pub enum64_variant : BtfEnum64 → Variant
 enum64_variant v = record { name = v.name_offset; value = v.value_high * 2 ^ 32 + v.value_low }
 

@@ -9,7 +9,7 @@ use Rattle.btf_rewrite_model.specs.Ksyms as model
 use Rattle.btf_model.specs.Refusal.{Refusal}
 use Rattle.btf_model.specs.Table.{Table}
 use Rattle.btf_model.specs.Blob.{IsTable, IsRefusal}
-use Rattle.btf_rewrite_model.specs.Rewritten.{RewrittenWith, IsRefusedWith}
+use Rattle.btf_rewrite_model.specs.Rewritten.{Rewritten, IsRefused}
 use Rattle.btf_model.specs.declared.endianness.Endianness.{Endianness}
 use Rattle.btf_model.specs.declared.endianness.Endianness.TheVariants as orders
 use Rattle.btf_cli.specs.Saying.{Saying}
@@ -102,9 +102,9 @@ said_alike a b said alike is = record {
 
 rewrites_alike : (a b : Request) (t : Table) (r : Result Table Refusal) → AreAlike a b → Rewrites a t r → Rewrites b t r
 rewrites_alike a b t (Ok new) alike is =
-    (is.0, said_alike a b is.0 alike is.1, subst (λ (ids : Option KsymsIds). RewrittenWith (policy_said is.0) t ids (layout_said is.0) (kernel_said is.0) new) alike.ids is.2)
+    (is.0, said_alike a b is.0 alike is.1, subst (λ (ids : Option KsymsIds). Rewritten (policy_said is.0) t ids (layout_said is.0) (kernel_said is.0) new) alike.ids is.2)
 rewrites_alike a b t (Err refusal) alike is =
-    (is.0, said_alike a b is.0 alike is.1, subst (λ (ids : Option KsymsIds). IsRefusedWith (policy_said is.0) t ids (layout_said is.0) (kernel_said is.0) refusal) alike.ids is.2)
+    (is.0, said_alike a b is.0 alike is.1, subst (λ (ids : Option KsymsIds). IsRefused (policy_said is.0) t ids (layout_said is.0) (kernel_said is.0) refusal) alike.ids is.2)
 
 -- ---- commands of the same words
 

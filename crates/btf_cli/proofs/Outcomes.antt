@@ -9,7 +9,7 @@ use Rattle.btf_model.specs.Record.{Record}
 use Rattle.btf_model.specs.Refusal.{Refusal, MaximumTypeDepthReached}
 use Rattle.btf_model.specs.Table.{Table}
 use Rattle.btf_model.specs.Blob.{IsTable}
-use Rattle.btf_rewrite_model.specs.Rewritten.{IsRefusedWith}
+use Rattle.btf_rewrite_model.specs.Rewritten.{IsRefused}
 use Rattle.btf_model.specs.Walk.{By, HasSize, size_in}
 use Rattle.btf_model.proofs.Blobs.{same_table, table_not_refused}
 use Rattle.btf_rewrite_model.proofs.Kernels.{rewritten_not_refused}
@@ -45,7 +45,7 @@ sized_or_refused records id n refusal has not =
 rewritten_or_refused : (request : Request) (t new : Table) (refusal : Refusal) → Rewrites request t (Ok new) → Rewrites request t (Err refusal) → ⊥
 rewritten_or_refused request t new refusal has not =
     let same : not.0 ≡ has.0 = said_once (request_words request) not.0 has.0 not.1.all has.1.all in
-    rewritten_not_refused (policy_said has.0) t new (request_ids request) (layout_said has.0) (kernel_said has.0) refusal has.2 (subst (λ (said : List Saying). IsRefusedWith (policy_said said) t (request_ids request) (layout_said said) (kernel_said said) refusal) same not.2)
+    rewritten_not_refused (policy_said has.0) t new (request_ids request) (layout_said has.0) (kernel_said has.0) refusal has.2 (subst (λ (said : List Saying). IsRefused (policy_said said) t (request_ids request) (layout_said said) (kernel_said said) refusal) same not.2)
 
 written_or_declined : (command : Command) (t : Table) (written : List ℕ) (refusal : Refusal) → Writes command t written → Declines command t refusal → ⊥
 written_or_declined (Ask Copy) t written refusal writes declines = declines

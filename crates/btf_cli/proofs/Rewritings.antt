@@ -8,12 +8,12 @@ use Rattle.btf_model.specs.Table.{Table}
 use Rattle.btf_rewrite_model.specs.declared.feature.FeatureAnswer.{FeatureAnswer}
 use Rattle.btf_rewrite_model.specs.declared.feature.FillPolicy.{FillPolicy}
 use Rattle.btf_rewrite_model.specs.Pass.{Layout, Asked}
-use Rattle.btf_rewrite_model.specs.Rewritten.{pass_with, RewrittenWith}
+use Rattle.btf_rewrite_model.specs.Rewritten.{pass_of, Rewritten}
 use Rattle.btf_rewrite_model.proofs.Kernels.{AgreeWith, rewritten_alike, refused_alike}
 use Rattle.btf_words.specs.Error.{refusal_of}
 use Rattle.btf_words.specs.declared.error.BtfError.{BtfError}
 use Rattle.btf_model.specs.declared.endianness.Endianness.{Endianness}
-use Rattle.btf_types.specs.Rewrites.{features_asked, Refuses, RewritesBytesWith}
+use Rattle.btf_types.specs.Rewrites.{features_asked, Refuses, RewritesBytes}
 use Rattle.btf_cli.specs.Saying.{Saying}
 use Rattle.btf_cli.specs.Sayings.{layout_said, kernel_said, policy_said, last_said, size_said, offset_said}
 use Rattle.btf_cli.specs.Request.{request_ids, IsSaid}
@@ -36,9 +36,9 @@ pub record IsFor (request : Request) (layout : Layout) (policy : FillPolicy) (an
   pub agree : AgreeWith answers (kernel_said said)
 
 module _ (request : Request) (layout : Layout) (policy : FillPolicy) (answers : List FeatureAnswer) (said : List Saying) (for_request : IsFor request layout policy answers said) where
-  rewrites_so : (t new : Table) → RewrittenWith policy t (request_ids request) layout answers new → features_asked answers ≡ Asked (pass_with policy t (request_ids request) layout answers) → Rewrites request t (Ok new)
+  rewrites_so : (t new : Table) → Rewritten policy t (request_ids request) layout answers new → features_asked answers ≡ Asked (pass_of policy t (request_ids request) layout answers) → Rewrites request t (Ok new)
   rewrites_so t new is asked =
-      let Known : FillPolicy → Layout → Type 0 = λ f l. RewrittenWith f t (request_ids request) l answers new × (features_asked answers ≡ Asked (pass_with f t (request_ids request) l answers)) in
+      let Known : FillPolicy → Layout → Type 0 = λ f l. Rewritten f t (request_ids request) l answers new × (features_asked answers ≡ Asked (pass_of f t (request_ids request) l answers)) in
       let known : Known (policy_said said) (layout_said said) = subst (λ (f : FillPolicy). Known f (layout_said said)) for_request.same_policy (subst (Known policy) for_request.same_layout (is, asked)) in
       (said, for_request.is_said, rewritten_alike (policy_said said) t new (request_ids request) (layout_said said) answers (kernel_said said) known.0 known.1 for_request.agree)
 
@@ -49,12 +49,12 @@ module _ (request : Request) (layout : Layout) (policy : FillPolicy) (answers : 
       (said, for_request.is_said, refused_alike (policy_said said) t (request_ids request) (layout_said said) answers (kernel_said said) refusal known for_request.agree)
 
   -- the bytes that are written are the answer
-  pub rewritten_answer : (endianness : Endianness) (bytes written : List ℕ) (listed : List FeatureAnswer) → RewritesBytesWith policy endianness bytes (request_ids request) layout answers (Ok (written, listed))
+  pub rewritten_answer : (endianness : Endianness) (bytes written : List ℕ) (listed : List FeatureAnswer) → RewritesBytes policy endianness bytes (request_ids request) layout answers (Ok (written, listed))
       → IsAnswer (record { endianness = endianness; command = Rewrite request }) bytes written
   rewritten_answer endianness bytes written listed is = (is.0, is.2, (is.1, rewrites_so is.0 is.1 is.3 is.4, is.5))
 
   -- what is refused is declined
-  pub rewritten_declined : (endianness : Endianness) (bytes : List ℕ) (refusal : Refusal) → RewritesBytesWith policy endianness bytes (request_ids request) layout answers (Err refusal)
+  pub rewritten_declined : (endianness : Endianness) (bytes : List ℕ) (refusal : Refusal) → RewritesBytes policy endianness bytes (request_ids request) layout answers (Err refusal)
       → IsDeclined (record { endianness = endianness; command = Rewrite request }) bytes refusal
   rewritten_declined endianness bytes refusal (inl no_table) = record { cause = inl no_table.0 }
   rewritten_declined endianness bytes refusal (inr table) = record { cause = inr (table.0, table.1, refuses_so table.0 refusal table.2) }

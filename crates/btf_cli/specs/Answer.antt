@@ -7,7 +7,7 @@ use Rattle.btf_model.specs.Blob.{IsTable, IsRefusal, canon}
 use Rattle.btf_model.specs.Walk.{HasSize}
 use Rattle.btf_model.specs.Fields.{Pair}
 use Rattle.btf_model.specs.Compat.{Plain, firsts}
-use Rattle.btf_rewrite_model.specs.Rewritten.{RewrittenWith, IsRefusedWith}
+use Rattle.btf_rewrite_model.specs.Rewritten.{Rewritten, IsRefused}
 use Rattle.btf_types.specs.Pairs.{pair}
 use Rattle.btf_model.specs.declared.endianness.Endianness.{Endianness}
 use Rattle.btf_cli.specs.Saying.{Saying}
@@ -31,10 +31,10 @@ Compares t id other (Err refusal) = (starts : List Pair) × Plain t t [] (pair i
 abbrev pub Rewrites : Request → Table → Result Table Refusal → Type 0
 Rewrites request t (Ok new) =
     (said : List Saying) × IsSaid request said
-    × RewrittenWith (policy_said said) t (request_ids request) (layout_said said) (kernel_said said) new
+    × Rewritten (policy_said said) t (request_ids request) (layout_said said) (kernel_said said) new
 Rewrites request t (Err refusal) =
     (said : List Saying) × IsSaid request said
-    × IsRefusedWith (policy_said said) t (request_ids request) (layout_said said) (kernel_said said) refusal
+    × IsRefused (policy_said said) t (request_ids request) (layout_said said) (kernel_said said) refusal
 
 -- what a command writes of a table
 abbrev pub Writes : Command → Table → List ℕ → Type 0

@@ -16,6 +16,7 @@ use Rattle.btf_cli.specs.declared.request.Request.{Request}
 abbrev pub request_words : Request → List (List ℕ)
 request_words request = texts request.words.now
 
+-- the ids of `.ksyms` that a request has
 abbrev pub request_ids : Request → Option KsymsIds
 request_ids request = request.ksyms
 

@@ -19,10 +19,12 @@ SayAll words said = AllZip Says words said
 
 -- ---- the kernel
 
+-- the word grants this feature
 abbrev pub is_grant : BtfFeature → Saying → Bool
 is_grant f (Grants feature) = same_feature feature f
 is_grant f saying = false
 
+-- the eight features, by their numbers
 abbrev pub all_features : List BtfFeature
 all_features =
     features.Func ∷ features.FuncGlobal ∷ features.DataSec ∷ features.DataSecZero ∷ features.Float ∷ features.DeclTag
@@ -32,11 +34,13 @@ all_features =
 abbrev pub answer_said : List Saying → BtfFeature → FeatureAnswer
 answer_said said f = record { feature = f; granted = list_any (is_grant f) said }
 
+-- what the words say of each feature of the kernel
 abbrev pub kernel_said : List Saying → List FeatureAnswer
 kernel_said said = map (answer_said said) all_features
 
 -- ---- the policy
 
+-- the word asks that DATASECs which have a size are filled
 abbrev pub is_fill : Saying → Bool
 is_fill FillsSized = true
 is_fill saying = false
@@ -62,6 +66,7 @@ abbrev pub last_said : (Saying → Option ℕ) → List Saying → Option ℕ
 last_said number [] = None
 last_said number (saying ∷ said) = option_or (last_said number said) (number saying)
 
+-- the sizes of sections and the offsets of symbols that the words say
 abbrev pub layout_said : List Saying → Layout
 layout_said said = record {
   sections = λ name. last_said (size_said name) said;
@@ -70,10 +75,12 @@ layout_said said = record {
 
 -- ---- the ids of `.ksyms`
 
+-- the id of `.ksyms`, where the word says it
 abbrev pub ksyms_said : Saying → Option ℕ
 ksyms_said (KsymsId id) = Some id
 ksyms_said saying = None
 
+-- the id of the placeholder, where the word says it
 abbrev pub placeholder_said : Saying → Option ℕ
 placeholder_said (PlaceholderId id) = Some id
 placeholder_said saying = None

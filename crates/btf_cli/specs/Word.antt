@@ -3,6 +3,7 @@ use Rattle.btf_cli.specs.Saying.{Saying, Grants, FillsSized, SectionSize, Symbol
 use Rattle.btf_cli.specs.declared.word.Word.{Word}
 use Rattle.btf_cli.specs.declared.word.Word.TheVariants as words
 
+-- what a word of the code says, as the definitions have it
 abbrev pub saying_of : Word → Saying
 saying_of (words.Grant feature) = Grants feature
 saying_of words.FillSized = FillsSized

@@ -121,6 +121,7 @@ abbrev pub tells_open : Option Progress → Bool
 tells_open (Some progresses.Open) = true
 tells_open o = false
 
+-- a pair with this progress is known to be compatible
 abbrev pub tells_settled : Option Progress → Bool
 tells_settled (Some progresses.Compatible) = true
 tells_settled o = false
@@ -130,9 +131,11 @@ abbrev pub progress_of : Result Place BtfError → Progress
 progress_of (Ok (places.Ends true)) = progresses.Compatible
 progress_of end = progresses.Open
 
+-- the map has the pair as open
 abbrev pub opened_in : PairMap → Pair → Bool
 opened_in seen p = tells_open (known seen (ids_of p))
 
+-- the map has the pair as compatible
 abbrev pub settled_in : PairMap → Pair → Bool
 settled_in seen p = tells_settled (known seen (ids_of p))
 

@@ -23,12 +23,15 @@ pub record Layout (V : Type 0) : Type 0 where
   pub mask : ℕ
   pub further : List ((ℕ × ℕ) × V)
 
+-- the pairs of a bucket, with what is known of each
 abbrev pub entries_of : Bucket → List ((ℕ × ℕ) × Progress)
 entries_of bucket = bucket.entries.list.items
 
+-- the bucket had no room for a pair
 abbrev pub mark_of : Bucket → Bool
 mark_of bucket = bucket.overflows
 
+-- the layout of these buckets, this mask, and the pairs that had no room
 abbrev pub layout : List Bucket → ℕ → List ((ℕ × ℕ) × Progress) → Layout Progress
 layout buckets mask further = record {
   rows = map entries_of buckets;

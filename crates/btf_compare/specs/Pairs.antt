@@ -6,6 +6,7 @@ use Rattle.btf_model.specs.Table.{Table}
 use Rattle.btf_model.specs.Walk.{Resolves}
 use Rattle.btf_model.specs.Fields.{Pair, IsAt}
 
+-- the pair of a local id and a target id
 abbrev pub pair : ℕ → ℕ → Pair
 pair id other = record { local = id; target = other }
 

@@ -5,11 +5,14 @@ use Rattle.btf_ext.specs.declared.ext.header.Range.{Range}
 use Rattle.btf_ext.specs.declared.ext.header.Header.{Header}
 use Rattle.btf_ext.specs.declared.ext.header.Part.{Part}
 
+-- a range of the code, as the definitions have ranges
 abbrev pub range : Range → model.Range
 range r = record { start = r.hdr_len + r.offset; len = r.len; least = r.least }
 
+-- a header of the code, as the definitions have headers
 abbrev pub header : Header → model.Header
 header h = record { func = range h.func; line = range h.line; core = range h.core }
 
+-- a part of the code, as the definitions have parts
 abbrev pub part : Part → model.Part
 part p = record { size = p.rec_size; bytes = p.sections.now }

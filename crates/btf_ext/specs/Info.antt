@@ -12,15 +12,19 @@ use Rattle.btf_ext.specs.declared.info.func.FuncSecInfo.{FuncSecInfo}
 use Rattle.btf_ext.specs.declared.info.line.bpf_line_info.{bpf_line_info}
 use Rattle.btf_ext.specs.declared.info.line.LineSecInfo.{LineSecInfo}
 
+-- the words of a function record
 abbrev pub func_words : bpf_func_info → List ℕ
 func_words r = r.insn_off ∷ r.type_id ∷ []
 
+-- the function records of a section: how many the section states, and their words
 abbrev pub func_records : FuncSecInfo → Records
 func_records s = record { count = s.num_info; words = map func_words s.func_info.items }
 
+-- the words of a line record
 abbrev pub line_words : bpf_line_info → List ℕ
 line_words r = r.insn_off ∷ r.file_name_off ∷ r.line_off ∷ r.line_col ∷ []
 
+-- the line records of a section: how many the section states, and their words
 abbrev pub line_records : LineSecInfo → Records
 line_records s = record { count = s.num_info; words = map line_words s.line_info.items }
 
@@ -28,9 +32,11 @@ line_records s = record { count = s.num_info; words = map line_words s.line_info
 abbrev pub by_name : {S H Hasher : Type 0} → (S → Records) → BySection S H Hasher → List ℕ → Option Records
 by_name records b name = option_map records (get_by_text b.sections name)
 
+-- the function records under each name
 abbrev pub funcs_by_name : {H Hasher : Type 0} → BySection FuncSecInfo H Hasher → List ℕ → Option Records
 funcs_by_name = by_name func_records
 
+-- the line records under each name
 abbrev pub lines_by_name : {H Hasher : Type 0} → BySection LineSecInfo H Hasher → List ℕ → Option Records
 lines_by_name = by_name line_records
 

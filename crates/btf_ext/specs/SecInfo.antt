@@ -7,6 +7,7 @@ use Rattle.btf_words.specs.declared.error.BtfError.{BtfError}
 use Rattle.btf_words.specs.Error.{refusal_of}
 use Rattle.btf_ext.specs.declared.ext.sections.SecInfo.{SecInfo}
 
+-- a section of the code, as the definitions have sections
 abbrev pub section_of : SecInfo → Section
 section_of s = record { name = s.name_offset; count = s.num_info; bytes = s.bytes.now }
 

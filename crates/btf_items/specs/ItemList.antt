@@ -3,6 +3,7 @@ use Rattle.std.specs.Prelude.{ℕ, List, take}
 use Rattle.btf_items.specs.declared.item_list.ItemList.{ItemList}
 use Rattle.btf_items.specs.declared.item_list.ItemList.TheVariants.{Few, Many}
 
+-- the items of a list, also where they are in the record itself
 abbrev pub items_of : {T : Type 0} {N : ℕ} → ItemList T N → List T
 items_of (Few count items) = take count items
 items_of (Many items) = items.items

@@ -7,17 +7,22 @@ use Rattle.btf_items.specs.declared.items.BtfMember.{BtfMember}
 use Rattle.btf_items.specs.declared.items.BtfParam.{BtfParam}
 use Rattle.btf_items.specs.declared.items.DataSecEntry.{DataSecEntry}
 
+-- the words of a variant of an ENUM
 abbrev pub enum_words : BtfEnum → List ℕ
 enum_words v = v.name_offset ∷ v.value ∷ []
 
+-- the words of a variant of an ENUM64
 abbrev pub enum64_words : BtfEnum64 → List ℕ
 enum64_words v = v.name_offset ∷ v.value_low ∷ v.value_high ∷ []
 
+-- the words of a member
 abbrev pub member_words : BtfMember → List ℕ
 member_words m = m.name_offset ∷ m.btf_type ∷ m.offset ∷ []
 
+-- the words of a parameter
 abbrev pub param_words : BtfParam → List ℕ
 param_words p = p.name_offset ∷ p.btf_type ∷ []
 
+-- the words of an entry
 abbrev pub entry_words : DataSecEntry → List ℕ
 entry_words e = e.btf_type ∷ e.offset ∷ e.size ∷ []

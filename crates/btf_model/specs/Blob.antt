@@ -29,9 +29,11 @@ pub record Header : Type 0 where
   pub str_off : ℕ
   pub str_len : ℕ
 
+-- the length of the header in bytes
 abbrev pub header_len : ℕ
 header_len = 24
 
+-- the header that bytes begin with
 abbrev pub header_of : Endianness → List ℕ → Header
 header_of order bytes = record {
   magic = half_of order (slice 0 2 bytes);
@@ -44,6 +46,7 @@ header_of order bytes = record {
   str_len = word_at order 20 bytes;
 }
 
+-- the bytes of a header
 abbrev pub header_bytes : Endianness → Header → List ℕ
 header_bytes order h =
     half order h.magic ++ h.version ∷ h.flags
@@ -53,12 +56,15 @@ header_bytes order h =
 abbrev pub strings_end : Header → ℕ
 strings_end h = h.hdr_len + h.str_off + h.str_len
 
+-- where the type section ends in a blob
 abbrev pub types_end : Header → ℕ
 types_end h = h.hdr_len + h.type_off + h.type_len
 
+-- the bytes of the string section
 abbrev pub string_section : Header → List ℕ → List ℕ
 string_section h bytes = slice (h.hdr_len + h.str_off) h.str_len bytes
 
+-- the bytes of the type section
 abbrev pub type_section : Header → List ℕ → List ℕ
 type_section h bytes = slice (h.hdr_len + h.type_off) h.type_len bytes
 

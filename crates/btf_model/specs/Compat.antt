@@ -28,6 +28,7 @@ abbrev pub pairs : List ℕ → List ℕ → List Pair
 pairs (id ∷ ids) (other ∷ others) = record { local = id; target = other } ∷ pairs ids others
 pairs ids others = []
 
+-- the position of two FUNC_PROTOs with these records
 abbrev pub prototypes : Record → Record → Position
 prototypes r s =
     if length (parameter_types r.tail) == length (parameter_types s.tail)

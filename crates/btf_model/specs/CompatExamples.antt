@@ -19,6 +19,7 @@ use Rattle.btf_model.specs.Compat.Paid.{unresolved, other}
 abbrev pub table_of : List Record → Table
 table_of rs = record empty_table { records = unknown ∷ rs }
 
+-- the pair of a local id and a target id
 abbrev pub pair : ℕ → ℕ → Pair
 pair id target = record { local = id; target = target }
 

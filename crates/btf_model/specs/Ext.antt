@@ -81,6 +81,7 @@ pub record Named : Type 0 where
 abbrev pub HaveNames : List ℕ → List Named → Type 0
 HaveNames strings named = AllByRecursion (λ n. text_at strings n.section.name ≡ Ok n.text) named
 
+-- the sections, without their names
 abbrev pub sections_of : List Named → List Section
 sections_of named = map (λ n. n.section) named
 
@@ -224,13 +225,16 @@ pub record Ext : Type 0 where
   pub line : List ℕ → Option Records
   pub relocations : List (ℕ × List (List ℕ))
 
+-- the records of the section of a name, of so many words each
 abbrev pub records_named : Endianness → ℕ → Part → List Named → List ℕ → Option Records
 records_named order width part named name =
     option_map (instruction_records order part.size width) (section_named named name)
 
+-- a section of relocations: the string offset of its name, and the words of each record
 abbrev pub relocation_section : Endianness → ℕ → Section → ℕ × List (List ℕ)
 relocation_section order size s = (s.name, record_words order size 4 s.count s.bytes)
 
+-- what these named sections of functions and of lines, and these sections of relocations, say
 abbrev pub ext_of : Endianness → Part → List Named → Part → List Named → Part → List Section → Ext
 ext_of order func funcs line lines core relocations = record {
   func_size = func.size;

@@ -2,6 +2,7 @@
 -- Source: aya-obj's `BtfError`, without the errors of what this project leaves out.
 use Rattle.std.specs.Prelude.{ℕ, List}
 
+-- The causes for which a call fails, beside a failed allocation. They have the names of the errors.
 pub data Refusal : Type 0 where
   InvalidHeader : Refusal
   InvalidTypeInfo : Refusal

@@ -19,6 +19,7 @@ number_of w Big bytes = from_be_bytes w bytes
 abbrev pub word : Endianness → ℕ → List ℕ
 word order n = bytes_of w32 order n
 
+-- the number of the four bytes of a word
 abbrev pub word_of : Endianness → List ℕ → ℕ
 word_of order bytes = number_of w32 order bytes
 
@@ -26,6 +27,7 @@ word_of order bytes = number_of w32 order bytes
 abbrev pub half : Endianness → ℕ → List ℕ
 half order n = bytes_of w16 order n
 
+-- the number of two bytes
 abbrev pub half_of : Endianness → List ℕ → ℕ
 half_of order bytes = number_of w16 order bytes
 

@@ -21,11 +21,14 @@ encoding_of n =
 abbrev pub int_data : ℕ → ℕ → ℕ → ℕ
 int_data encoding offset bits = encoding * 2 ^ 24 + offset * 2 ^ 16 + bits
 
+-- the encoding of an INT, by its data word
 abbrev pub encoding_bits : ℕ → ℕ
 encoding_bits word = word / 2 ^ 24 % 2 ^ 4
 
+-- the bit at which the integer begins, by the data word
 abbrev pub offset_bits : ℕ → ℕ
 offset_bits word = word / 2 ^ 16 % 2 ^ 8
 
+-- the number of its bits, by the data word
 abbrev pub size_bits : ℕ → ℕ
 size_bits word = word % 2 ^ 8

@@ -6,6 +6,7 @@ use Rattle.btf_model.specs.Table.{Fallback}
 use Rattle.btf_records.specs.declared.btf_type.BtfType.{BtfType}
 use Rattle.btf_records.specs.declared.btf_type.BtfType.TheVariants.{Unknown, Int, Ptr, Array, Struct, Union, Enum, Fwd, Typedef, Volatile, Const, Restrict, Func, FuncProto, Var, DataSec, Float, DeclTag, TypeTag, Enum64}
 
+-- the record of a type
 abbrev pub record_of : BtfType → Record
 record_of Unknown = unknown
 record_of (Int r) = r
@@ -28,6 +29,7 @@ record_of (DeclTag r) = r
 record_of (TypeTag r) = r
 record_of (Enum64 r) = r
 
+-- the kind of a type
 abbrev pub type_kind : BtfType → Kind
 type_kind Unknown = model.Unknown
 type_kind (Int r) = model.Int

@@ -7,10 +7,12 @@ use Rattle.btf_items.specs.ItemList.{items_of}
 use Rattle.btf_records.specs.declared.records.union.Members.{Members}
 use Rattle.btf_records.specs.declared.records.union.Members.TheVariants.{Alone, InsteadOf}
 
+-- the members of a UNION
 abbrev pub members_of : Members → List BtfMember
 members_of (Alone members) = items_of members
 members_of (InsteadOf fallback members) = members.items
 
+-- the fallback of a UNION
 abbrev pub kept_of : Members → Option Fallback
 kept_of (Alone members) = None
 kept_of (InsteadOf fallback members) = Some (fallback_value fallback)

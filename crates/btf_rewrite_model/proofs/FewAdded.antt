@@ -12,7 +12,7 @@ use Rattle.btf_rewrite_model.specs.Ksyms.{appends_int, each_stepped, stepped, in
 use Rattle.btf_rewrite_model.specs.declared.ksyms_ids.KsymsIds.{KsymsIds}
 use Rattle.btf_rewrite_model.specs.Made.{record_at, kind_at, c_int, byte_int, static_var}
 use Rattle.btf_rewrite_model.specs.Pass.{Pass, Layout, is_least, wants_placeholder, gets_filler, added_by, added_below, makes_placeholder, makes_filler, offset_at, filler_offset, filler_type_text}
-use Rattle.btf_rewrite_model.specs.Rewritten.{begun, pass_with, old_count, RewrittenWith}
+use Rattle.btf_rewrite_model.specs.Rewritten.{begun, pass_of, old_count, Rewritten}
 use Rattle.btf_rewrite_model.specs.Rule.{ruled_below}
 use Rattle.btf_rewrite_model.specs.Passing.{MadeBelow}
 use Rattle.btf_rewrite_model.proofs.FirstMade.{none_below_zero, makes_first, made_first, none_next, makes_no_second, made_next}
@@ -115,9 +115,9 @@ few_in_the_step t (Some ids) =
       | false ↦ (omega (arith, length_stepped t ids), omega (arith, length_stepped t ids))
     ]
 
-pub few_in_a_rewrite : (policy : FillPolicy) (old new : Table) (ids : Option KsymsIds) (layout : Layout) (answers : List FeatureAnswer) → RewrittenWith policy old ids layout answers new → (length old.records ≤ length new.records) × (length new.records ≤ length old.records + 4)
+pub few_in_a_rewrite : (policy : FillPolicy) (old new : Table) (ids : Option KsymsIds) (layout : Layout) (answers : List FeatureAnswer) → Rewritten policy old ids layout answers new → (length old.records ≤ length new.records) × (length new.records ≤ length old.records + 4)
 few_in_a_rewrite policy old new ids layout answers h =
-    let p : Pass = pass_with policy old ids layout answers in
+    let p : Pass = pass_of policy old ids layout answers in
     let n : ℕ = old_count p in
     let is = ap (λ (t : Table). length t.records) h.table in
     let both = length-append (ruled_below p n) (added_below p n) in

@@ -17,7 +17,7 @@ use Rattle.btf_rewrite_model.specs.declared.ksyms_ids.KsymsIds.{KsymsIds}
 use Rattle.btf_rewrite_model.specs.Pass.{Pass, Layout, has, makes_filler, makes_placeholder, filler, filler_type_text, offset_at, filler_offset, added_by, added_below, Asked, asks_below}
 use Rattle.btf_rewrite_model.specs.Rule.{becomes, ruled_below}
 use Rattle.btf_rewrite_model.specs.Fault.{fault}
-use Rattle.btf_rewrite_model.specs.Rewritten.{begun, pass_with, old_count, RewrittenWith}
+use Rattle.btf_rewrite_model.specs.Rewritten.{begun, pass_of, old_count, Rewritten}
 use Rattle.btf_rewrite_model.specs.RewriteLaws.{IsAmong, IsGrantedOnce}
 use Rattle.btf_rewrite_model.proofs.Ruled.{length-ruled, ruled_at}
 use Rattle.btf_rewrite_model.proofs.Granted.{one_granted, new_granted}
@@ -80,10 +80,10 @@ has_granted p id r f ruled (inl old) is =
     new_granted p id f (ruled id lt) (subst (λ (q : Record). IsAmong f (needs p.policy (record_at p.table id) q)) same is)
 has_granted p id r f ruled (inr added) is = each_of (AddedGranted p) (added_below p (old_count p)) added.0 r (all_added_granted p (old_count p)) added.1 (record_at p.table id) f is
 
-pub suffice : (policy : FillPolicy) (old new : Table) (ids : Option KsymsIds) (layout : Layout) (answers : List FeatureAnswer) → RewrittenWith policy old ids layout answers new → map (λ (answer : FeatureAnswer). answer.feature) answers ≡ Asked (pass_with policy old ids layout answers)
+pub suffice : (policy : FillPolicy) (old new : Table) (ids : Option KsymsIds) (layout : Layout) (answers : List FeatureAnswer) → Rewritten policy old ids layout answers new → map (λ (answer : FeatureAnswer). answer.feature) answers ≡ Asked (pass_of policy old ids layout answers)
     → (id : ℕ) (r : Record) → slice_get new.records id ≡ Some r → (f : BtfFeature) → IsAmong f (needs policy (record_at (begun old ids) id) r) → IsGrantedOnce answers f
 suffice policy old new ids layout answers is asked id r at f needed =
-    let p : Pass = pass_with policy old ids layout answers in
+    let p : Pass = pass_of policy old ids layout answers in
     let place : slice_get (ruled_below p (old_count p) ++ added_below p (old_count p)) id ≡ Some r = ap (λ (t : Table). slice_get t.records id) (sym is.table) ∙ at in
     granted_once answers f (subst AreOnce (sym asked) (each_is_once (asks_below p (old_count p))))
     (has_granted p id r f is.ruled (of_either (ruled_below p (old_count p)) (added_below p (old_count p)) id r place) needed)

@@ -20,7 +20,7 @@ use Rattle.btf_rewrite_model.specs.Ksyms.{stepped, each_stepped, appends_int}
 use Rattle.btf_rewrite_model.specs.declared.ksyms_ids.KsymsIds.{KsymsIds}
 use Rattle.btf_rewrite_model.specs.Pass.{Pass, Layout, has, gets_filler, section_size, offset_at}
 use Rattle.btf_rewrite_model.specs.Rule.{becomes, becomes_by, ruled_below, completed, sized, filled, new_name, placed, named_params, variant_members, entry_members, placeholder_id}
-use Rattle.btf_rewrite_model.specs.Rewritten.{begun, pass_with, RewrittenWith}
+use Rattle.btf_rewrite_model.specs.Rewritten.{begun, pass_of, Rewritten}
 use Rattle.btf_rewrite_model.specs.RewriteLaws.{keeps_size, FindsKept}
 use Rattle.btf_model.proofs.Blobs.{slice_get-append_left}
 use Rattle.btf_rewrite_model.proofs.Granted.{kind_made, vlen_small}
@@ -171,9 +171,9 @@ answers_too : {P A : Type 0} (Finds Found : P → Finding P A → Type 0) (start
 answers_too Finds Found start too_deep answer on ends (inl walk) = inl (walk.0, walk.1, walk.2, leads_too Finds Found on walk.0 start walk.1 walk.3, ends walk.1 (walk.0, walk.2, walk.3) walk.4)
 answers_too Finds Found start too_deep answer on ends (inr deep) = absurd (false≢true (sym (ap is_ok deep.2)))
 
-module _ (policy : FillPolicy) (old new : Table) (ids : Option KsymsIds) (layout : Layout) (answers : List FeatureAnswer) (is : RewrittenWith policy old ids layout answers new) where
+module _ (policy : FillPolicy) (old new : Table) (ids : Option KsymsIds) (layout : Layout) (answers : List FeatureAnswer) (is : Rewritten policy old ids layout answers new) where
   -- the new record of an id that the old table has
-  new_record : (id : ℕ) (r : Record) → slice_get old.records id ≡ Some r → slice_get new.records id ≡ Some (becomes (pass_with policy old ids layout answers) id)
+  new_record : (id : ℕ) (r : Record) → slice_get old.records id ≡ Some r → slice_get new.records id ≡ Some (becomes (pass_of policy old ids layout answers) id)
   new_record id r at =
       new_at policy old new ids layout answers is id (slice_get_within (begun old ids).records id (begun_record old ids id r) (begun_at old ids id r at))
 
@@ -183,7 +183,7 @@ module _ (policy : FillPolicy) (old new : Table) (ids : Option KsymsIds) (layout
   same_extent : (id : ℕ) (r : Record) → slice_get old.records id ≡ Some r → keeps_size (kind_of r.info) ≡ true
       → (q : Record) × (slice_get new.records id ≡ Some q) × (extent (kind_of q.info) q ≡ extent (kind_of r.info) r)
   same_extent id r at keeps =
-      let p : Pass = pass_with policy old ids layout answers in
+      let p : Pass = pass_of policy old ids layout answers in
       let same : record_at (begun old ids) id ≡ r = record_begun id r at ∙ begun_same old ids id r keeps in (
         becomes p id,
         new_record id r at,
@@ -193,7 +193,7 @@ module _ (policy : FillPolicy) (old new : Table) (ids : Option KsymsIds) (layout
 
   same_modified : (id : ℕ) (r : Record) → slice_get old.records id ≡ Some r → kind_of r.info ≢ Some kinds.Func → (q : Record) × (slice_get new.records id ≡ Some q) × (modified_type q ≡ modified_type r)
   same_modified id r at other =
-      let p : Pass = pass_with policy old ids layout answers in
+      let p : Pass = pass_of policy old ids layout answers in
       let b : Record = begun_record old ids id r in
       let info : b.info ≡ r.info = begun_info old ids id r other in
       let not_func : kind_of b.info ≢ Some kinds.Func = λ e. other (sym (ap kind_of info) ∙ e) in (

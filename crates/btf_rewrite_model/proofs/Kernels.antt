@@ -19,7 +19,7 @@ use Rattle.btf_rewrite_model.specs.Made.{record_at, kind_at, table_ids, fallback
 use Rattle.btf_rewrite_model.specs.declared.ksyms_ids.KsymsIds.{KsymsIds}
 use Rattle.btf_rewrite_model.specs.Pass.{Pass, Layout, added_below, asks_below, each_once, Asked}
 use Rattle.btf_rewrite_model.specs.Rule.{ruled_below, falls_back, falls_back_by}
-use Rattle.btf_rewrite_model.specs.Rewritten.{step_fault, pass_with, old_count, ended, rewritten, AreRuled, RewrittenWith, FaultsAt, IsRefusedWith}
+use Rattle.btf_rewrite_model.specs.Rewritten.{step_fault, pass_of, old_count, ended, rewritten, AreRuled, Rewritten, FaultsAt, IsRefused}
 use Rattle.btf_rewrite_model.specs.RewriteLaws.{IsAmong, with_answers, Agree, IsSameBelow}
 use Rattle.btf_rewrite_model.proofs.Agreeing.{AgreeAt, agree_at, agree_of, same_below, same_refused}
 use Rattle.btf_rewrite_model.specs.Passing.{features_of}
@@ -75,21 +75,21 @@ rewritten_so p all agree ruled =
     ∙ ap (λ (fs : List (Option Fallback)). record (rewritten p) { fallbacks = fs ++ no_fallbacks (added_below p n) }) fallbacks
 
 -- what is rewritten is rewritten so under the others
-pub rewritten_alike : (policy : FillPolicy) (old new : Table) (ids : Option KsymsIds) (layout : Layout) (answers all : List FeatureAnswer) → RewrittenWith policy old ids layout answers new → features_of answers ≡ Asked (pass_with policy old ids layout answers) → AgreeWith answers all
-    → RewrittenWith policy old ids layout all new
+pub rewritten_alike : (policy : FillPolicy) (old new : Table) (ids : Option KsymsIds) (layout : Layout) (answers all : List FeatureAnswer) → Rewritten policy old ids layout answers new → features_of answers ≡ Asked (pass_of policy old ids layout answers) → AgreeWith answers all
+    → Rewritten policy old ids layout all new
 rewritten_alike policy old new ids layout answers all is asked agree =
-    let p : Pass = pass_with policy old ids layout answers in
+    let p : Pass = pass_of policy old ids layout answers in
     let agree_all : Agree p all (old_count p) = agree_by p all (old_count p) asked agree in
     record { step = is.step; ruled = ruled_so p all (old_count p) agree_all is.ruled; table = is.table ∙ sym (rewritten_so p all agree_all is.ruled) }
 
 -- what is refused is refused so under the others
 pub refused_alike : (policy : FillPolicy) (old : Table) (ids : Option KsymsIds) (layout : Layout) (answers all : List FeatureAnswer) (refusal : Refusal)
     → ((step_fault old ids ≡ Some refusal) × (answers ≡ []))
-    ⊎ ((step_fault old ids ≡ None) × ((id : ℕ) × FaultsAt (pass_with policy old ids layout answers) id refusal × (features_of answers ≡ each_once (asks_below (pass_with policy old ids layout answers) (suc id)))))
-    → AgreeWith answers all → IsRefusedWith policy old ids layout all refusal
+    ⊎ ((step_fault old ids ≡ None) × ((id : ℕ) × FaultsAt (pass_of policy old ids layout answers) id refusal × (features_of answers ≡ each_once (asks_below (pass_of policy old ids layout answers) (suc id)))))
+    → AgreeWith answers all → IsRefused policy old ids layout all refusal
 refused_alike policy old ids layout answers all refusal (inl step) agree = inl step.0
 refused_alike policy old ids layout answers all refusal (inr pass) agree =
-    let p : Pass = pass_with policy old ids layout answers in
+    let p : Pass = pass_of policy old ids layout answers in
     let id : ℕ = pass.1.0 in
     let at : FaultsAt p id refusal = pass.1.1 in
     let agree_at_id : Agree p all (suc id) = agree_by p all (suc id) pass.1.2 agree in
@@ -98,6 +98,6 @@ refused_alike policy old ids layout answers all refusal (inr pass) agree =
 -- ---- one outcome
 
 -- what is rewritten is not refused
-pub rewritten_not_refused : (policy : FillPolicy) (old new : Table) (ids : Option KsymsIds) (layout : Layout) (answers : List FeatureAnswer) (refusal : Refusal) → RewrittenWith policy old ids layout answers new → IsRefusedWith policy old ids layout answers refusal → ⊥
+pub rewritten_not_refused : (policy : FillPolicy) (old new : Table) (ids : Option KsymsIds) (layout : Layout) (answers : List FeatureAnswer) (refusal : Refusal) → Rewritten policy old ids layout answers new → IsRefused policy old ids layout answers refusal → ⊥
 rewritten_not_refused policy old new ids layout answers refusal is (inl step) = none-some refusal (sym is.step ∙ step)
 rewritten_not_refused policy old new ids layout answers refusal is (inr pass) = none-some refusal (sym (is.ruled pass.1.0 pass.1.1.0) ∙ pass.1.1.2)

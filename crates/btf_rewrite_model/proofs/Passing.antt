@@ -26,7 +26,7 @@ use Rattle.btf_rewrite_model.specs.declared.ksyms_ids.KsymsIds.{KsymsIds}
 use Rattle.btf_rewrite_model.specs.Pass.{Pass, Layout, has, is_unsized, is_zero_or, section_size, texts_by, added_by, asks, asks_below, each_once, Asked, texts, texts_below, texts_len, added, added_below, gets_filler, growth_below, offset_at, free_id, type_len_at}
 use Rattle.btf_rewrite_model.specs.Rule.{becomes, ruled_below, falls_back, falls_back_by}
 use Rattle.btf_rewrite_model.specs.Fault.{fault, checks_by}
-use Rattle.btf_rewrite_model.specs.Rewritten.{AreRuled, RewrittenWith, IsRefusedWith, pass_with, step_fault, old_count, rewritten, ended}
+use Rattle.btf_rewrite_model.specs.Rewritten.{AreRuled, Rewritten, IsRefused, pass_of, step_fault, old_count, rewritten, ended}
 use Rattle.btf_rewrite_model.specs.RewriteLaws.{IsAmong, with_answers, Agree, IsSameBelow}
 use Rattle.btf_rewrite_model.specs.Passing.{features_of, AreAnswersTo, IsAt, HasMade, is_quiet}
 use Rattle.btf_rewrite_model.proofs.Agreeing.{same_below, same_refused}
@@ -272,13 +272,13 @@ grows p more id at =
 -- ---- the end
 
 -- A pass that has gone past all ids is a rewrite, and the answers are those to what it asks for.
-pub passes : (policy : FillPolicy) (old : Table) (ids : Option KsymsIds) (layout : Layout) (answers : List FeatureAnswer) → step_fault old ids ≡ None → IsAt (pass_with policy old ids layout answers) (old_count (pass_with policy old ids layout answers))
-    → RewrittenWith policy old ids layout answers (rewritten (pass_with policy old ids layout answers)) × (features_of answers ≡ Asked (pass_with policy old ids layout answers))
+pub passes : (policy : FillPolicy) (old : Table) (ids : Option KsymsIds) (layout : Layout) (answers : List FeatureAnswer) → step_fault old ids ≡ None → IsAt (pass_of policy old ids layout answers) (old_count (pass_of policy old ids layout answers))
+    → Rewritten policy old ids layout answers (rewritten (pass_of policy old ids layout answers)) × (features_of answers ≡ Asked (pass_of policy old ids layout answers))
 passes policy old ids layout answers step at = (record { step = step; ruled = at.ruled; table = refl }, at.asked)
 
 -- One that is refused at an id is refused for that.
-pub is_refused_at : (policy : FillPolicy) (old : Table) (ids : Option KsymsIds) (layout : Layout) (answers : List FeatureAnswer) (id : ℕ) (refusal : Refusal) → step_fault old ids ≡ None → id < old_count (pass_with policy old ids layout answers)
-    → AreRuled (pass_with policy old ids layout answers) id → fault (pass_with policy old ids layout answers) id ≡ Some refusal → IsRefusedWith policy old ids layout answers refusal
+pub is_refused_at : (policy : FillPolicy) (old : Table) (ids : Option KsymsIds) (layout : Layout) (answers : List FeatureAnswer) (id : ℕ) (refusal : Refusal) → step_fault old ids ≡ None → id < old_count (pass_of policy old ids layout answers)
+    → AreRuled (pass_of policy old ids layout answers) id → fault (pass_of policy old ids layout answers) id ≡ Some refusal → IsRefused policy old ids layout answers refusal
 is_refused_at policy old ids layout answers id refusal step lt ruled faults = inr (step, (id, (lt, ruled, faults)))
 
 -- ---- what is made

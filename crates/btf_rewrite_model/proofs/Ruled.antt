@@ -17,7 +17,7 @@ use Rattle.btf_rewrite_model.specs.declared.feature.FeatureAnswer.{FeatureAnswer
 use Rattle.btf_rewrite_model.specs.declared.feature.FillPolicy.{FillPolicy}
 use Rattle.btf_rewrite_model.specs.Pass.{Pass, Layout, has, added_below}
 use Rattle.btf_rewrite_model.specs.Rule.{becomes, becomes_by, ruled_below, falls_back, falls_back_by, variant_members, placeholder_id}
-use Rattle.btf_rewrite_model.specs.Rewritten.{begun, old_count, pass_with, RewrittenWith}
+use Rattle.btf_rewrite_model.specs.Rewritten.{begun, old_count, pass_of, Rewritten}
 use Rattle.btf_rewrite_model.proofs.Granted.{kind_made}
 use Rattle.btf_model.proofs.Blobs.{slice_get-push, slice_get-append_left}
 
@@ -41,25 +41,25 @@ ruled_at p (suc n) id lt = ruled_among p n id lt (ruled_at p n id) (cases_order 
 
 -- ---- the rewritten table
 
-module _ (policy : FillPolicy) (old new : Table) (ids : Option KsymsIds) (layout : Layout) (answers : List FeatureAnswer) (is : RewrittenWith policy old ids layout answers new) where
+module _ (policy : FillPolicy) (old new : Table) (ids : Option KsymsIds) (layout : Layout) (answers : List FeatureAnswer) (is : Rewritten policy old ids layout answers new) where
   pass : Pass
-  pass = pass_with policy old ids layout answers
+  pass = pass_of policy old ids layout answers
 
-  records_are : new.records ≡ ruled_below (pass_with policy old ids layout answers) (old_count (pass_with policy old ids layout answers)) ++ added_below (pass_with policy old ids layout answers) (old_count (pass_with policy old ids layout answers))
+  records_are : new.records ≡ ruled_below (pass_of policy old ids layout answers) (old_count (pass_of policy old ids layout answers)) ++ added_below (pass_of policy old ids layout answers) (old_count (pass_of policy old ids layout answers))
   records_are = ap (λ (t : Table). t.records) is.table
 
-  pub new_at : (id : ℕ) → id < old_count (pass_with policy old ids layout answers) → slice_get new.records id ≡ Some (becomes (pass_with policy old ids layout answers) id)
+  pub new_at : (id : ℕ) → id < old_count (pass_of policy old ids layout answers) → slice_get new.records id ≡ Some (becomes (pass_of policy old ids layout answers) id)
   new_at id lt =
-      let p : Pass = pass_with policy old ids layout answers in
+      let p : Pass = pass_of policy old ids layout answers in
       let within : id < length (ruled_below p (old_count p)) = omega (arith, lt, length-ruled p (old_count p)) in
       ap (λ (rs : List Record). slice_get rs id) records_are ∙ slice_get-append_left (ruled_below p (old_count p)) (added_below p (old_count p)) id within ∙ ruled_at p (old_count p) id lt
 
-  pub record_new : (id : ℕ) → id < old_count (pass_with policy old ids layout answers) → record_at new id ≡ becomes (pass_with policy old ids layout answers) id
+  pub record_new : (id : ℕ) → id < old_count (pass_of policy old ids layout answers) → record_at new id ≡ becomes (pass_of policy old ids layout answers) id
   record_new id lt = ap (λ (o : Option Record). unwrap_or o unknown) (new_at id lt)
 
-  pub fallback_new : (id : ℕ) → id < old_count (pass_with policy old ids layout answers) → slice_get new.fallbacks id ≡ Some (falls_back (pass_with policy old ids layout answers) id)
+  pub fallback_new : (id : ℕ) → id < old_count (pass_of policy old ids layout answers) → slice_get new.fallbacks id ≡ Some (falls_back (pass_of policy old ids layout answers) id)
   fallback_new id lt =
-      let p : Pass = pass_with policy old ids layout answers in
+      let p : Pass = pass_of policy old ids layout answers in
       let each : List (Option Fallback) = map (falls_back p) (table_ids p.table) in
       let len : length each ≡ old_count p = length-map-range_with_len (falls_back p) 0 (old_count p) in
       let within : id < length each = omega (arith, lt, len) in
@@ -78,11 +78,11 @@ union_kind p lower id k r is denied =
 left_fallback : (p : Pass) (k : Option Kind) (r : Record) (before : Option Fallback) → k ≡ Some kinds.Enum64 → has p features.Enum64 ≡ false → falls_back_by p k r before ≡ Some (fallback_of r)
 left_fallback p k r before is denied = ap (λ (j : Option Kind). falls_back_by p j r before) is ∙ ap (λ (b : Bool). if b then before else Some (fallback_of r)) denied
 
-pub enum64_kept : (policy : FillPolicy) (old new : Table) (ids : Option KsymsIds) (layout : Layout) (answers : List FeatureAnswer) → RewrittenWith policy old ids layout answers new
+pub enum64_kept : (policy : FillPolicy) (old new : Table) (ids : Option KsymsIds) (layout : Layout) (answers : List FeatureAnswer) → Rewritten policy old ids layout answers new
     → (id : ℕ) → id < length (begun old ids).records → kind_at (begun old ids) id ≡ Some kinds.Enum64 → grants answers features.Enum64 ≡ false
     → (kind_at new id ≡ Some kinds.Union) × (slice_get new.fallbacks id ≡ Some (Some (fallback_of (record_at (begun old ids) id))))
 enum64_kept policy old new ids layout answers is id lt kind denied =
-    let p : Pass = pass_with policy old ids layout answers in
+    let p : Pass = pass_of policy old ids layout answers in
     let r : Record = record_at p.table id in (
       ap (λ (q : Record). kind_of q.info) (record_new policy old new ids layout answers is id lt) ∙ union_kind p (ruled_below p id) id (kind_at p.table id) r kind denied,
       fallback_new policy old new ids layout answers is id lt

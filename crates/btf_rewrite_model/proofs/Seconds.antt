@@ -17,7 +17,7 @@ use Rattle.btf_rewrite_model.specs.declared.feature.BtfFeature.{BtfFeature}
 use Rattle.btf_rewrite_model.specs.Made.{record_at, kind_at, table_ids, byte_int, static_var}
 use Rattle.btf_rewrite_model.specs.Pass.{Pass, makes_placeholder, makes_filler, offset_at, filler_offset, filler, filler_type_text, texts, texts_below, added_by, added_below, asks, asks_below}
 use Rattle.btf_rewrite_model.specs.Rule.{becomes, ruled_below, falls_back}
-use Rattle.btf_rewrite_model.specs.Rewritten.{pass_with, old_count, ended, rewritten, AreRuled}
+use Rattle.btf_rewrite_model.specs.Rewritten.{pass_of, old_count, ended, rewritten, AreRuled}
 use Rattle.btf_rewrite_model.specs.RewriteLaws.{IsAmong, SecondRewriteChangesNothing}
 use Rattle.btf_rewrite_model.proofs.Ruled.{length-ruled, ruled_at}
 use Rattle.btf_rewrite_model.proofs.GrantedAll.{has_granted, of_either, each_of, all_of_both}
@@ -112,8 +112,8 @@ no_fallbacks_len (r ∷ rs) = ap suc (no_fallbacks_len rs)
 
 pub changes_nothing : SecondRewriteChangesNothing
 changes_nothing policy old new layout answers again some is sized granted =
-    let p : Pass = pass_with policy old None layout answers in
-    let q : Pass = pass_with policy new None layout again in
+    let p : Pass = pass_of policy old None layout answers in
+    let q : Pass = pass_of policy new None layout again in
     let n : ℕ = old_count p in
     let records : new.records ≡ ruled_below p n ++ added_below p n = ap (λ (t : Table). t.records) is.table in
     let strings : new.strings ≡ after p n = ap (λ (t : Table). t.strings) is.table in

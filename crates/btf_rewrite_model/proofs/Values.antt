@@ -22,7 +22,7 @@ use Rattle.btf_rewrite_model.specs.Ksyms.{appends_int, each_stepped, int_text}
 use Rattle.btf_rewrite_model.specs.declared.ksyms_ids.KsymsIds.{KsymsIds}
 use Rattle.btf_rewrite_model.specs.Pass.{Pass, Layout, has, texts_below}
 use Rattle.btf_rewrite_model.specs.Rule.{becomes, becomes_by, ruled_below, falls_back, falls_back_by, variant_members, placeholder_id}
-use Rattle.btf_rewrite_model.specs.Rewritten.{begun, ended, old_count, pass_with, RewrittenWith}
+use Rattle.btf_rewrite_model.specs.Rewritten.{begun, ended, old_count, pass_of, Rewritten}
 use Rattle.btf_rewrite_model.specs.RewriteLaws.{keeps_size}
 use Rattle.btf_model.proofs.Blobs.{slice_get-append_left}
 use Rattle.btf_model.proofs.Texts.{text_stays}
@@ -91,10 +91,10 @@ finds_too strings strings' name stays vs None finds = others_too strings strings
 finds_too strings strings' name stays vs (Some value) finds =
     (finds.0, (finds.1.0, finds.1.1, finds.1.2, others_too strings strings' name stays finds.1.0 finds.1.3), stays finds.0.name name finds.2, finds.3)
 
-module _ (policy : FillPolicy) (old new : Table) (ids : Option KsymsIds) (layout : Layout) (answers : List FeatureAnswer) (is : RewrittenWith policy old ids layout answers new) where
+module _ (policy : FillPolicy) (old new : Table) (ids : Option KsymsIds) (layout : Layout) (answers : List FeatureAnswer) (is : Rewritten policy old ids layout answers new) where
   texts_stay : (offset : ℕ) (text : List ℕ) → text_at old.strings offset ≡ Ok text → text_at new.strings offset ≡ Ok text
   texts_stay offset text reads =
-      let p : Pass = pass_with policy old ids layout answers in
+      let p : Pass = pass_of policy old ids layout answers in
       let added : List ℕ = flat_map ended (texts_below p (old_count p)) in
       let first = begun_strings old ids in
       let strings_are : new.strings ≡ (old.strings ++ first.0) ++ added = ap (λ (t : Table). t.strings) is.table ∙ ap (λ xs. xs ++ added) first.1 in
@@ -102,7 +102,7 @@ module _ (policy : FillPolicy) (old new : Table) (ids : Option KsymsIds) (layout
 
   variants_stay : (id : ℕ) (vs : List Variant) → HasVariants old id (Ok vs) → HasVariants new id (Ok vs)
   variants_stay id vs h =
-      let p : Pass = pass_with policy old ids layout answers in
+      let p : Pass = pass_of policy old ids layout answers in
       let r : Record = h.0 in
       let same : begun_record old ids id r ≡ r = begun_same old ids id r (variants_keep id vs (kind_of r.info) r h.1 h.4) in
       let here : slice_get p.table.records id ≡ Some r = begun_at old ids id r h.2 ∙ ap (λ (q : Record). Some q) same in

@@ -26,6 +26,7 @@ abbrev pub is_record : ℕ → Option Record → Check
 is_record id (Some r) = None
 is_record id None = Some (UnknownBtfType id)
 
+-- a type has the id
 abbrev pub is_known : Table → ℕ → Check
 is_known t id = is_record id (slice_get t.records id)
 

@@ -21,6 +21,7 @@ number DeclTag = 5
 number TypeTag = 6
 number Enum64 = 7
 
+-- the two features are one
 abbrev pub same_feature : BtfFeature → BtfFeature → Bool
 same_feature f g = number f == number g
 
@@ -30,6 +31,7 @@ abbrev pub grants : List FeatureAnswer → BtfFeature → Bool
 grants [] f = false
 grants (answer ∷ answers) f = if same_feature answer.feature f then answer.granted else grants answers f
 
+-- a DATASEC that has a size and no entries is filled
 abbrev pub fills_sized : FillPolicy → Bool
 fills_sized KeepSized = false
 fills_sized FillSized = true

@@ -28,6 +28,7 @@ abbrev pub appends_int : Table → Option ℕ → Bool
 appends_int t (Some placeholder) = false
 appends_int t None = int_of_4 t == length t.records
 
+-- the name of the INT that the step appends
 abbrev pub int_text : List ℕ
 int_text = codes "int"
 
@@ -36,6 +37,7 @@ abbrev pub symbol_type : Table → Option ℕ → ℕ
 symbol_type t (Some placeholder) = (record_at t placeholder).third
 symbol_type t None = int_of_4 t
 
+-- the entries of the DATASEC of the symbols
 abbrev pub symbols : Table → KsymsIds → List Entry
 symbols t ids = entries (record_at t ids.datasec_id).tail
 
@@ -43,6 +45,7 @@ symbols t ids = entries (record_at t ids.datasec_id).tail
 abbrev pub names : Table → KsymsIds → ℕ → Bool
 names t ids id = list_any (λ e. e.type == id) (symbols t ids)
 
+-- the kind is FUNC
 abbrev pub is_func : Option Kind → Bool
 is_func (Some Func) = true
 is_func k = false
@@ -95,6 +98,7 @@ abbrev pub is_var : Option Kind → Check
 is_var (Some Var) = None
 is_var k = Some InvalidDatasec
 
+-- the kind is DATASEC
 abbrev pub is_data_sec : Option Kind → Check
 is_data_sec (Some DataSec) = None
 is_data_sec k = Some InvalidDatasec
@@ -106,6 +110,7 @@ placeholder_checks t None =
     if appends_int t None then has_room (length t.strings) int_text
     ∷ fits (length (type_bytes t)) (record_len (c_int 0)) ∷ [] else []
 
+-- the id has a type, a DATASEC, whose name can be read
 abbrev pub data_sec_checks : Table → ℕ → List Check
 data_sec_checks t id =
     is_known t id ∷ is_data_sec (kind_at t id) ∷ is_read (text_at t.strings (record_at t id).name) ∷ []
@@ -117,6 +122,7 @@ symbol_checks t placeholder (Some Func) r =
 symbol_checks t placeholder (Some Var) r = is_read (text_at t.strings r.name) ∷ []
 symbol_checks t placeholder k r = Some InvalidDatasec ∷ []
 
+-- the checks of an entry: its type is there, and is a symbol
 abbrev pub ksyms_entry_checks : Table → Option ℕ → Entry → List Check
 ksyms_entry_checks t placeholder e = is_known t e.type ∷ symbol_checks t placeholder (kind_at t e.type) (record_at t e.type)
 

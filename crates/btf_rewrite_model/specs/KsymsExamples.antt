@@ -5,6 +5,7 @@ use lib.Utf8.{encode}
 use Rattle.btf_model.specs.Record.{Record, unknown}
 use Rattle.btf_model.specs.Refusal.{InvalidDatasec, InvalidStringOffset, UnknownBtfType}
 use Rattle.btf_model.specs.Table.{Table}
+use Rattle.btf_rewrite_model.specs.declared.feature.FillPolicy.TheVariants.{KeepSized}
 use Rattle.btf_rewrite_model.specs.declared.feature.BtfFeature.TheVariants as features
 use Rattle.btf_rewrite_model.specs.declared.feature.BtfFeature.{BtfFeature}
 use Rattle.btf_rewrite_model.specs.Ksyms.{ksyms_table, ksyms_fault}
@@ -82,7 +83,7 @@ own_entry_is_no_symbol = refl
 
 -- the strings end without a zero byte: 0x66 is no text, until "int" and its zero byte are appended after it
 abbrev open_ended : Option KsymsIds → Pass
-open_ended given = pass_of (record (table_of (record { name = 0; info = 0x0f000000; third = 0; tail = [] } ∷ func 1 0 0 ∷ [])) { strings = 0 ∷ 0x66 ∷ [] }) given no_layout []
+open_ended given = pass_of KeepSized (record (table_of (record { name = 0; info = 0x0f000000; third = 0; tail = [] } ∷ func 1 0 0 ∷ [])) { strings = 0 ∷ 0x66 ∷ [] }) given no_layout []
 
 -- after the step the name of FUNC 2 is "fint"
 read_behind_the_step : (fault (open_ended (Some (ids 1 None))) 2 ≡ None)

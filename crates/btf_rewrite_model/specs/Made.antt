@@ -12,6 +12,7 @@ use Rattle.btf_rewrite_model.specs.Feature.{is_signed}
 abbrev pub record_at : Table → ℕ → Record
 record_at t id = unwrap_or (slice_get t.records id) unknown
 
+-- the kind of the record of an id
 abbrev pub kind_at : Table → ℕ → Option Kind
 kind_at t id = kind_of (record_at t id).info
 
@@ -32,6 +33,7 @@ abbrev pub entries : List ℕ → List Entry
 entries (type ∷ offset ∷ size ∷ words) = record { type = type; offset = offset; size = size } ∷ entries words
 entries words = []
 
+-- the words of an entry
 abbrev pub entry_words : Entry → List ℕ
 entry_words e = e.type ∷ e.offset ∷ e.size ∷ []
 
@@ -53,12 +55,15 @@ byte_int name = record { name = name; info = 2 ^ 24; third = 1; tail = 8 ∷ [] 
 abbrev pub c_int : ℕ → Record
 c_int name = record { name = name; info = 2 ^ 24; third = 4; tail = (2 ^ 24 + 32) ∷ [] }
 
+-- a VAR of Static linkage
 abbrev pub static_var : ℕ → ℕ → Record
 static_var name type = record { name = name; info = 14 * 2 ^ 24; third = type; tail = 0 ∷ [] }
 
+-- a CONST
 abbrev pub const : ℕ → Record
 const type = record { name = 0; info = 10 * 2 ^ 24; third = type; tail = [] }
 
+-- a TYPEDEF
 abbrev pub typedef : ℕ → ℕ → Record
 typedef name type = record { name = name; info = 8 * 2 ^ 24; third = type; tail = [] }
 

@@ -32,9 +32,11 @@ pub record Pass : Type 0 where
   pub policy : FillPolicy
   pub answers : List FeatureAnswer
 
+-- the kernel has a feature, by the answers
 abbrev pub has : Pass → BtfFeature → Bool
 has p feature = grants p.answers feature
 
+-- the name of the record of an id, or why it cannot be read
 abbrev pub name_of : Pass → ℕ → Result (List ℕ) Refusal
 name_of p id = text_at p.table.strings (record_at p.table id).name
 
@@ -57,9 +59,11 @@ is_least test n = test n && (least test n == n)
 abbrev pub slash : ℕ
 slash = 0x2f
 
+-- the byte of `.`
 abbrev pub dot : ℕ
 dot = 0x2e
 
+-- the byte of `_`
 abbrev pub underscore : ℕ
 underscore = 0x5f
 
@@ -84,6 +88,7 @@ abbrev pub size_by_name : Pass → Result (List ℕ) Refusal → Option ℕ
 size_by_name p (Ok name) = in_a_word (p.layout.sections name)
 size_by_name p (Err refusal) = None
 
+-- the size of the section that an id has the name of, if it is known and has 32 bits
 abbrev pub section_size : Pass → ℕ → Option ℕ
 section_size p id = size_by_name p (name_of p id)
 
@@ -92,6 +97,7 @@ abbrev pub symbol_by_name : Pass → Result (List ℕ) Refusal → Option ℕ
 symbol_by_name p (Ok name) = in_a_word (p.layout.symbols name)
 symbol_by_name p (Err refusal) = None
 
+-- the offset of the symbol that an id has the name of, if it is known and has 32 bits
 abbrev pub symbol_offset : Pass → ℕ → Option ℕ
 symbol_offset p id = symbol_by_name p (name_of p id)
 
@@ -127,14 +133,17 @@ gets_filler p id = has p features.DataSec && (fills_sized_one p id || fills_unsi
 abbrev pub makes_filler : Pass → ℕ → Bool
 makes_filler p id = is_least (gets_filler p) id
 
+-- the name of the filler's INT
 abbrev pub filler_type_text : List ℕ
 filler_type_text = codes "__aya_datasec_filler_type"
 
+-- the name of the filler's VAR
 abbrev pub filler_text : List ℕ
 filler_text = codes "__aya_datasec_filler"
 
 -- ---- the placeholder of ENUM64s
 
+-- the kind is ENUM64
 abbrev pub is_enum64 : Option Kind → Bool
 is_enum64 (Some kinds.Enum64) = true
 is_enum64 k = false
@@ -147,6 +156,7 @@ wants_placeholder p id = is_enum64 (kind_at p.table id) && not (has p features.E
 abbrev pub makes_placeholder : Pass → ℕ → Bool
 makes_placeholder p id = is_least (wants_placeholder p) id
 
+-- the name of the INT of one byte
 abbrev pub placeholder_text : List ℕ
 placeholder_text = codes "enum64_placeholder"
 
@@ -170,6 +180,7 @@ texts_by p id (Some kinds.DataSec) r =
     renaming p (name_of p id) ++ (if makes_filler p id then filler_type_text ∷ filler_text ∷ [] else [])
 texts_by p id k r = []
 
+-- the texts that an id appends, by its record
 abbrev pub texts : Pass → ℕ → List (List ℕ)
 texts p id = texts_by p id (kind_at p.table id) (record_at p.table id)
 
@@ -213,6 +224,7 @@ added_below p (suc id) = with_added p id (added_below p id)
 abbrev pub free_id : Pass → ℕ → ℕ
 free_id p id = length p.table.records + length (added_below p id)
 
+-- the records that an id appends
 abbrev pub added : Pass → ℕ → List Record
 added p id = added_by p (free_id p id) id (kind_at p.table id)
 
@@ -231,6 +243,7 @@ type_len_at p id = length (type_bytes p.table) + sum_by record_len (added_below 
 abbrev pub builtins : List (List ℕ)
 builtins = codes "memset" ∷ codes "memcpy" ∷ codes "memmove" ∷ codes "memcmp" ∷ []
 
+-- the name is one of these
 abbrev pub is_builtin : List ℕ → Bool
 is_builtin name = list_any (bytes_eq name) builtins
 
@@ -239,6 +252,7 @@ abbrev pub func_asks : Pass → Record → Result (List ℕ) Refusal → List Bt
 func_asks p r (Ok name) = if has p features.Func && is_global r && not (is_builtin name) then features.Func ∷ features.FuncGlobal ∷ [] else features.Func ∷ []
 func_asks p r (Err refusal) = []
 
+-- the size is known, and is not 0
 abbrev pub is_positive : Option ℕ → Bool
 is_positive (Some size) = not (size == 0)
 is_positive None = false
@@ -276,6 +290,7 @@ asks_by p id (Some kinds.FuncProto) r = features.Func ∷ []
 asks_by p id (Some kinds.DataSec) r = data_sec_asks p id r
 asks_by p id k r = []
 
+-- the features that an id asks for, in order
 abbrev pub asks : Pass → ℕ → List BtfFeature
 asks p id = asks_by p id (kind_at p.table id) (record_at p.table id)
 

@@ -35,6 +35,7 @@ strings_of texts = 0 ∷ flat_map (λ text. text ++ 0 ∷ []) texts
 abbrev pub named_table : List (List ℕ) → List Record → Table
 named_table texts rs = record (table_of rs) { strings = strings_of texts }
 
+-- answers that grant these features, and no others
 abbrev pub granted : List BtfFeature → List FeatureAnswer
 granted fs = map (λ feature. record { feature = feature; granted = true }) fs
 

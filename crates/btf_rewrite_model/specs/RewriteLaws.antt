@@ -20,7 +20,7 @@ use Rattle.btf_rewrite_model.specs.declared.ksyms_ids.KsymsIds.{KsymsIds}
 use Rattle.btf_rewrite_model.specs.Pass.{Pass, Layout, has, name_checks, asks, asks_below, Asked, texts_below, added_below, fills_unsized, gets_filler, growth_below, unsized_asks_zero, data_sec_asks}
 use Rattle.btf_rewrite_model.specs.Rule.{becomes, ruled_below, new_name}
 use Rattle.btf_rewrite_model.specs.Fault.{fault}
-use Rattle.btf_rewrite_model.specs.Rewritten.{begun, pass_with, AreRuled, RewrittenWith}
+use Rattle.btf_rewrite_model.specs.Rewritten.{begun, pass_of, AreRuled, Rewritten}
 
 -- a feature is among these
 abbrev pub IsAmong : BtfFeature → List BtfFeature → Type 0
@@ -43,8 +43,8 @@ IsGrantedOnce answers f =
 abbrev pub GrantedFeaturesSuffice : Type 0
 GrantedFeaturesSuffice =
     (policy : FillPolicy) (old new : Table) (ids : Option KsymsIds) (layout : Layout) (answers : List FeatureAnswer)
-    → RewrittenWith policy old ids layout answers new
-    → map (λ (answer : FeatureAnswer). answer.feature) answers ≡ Asked (pass_with policy old ids layout answers)
+    → Rewritten policy old ids layout answers new
+    → map (λ (answer : FeatureAnswer). answer.feature) answers ≡ Asked (pass_of policy old ids layout answers)
     → (id : ℕ) (r : Record) → slice_get new.records id ≡ Some r → (f : BtfFeature)
     → IsAmong f (needs policy (record_at (begun old ids) id) r) → IsGrantedOnce answers f
 
@@ -59,7 +59,7 @@ pub record RecordLengthsStay : Type 0 where
 abbrev pub Enum64KeepsItsValues : Type 0
 Enum64KeepsItsValues =
     (policy : FillPolicy) (old new : Table) (ids : Option KsymsIds) (layout : Layout) (answers : List FeatureAnswer)
-    → RewrittenWith policy old ids layout answers new
+    → Rewritten policy old ids layout answers new
     → (id : ℕ) → id < length (begun old ids).records → kind_at (begun old ids) id ≡ Some kinds.Enum64
     → grants answers features.Enum64 ≡ false
     → (kind_at new id ≡ Some kinds.Union)
@@ -82,7 +82,7 @@ FindsKept t at found = (keeps_size (kind_at t at.type) ≡ true) × (size_in at 
 abbrev pub SizesStay : Type 0
 SizesStay =
     (policy : FillPolicy) (old new : Table) (ids : Option KsymsIds) (layout : Layout) (answers : List FeatureAnswer)
-    → RewrittenWith policy old ids layout answers new
+    → Rewritten policy old ids layout answers new
     → (id size : ℕ) → WalkAnswers (FindsKept old) (record { count = 1; type = id }) (λ _. MaximumTypeDepthReached id)
     (Ok size) → HasSize new.records id (Ok size)
 
@@ -90,7 +90,7 @@ SizesStay =
 abbrev pub ResolutionsStay : Type 0
 ResolutionsStay =
     (policy : FillPolicy) (old new : Table) (ids : Option KsymsIds) (layout : Layout) (answers : List FeatureAnswer)
-    → RewrittenWith policy old ids layout answers new
+    → Rewritten policy old ids layout answers new
     → (id end : ℕ) → Resolves old.records id (Ok end) → kind_at old end ≢ Some kinds.Func
     → Resolves new.records id (Ok end)
 
@@ -98,7 +98,7 @@ ResolutionsStay =
 abbrev pub VariantValueStays : Type 0
 VariantValueStays =
     (policy : FillPolicy) (old new : Table) (ids : Option KsymsIds) (layout : Layout) (answers : List FeatureAnswer)
-    → RewrittenWith policy old ids layout answers new
+    → Rewritten policy old ids layout answers new
     → (id : ℕ) (name : List ℕ) (found : Option ℕ) → Value old id name (Ok found) → Value new id name (Ok found)
 
 -- A pass appends three types at most: that of the members of UNIONs which were ENUM64s, and the two of the filler. The
@@ -108,7 +108,7 @@ pub record FewTypesAreAppended : Type 0 where
   pub in_the_step : (t : Table) (ids : Option KsymsIds) → (length t.records ≤ length (begun t ids).records)
       × (length (begun t ids).records ≤ length t.records + 1)
   pub in_a_rewrite : (policy : FillPolicy) (old new : Table) (ids : Option KsymsIds) (layout : Layout)
-      (answers : List FeatureAnswer) → RewrittenWith policy old ids layout answers new
+      (answers : List FeatureAnswer) → Rewritten policy old ids layout answers new
       → (length old.records ≤ length new.records) × (length new.records ≤ length old.records + 4)
 
 -- the same pass under other answers
@@ -142,11 +142,11 @@ pub record OtherAnswersChangeNothing : Type 0 where
 abbrev pub SecondRewriteChangesNothing : Type 0
 SecondRewriteChangesNothing =
     (policy : FillPolicy) (old new : Table) (layout : Layout) (answers again : List FeatureAnswer) → 0 < length old.strings
-    → RewrittenWith policy old None layout answers new
+    → Rewritten policy old None layout answers new
     → ((id : ℕ) → kind_at new id ≡ Some kinds.DataSec → (record_at new id).third ≢ 0)
-    → ((f : BtfFeature) → IsAmong f (asks_below (pass_with policy new None layout again) (length new.records))
+    → ((f : BtfFeature) → IsAmong f (asks_below (pass_of policy new None layout again) (length new.records))
     → grants answers f ≡ true → grants again f ≡ true)
-    → RewrittenWith policy new None layout again new
+    → Rewritten policy new None layout again new
 
 -- Where DATASECs that have a size are kept, each definition says what it says without the policy: one that has a size
 -- needs and asks for the one feature, gets no filler, and keeps all but its name, if that can be read and the new one

@@ -20,17 +20,15 @@ abbrev pub begun : Table → Option KsymsIds → Table
 begun t (Some ids) = ksyms_table t ids
 begun t None = t
 
+-- why the step of `.ksyms` is refused, if it is
 abbrev pub step_fault : Table → Option KsymsIds → Option Refusal
 step_fault t (Some ids) = ksyms_fault t ids
 step_fault t None = None
 
-abbrev pub pass_with : FillPolicy → Table → Option KsymsIds → Layout → List FeatureAnswer → Pass
-pass_with policy t ids layout answers =
+-- the pass of a rewrite under a policy: over the table after the step
+abbrev pub pass_of : FillPolicy → Table → Option KsymsIds → Layout → List FeatureAnswer → Pass
+pass_of policy t ids layout answers =
     record { table = begun t ids; layout = layout; policy = policy; answers = answers }
-
--- one that keeps DATASECs which have a size, as aya-obj does
-abbrev pub pass_of : Table → Option KsymsIds → Layout → List FeatureAnswer → Pass
-pass_of = pass_with KeepSized
 
 -- the number of ids that a pass goes over
 abbrev pub old_count : Pass → ℕ
@@ -54,24 +52,18 @@ abbrev pub AreRuled : Pass → ℕ → Type 0
 AreRuled p end = (id : ℕ) → id < end → fault p id ≡ None
 
 -- The table is rewritten as the new one, under this policy.
-pub record RewrittenWith (policy : FillPolicy) (old : Table) (ids : Option KsymsIds) (layout : Layout)
+pub record Rewritten (policy : FillPolicy) (old : Table) (ids : Option KsymsIds) (layout : Layout)
     (answers : List FeatureAnswer) (new : Table) : Type 0 where
   pub step : step_fault old ids ≡ None
-  pub ruled : AreRuled (pass_with policy old ids layout answers) (old_count (pass_with policy old ids layout answers))
-  pub table : new ≡ rewritten (pass_with policy old ids layout answers)
-
-abbrev pub Rewritten : Table → Option KsymsIds → Layout → List FeatureAnswer → Table → Type 0
-Rewritten = RewrittenWith KeepSized
+  pub ruled : AreRuled (pass_of policy old ids layout answers) (old_count (pass_of policy old ids layout answers))
+  pub table : new ≡ rewritten (pass_of policy old ids layout answers)
 
 -- The pass is refused at the least id that has a fault.
 abbrev pub FaultsAt : Pass → ℕ → Refusal → Type 0
 FaultsAt p id refusal = (id < old_count p) × AreRuled p id × (fault p id ≡ Some refusal)
 
 -- The rewrite is refused: in the step of `.ksyms`, or else in the pass.
-abbrev pub IsRefusedWith : FillPolicy → Table → Option KsymsIds → Layout → List FeatureAnswer → Refusal → Type 0
-IsRefusedWith policy old ids layout answers refusal =
+abbrev pub IsRefused : FillPolicy → Table → Option KsymsIds → Layout → List FeatureAnswer → Refusal → Type 0
+IsRefused policy old ids layout answers refusal =
     (step_fault old ids ≡ Some refusal)
-    ⊎ ((step_fault old ids ≡ None) × ((id : ℕ) × FaultsAt (pass_with policy old ids layout answers) id refusal))
-
-abbrev pub IsRefused : Table → Option KsymsIds → Layout → List FeatureAnswer → Refusal → Type 0
-IsRefused = IsRefusedWith KeepSized
+    ⊎ ((step_fault old ids ≡ None) × ((id : ℕ) × FaultsAt (pass_of policy old ids layout answers) id refusal))

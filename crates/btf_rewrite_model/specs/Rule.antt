@@ -43,6 +43,7 @@ abbrev pub name_or : ℕ → ℕ → List (List ℕ) → ℕ
 name_or old offset [] = old
 name_or old offset (text ∷ texts) = offset
 
+-- the string offset of the new name of an id
 abbrev pub new_name : Pass → ℕ → Record → ℕ
 new_name p id r = name_or r.name (offset_at p id) (renaming p (name_of p id))
 
@@ -112,6 +113,7 @@ abbrev pub ruled_below : Pass → ℕ → List Record
 ruled_below p zero = []
 ruled_below p (suc id) = with_ruled p id (ruled_below p id)
 
+-- the record that the record of an id becomes
 abbrev pub becomes : Pass → ℕ → Record
 becomes p id = becomes_by p (ruled_below p id) id (kind_at p.table id) (record_at p.table id)
 
@@ -120,6 +122,7 @@ abbrev pub falls_back_by : Pass → Option Kind → Record → Option Fallback �
 falls_back_by p (Some kinds.Enum64) r old = if has p features.Enum64 then old else Some (fallback_of r)
 falls_back_by p k r old = old
 
+-- the fallback that an id has after the pass
 abbrev pub falls_back : Pass → ℕ → Option Fallback
 falls_back p id =
     falls_back_by p (kind_at p.table id) (record_at p.table id) (unwrap_or (slice_get p.table.fallbacks id) None)

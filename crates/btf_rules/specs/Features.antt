@@ -32,6 +32,7 @@ AsksFor step feature (Some told) old answer new = (answer ≡ told) × (new ≡ 
 AsksFor step feature None old answer new =
     step old.0 feature answer new.0 × (new.1 ≡ old.1 ++ record { feature = feature; granted = answer } ∷ [])
 
+-- the same, by what was answered for the feature
 abbrev pub Asks : {F : Type 0} → (F → BtfFeature → Bool → F → Type 0) → BtfFeature → F × List FeatureAnswer → Bool → F
     × List FeatureAnswer → Type 0
 Asks step feature old answer new = AsksFor step feature (told old.1 feature) old answer new

@@ -18,6 +18,7 @@ denied_by (Some kinds.Enum) r = unsigned r
 denied_by (Some kinds.Func) r = typedef r.name r.third
 denied_by k r = r
 
+-- the record that a record becomes where the kernel lacks its one feature
 abbrev pub denied : Record → Record
 denied r = denied_by (kind_of r.info) r
 

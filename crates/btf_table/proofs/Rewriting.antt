@@ -10,7 +10,7 @@ use Rattle.btf_rewrite_model.specs.declared.feature.FillPolicy.{FillPolicy}
 use Rattle.btf_rewrite_model.specs.Ksyms.{appends_int, each_stepped, int_text}
 use Rattle.btf_rewrite_model.specs.declared.ksyms_ids.KsymsIds.{KsymsIds}
 use Rattle.btf_rewrite_model.specs.Made.{c_int}
-use Rattle.btf_rewrite_model.specs.Rewritten.{begun, pass_with, step_fault, RewrittenWith}
+use Rattle.btf_rewrite_model.specs.Rewritten.{begun, pass_of, step_fault, Rewritten}
 use Rattle.btf_rewrite_model.proofs.GrantedAll.{suffice}
 use Rattle.btf_rewrite_model.proofs.FewAdded.{few_in_a_rewrite}
 use Rattle.btf_rewrite_model.proofs.Kept as kept
@@ -19,23 +19,23 @@ use Rattle.btf_model.proofs.Blobs.{same_table}
 use Rattle.btf_words.specs.declared.error.BtfError.{BtfError}
 use Rattle.btf_words.specs.Error.{MeetsOrNoMemory, refusal_of}
 use Rattle.btf_table.specs.PassStep.{Given, pass_on}
-use Rattle.btf_table.specs.Rewrites.{RewritesWith, Sanitizes, NeedsAreGrantedWith, KeepsSizes, KeepsResolutions, KeepsValues, AppendsAtMost, OfTables}
+use Rattle.btf_table.specs.Rewrites.{Rewrites, Sanitizes, NeedsAreGranted, KeepsSizes, KeepsResolutions, KeepsValues, AppendsAtMost, OfTables}
 
 -- a pass over the table as it begins, after the step
-sanitized : {X : Type 0} (old new : Table) (k : Option KsymsIds) (given : Given) (answers : List FeatureAnswer) (r : Result X Refusal) → step_fault old k ≡ None → Sanitizes (pass_with given.policy old k given.layout answers) new r → RewritesWith given.policy old k given.layout answers new r
+sanitized : {X : Type 0} (old new : Table) (k : Option KsymsIds) (given : Given) (answers : List FeatureAnswer) (r : Result X Refusal) → step_fault old k ≡ None → Sanitizes (pass_of given.policy old k given.layout answers) new r → Rewrites given.policy old k given.layout answers new r
 sanitized old new k given answers (Ok x) step s = (record { step = step; ruled = s.0; table = s.1 }, s.2)
 sanitized old new k given answers (Err refusal) step s = inr (step, s)
 
-pub stepped_by : {X : Type 0} (old t new : Table) (k : Option KsymsIds) (given : Given) (answers : List FeatureAnswer) (r : Result X Refusal) → step_fault old k ≡ None → t ≡ begun old k → Sanitizes (pass_on t given answers) new r → RewritesWith given.policy old k given.layout answers new r
+pub stepped_by : {X : Type 0} (old t new : Table) (k : Option KsymsIds) (given : Given) (answers : List FeatureAnswer) (r : Result X Refusal) → step_fault old k ≡ None → t ≡ begun old k → Sanitizes (pass_on t given answers) new r → Rewrites given.policy old k given.layout answers new r
 stepped_by old t new k given answers r step is s = sanitized old new k given answers r step (subst (λ u. Sanitizes (pass_on u given answers) new r) is s)
 
 -- the same of what a call returns
 pub rewrites_by : {X Y : Type 0} (view : X → Y) (r : Result X BtfError) (old t new : Table) (k : Option KsymsIds) (given : Given) (answers : List FeatureAnswer) → step_fault old k ≡ None → t ≡ begun old k
-    → MeetsOrNoMemory view r (Sanitizes (pass_on t given answers) new) → MeetsOrNoMemory view r (RewritesWith given.policy old k given.layout answers new)
+    → MeetsOrNoMemory view r (Sanitizes (pass_on t given answers) new) → MeetsOrNoMemory view r (Rewrites given.policy old k given.layout answers new)
 rewrites_by view (Ok x) old t new k given answers step is told = stepped_by old t new k given answers (Ok (view x)) step is told
 rewrites_by {X} {Y} view (Err e) old t new k given answers step is told = refused (refusal_of e) told
   where
-    refused : (o : Option Refusal) → IfSome o (λ f. Sanitizes {X = Y} (pass_on t given answers) new (Err f)) → IfSome o (λ f. RewritesWith {X = Y} given.policy old k given.layout answers new (Err f))
+    refused : (o : Option Refusal) → IfSome o (λ f. Sanitizes {X = Y} (pass_on t given answers) new (Err f)) → IfSome o (λ f. Rewrites {X = Y} given.policy old k given.layout answers new (Err f))
     refused None none = tt
     refused (Some f) one = stepped_by {X = Y} old t new k given answers (Err f) step is one
 
@@ -43,14 +43,14 @@ rewrites_by {X} {Y} view (Err e) old t new k given answers step is told = refuse
 
 -- What a rewrite grants and keeps.
 pub record Keeps (policy : FillPolicy) (old : Table) (k : Option KsymsIds) (answers : List FeatureAnswer) (new : Table) : Type 0 where
-  pub granted : NeedsAreGrantedWith policy old k answers new
+  pub granted : NeedsAreGranted policy old k answers new
   pub sizes : KeepsSizes old new
   pub resolutions : KeepsResolutions old new
   pub values : KeepsValues old new
   pub appended : AppendsAtMost 4 old new
 
 -- one that succeeds does
-pub keeps_of : {X : Type 0} (old new : Table) (k : Option KsymsIds) (given : Given) (answers : List FeatureAnswer) (x : X) → RewritesWith given.policy old k given.layout answers new (Ok x) → Keeps given.policy old k answers new
+pub keeps_of : {X : Type 0} (old new : Table) (k : Option KsymsIds) (given : Given) (answers : List FeatureAnswer) (x : X) → Rewrites given.policy old k given.layout answers new (Ok x) → Keeps given.policy old k answers new
 keeps_of old new k given answers x h = record {
   granted = suffice given.policy old new k given.layout answers h.0 h.1;
   sizes = kept.sizes_stay given.policy old new k given.layout answers h.0;
@@ -75,11 +75,11 @@ begun_order old None = refl
 begun_order old (Some ids) =
     elim (appends_int old ids.placeholder_id) as (λ (b : Bool). (if b then with_type (c_int (length old.strings)) None (with_string int_text (each_stepped old ids)) else each_stepped old ids).order ≡ old.order) [ true ↦ refl | false ↦ refl ]
 
-pub rewritten_order : (old new : Table) (k : Option KsymsIds) (given : Given) (answers : List FeatureAnswer) → RewrittenWith given.policy old k given.layout answers new → new.order ≡ old.order
+pub rewritten_order : (old new : Table) (k : Option KsymsIds) (given : Given) (answers : List FeatureAnswer) → Rewritten given.policy old k given.layout answers new → new.order ≡ old.order
 rewritten_order old new k given answers h = ap (λ (t : Table). t.order) h.table ∙ begun_order old k
 
 -- what is written stands for the new table in the order of the bytes that were parsed
-pub written_again : (order : Endianness) (bytes written : List ℕ) (old new : Table) (k : Option KsymsIds) (given : Given) (answers : List FeatureAnswer) → IsTable order bytes old → RewrittenWith given.policy old k given.layout answers new
+pub written_again : (order : Endianness) (bytes written : List ℕ) (old new : Table) (k : Option KsymsIds) (given : Given) (answers : List FeatureAnswer) → IsTable order bytes old → Rewritten given.policy old k given.layout answers new
     → IsTable new.order written (strip new) → IsTable order written (strip new)
 written_again order bytes written old new k given answers parsed h again =
     subst (λ (o : Endianness). IsTable o written (strip new)) (rewritten_order old new k given answers h ∙ parsed.same_order) again

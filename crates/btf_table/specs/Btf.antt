@@ -6,6 +6,7 @@ use Rattle.btf_model.specs.Fields.{HaveKinds}
 use Rattle.btf_records.specs.BtfType.{record_of, fallback_of}
 use Rattle.btf_table.specs.declared.table.Btf.TheInside.{Inside}
 
+-- the table that the fields of a `Btf` are
 abbrev pub table_of : Inside → Table
 table_of b = record {
   order = b.endianness;

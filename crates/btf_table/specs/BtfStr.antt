@@ -6,6 +6,7 @@ use Rattle.btf_model.specs.Text.{text_at, IsPassed}
 use Rattle.btf_table.specs.declared.table.text.BtfStr.{BtfStr}
 use Rattle.btf_table.specs.declared.table.text.BtfStr.TheVariants.{Borrowed, Owned}
 
+-- the bytes of a text, borrowed or owned
 abbrev pub text_bytes : BtfStr → List ℕ
 text_bytes (Borrowed text) = text.now
 text_bytes (Owned text) = string_bytes text

@@ -21,6 +21,7 @@ use Rattle.btf_table.specs.declared.sanitize.ksyms.Step.{Step}
 use Rattle.btf_table.specs.declared.sanitize.ksyms.Target.{Target}
 use Rattle.btf_table.specs.declared.sanitize.ksyms.Symbols.{Symbols}
 
+-- the ids of `.ksyms`, from two arguments of a call
 abbrev pub ksyms_ids : ℕ → Option ℕ → KsymsIds
 ksyms_ids datasec placeholder = record { datasec_id = datasec; placeholder_id = placeholder }
 
@@ -39,6 +40,7 @@ laid_out_anew t placeholder r = record r {
   tail = flat_map entry_words (laid_out t placeholder 0 (entries r.tail));
 }
 
+-- an entry of the code, as the definitions have entries
 abbrev pub entry : DataSecEntry → Entry
 entry e = record { type = e.btf_type; offset = e.offset; size = e.size }
 
@@ -51,6 +53,7 @@ abbrev pub is_this : Option ℕ → ℕ → Bool
 is_this (Some prototype) id = prototype == id
 is_this None id = false
 
+-- the set has the id
 abbrev pub has : BTreeSet ℕ → ℕ → Bool
 has set id = ordered.contains nat_cmp set id
 

@@ -30,6 +30,7 @@ pub record Given : Type 0 where
   pub layout : Layout
   pub policy : FillPolicy
 
+-- a layout and a policy
 abbrev pub under : FillPolicy → Layout → Given
 under policy layout = record { layout = layout; policy = policy }
 
@@ -104,6 +105,7 @@ pub record IsRuled (p : Pass) (id : ℕ) (old : BtfType) (before after : Made) (
   pub len : record_len (record_of new) ≡ record_len (record_of old) + growth p id
   pub grown : IsGrown p id before after
 
+-- what the rule of an id returns: the new type, or the refusal
 abbrev pub Rules : Pass → ℕ → BtfType → Made → Made → Result BtfType Refusal → Type 0
 Rules p id old before after (Ok new) = IsRuled p id old before after new
 Rules p id old before after (Err refusal) = fault p id ≡ Some refusal

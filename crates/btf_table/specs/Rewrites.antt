@@ -18,7 +18,7 @@ use Rattle.btf_rewrite_model.specs.declared.feature.FillPolicy.{FillPolicy}
 use Rattle.btf_rewrite_model.specs.declared.feature.FillPolicy.TheVariants.{KeepSized}
 use Rattle.btf_rewrite_model.specs.Ksyms as model
 use Rattle.btf_rewrite_model.specs.Pass.{Pass, Layout, asks_below, each_once, Asked}
-use Rattle.btf_rewrite_model.specs.Rewritten.{begun, pass_with, step_fault, FaultsAt, RewrittenWith, rewritten, AreRuled, old_count}
+use Rattle.btf_rewrite_model.specs.Rewritten.{begun, pass_of, step_fault, FaultsAt, Rewritten, rewritten, AreRuled, old_count}
 use Rattle.btf_rewrite_model.specs.declared.ksyms_ids.KsymsIds.{KsymsIds}
 use Rattle.btf_table.specs.KsymsStep.{ksyms_ids}
 use Rattle.btf_table.specs.PassStep.{BeginsAsked}
@@ -32,36 +32,28 @@ features_asked answers = map (λ (answer : FeatureAnswer). answer.feature) answe
 abbrev pub Refuses : FillPolicy → Table → Option KsymsIds → Layout → List FeatureAnswer → Refusal → Type 0
 Refuses policy old ids layout answers refusal =
     ((step_fault old ids ≡ Some refusal) × (answers ≡ []))
-    ⊎ ((step_fault old ids ≡ None) × ((id : ℕ) × FaultsAt (pass_with policy old ids layout answers) id refusal
-    × (features_asked answers ≡ each_once (asks_below (pass_with policy old ids layout answers) (suc id)))))
+    ⊎ ((step_fault old ids ≡ None) × ((id : ℕ) × FaultsAt (pass_of policy old ids layout answers) id refusal
+    × (features_asked answers ≡ each_once (asks_below (pass_of policy old ids layout answers) (suc id)))))
 
 -- The table is rewritten, and what the rewrite asks for is answered; or it is refused.
-abbrev pub RewritesWith : {X : Type 0} → FillPolicy → Table → Option KsymsIds → Layout → List FeatureAnswer → Table
+abbrev pub Rewrites : {X : Type 0} → FillPolicy → Table → Option KsymsIds → Layout → List FeatureAnswer → Table
     → Result X Refusal → Type 0
-RewritesWith policy old ids layout answers new (Ok x) =
-    RewrittenWith policy old ids layout answers new
-    × (features_asked answers ≡ Asked (pass_with policy old ids layout answers))
-RewritesWith policy old ids layout answers new (Err refusal) = Refuses policy old ids layout answers refusal
-
-abbrev pub Rewrites : {X : Type 0} → Table → Option KsymsIds → Layout → List FeatureAnswer → Table → Result X Refusal
-    → Type 0
-Rewrites = RewritesWith KeepSized
+Rewrites policy old ids layout answers new (Ok x) =
+    Rewritten policy old ids layout answers new
+    × (features_asked answers ≡ Asked (pass_of policy old ids layout answers))
+Rewrites policy old ids layout answers new (Err refusal) = Refuses policy old ids layout answers refusal
 
 -- The bytes stand for a table; it is rewritten, and these bytes are the new table's, or its rewrite is refused. Or the
 -- bytes stand for no table, and nothing is asked.
-abbrev pub RewritesBytesWith : FillPolicy → Endianness → List ℕ → Option KsymsIds → Layout → List FeatureAnswer
+abbrev pub RewritesBytes : FillPolicy → Endianness → List ℕ → Option KsymsIds → Layout → List FeatureAnswer
     → Result (List ℕ × List FeatureAnswer) Refusal → Type 0
-RewritesBytesWith policy order bytes ids layout answers (Ok (written, listed)) =
-    (old : Table) × (new : Table) × IsTable order bytes old × RewrittenWith policy old ids layout answers new
-    × (features_asked answers ≡ Asked (pass_with policy old ids layout answers)) × (written ≡ canon new)
+RewritesBytes policy order bytes ids layout answers (Ok (written, listed)) =
+    (old : Table) × (new : Table) × IsTable order bytes old × Rewritten policy old ids layout answers new
+    × (features_asked answers ≡ Asked (pass_of policy old ids layout answers)) × (written ≡ canon new)
     × IsTable order written (strip new)
-RewritesBytesWith policy order bytes ids layout answers (Err refusal) =
+RewritesBytes policy order bytes ids layout answers (Err refusal) =
     (IsRefusal order bytes refusal × (answers ≡ []))
     ⊎ ((old : Table) × IsTable order bytes old × Refuses policy old ids layout answers refusal)
-
-abbrev pub RewritesBytes : Endianness → List ℕ → Option KsymsIds → Layout → List FeatureAnswer
-    → Result (List ℕ × List FeatureAnswer) Refusal → Type 0
-RewritesBytes = RewritesBytesWith KeepSized
 
 -- A pass without the step: the rewritten table, or why it is refused.
 abbrev pub Sanitizes : {X : Type 0} → Pass → Table → Result X Refusal → Type 0
@@ -70,13 +62,10 @@ Sanitizes p new (Err refusal) =
     (id : ℕ) × FaultsAt p id refusal × (features_asked p.answers ≡ each_once (asks_below p (suc id)))
 
 -- What the kernel needs for the new table was asked for once each, and granted.
-abbrev pub NeedsAreGrantedWith : FillPolicy → Table → Option KsymsIds → List FeatureAnswer → Table → Type 0
-NeedsAreGrantedWith policy old ids answers new =
+abbrev pub NeedsAreGranted : FillPolicy → Table → Option KsymsIds → List FeatureAnswer → Table → Type 0
+NeedsAreGranted policy old ids answers new =
     (id : ℕ) (r : Record) → slice_get new.records id ≡ Some r → (f : BtfFeature)
     → IsAmong f (needs policy (record_at (begun old ids) id) r) → IsGrantedOnce answers f
-
-abbrev pub NeedsAreGranted : Table → Option KsymsIds → List FeatureAnswer → Table → Type 0
-NeedsAreGranted = NeedsAreGrantedWith KeepSized
 
 -- Sizes of types, on walks that meet no VAR, FUNC, FUNC_PROTO, DATASEC or DECL_TAG, are those that they were.
 abbrev pub KeepsSizes : Table → Table → Type 0
@@ -101,12 +90,9 @@ AppendsAtMost n old new = (length old.records ≤ length new.records) × (length
 
 -- Nothing was asked for; or the bytes stand for a table, and the answers are to the first features that its rewrite
 -- asks for.
-abbrev pub BeginsAskedOfWith : FillPolicy → Endianness → List ℕ → Option KsymsIds → Layout → List FeatureAnswer → Type 0
-BeginsAskedOfWith policy order bytes ids layout answers =
-    (answers ≡ []) ⊎ ((old : Table) × IsTable order bytes old × BeginsAsked (pass_with policy old ids layout answers))
-
-abbrev pub BeginsAskedOf : Endianness → List ℕ → Option KsymsIds → Layout → List FeatureAnswer → Type 0
-BeginsAskedOf = BeginsAskedOfWith KeepSized
+abbrev pub BeginsAskedOf : FillPolicy → Endianness → List ℕ → Option KsymsIds → Layout → List FeatureAnswer → Type 0
+BeginsAskedOf policy order bytes ids layout answers =
+    (answers ≡ []) ⊎ ((old : Table) × IsTable order bytes old × BeginsAsked (pass_of policy old ids layout answers))
 
 -- This holds of the table that bytes stand for, and of the one that the written bytes stand for.
 abbrev pub OfTables : Endianness → List ℕ → List ℕ → (Table → Table → Type 0) → Type 0

@@ -1,23 +1,25 @@
 //! Rewriting a table for a kernel that lacks some features.
 
 mod data_sec;
-mod enumeration64;
+mod filler;
 mod func;
 mod func_proto;
 mod ksyms;
 mod made;
 mod outcome;
 mod pass;
+mod placeholder;
 mod read_names;
 mod single;
 
 ghost use Rattle.std.specs.Prelude.{◌≡◌, ℕ, List, [], Option, Some, OnOk, OnErr, IfOk, slice_get};
 ghost use Rattle.btf_rewrite_model.specs.Feature.{needs};
 ghost use Rattle.btf_rewrite_model.specs.declared.feature.BtfFeature.{BtfFeature};
+ghost use Rattle.btf_rewrite_model.specs.declared.feature.FillPolicy.TheVariants.{KeepSized};
 ghost use Rattle.btf_rewrite_model.specs.Ksyms.{ksyms_fault, ksyms_table};
 ghost use Rattle.btf_rewrite_model.specs.Made.{record_at};
 ghost use Rattle.btf_model.specs.Record.{Record};
-ghost use Rattle.btf_rewrite_model.specs.Rewritten.{begun, pass_of, pass_with};
+ghost use Rattle.btf_rewrite_model.specs.Rewritten.{begun, pass_of};
 ghost use Rattle.btf_rewrite_model.specs.RewriteLaws.{IsAmong, IsGrantedOnce};
 ghost use Rattle.btf_words.specs.Error.{MeetsOrNoMemory, IsOrNoMemory};
 ghost use Rattle.btf_rules.specs.Checked.{checked};
@@ -25,7 +27,7 @@ ghost use Rattle.btf_rules.specs.Features.{Called};
 ghost use Rattle.btf_table.specs.KsymsStep.{ksyms_ids};
 ghost use Rattle.btf_rules.specs.Layout.{layout_of};
 ghost use Rattle.btf_table.specs.PassStep.{pass_on, under, BeginsAsked};
-ghost use Rattle.btf_table.specs.Rewrites.{Rewrites, RewritesWith, RewritesBytes, RewritesBytesWith, Sanitizes, NeedsAreGranted, NeedsAreGrantedWith, KeepsSizes, KeepsResolutions, KeepsValues, AppendsAtMost, BeginsAskedOf, BeginsAskedOfWith, OfTables};
+ghost use Rattle.btf_table.specs.Rewrites.{Rewrites, RewritesBytes, Sanitizes, NeedsAreGranted, KeepsSizes, KeepsResolutions, KeepsValues, AppendsAtMost, BeginsAskedOf, OfTables};
 
 use crate::sanitize::ksyms::ksyms_changes;
 use crate::sanitize::pass::pass_changes;
@@ -123,16 +125,16 @@ impl Btf {
         // One call of the predicate for each answer, in order, and no other.
         ensures called { Called F.step resolver.old.0 resolver.new.1 resolver.new.0 }
         // In every outcome the answers are to the first features that the rewrite asks for.
-        ensures asked { BeginsAsked (pass_of self.old ksyms
+        ensures asked { BeginsAsked (pass_of KeepSized self.old ksyms
             (layout_of sections.now symbols.now) resolver.new.1) }
         // The table is the rewritten one, and all is asked for; or the first cause of refusal.
         ensures rewrites { MeetsOrNoMemory (λ a. a.items) result
-            (Rewrites self.old ksyms (layout_of sections.now symbols.now)
+            (Rewrites KeepSized self.old ksyms (layout_of sections.now symbols.now)
             resolver.new.1 self.new) }
         ensures answers { IfOk result (λ a. a.items ≡ resolver.new.1) }
         ensures err { OnErr result (self.new ≡ self.old) }
         // What the kernel needs for the new table was asked for once, and granted.
-        ensures granted { OnOk result (NeedsAreGranted self.old ksyms
+        ensures granted { OnOk result (NeedsAreGranted KeepSized self.old ksyms
             resolver.new.1 self.new) }
         // A walk that meets no VAR, FUNC, FUNC_PROTO, DATASEC or DECL_TAG finds the size that it found.
         ensures sizes { OnOk result (KeepsSizes self.old self.new) }
@@ -168,16 +170,16 @@ impl Btf {
         // One call of the predicate for each answer, in order, and no other.
         ensures called { Called F.step resolver.old.0 resolver.new.1 resolver.new.0 }
         // In every outcome the answers are to the first features that the rewrite asks for.
-        ensures asked { BeginsAsked (pass_with policy self.old ksyms
+        ensures asked { BeginsAsked (pass_of policy self.old ksyms
             (layout_of sections.now symbols.now) resolver.new.1) }
         // The table is the rewritten one, and all is asked for; or the first cause of refusal.
         ensures rewrites { MeetsOrNoMemory (λ a. a.items) result
-            (RewritesWith policy self.old ksyms
+            (Rewrites policy self.old ksyms
             (layout_of sections.now symbols.now) resolver.new.1 self.new) }
         ensures answers { IfOk result (λ a. a.items ≡ resolver.new.1) }
         ensures err { OnErr result (self.new ≡ self.old) }
         // What the kernel needs for the new table was asked for once, and granted.
-        ensures granted { OnOk result (NeedsAreGrantedWith policy self.old
+        ensures granted { OnOk result (NeedsAreGranted policy self.old
             ksyms resolver.new.1 self.new) }
         // A walk that meets no VAR, FUNC, FUNC_PROTO, DATASEC or DECL_TAG finds the size that it found.
         ensures sizes { OnOk result (KeepsSizes self.old self.new) }
@@ -220,17 +222,17 @@ pub fn rewrite_bytes<F: FnMut(BtfFeature) -> bool>(
     ensures callable { F.IsAlwaysCallable resolver.new.0 }
     ensures called { Called F.step resolver.old.0 resolver.new.1 resolver.new.0 }
     ensures rewrites { MeetsOrNoMemory (λ r. (r.0.items, r.1.items)) result
-        (RewritesBytes endianness «data».now ksyms
+        (RewritesBytes KeepSized endianness «data».now ksyms
         (layout_of sections.now symbols.now) resolver.new.1) }
     ensures answers { IfOk result (λ r. r.1.items ≡ resolver.new.1) }
     // In every outcome nothing was asked, or the bytes stand for a table, and the answers are to the first features
     // that its rewrite asks for.
-    ensures asked { BeginsAskedOf endianness «data».now ksyms
+    ensures asked { BeginsAskedOf KeepSized endianness «data».now ksyms
         (layout_of sections.now symbols.now) resolver.new.1 }
     // Of the table that the bytes stand for, and the one that the written bytes stand for: what the kernel needs for
     // the new one was asked for once, and granted;
     ensures granted { IfOk result (λ r. OfTables endianness «data».now r.0.items
-        (λ old new. NeedsAreGranted old ksyms resolver.new.1 new)) }
+        (λ old new. NeedsAreGranted KeepSized old ksyms resolver.new.1 new)) }
     // sizes that are found without VAR, FUNC, FUNC_PROTO, DATASEC or DECL_TAG stay;
     ensures sizes { IfOk result (λ r. OfTables
         endianness «data».now r.0.items KeepsSizes) }
@@ -264,18 +266,18 @@ pub fn rewrite_bytes_with<F: FnMut(BtfFeature) -> bool>(
     ensures callable { F.IsAlwaysCallable resolver.new.0 }
     ensures called { Called F.step resolver.old.0 resolver.new.1 resolver.new.0 }
     ensures rewrites { MeetsOrNoMemory (λ r. (r.0.items, r.1.items)) result
-        (RewritesBytesWith policy endianness «data».now ksyms
+        (RewritesBytes policy endianness «data».now ksyms
         (layout_of sections.now symbols.now) resolver.new.1) }
     ensures answers { IfOk result (λ r. r.1.items ≡ resolver.new.1) }
     // In every outcome nothing was asked, or the bytes stand for a table, and the answers are to the first features
     // that its rewrite asks for.
-    ensures asked { BeginsAskedOfWith policy endianness «data».now
+    ensures asked { BeginsAskedOf policy endianness «data».now
         ksyms
         (layout_of sections.now symbols.now) resolver.new.1 }
     // Of the table that the bytes stand for, and the one that the written bytes stand for: what the kernel needs for
     // the new one was asked for once, and granted;
     ensures granted { IfOk result (λ r. OfTables endianness «data».now r.0.items
-        (λ old new. NeedsAreGrantedWith policy old ksyms
+        (λ old new. NeedsAreGranted policy old ksyms
         resolver.new.1 new)) }
     // sizes that are found without VAR, FUNC, FUNC_PROTO, DATASEC or DECL_TAG stay;
     ensures sizes { IfOk result (λ r. OfTables

@@ -7,6 +7,7 @@ use Rattle.btf_words.specs.declared.error.BtfError.{BtfError}
 use Rattle.btf_words.specs.declared.kind.BtfKind.{BtfKind}
 use Rattle.btf_words.specs.declared.kind.BtfKind.TheVariants.{Unknown, Int, Ptr, Array, Struct, Union, Enum, Fwd, Typedef, Volatile, Const, Restrict, Func, FuncProto, Var, DataSec, Float, DeclTag, TypeTag, Enum64}
 
+-- the kind of a `BtfKind`
 abbrev pub kind : BtfKind → Kind
 kind Unknown = model.Unknown
 kind Int = model.Int

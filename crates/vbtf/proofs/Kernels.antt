@@ -9,7 +9,7 @@ use Rattle.btf_rewrite_model.specs.declared.ksyms_ids.KsymsIds.{KsymsIds}
 use Rattle.btf_rewrite_model.specs.Pass.{Layout}
 use Rattle.btf_rewrite_model.specs.declared.feature.BtfFeature.{BtfFeature}
 use Rattle.btf_rewrite_model.specs.declared.feature.FeatureAnswer.{FeatureAnswer}
-use Rattle.btf_table.specs.Rewrites.{RewritesWith}
+use Rattle.btf_table.specs.Rewrites.{Rewrites}
 use Rattle.btf_types.specs.Features.{Called}
 use Rattle.btf_words.specs.declared.error.BtfError.{BtfError}
 use Rattle.btf_words.specs.Error.{MeetsOrNoMemory, refusal_of}
@@ -29,10 +29,10 @@ some_map (Some r) f p = f r p
 
 -- a rewrite with these answers is one for the kernel
 pub for_kernel : (features : ℕ) (policy : FillPolicy) (old : Table) (ids : Option KsymsIds) (layout : Layout) (new : Table) (asked : List FeatureAnswer) (r : Result (ArrayVec FeatureAnswer 8 (Unit {0})) BtfError)
-    → AreOf features asked → IfOk r (λ a. a.items ≡ asked) → MeetsOrNoMemory (λ a. a.items) r (RewritesWith policy old ids layout asked new)
+    → AreOf features asked → IfOk r (λ a. a.items ≡ asked) → MeetsOrNoMemory (λ a. a.items) r (Rewrites policy old ids layout asked new)
     → MeetsOrNoMemory (λ a. a.items) r (RewritesFor features policy old ids layout new)
 for_kernel features policy old ids layout new asked (Ok a) of is rewrites =
-    (subst (λ xs. AreOf features xs) (sym is) of, subst (λ xs. RewritesWith {X = List FeatureAnswer} policy old ids layout xs new (Ok a.items)) (sym is) rewrites)
+    (subst (λ xs. AreOf features xs) (sym is) of, subst (λ xs. Rewrites {X = List FeatureAnswer} policy old ids layout xs new (Ok a.items)) (sym is) rewrites)
 for_kernel features policy old ids layout new asked (Err e) of is refused =
     some_map (refusal_of e) (λ r found. (asked, of, found)) refused
 

@@ -7,6 +7,7 @@ use Rattle.btf_plain.specs.declared.btf_array.BtfArray.{BtfArray}
 use Rattle.vbtf.specs.declared.items.Item.{Item}
 use Rattle.vbtf.specs.declared.item_words.Words.{Words}
 
+-- the words of an ARRAY after the third
 abbrev pub array_words : BtfArray → List ℕ
 array_words a = a.element_type ∷ a.index_type ∷ a.len ∷ []
 

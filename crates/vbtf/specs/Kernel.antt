@@ -11,7 +11,7 @@ use Rattle.btf_rewrite_model.specs.declared.feature.FillPolicy.TheVariants.{Keep
 use Rattle.btf_rewrite_model.specs.declared.ksyms_ids.KsymsIds.{KsymsIds}
 use Rattle.btf_rewrite_model.specs.Pass.{Layout}
 use Rattle.btf_table.specs.KsymsStep.{ksyms_ids}
-use Rattle.btf_table.specs.Rewrites.{RewritesWith}
+use Rattle.btf_table.specs.Rewrites.{Rewrites}
 use Rattle.vbtf.specs.declared.kernel.Kernel.{Kernel}
 use Rattle.vbtf.specs.declared.kernel.Asked.{Asked}
 use Rattle.vbtf.specs.declared.fault.Fault.{Fault}
@@ -22,6 +22,7 @@ use Rattle.vbtf.specs.Status.{Reports, no_memory}
 abbrev pub has_bit : ℕ → BtfFeature → Bool
 has_bit features f = features / 2 ^ number f % 2 == 1
 
+-- the policy for DATASECs that have a size and no entries
 abbrev pub policy_chosen : Kernel → FillPolicy
 policy_chosen kernel = if kernel.fill_sized == 0 then KeepSized else FillSized
 
@@ -29,6 +30,7 @@ policy_chosen kernel = if kernel.fill_sized == 0 then KeepSized else FillSized
 abbrev pub id_or_none : ℕ → Option ℕ
 id_or_none id = if id == 0 then None else Some id
 
+-- the ids of `.ksyms`, where there is one
 abbrev pub ids_chosen : Kernel → Option KsymsIds
 ids_chosen kernel = if kernel.ksyms == 0 then None else Some (ksyms_ids kernel.ksyms (id_or_none kernel.placeholder))
 
@@ -51,10 +53,10 @@ abbrev pub RewritesFor : ℕ → FillPolicy → Table → Option KsymsIds → La
     → Result (List FeatureAnswer) Refusal → Type 0
 RewritesFor features policy old ids layout new (Ok listed) =
     AreOf features listed
-    × RewritesWith {X = List FeatureAnswer} policy old ids layout listed new (Ok listed)
+    × Rewrites {X = List FeatureAnswer} policy old ids layout listed new (Ok listed)
 RewritesFor features policy old ids layout new (Err refusal) =
     (answers : List FeatureAnswer) × AreOf features answers
-    × RewritesWith {X = List FeatureAnswer} policy old ids layout answers new (Err refusal)
+    × Rewrites {X = List FeatureAnswer} policy old ids layout answers new (Err refusal)
 
 -- How a rewrite ends that C asks for: with status 0, and the handle owns the rewritten table; or with a refusal, or
 -- a failed allocation, and the handle owns the table as it was.

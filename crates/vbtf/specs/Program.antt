@@ -14,6 +14,7 @@ name_in names entry = take entry.len (drop entry.at names)
 abbrev pub IsReadable : List ℕ → Named → Type 0
 IsReadable names entry = (entry.at + entry.len ≤ length names) × IsUtf8 (name_in names entry)
 
+-- the name of each entry is readable
 abbrev pub AreReadable : List ℕ → List Named → Type 0
 AreReadable names entries = AllByRecursion (IsReadable names) entries
 

@@ -93,9 +93,11 @@ EndsFinding status value fault P =
     ((status ≡ 0) × P (Ok (Some value))) ⊎ ((status ≡ 103) × P (Ok None))
     ⊎ ((refusal : Refusal) × Reports status fault refusal × P (Err refusal))
 
+-- The same of a call that allocates: an allocation may also fail.
 abbrev pub EndsFindingOrNoMemory : {Y : Type 0} → ℕ → Y → Fault → (Result (Option Y) Refusal → Type 0) → Type 0
 EndsFindingOrNoMemory status value fault P = EndsFinding status value fault P ⊎ (status ≡ no_memory)
 
+-- How a call ends that allocates: as one that does not, or an allocation fails.
 abbrev pub EndsOrNoMemory : {Y : Type 0} → ℕ → Y → Fault → (Result Y Refusal → Type 0) → Type 0
 EndsOrNoMemory status value fault P = Ends status value fault P ⊎ (status ≡ no_memory)
 

@@ -1,7 +1,6 @@
 //! The rule of a DATASEC.
 
 mod entries;
-pub mod filler;
 mod name;
 
 ghost use Rattle.std.specs.Prelude.{◌≡◌, ◌==◌, ℕ, List, [], ◌∷◌, length, map, not, true, false, None, Some, Ok, IfOk, OnOk};

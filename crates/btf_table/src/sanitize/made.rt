@@ -11,9 +11,9 @@ ghost use Rattle.btf_records.specs.BtfType.{record_of};
 ghost use Rattle.btf_table.specs.Adding.{strings_end, next_id, HasRoom, Adds};
 ghost use Rattle.btf_rules.specs.Checked.{checked};
 
-use crate::sanitize::data_sec::filler::append_filler;
-use crate::sanitize::enumeration64::append_placeholder;
+use crate::sanitize::filler::append_filler;
 use crate::sanitize::outcome::Outcome;
+use crate::sanitize::placeholder::append_placeholder;
 use crate::table::{Btf, Changes};
 use btf_plain::BtfError;
 use btf_records::BtfType;

@@ -4,7 +4,7 @@ use Rattle.btf_model.specs.Table.{Table, strip}
 use Rattle.btf_model.proofs.Comparisons.{same_ok}
 use Rattle.btf_rules.specs.Layout.{layout_of}
 use Rattle.btf_table.specs.PassStep.{under}
-use Rattle.btf_table.specs.Rewrites.{NeedsAreGrantedWith, KeepsSizes, KeepsResolutions, AppendsAtMost, OfTables}
+use Rattle.btf_table.specs.Rewrites.{NeedsAreGranted, KeepsSizes, KeepsResolutions, AppendsAtMost, OfTables}
 use Rattle.btf_table.proofs.Rewriting.{written_again, of_tables}
 use Rattle.btf_table.proofs.sanitize.rewrite_bytes_with.Given.{Over}
 use Rattle.btf_table.proofs.sanitize.rewrite_bytes_with.Goals as goal
@@ -27,7 +27,7 @@ returns-clause-rewrites g c =
     (c.in_ok-btf.btf, c.fixup_and_sanitize_with.new.self, c.in_ok-btf.ensures.parsed, h.0, h.1, same_ok {E = Refusal} c.in_ok-to_bytes.field-0.items _ c.in_ok-to_bytes.ensures.written, written_is g (goal.at.returns-clause-rewrites g c).In_ok-to_bytes)
 
 pub returns-clause-granted : goal.returns-clause-granted
-returns-clause-granted g c = of_bytes g (goal.at.returns-clause-granted g c).In_ok-to_bytes (λ old new. NeedsAreGrantedWith c.args.policy old c.args.ksyms c.fixup_and_sanitize_with.new.resolver.1 new) c.in_ok-answers.ensures.granted
+returns-clause-granted g c = of_bytes g (goal.at.returns-clause-granted g c).In_ok-to_bytes (λ old new. NeedsAreGranted c.args.policy old c.args.ksyms c.fixup_and_sanitize_with.new.resolver.1 new) c.in_ok-answers.ensures.granted
 
 pub returns-clause-sizes : goal.returns-clause-sizes
 returns-clause-sizes g c = of_bytes g (goal.at.returns-clause-sizes g c).In_ok-to_bytes KeepsSizes c.in_ok-answers.ensures.sizes

@@ -4,12 +4,12 @@ use Rattle.std.specs.Prelude.{OnOk}
 use Rattle.btf_model.specs.Table.{Table}
 use Rattle.btf_rewrite_model.specs.Ksyms as model
 use Rattle.btf_rewrite_model.specs.Ksyms.{ksyms_table, ksyms_fault}
-use Rattle.btf_rewrite_model.specs.Rewritten.{begun, pass_with}
+use Rattle.btf_rewrite_model.specs.Rewritten.{begun, pass_of}
 use Rattle.btf_words.specs.Error.{refusal_of}
 use Rattle.btf_table.specs.KsymsStep.{ksyms_ids}
 use Rattle.btf_rules.specs.Layout.{layout_of}
 use Rattle.btf_table.specs.PassStep.{Given, under}
-use Rattle.btf_table.specs.Rewrites.{RewritesWith}
+use Rattle.btf_table.specs.Rewrites.{Rewrites}
 use Rattle.btf_rewrite_model.specs.declared.ksyms_ids.KsymsIds.{KsymsIds}
 use Rattle.btf_rewrite_model.specs.declared.feature.FeatureAnswer.{FeatureAnswer}
 use Rattle.btf_table.proofs.PassAsking.{begins_none}
@@ -25,7 +25,7 @@ keeps_alone g c Q follows =
     let new : Table = c.sanitize.new.self in
     let given : Given = under c.args.policy (layout_of c.args.sections.now c.args.symbols.now) in
     let answers = c.sanitize.new.resolver.1 in
-    on_ok (λ a. a.items) c.sanitize.result (RewritesWith given.policy old None given.layout answers new) Q (rewrites_by (λ a. a.items) c.sanitize.result old old new None given answers refl refl c.sanitize.ensures.sanitizes)
+    on_ok (λ a. a.items) c.sanitize.result (Rewrites given.policy old None given.layout answers new) Q (rewrites_by (λ a. a.items) c.sanitize.result old old new None given answers refl refl c.sanitize.ensures.sanitizes)
     (λ items h. follows (subst (λ (k : Option KsymsIds). Keeps given.policy old k answers new) (sym c.in_default.is) (keeps_of old new None given answers items h)))
 
 pub returns-in_default-clause-granted : goal.returns-in_default-clause-granted
@@ -44,10 +44,10 @@ pub returns-in_default-clause-appended : goal.returns-in_default-clause-appended
 returns-in_default-clause-appended g c = keeps_alone g c _ (λ k. k.appended)
 
 pub returns-in_err-changes-clause-asked : goal.returns-in_err-changes-clause-asked
-returns-in_err-changes-clause-asked g c = begins_none (pass_with c.args.policy c.args.self.now c.args.ksyms (layout_of c.args.sections.now c.args.symbols.now) c.args.resolver.now.1) c.requires.unasked
+returns-in_err-changes-clause-asked g c = begins_none (pass_of c.args.policy c.args.self.now c.args.ksyms (layout_of c.args.sections.now c.args.symbols.now) c.args.resolver.now.1) c.requires.unasked
 
 pub returns-in_err-undo-clause-asked : goal.returns-in_err-undo-clause-asked
-returns-in_err-undo-clause-asked g c = begins_none (pass_with c.args.policy c.args.self.now c.args.ksyms (layout_of c.args.sections.now c.args.symbols.now) c.args.resolver.now.1) c.requires.unasked
+returns-in_err-undo-clause-asked g c = begins_none (pass_of c.args.policy c.args.self.now c.args.ksyms (layout_of c.args.sections.now c.args.symbols.now) c.args.resolver.now.1) c.requires.unasked
 
 -- with symbols: what is kept of the table
 keeps_stepped : (g : Over) (c : After-drop-undo g) → Keeps c.args.policy c.args.self.now c.args.ksyms c.sanitize-2.new.resolver.1 c.sanitize-2.new.self
@@ -83,5 +83,5 @@ returns-in-Err-clause-rewrites g c =
     let ids : KsymsIds = ksyms_ids c.in-Some.ids.datasec_id c.in-Some.ids.placeholder_id in
     let there : c.apply.new.self ≡ begun old (Some ids) = c.in_ok-undo.ensures.ok ∙ c.in_ok-changes.ensures.2 in
     let answers = c.sanitize-2.new.resolver.1 in
-    subst (λ (k : Option KsymsIds). IfSome (refusal_of c.in-Err.error) (λ refusal. RewritesWith {X = List FeatureAnswer} given.policy old k given.layout answers c.undo.new.self (Err refusal))) (sym c.in-Some.is)
+    subst (λ (k : Option KsymsIds). IfSome (refusal_of c.in-Err.error) (λ refusal. Rewrites {X = List FeatureAnswer} given.policy old k given.layout answers c.undo.new.self (Err refusal))) (sym c.in-Some.is)
     (IfSome_then _ c.in-Err.ensures.sanitizes (λ refusal s. stepped_by {X = List FeatureAnswer} old c.apply.new.self c.undo.new.self (Some ids) given answers (Err refusal) c.in_ok-changes.ensures.0 there s))

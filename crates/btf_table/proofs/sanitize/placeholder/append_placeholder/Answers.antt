@@ -7,7 +7,7 @@ use Rattle.btf_rewrite_model.specs.Pass.{placeholder_text}
 use Rattle.btf_table.specs.Adding.{strings_end, Adds}
 use Rattle.btf_table.proofs.Adding.{adds_then}
 use Rattle.btf_rules.proofs.Checks.{checked_ok}
-use Rattle.btf_table.proofs.sanitize.enumeration64.append_placeholder.Goals as goal
+use Rattle.btf_table.proofs.sanitize.placeholder.append_placeholder.Goals as goal
 
 pub returns-clause-adds : goal.returns-clause-adds
 returns-clause-adds c =

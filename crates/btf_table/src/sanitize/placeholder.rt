@@ -1,4 +1,4 @@
-//! Enumerations: without a sign, or of 64 bits as unions.
+//! The INT of one byte that the members of a UNION have which takes the place of an ENUM64.
 
 ghost use Rattle.std.specs.Prelude.{◌≡◌, ◌+◌, ◌*◌, ◌++◌, ◌^◌, [], ◌∷◌, length, map, IfOk, OnOk, Ok, Some};
 ghost use Rattle.std.specs.List.{flat_map};
