@@ -1,52 +1,55 @@
 """The crates of this repository, and the toolchain that proves them, for the scripts beside this file."""
 
+from __future__ import annotations
+
 import os
 import subprocess
 
 
-def kit():
-    """The folder of the toolchain."""
+def kit() -> str:
+    """Returns the folder of the toolchain."""
     page = subprocess.run(["rt", "doc"], stdout=subprocess.PIPE, text=True, check=True).stdout
     return os.path.dirname(page.strip())
 
 
-def crates():
-    """The lines of crates.txt: of each crate its name with what stands beside that, and the libraries that it uses."""
+def crates() -> list[tuple[list[str], list[str]]]:
+    """Returns the lines of crates.txt: each crate's name with the words beside it, and the libraries that it uses."""
     with open("crates.txt", encoding="utf-8") as file:
         lines = [line.partition(":") for line in file if ":" in line and not line.startswith("#")]
     return [(named.split(), uses.split()) for named, _, uses in lines]
 
 
-def uses_of_crates():
-    """The libraries that each crate uses, by its name: crates of this repository, and others."""
+def uses_of_crates() -> dict[str, list[str]]:
+    """Returns the libraries that each crate uses, by its name: crates of this repository, and others."""
     return {named[0]: uses for named, uses in crates()}
 
 
-def is_static(crate):
-    """Whether a crate is a static library, for C."""
+def is_static(crate: str) -> bool:
+    """Returns whether a crate is a static library, for C."""
     return [crate, "staticlib"] in [named for named, _ in crates()]
 
 
-def below(crate, uses):
-    """All of this repository's crates that a crate stands on, each after those that it stands on."""
-    found = []
+def below(crate: str, uses: dict[str, list[str]]) -> list[str]:
+    """Returns all of this repository's crates that a crate uses, directly or not, each after those that it uses."""
+    found: list[str] = []
     for name in [it for it in uses[crate] if it in uses]:
         found += [it for it in [*below(name, uses), name] if it not in found]
     return found
 
 
-def is_program(crate):
+def is_program(crate: str) -> bool:
+    """Returns whether a crate is a program."""
     return os.path.exists(f"crates/{crate}/src/main.rt")
 
 
-def rlib(crate, crates):
-    """Where a library was built in a folder of crates."""
+def rlib(crate: str, crates: str) -> str:
+    """Returns where a library was built in a folder of crates."""
     return f"{crates}/{crate}/out/rlib/{crate}.rlib"
 
 
-def prover(verb, crate, crates, uses):
-    """The words of a check or a build of a crate in its folder, as `rt` makes them, over what was built in a folder of
-    crates."""
+def prover(verb: str, crate: str, crates: str, uses: dict[str, list[str]]) -> list[str]:
+    """Returns the words of a check or a build of a crate in its folder, as `rt` makes them, over the libraries that were
+    built in a folder of crates."""
     at = kit()
     root = "src/main.rt" if is_program(crate) else "src/lib.rt"
     words = [f"{at}/bin/rattle", verb, "--crate-name", crate, root, "-L", f"dependency={at}/rlibs"]
