@@ -25,6 +25,7 @@ NAMED = re.compile(r"has no field|is not in scope|has no `|was not admitted|alre
 # What a source that cannot be read reports, as `rt must-fail` knows it.
 UNREAD = re.compile(r"is not in scope|has no field|is no name|operand is missing|expected the end|cannot continue")
 ERROR = re.compile(r"(?:\./)?(\S+?):(\d+):\d+: error: (?:`([^`]*)`: )?(.*)")
+NOTED = re.compile(r"^note: (?:\./)?(\S+?):(\d+):\d+: it is not proved .*?\(`([^`]+)`\)", re.M)
 SEARCHED = re.compile(r"`search` did not prove ((?:`[^`]*`(?:, )?)+)")
 
 # Lines that are changed: what each becomes, by its file and number.
@@ -228,7 +229,7 @@ def unread(said: str, mutant: Mutant) -> str:
     return ""
 
 
-def own_goals(said: str, name: str) -> list[str]:
+def goals_of(said: str, name: str) -> list[str]:
     """Returns the goals of a function that the prover does not prove: those that it searched for, and those whose proof
     in the function's own files it refuses, unless it refuses them for a name that is gone."""
     line = dict(re.findall(r"^fn (\S+): (.*)$", said, re.M)).get(name, "proved")
@@ -238,6 +239,17 @@ def own_goals(said: str, name: str) -> list[str]:
     folder = "/".join(["proofs", *name.split("::")[1:]])
     own = [(goal, text) for path, goal, text in errors_in(said) if os.path.dirname(path) == folder]
     return goals + [goal or text[:60] for goal, text in own if not NAMED.search(text)]
+
+
+def own_goals(said: str, function: Function, names: list[str]) -> dict[str, list[str]]:
+    """Returns the goals of a function that a mutant changes, and of its closures, that are not proved, by name. Where
+    it has proofs of its own, the prover tells what it searched for by the line of the source alone."""
+    found = {name: goals_of(said, name) for name in function.names_in(names)}
+    within = range(function.first, function.last + 1)
+    noted = [goal for path, at, goal in NOTED.findall(said) if path == function.file and int(at) in within]
+    every = [goal for goals in found.values() for goal in goals]
+    found.setdefault(function.path, []).extend(it for it in dict.fromkeys(noted) if it not in every)
+    return {name: goals for name, goals in found.items() if goals}
 
 
 def why_not(said: str, names: list[str]) -> str:
@@ -262,12 +274,13 @@ def verdict(said: str, mutant: Mutant, names: list[str]) -> Verdict:
     if re.search(r"^logic=proved", said, re.M):
         return Verdict(SURVIVED)
     own = [name for it in mutant.functions for name in it.names_in(names)]
-    if mutant.functions:
-        goals = {name: own_goals(said, name) for name in own if own_goals(said, name)}
-    else:
+    goals: dict[str, list[str]] = {}
+    for function in mutant.functions:
+        goals |= own_goals(said, function, names)
+    if not mutant.functions:
         goals = {path: [goal or text[:60]] for path, goal, text in errors_in(said) if not NAMED.search(text)}
         every = re.findall(r"^fn (\S+): ", said, re.M)
-        goals |= {name: own_goals(said, name) for name in every if own_goals(said, name)}
+        goals |= {name: goals_of(said, name) for name in every if goals_of(said, name)}
     return Verdict(KILLED, "", goals) if goals else Verdict(WRONG, why_not(said, own))
 
 

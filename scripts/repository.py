@@ -48,7 +48,7 @@ def rlib(crate: str, crates: str) -> str:
 
 
 def prover(verb: str, crate: str, crates: str, uses: dict[str, list[str]]) -> list[str]:
-    """Returns the words of a check or a build of a crate in its folder, as `rt` makes them, over the libraries that were
+    """Returns the words of a check or a build of a crate in its folder, as `rt` makes them, over the libraries that are
     built in a folder of crates."""
     at = kit()
     root = "src/main.rt" if is_program(crate) else "src/lib.rt"
