@@ -1,8 +1,7 @@
 """Mutants: what their files change, in which functions, and what the prover reports of them.
 
-A file of mutants has lines `file: PATH`, `old: TEXT` and `new: TEXT`, as a must-fail edit of `rt ci`: each TEXT is one
-line, and the old one is in the file exactly once. Other lines are comments: `# refused at: FUNCTION: GOAL..` names the
-goals that kill the mutant, for a reader. A file `*_words_mistaken` holds several mutants of one struct.
+A file of mutants is a must-fail edit of `rt ci`: lines `file: PATH`, `old: TEXT` and `new: TEXT`. Other lines are
+comments. A file `*_words_mistaken` holds several mutants of one struct.
 """
 
 from __future__ import annotations
@@ -10,6 +9,7 @@ from __future__ import annotations
 import glob
 import os
 import re
+import textwrap
 from typing import Iterator, NamedTuple
 
 HEAD = re.compile(r"^(\s*)(?:pub(?:\([a-z]+\))? )?(?:const )?(?:extern \"C\" )?fn (\w+)", re.M)
@@ -64,17 +64,26 @@ class Function(NamedTuple):
         return [it for it in names if it == self.path or it.startswith(closures) or self.is_method(it.split("::"))]
 
     def is_method(self, parts: list[str]) -> bool:
-        """Returns whether a path is that of this method: one of a trait has words of both in the part before its name,
-        and stands in the module of its type, which another file may declare."""
+        """Returns whether a path may be that of this method. It is in the module of its type, which another file may
+        declare. Where it is of a trait, the part before its name has words of both, and then of the arguments."""
         if not self.type or parts[-1] != self.name or len(parts) < 3:
             return False
-        plain = [it.replace("_", "").lower() for it in (parts[-2], self.type, self.trait)]
-        return parts[-2] == self.type if not self.trait else plain[0].startswith(plain[1]) and plain[2] in plain[0]
+        plain = [it.replace("_", "").lower() for it in (parts[-2], self.type + self.trait)]
+        return plain[0].startswith(plain[1]) if self.trait else parts[-2] == self.type
+
+    def is_body(self, number: int) -> bool:
+        """Returns whether a line is in the function's body, which no other function sees: not in its head or contract,
+        nor where a constant may call it."""
+        lines = self.text.lstrip("\n").split("\n")
+        begun = self.first + self.text.index(lines[0])
+        indent = lines[0][: len(lines[0]) - len(lines[0].lstrip())]
+        opens = [at for at, it in enumerate(lines) if it == indent + "{"] or [0]
+        return number > begun + opens[0] and (opens[0] > 0 or lines[0].endswith("{")) and "const fn" not in lines[0]
 
 
 class Mutant(NamedTuple):
     """A mutant: its file, its name, the lines that it changes by file and number, and the functions that they are in.
-    `is_alone`: a line is in no function. No lines: its texts are not in their files once."""
+    `is_alone`: other functions may see the change. No lines: its texts are not in their files once."""
 
     crate: str
     path: str
@@ -138,8 +147,7 @@ def changes_of(path: str) -> Iterator[Change]:
 
 
 def parts_of(changes: list[Change]) -> Iterator[list[Change]]:
-    """Returns changes one by one. One that a later one takes back, so that a text between them is unique, stays with
-    these."""
+    """Returns changes one by one. Those between one and another that takes it back are one part with these."""
     while changes:
         back = [at for at, later in enumerate(changes) if (later.path, later.old) == (changes[0].path, changes[0].new)]
         count = back[-1] + 1 if back else 1
@@ -150,30 +158,30 @@ def parts_of(changes: list[Change]) -> Iterator[list[Change]]:
 def lines_changed(crate: str, changes: list[Change]) -> Lines:
     """Returns the lines that changes make, one after the other, by file and number; none where an old text is not in
     its file exactly once."""
-    before: dict[str, str] = {}
-    after: dict[str, str] = {}
-    for change in changes:
-        if change.path not in after:
-            place = f"crates/{crate}/{change.path}"
-            before[change.path] = after[change.path] = text_of(place) if os.path.isfile(place) else ""
-        if not change.old or after[change.path].count(change.old) != 1:
+    paths = {it.path for it in changes if os.path.isfile(f"crates/{crate}/{it.path}")}
+    before = {path: text_of(f"crates/{crate}/{path}") for path in paths}
+    after = dict(before)
+    for path, old, new, _ in changes:
+        if not old or after.get(path, "").count(old) != 1:
             return {}
-        after[change.path] = after[change.path].replace(change.old, change.new)
+        after[path] = after[path].replace(old, new)
     pairs = {path: zip(before[path].split("\n"), after[path].split("\n")) for path in after}
     return {(path, at): new for path, of in pairs.items() for at, (old, new) in enumerate(of, 1) if old != new}
 
 
 def functions_changed(crate: str, lines: Lines, every: list[Function]) -> tuple[list[Function], bool]:
-    """Returns the functions that these lines are in, and whether one of them is in no function. A constant is in the
-    functions that name it."""
+    """Returns the functions that these lines are in, and whether other functions may see the change. A constant is in
+    the functions that name it. Functions of a cycle of calls have one proof."""
     found: list[Function] = []
     is_alone = False
     for path, number in lines:
-        const = CONST.match(text_of(f"crates/{crate}/{path}").split("\n")[number - 1])
+        text = text_of(f"crates/{crate}/{path}")
+        const = CONST.match(text.split("\n")[number - 1])
         inside = [it for it in every if it.file == path and it.first <= number <= it.last]
+        is_body = not const and all(it.is_body(number) for it in inside)
         inside = [it for it in every if re.search(rf"\b{const[1]}\b", it.text)] if const else inside
         found += [it for it in inside if it not in found]
-        is_alone = is_alone or not inside
+        is_alone = is_alone or not inside or not is_body or "#[cycle(" in text
     return found, is_alone
 
 
@@ -190,26 +198,26 @@ def mutants_of(crate: str, paths: list[str]) -> Iterator[Mutant]:
             yield Mutant(crate, path, label, at, lines, *functions_changed(crate, lines, every))
 
 
-def batches(mutants: list[Mutant], most: int) -> list[list[Mutant]]:
-    """Returns mutants of a crate in groups in which no two change the same function or the same line. One that changes
-    something outside functions is a group of its own."""
-    groups: list[list[Mutant]] = []
+def batches(mutants: list[Mutant], names: list[str], most: int) -> list[list[Mutant]]:
+    """Returns mutants of a crate in groups in which no two change a function that the prover may call the same, of
+    these names, or the same line. One whose change other functions may see is a group of its own."""
+    groups: list[tuple[set[str], list[Mutant]]] = []
     for mutant in mutants:
-        paths = {it.path for it in mutant.functions}
-        for group in groups if mutant.functions and not mutant.is_alone else []:
-            is_apart = all(paths.isdisjoint(it.path for it in one.functions) for one in group)
-            is_apart = is_apart and all(mutant.lines.keys().isdisjoint(it.lines) for it in group)
-            if is_apart and len(group) < most and not group[0].is_alone and group[0].functions:
+        own = {it for function in mutant.functions for it in [function.path, *function.names_in(names)]}
+        for others, group in groups if own and not mutant.is_alone else []:
+            is_apart = own.isdisjoint(others) and all(mutant.lines.keys().isdisjoint(it.lines) for it in group)
+            if others and is_apart and len(group) < most and not group[0].is_alone:
                 group.append(mutant)
+                others |= own
                 break
         else:
-            groups.append([mutant])
-    return groups
+            groups.append((own, [mutant]))
+    return [group for _, group in groups]
 
 
 def has_ended(said: str) -> bool:
-    """Returns whether the prover came to an end, and did not stop at a source that it refuses before any proof."""
-    return bool(re.search(r"^(logic=|only=\d|holes=\d)", said, re.M))
+    """Returns whether the prover came to an end, and did not refuse the source before any proof."""
+    return bool(re.search(r"^(logic|only|holes)=", said, re.M))
 
 
 def errors_in(said: str) -> list[tuple[str, str, str]]:
@@ -230,8 +238,8 @@ def unread(said: str, mutant: Mutant) -> str:
 
 
 def goals_of(said: str, name: str) -> list[str]:
-    """Returns the goals of a function that the prover does not prove: those that it searched for, and those whose proof
-    in the function's own files it refuses, unless it refuses them for a name that is gone."""
+    """Returns the goals of a function that are not proved: those that the prover searched for, and those whose proof in
+    the function's own files it refuses, but not for a name that is gone."""
     line = dict(re.findall(r"^fn (\S+): (.*)$", said, re.M)).get(name, "proved")
     if line.startswith(("proved", "no holes", "depends on a hole")):
         return []
@@ -253,9 +261,8 @@ def own_goals(said: str, function: Function, names: list[str]) -> dict[str, list
 
 
 def why_not(said: str, names: list[str]) -> str:
-    """Returns the first reason that the prover gives where functions are not proved, and no goal of theirs fails."""
-    lines = re.findall(r"^fn (\S+): (.*)$", said, re.M)
-    failing = [f"{name}: {text}" for name, text in lines if not text.startswith(("proved", "no holes", "depends on"))]
+    """Returns the first reason that the prover gives where no goal of these functions fails."""
+    failing = re.findall(r"^fn (\S+: (?!proved|no holes|depends on).*)$", said, re.M)
     own = [it for it in failing if it.partition(": ")[0] in names]
     errors = [f"{path}: {text}" for path, _, text in errors_in(said)]
     return [*own, *errors, *failing, "no goal of the function fails"][0][:200]
@@ -278,22 +285,20 @@ def verdict(said: str, mutant: Mutant, names: list[str]) -> Verdict:
     for function in mutant.functions:
         goals |= own_goals(said, function, names)
     if not mutant.functions:
-        goals = {path: [goal or text[:60]] for path, goal, text in errors_in(said) if not NAMED.search(text)}
-        every = re.findall(r"^fn (\S+): ", said, re.M)
-        goals |= {name: goals_of(said, name) for name in every if goals_of(said, name)}
+        for path, goal, text in errors_in(said):
+            if goal and not NAMED.search(text):
+                goals.setdefault(path, []).append(goal)
+        every = {name: goals_of(said, name) for name in re.findall(r"^fn (\S+): ", said, re.M)}
+        goals |= {name: of for name, of in every.items() if of}
     return Verdict(KILLED, "", goals) if goals else Verdict(WRONG, why_not(said, own))
 
 
 def notes_of(goals: dict[str, list[str]]) -> Iterator[str]:
-    """Returns the comments of a file of mutants that name the goals that kill a mutant, none of them too long."""
+    """Returns the comments that name the goals that kill a mutant, none of them too long."""
     for name, of_name in sorted(goals.items()):
-        begun = line = f"# refused at: {name.partition('::')[2] or name}: "
-        for goal in of_name:
-            if line != begun and len(f"{line}, {goal}") > WIDTH:
-                yield line
-                line = begun
-            line += goal if line == begun else f", {goal}"
-        yield line
+        begun = f"# refused at: {name.partition('::')[2] or name}: "
+        wrapped = textwrap.wrap(", ".join(of_name), WIDTH - len(begun), break_long_words=False, break_on_hyphens=False)
+        yield from [begun + line.removesuffix(",") for line in wrapped]
 
 
 def write_notes(path: str, goals_at: dict[int, dict[str, list[str]]]) -> None:
