@@ -10,7 +10,7 @@ TESTS = record_tests table_tests ext_tests kernel_tests program_tests
 build:
 	./btftool little copy < crates/btftool/stdin > /dev/null
 
-# Proves one crate, over what earlier checks kept.
+# Proves one crate, from what earlier checks cached.
 check:
 	cd crates/$(NAME) && rt check
 

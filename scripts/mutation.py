@@ -251,7 +251,7 @@ def goals_of(said: str, name: str) -> list[str]:
 
 def own_goals(said: str, function: Function, names: list[str]) -> dict[str, list[str]]:
     """Returns the goals of a function that a mutant changes, and of its closures, that are not proved, by name. Where
-    it has proofs of its own, the prover tells what it searched for by the line of the source alone."""
+    it has proofs of its own, the prover reports what it searched for by the line of the source alone."""
     found = {name: goals_of(said, name) for name in function.names_in(names)}
     within = range(function.first, function.last + 1)
     noted = [goal for path, at, goal in NOTED.findall(said) if path == function.file and int(at) in within]
