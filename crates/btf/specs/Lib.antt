@@ -50,4 +50,4 @@ pub use Rattle.btf_plain.specs.Linkage
 pub use Rattle.btf_model.specs.Laws
 pub use Rattle.btf_above.specs.Variants
 pub use Rattle.btf_model.specs.Value
-pub use Rattle.btf_model.specs.Words
+pub use Rattle.btf_model.specs.RelocationWords

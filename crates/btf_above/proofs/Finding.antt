@@ -15,7 +15,7 @@ use Rattle.std.proofs.Math.Seq.{drop-cons}
 use Rattle.btf_model.specs.Refusal.{Refusal}
 use Rattle.btf_model.specs.Table.{Variant}
 use Rattle.btf_model.specs.Text.{bytes_at, text_at}
-use Rattle.btf_model.specs.Words.{RelocationSection, HaveNames, is_name, words_named, Words}
+use Rattle.btf_model.specs.RelocationWords.{RelocationSection, HaveNames, is_name, words_named, Words}
 use Rattle.btf_model.specs.Value.{HaveOtherNames, IsAfterOthers, FindsVariant}
 use Rattle.btf_model.proofs.Values.{one_words}
 use Rattle.btf_words.specs.Error.{MeetsOrNoMemory, IsOrNoMemory, Meets, refusal_of}

@@ -1,7 +1,7 @@
 pub mod Named
 pub mod Variants
 pub use Rattle.btf_model.specs.Value
-pub use Rattle.btf_model.specs.Words
+pub use Rattle.btf_model.specs.RelocationWords
 pub use Rattle.btf_model.specs.Refusal
 pub use Rattle.btf_model.specs.Text
 pub use Rattle.btf_words.specs.Error

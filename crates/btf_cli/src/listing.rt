@@ -1,6 +1,6 @@
 //! What the commands print of a table. The listing of its types is written as it is made.
 
-ghost use Rattle.std.specs.Prelude.{◌≡◌, ◌++◌, map, Ok, IsOk, OnOk};
+ghost use Rattle.std.specs.Prelude.{map, Ok, IsOk, OnOk};
 ghost use Rattle.std.specs.Io.KnownBytes.{Appends};
 ghost use Rattle.btf_model.specs.Text.{lossy, text_at};
 ghost use Rattle.btf_words.specs.Error.{IsOrNoMemory};
@@ -63,8 +63,6 @@ fn write_line<W: io::Write>(
     ensures { OnOk result (Takes W.contents lines.old
         (type_line table.now.strings id (record_of btf_type.now)) lines.new) }
 {
-    // The contract speaks of the kind in the info word, which a use of it shows.
-    let _ = btf_type.info();
     let kind = btf_type.kind();
     write!(lines, "{id} {kind}")?;
     write_name(lines, table, btf_type)?;

@@ -18,7 +18,7 @@ use crate::line::{Command, Line, Query};
 use crate::listing::{comparison_lines, size_line};
 use crate::output::Output;
 use crate::rewrite::rewritten;
-use btf_plain::{BtfError, Endianness};
+use btf_plain::BtfError;
 use btf_types::Btf;
 use std::alloc::Global;
 use std::io::{ErrorKind, Read, Write};

@@ -1,6 +1,6 @@
 //! A few pairs of ids, which are looked up one after the other.
 
-ghost use Rattle.std.specs.Prelude.{◌≡◌, ℕ, ◌<◌, ◌++◌, ◌∷◌, [], length, IsTrue, false, is_some, IfSome, IfNone};
+ghost use Rattle.std.specs.Prelude.{◌≡◌, ◌<◌, ◌++◌, ◌∷◌, [], length, IsTrue, false, is_some, IfSome, IfNone};
 ghost use Rattle.btf_compare.specs.Entries.{IsNoPair, IsPlaceOf, Sets, values_in};
 
 use crate::progress::Progress;

@@ -1,6 +1,6 @@
 //! Many pairs of ids, in buckets.
 
-ghost use Rattle.std.specs.Prelude.{◌≡◌, ℕ, ◌+◌, ◌<◌, suc, length, None, IsSome, IfOk, OnOk};
+ghost use Rattle.std.specs.Prelude.{◌≡◌, ℕ, ◌+◌, ◌<◌, length, None, IsSome, IfOk, OnOk};
 ghost use Rattle.btf_compare.specs.Entries.{Sets, values_in};
 ghost use Rattle.btf_compare.specs.Buckets.{bucket_of};
 ghost use Rattle.btf_compare.specs.PairTable.{HasRoom, capacity, count_in, held, value_of};

@@ -1,6 +1,6 @@
 //! What the comparison of types finds at a pair of types.
 
-ghost use Rattle.std.specs.Prelude.{◌≡◌, ◌<◌, ◌^◌, Ok, slice_get, IsSome};
+ghost use Rattle.std.specs.Prelude.{◌≡◌, ◌<◌, Ok, slice_get};
 ghost use Rattle.std.specs.Option.{option_map};
 ghost use Rattle.btf_model.specs.Record as model;
 ghost use Rattle.btf_model.specs.Compat.{Finds, PositionFound, ResolvesPair, position_by};

@@ -1,8 +1,8 @@
 //! The run of the comparison of types: open pairs on a stack of its own, and pairs that came out true.
 
-ghost use Rattle.std.specs.Prelude.{◌≡◌, ◌⊎◌, ℕ, ◌+◌, None, IsSome, [], ◌∷◌, ◌++◌, List, Bool, Result, IfOk, OnOk, IfErr, OnErr, MatchOption, true, false};
+ghost use Rattle.std.specs.Prelude.{◌≡◌, ◌⊎◌, ℕ, ◌+◌, None, IsSome, [], ◌∷◌, ◌++◌, List, Bool, Result, OnOk, MatchOption, true, false};
 ghost use Rattle.std.specs.BTreeSet.{IsEmpty};
-ghost use Rattle.btf_model.specs.Fields.{Pair};
+ghost use Rattle.btf_model.specs.Fields.{Pair, HaveKinds};
 ghost use Rattle.btf_model.specs.Refusal.{Refusal};
 ghost use Rattle.btf_model.specs.Compat.{Plain, firsts};
 ghost use Rattle.btf_compare.specs.Compared.{IsStarted, FailsFor, HasStarted, IsRefused, TracesBy, GainsOnly, Passes, WalksTo, AreAt, frame_of, passed_in, progress_of, settled_by};
@@ -176,14 +176,13 @@ fn compare_on<S: Starts>(
     requires walked { WalksTo local.now target.now (λ _. false)
         (new_frame (pair_of first.pair)) (frame_of first) }
     requires here { AreAt local.now target.now first prototypes }
+    requires kinds { HaveKinds target.now }
     ensures { (before : S) → S.has_added before starts.old (first.pair ∷ [])
         → (answer : Result Bool Refusal) × (listed : List Pair)
         × Plain local.now target.now [] (pair_of first.pair) answer listed
         × TracesBy (S.has_added before starts.new) result answer (firsts listed) }
 {
     let mut run = Run::new(allocator_of(local));
-    // The contract speaks of an answer, which there is where each record has a kind, as a use of the tables shows.
-    let _ = allocator_of(target);
     run.seen.insert(first.pair, Progress::Open)?;
     let mut top = first;
     let mut inner = Frame::vacant();

@@ -8,7 +8,7 @@ use Rattle.btf_model.specs.Refusal.{Refusal}
 use Rattle.btf_model.specs.Blob.{slice, word_at}
 use Rattle.btf_model.specs.Ext.{Header, Range, Part, Section, Named, Ext, HasHeader, HasPart, IsSection, AreNamed, AreSections, IsExt, ext_of, records_named, relocation_section}
 use Rattle.btf_ext.specs.SecInfo.{section_of}
-use Rattle.btf_ext.specs.declared.ext.sections.SecInfo.{SecInfo}
+use Rattle.btf_ext.specs.declared.sections.SecInfo.{SecInfo}
 
 -- the parts that the header names
 pub record HasParts (order : Endianness) (bytes : List ℕ) (h : Header) (func line core : Part) : Type 0 where

@@ -27,7 +27,7 @@ use Rattle.btf_words.specs.declared.error.BtfError.{BtfError}
 use Rattle.btf_words.specs.Error.{refusal_of}
 use Rattle.btf_ext.specs.Info.{AreByName, GainsUnder}
 use Rattle.btf_ext.specs.SecInfo.{section_of, GivesSection, AreReadable}
-use Rattle.btf_ext.specs.declared.ext.sections.SecInfo.{SecInfo}
+use Rattle.btf_ext.specs.declared.sections.SecInfo.{SecInfo}
 use Rattle.btf_ext.proofs.Copies.{eq_flips}
 use Rattle.btf_ext.proofs.Parts.{CutSoFar, cut_one, cut_all}
 

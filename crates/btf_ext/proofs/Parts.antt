@@ -9,7 +9,7 @@ use Rattle.btf_model.proofs.Sections.{begins_push, sections_from_none}
 use Rattle.btf_words.specs.declared.error.BtfError.{BtfError}
 use Rattle.btf_words.specs.Error.{refusal_of}
 use Rattle.btf_ext.specs.SecInfo.{section_of, GivesSection}
-use Rattle.btf_ext.specs.declared.ext.sections.SecInfo.{SecInfo}
+use Rattle.btf_ext.specs.declared.sections.SecInfo.{SecInfo}
 use Rattle.btf_words.proofs.Refused.{known_refusal}
 
 -- the bytes up to the rest are these sections

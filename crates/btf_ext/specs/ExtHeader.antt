@@ -1,9 +1,9 @@
 -- The header of `.BTF.ext` and what its ranges say, as the definitions have them.
 use Rattle.std.specs.Prelude.{◌+◌}
 use Rattle.btf_model.specs.Ext as model
-use Rattle.btf_ext.specs.declared.ext.header.Range.{Range}
-use Rattle.btf_ext.specs.declared.ext.header.Header.{Header}
-use Rattle.btf_ext.specs.declared.ext.header.Part.{Part}
+use Rattle.btf_ext.specs.declared.header.Range.{Range}
+use Rattle.btf_ext.specs.declared.header.Header.{Header}
+use Rattle.btf_ext.specs.declared.header.Part.{Part}
 
 -- a range of the code, as the definitions have ranges
 abbrev pub range : Range → model.Range

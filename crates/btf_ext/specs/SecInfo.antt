@@ -5,7 +5,7 @@ use Rattle.btf_model.specs.Refusal.{Refusal}
 use Rattle.btf_model.specs.declared.endianness.Endianness.{Endianness}
 use Rattle.btf_words.specs.declared.error.BtfError.{BtfError}
 use Rattle.btf_words.specs.Error.{refusal_of}
-use Rattle.btf_ext.specs.declared.ext.sections.SecInfo.{SecInfo}
+use Rattle.btf_ext.specs.declared.sections.SecInfo.{SecInfo}
 
 -- a section of the code, as the definitions have sections
 abbrev pub section_of : SecInfo → Section

@@ -1,19 +1,14 @@
 //! The `.BTF.ext` section: function, line and relocation records of the sections of a program.
 
-pub mod header;
-pub mod read;
-mod sections;
-
 ghost use Rattle.std.specs.Prelude.{◌≡◌, map, Ok};
 ghost use Rattle.btf_model.specs.Ext.{IsExt};
 ghost use Rattle.btf_words.specs.Error.{MeetsOrNoMemory, IsOrNoMemory};
 ghost use Rattle.btf_ext.specs.Info.{funcs_by_name, lines_by_name};
 ghost use Rattle.btf_ext.specs.Relocation.{relocation};
 
-use crate::ext::header::Header;
-use crate::ext::read::{clone_relocations, read_relocations, read_sections};
-pub use crate::ext::sections::{SecInfo, SecInfoIter};
+use crate::header::Header;
 use crate::info::{FuncInfo, LineInfo};
+use crate::read::{clone_relocations, read_relocations, read_sections};
 use btf_plain::{BtfError, Endianness};
 use btf_table::{Btf, allocator_of};
 use std::hash::{BuildHasher, BuildHasherDefault, FoldHasher};

@@ -3,7 +3,6 @@
 mod by_section;
 mod func;
 mod line;
-pub mod records;
 
 pub use crate::info::func::{FuncInfo, FuncSecInfo, bpf_func_info};
 pub use crate::info::line::{LineInfo, LineSecInfo, bpf_line_info};

@@ -1,12 +1,12 @@
 //! Lists of items: what is said once of all kinds that have a list.
 
-ghost use Rattle.std.specs.Prelude.{◌≡◌, ℕ, ◌*◌, ◌<◌, ◌≤◌, ◌^◌, ◌++◌, List, length, drop, vec_len, Ok, IfOk, OnOk, MatchResult};
+ghost use Rattle.std.specs.Prelude.{◌≡◌, ℕ, ◌*◌, ◌<◌, ◌≤◌, ◌^◌, ◌++◌, List, length, drop, Ok, IfOk, OnOk, MatchResult};
 ghost use Rattle.std.specs.List.{flat_map, AllByRecursion};
 ghost use Rattle.btf_model.specs.Word.{word, words_at};
 ghost use Rattle.btf_words.specs.Error.{MeetsOrNoMemory};
 ghost use Rattle.btf_items.specs.ReadItems.{ReadsItems};
 
-use crate::words::{push, split_word};
+use crate::words::push;
 use btf_words::{BtfError, Endianness};
 use std::alloc::{AllocError, Global};
 

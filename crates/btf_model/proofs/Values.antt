@@ -13,7 +13,7 @@ use Rattle.btf_model.specs.Table.{Table, Variant}
 use Rattle.btf_model.specs.Text.{text_at}
 use Rattle.btf_model.specs.Walk.{By, unmodified_in, Resolves}
 use Rattle.btf_model.specs.Ext.{Then}
-use Rattle.btf_model.specs.Words.{RelocationSection, HaveNames, Words}
+use Rattle.btf_model.specs.RelocationWords.{RelocationSection, HaveNames, Words}
 use Rattle.btf_model.specs.Value.{variants_by, HasVariants, HaveOtherNames, FindsVariant, Value}
 use Rattle.btf_model.proofs.Walks.{one_answer, by_one}
 

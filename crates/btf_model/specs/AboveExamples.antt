@@ -9,7 +9,7 @@ use Rattle.btf_model.specs.Record.{kind_of, unknown}
 use Rattle.btf_model.specs.Refusal.{UnexpectedBtfType, InvalidStringOffset}
 use Rattle.btf_model.specs.Table.{Table, Fallback, empty_table}
 use Rattle.btf_model.specs.Value.{variants_by, enum_variants, Value}
-use Rattle.btf_model.specs.Words.{words_named, Words}
+use Rattle.btf_model.specs.RelocationWords.{words_named, Words}
 
 -- "e" at 1, "A" at 3, "B" at 5: ENUM64 1 "e" with A = 1 and B = 2 ^ 32 + 5, and CONST 2 of 1
 abbrev large : Table

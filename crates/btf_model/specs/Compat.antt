@@ -112,8 +112,9 @@ mutual
         → Paid local target above owed (Ok true) first
         → Walked local target above n next answer behind → Walked local target above (suc n) at answer (first ++ behind)
     -- or the first answer of a parameter that is another
-    unpaid : (above : List Pair) (n : ℕ) (at next : Pair) (owed : List Pair) (answer : Result Bool Refusal) (starts : List Pair) → Finds local target at (Owes owed next) → Paid local target above owed answer starts → answer ≢ Ok true
-        → Walked local target above (suc n) at answer starts
+    unpaid : (above : List Pair) (n : ℕ) (at next : Pair) (owed : List Pair) (answer : Result Bool Refusal)
+        (starts : List Pair) → Finds local target at (Owes owed next) → Paid local target above owed answer starts
+        → answer ≢ Ok true → Walked local target above (suc n) at answer starts
 
   -- Parameters in order: true, or the first answer that is not true. Each pair is resolved when its turn comes.
   pub data Paid (local target : Table) : List Pair → List Pair → Result Bool Refusal → List Pair → Type 0 where

@@ -37,8 +37,8 @@ int_offset r = slice_index r.tail 0 / 2 ^ 16 % 2 ^ 8
 abbrev pub element_type : Record → ℕ
 element_type r = slice_index r.tail 0
 
--- What is found at two types of these kinds, which are compatible, and of which one at least is no composite: r and s
--- are their records, and the local one has this id.
+-- What is found at two types of these kinds, which are compatible, and of which one at least is no composite: r is the
+-- record of the local one, which has this id, and s that of the other.
 abbrev pub field_by : Table → Table → ℕ → Kind → Kind → Record → Record → Finding Pair Bool
 field_by local target id Int Int r s = Ends (Ok (int_offset r == 0 && int_offset s == 0))
 field_by local target id Ptr q r s = Ends (Ok true)
@@ -53,13 +53,14 @@ field_by local target id k q r s = Ends (Err (UnexpectedBtfType id))
 abbrev pub BothComposite : Kind → Kind → Type 0
 BothComposite k q = (is_composite k ≡ true) × (is_composite q ≡ true)
 
--- What is found at two types that are no modifiers, of which the local one has this id: two composites are compatible;
--- other kinds that differ are not, but for ENUM and ENUM64; the rest is by the kind.
+-- What is found at two types that are no modifiers, by their kinds and records; the local one has this id. Two
+-- composites are compatible; other kinds that differ are not, but for ENUM and ENUM64; the rest is by the kind.
 abbrev pub FieldsFound : Table → Table → ℕ → Kind → Kind → Record → Record → Finding Pair Bool → Type 0
-FieldsFound local target id k q r s found =
-    (BothComposite k q × (found ≡ Ends (Ok true)))
-    ⊎ (((BothComposite k q → ⊥) × (compared_kind k ≢ compared_kind q) × (found ≡ Ends (Ok false)))
-    ⊎ ((BothComposite k q → ⊥) × (compared_kind k ≡ compared_kind q) × (found ≡ field_by local target id k q r s)))
+FieldsFound local target id kind other_kind one other found =
+    (BothComposite kind other_kind × (found ≡ Ends (Ok true)))
+    ⊎ (((BothComposite kind other_kind → ⊥) × (compared_kind kind ≢ compared_kind other_kind) × (found ≡ Ends (Ok false)))
+    ⊎ ((BothComposite kind other_kind → ⊥) × (compared_kind kind ≡ compared_kind other_kind)
+    × (found ≡ field_by local target id kind other_kind one other)))
 
 -- the kind and the record of the type of an id
 abbrev pub IsAt : Table → ℕ → Kind → Record → Type 0
@@ -75,9 +76,10 @@ FieldsFind local target at found =
     ((refusal : Refusal) × Resolves local.records at.local (Err refusal) × (found ≡ Ends (Err refusal)))
     ⊎ (((id : ℕ) × (refusal : Refusal) × Resolves local.records at.local (Ok id)
     × Resolves target.records at.target (Err refusal) × (found ≡ Ends (Err refusal)))
-    ⊎ ((id other : ℕ) × (k q : Kind) × (r s : Record) × Resolves local.records at.local (Ok id)
-    × Resolves target.records at.target (Ok other)
-    × IsAt local id k r × IsAt target other q s × FieldsFound local target id k q r s found))
+    ⊎ ((id other_id : ℕ) × (kind other_kind : Kind) × (one other : Record)
+    × Resolves local.records at.local (Ok id) × Resolves target.records at.target (Ok other_id)
+    × IsAt local id kind one × IsAt target other_id other_kind other
+    × FieldsFound local target id kind other_kind one other found))
 
 -- Whether the types of two fields are compatible, or why there is no answer: what is found after ARRAYs of which each
 -- leads to its elements.

@@ -10,7 +10,7 @@ use Rattle.btf_model.specs.Table.{Table, Fallback, strip, with_string, with_type
 use Rattle.btf_model.specs.Text.{text_at, FindsName}
 use Rattle.btf_model.specs.Walk.{Resolves, HasSize}
 use Rattle.btf_model.specs.Value.{Value}
-use Rattle.btf_model.specs.Words.{RelocationSection, Words}
+use Rattle.btf_model.specs.RelocationWords.{RelocationSection, Words}
 use Rattle.btf_model.specs.Fields.{Pair, HaveKinds, IsAt, int_offset, Fields}
 use Rattle.btf_model.specs.Compat.{Plain, pair_eq, firsts}
 use Rattle.btf_model.specs.Ext.{Section, Sections}

@@ -11,7 +11,7 @@ pub mod Compat
 pub mod CompatExamples
 pub mod Ext
 pub mod Value
-pub mod Words
+pub mod RelocationWords
 pub mod ExtExamples
 pub mod AboveExamples
 pub mod Info

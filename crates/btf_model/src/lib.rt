@@ -1,6 +1,7 @@
 //! What a BTF table is, what bytes stand for it, and the laws of both.
 //!
-//! The definitions lie in `specs/`. Each law is the contract of a function here that does nothing.
+//! The definitions lie in `specs/`, and `Endianness`, which they share with the code, here. Each law is the contract
+//! of a function that does nothing.
 #![tactic(auto)]
 
 ghost use Rattle.btf_model.specs.Laws.{NoSpellingBeginsAnother, BlobIsDetermined, WrittenParsesBack, ParsedWritesBack, AddedStringReadsBack, NameFindsOne, AddedTypeIsFound, WalksAreDetermined, ResolvingTwiceIsOnce, VariantValuesAreDetermined, RelocationWordsAreDetermined, SectionsAreDetermined, ComparisonsAreDetermined, ComparisonsHaveAnswers, ComparisonsAreSymmetric, ComparisonsAreNotReflexive, StartsAreFew};

@@ -71,7 +71,8 @@ impl DeclTag {
 
     /// The string offset of the name.
     pub fn name_offset(&self) -> u32
-        ensures { result ≡ self.now.name }
+        ensures value { result ≡ self.now.name }
+        ensures kind { kind_of self.now.info ≡ Some model.DeclTag }
     {
         self.name_offset
     }
@@ -80,6 +81,7 @@ impl DeclTag {
     pub fn info(&self) -> u32
         ensures value { result ≡ self.now.info }
         ensures kind { kind_of result ≡ Some model.DeclTag }
+        ensures tail { length self.now.tail ≡ 1 }
     {
         self.info
     }
@@ -100,10 +102,9 @@ impl DeclTag {
 
     /// The length of the record in bytes.
     pub fn type_info_size(&self) -> usize
-        ensures { result ≡ 12 + 4 * length self.now.tail }
+        ensures len { result ≡ 12 + 4 * length self.now.tail }
+        ensures kind { kind_of self.now.info ≡ Some model.DeclTag }
     {
-        // The contract speaks of the words, which a use of a field shows.
-        let _ = &self.info;
-        16
+        4 * size_of_val(&self.info)
     }
 }

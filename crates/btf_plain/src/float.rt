@@ -60,7 +60,8 @@ impl Float {
 
     /// The string offset of the name.
     pub fn name_offset(&self) -> u32
-        ensures { result ≡ self.now.name }
+        ensures value { result ≡ self.now.name }
+        ensures kind { kind_of self.now.info ≡ Some model.Float }
     {
         self.name_offset
     }
@@ -83,10 +84,9 @@ impl Float {
 
     /// The length of the record in bytes.
     pub fn type_info_size(&self) -> usize
-        ensures { result ≡ 12 + 4 * length self.now.tail }
+        ensures len { result ≡ 12 + 4 * length self.now.tail }
+        ensures kind { kind_of self.now.info ≡ Some model.Float }
     {
-        // The contract speaks of the words, which a use of a field shows.
-        let _ = &self.info;
-        12
+        3 * size_of_val(&self.info)
     }
 }

@@ -78,7 +78,8 @@ impl Int {
 
     /// The string offset of the name.
     pub fn name_offset(&self) -> u32
-        ensures { result ≡ self.now.name }
+        ensures value { result ≡ self.now.name }
+        ensures kind { kind_of self.now.info ≡ Some model.Int }
     {
         self.name_offset
     }
@@ -87,6 +88,7 @@ impl Int {
     pub fn info(&self) -> u32
         ensures value { result ≡ self.now.info }
         ensures kind { kind_of result ≡ Some model.Int }
+        ensures tail { length self.now.tail ≡ 1 }
     {
         self.info
     }
@@ -128,10 +130,9 @@ impl Int {
 
     /// The length of the record in bytes.
     pub fn type_info_size(&self) -> usize
-        ensures { result ≡ 12 + 4 * length self.now.tail }
+        ensures len { result ≡ 12 + 4 * length self.now.tail }
+        ensures kind { kind_of self.now.info ≡ Some model.Int }
     {
-        // The contract speaks of the words, which a use of a field shows.
-        let _ = &self.info;
-        16
+        4 * size_of_val(&self.info)
     }
 }

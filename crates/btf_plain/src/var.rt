@@ -70,7 +70,8 @@ impl Var {
 
     /// The string offset of the name.
     pub fn name_offset(&self) -> u32
-        ensures { result ≡ self.now.name }
+        ensures value { result ≡ self.now.name }
+        ensures kind { kind_of self.now.info ≡ Some model.Var }
     {
         self.name_offset
     }
@@ -79,6 +80,7 @@ impl Var {
     pub fn info(&self) -> u32
         ensures value { result ≡ self.now.info }
         ensures kind { kind_of result ≡ Some model.Var }
+        ensures tail { length self.now.tail ≡ 1 }
     {
         self.info
     }
@@ -115,10 +117,9 @@ impl Var {
 
     /// The length of the record in bytes.
     pub fn type_info_size(&self) -> usize
-        ensures { result ≡ 12 + 4 * length self.now.tail }
+        ensures len { result ≡ 12 + 4 * length self.now.tail }
+        ensures kind { kind_of self.now.info ≡ Some model.Var }
     {
-        // The contract speaks of the words, which a use of a field shows.
-        let _ = &self.info;
-        16
+        4 * size_of_val(&self.info)
     }
 }

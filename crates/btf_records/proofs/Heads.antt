@@ -23,7 +23,7 @@ use Rattle.btf_words.specs.Error.{refusal_of}
 use Rattle.btf_records.specs.declared.btf_type.BtfType.{BtfType}
 use Rattle.btf_records.specs.declared.codec.Head.{Head}
 use Rattle.btf_records.specs.Head.{IsHead, record_behind, ReadsTail}
-use Rattle.btf_records.specs.Place.{Puts, StaysOr}
+use Rattle.btf_records.specs.Slot.{Puts, StaysOr}
 
 behind_is : (order : Endianness) (bytes : List ℕ) (head : Head) (rest : List ℕ) (n : ℕ) → IsHead order bytes head rest → record_at order n bytes ≡ record_behind order head n rest
 behind_is order bytes head rest n h = λ i. record { name = sym h.name i; info = sym h.info i; third = sym h.third i; tail = words_at order n (sym h.behind i) }

@@ -1,5 +1,5 @@
 -- The record that a `BtfType` stands for, its kind, and its fallback.
-use Rattle.std.specs.Prelude.{Option, None}
+use Rattle.std.specs.Prelude.{Bool, true, false, Option, None}
 use Rattle.btf_model.specs.Record as model
 use Rattle.btf_model.specs.Record.{Kind, Record, unknown}
 use Rattle.btf_model.specs.Table.{Fallback}
@@ -51,6 +51,12 @@ type_kind (Float r) = model.Float
 type_kind (DeclTag r) = model.DeclTag
 type_kind (TypeTag r) = model.TypeTag
 type_kind (Enum64 r) = model.Enum64
+
+-- ARRAY and FWD use no third word
+abbrev pub has_no_third : Kind → Bool
+has_no_third model.Array = true
+has_no_third model.Fwd = true
+has_no_third k = false
 
 -- the fallback of a UNION that stands in for an ENUM64
 abbrev pub fallback_of : BtfType → Option Fallback

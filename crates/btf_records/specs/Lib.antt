@@ -1,7 +1,7 @@
 pub mod BtfType
 pub mod Head
 pub mod Members
-pub mod Place
+pub mod Slot
 pub use Rattle.btf_model.specs.Word
 pub use Rattle.btf_model.specs.Record
 pub use Rattle.btf_model.specs.Spelling

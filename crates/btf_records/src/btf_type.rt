@@ -59,22 +59,27 @@ pub enum BtfType {
 }
 
 impl BtfType {
-    ghost use Rattle.std.specs.Prelude.{◌≡◌, ◌+◌, ◌*◌, ◌↔◌, length, Some, None, Ok, IsTrue, IsSome, OnSome, ◌==◌};
-    ghost use Rattle.std.specs.Prelude.{if◌then◌else◌};
+    ghost use Rattle.std.specs.Prelude.{◌≡◌, ◌+◌, ◌*◌, ◌↔◌, length, Some, None, Ok, IsTrue, ◌==◌};
+    ghost use Rattle.std.specs.Prelude.{if◌then◌else◌, true};
     ghost use Rattle.std.specs.Option.{option_map};
     ghost use Rattle.std.specs.List.{flat_map};
     ghost use Rattle.std.specs.Slice.Iter.{iter_rest};
     ghost use Rattle.btf_items.specs.Items.{member_words};
-    ghost use Rattle.btf_model.specs.Record.{kind_of, compared_kind, record_size, record_target, member_bit_offset, member_bit_field_size};
+    ghost use Rattle.btf_model.specs.Record.{kind_of, vlen, tail_words, compared_kind, record_size, record_target, member_bit_offset, member_bit_field_size};
     ghost use Rattle.btf_model.specs.Record as model;
     ghost use Rattle.btf_words.specs.Error.{IsOrNoMemory};
     ghost use Rattle.btf_words.specs.Kind as kinds;
-    ghost use Rattle.btf_records.specs.BtfType.{record_of, fallback_of, type_kind};
+    ghost use Rattle.btf_records.specs.BtfType.{record_of, fallback_of, type_kind, has_no_third};
 
-    /// The kind of the record.
+    /// The kind of the record, which is the one in its info word.
     pub fn kind(&self) -> BtfKind
-        ensures { kinds.kind result ≡ type_kind self.now }
+        ensures value { kinds.kind result ≡ type_kind self.now }
+        ensures info { kind_of (record_of self.now).info ≡ Some (type_kind self.now) }
+        ensures tail { length (record_of self.now).tail
+            ≡ tail_words (type_kind self.now) (vlen (record_of self.now).info) }
     {
+        // Only a use of the info word shows what the other two clauses say of it.
+        let _ = self.info();
         match self {
             BtfType::Unknown => BtfKind::Unknown,
             BtfType::Int(_) => BtfKind::Int,
@@ -101,7 +106,8 @@ impl BtfType {
 
     /// The string offset of the name; 0 for Unknown.
     pub fn name_offset(&self) -> u32
-        ensures { result ≡ (record_of self.now).name }
+        ensures value { result ≡ (record_of self.now).name }
+        ensures kind { kind_of (record_of self.now).info ≡ Some (type_kind self.now) }
     {
         match self {
             BtfType::Unknown => 0,
@@ -131,6 +137,10 @@ impl BtfType {
     pub fn info(&self) -> u32
         ensures value { result ≡ (record_of self.now).info }
         ensures kind { kind_of result ≡ Some (type_kind self.now) }
+        ensures tail { length (record_of self.now).tail
+            ≡ tail_words (type_kind self.now) (vlen result) }
+        ensures no_third { has_no_third (type_kind self.now) ≡ true
+            → (record_of self.now).third ≡ 0 }
     {
         match self {
             BtfType::Unknown => 0,
@@ -195,7 +205,8 @@ impl BtfType {
     /// The length of the record in bytes.
     #[inline(always)]
     pub fn type_info_size(&self) -> usize
-        ensures { result ≡ 12 + 4 * length (record_of self.now).tail }
+        ensures len { result ≡ 12 + 4 * length (record_of self.now).tail }
+        ensures kind { kind_of (record_of self.now).info ≡ Some (type_kind self.now) }
     {
         match self {
             BtfType::Unknown => 12,

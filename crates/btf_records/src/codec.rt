@@ -1,6 +1,6 @@
 //! Records read from bytes, and written.
 
-ghost use Rattle.std.specs.Prelude.{◌≡◌, ◌<◌, ◌≤◌, ◌++◌, [], ◌∷◌, length, Some, None, Ok, OnOk, IfOk, MatchResult};
+ghost use Rattle.std.specs.Prelude.{◌≡◌, ◌<◌, ◌++◌, [], ◌∷◌, length, Some, None, Ok, OnOk, IfOk, MatchResult};
 ghost use Rattle.btf_model.specs.Record as model;
 ghost use Rattle.btf_model.specs.Record.{kind_number, kind_of};
 ghost use Rattle.btf_model.specs.Spelling.{spell, IsRecord, IsWhole};
@@ -8,12 +8,12 @@ ghost use Rattle.btf_model.specs.Blob.{ReadsFront};
 ghost use Rattle.btf_words.specs.Error.{MeetsOrNoMemory, IsOrNoMemory};
 ghost use Rattle.btf_records.specs.BtfType.{record_of, fallback_of};
 ghost use Rattle.btf_records.specs.Head.{IsHead, ReadsTail};
-ghost use Rattle.btf_records.specs.Place.{Puts, StaysOr};
+ghost use Rattle.btf_records.specs.Slot.{Puts, StaysOr};
 ghost use Rattle.btf_words.specs.Kind as kinds;
 
 use crate::btf_type::BtfType;
-use crate::place::{One, Place, put};
 use crate::records::{DataSec, Enum, Enum64, FuncProto, Struct, Union, WithList, append_with_list};
+use crate::slot::{One, Slot, put};
 use btf_items::{push_array, split_word};
 use btf_plain::{
     Array, BtfError, BtfKind, Const, DeclTag, Endianness, Float, Func, FuncLinkage, Fwd, Int,
@@ -226,26 +226,26 @@ impl BtfType {
     }
 }
 
-/// Puts the record at the front of the data in a place. Returns its length in bytes.
+/// Puts the record at the front of the data in a slot. Returns its length in bytes.
 #[inline(always)]
-fn read_to<P: Place>(
-    place: &mut P,
+fn read_to<S: Slot>(
+    slot: &mut S,
     alloc: Global,
     data: &[u8],
     endianness: Endianness,
 ) -> Result<usize, BtfError>
-    ensures { Puts P.has_put (StaysOr P.has_kept) place.old place.new
+    ensures { Puts S.has_put (StaysOr S.has_kept) slot.old slot.new
         (ReadsFront endianness «data».now) result }
 {
     let (head, rest) = Head::read(data, endianness)?;
     let kind = BtfKind::try_from(head.kind())?;
-    put_tail(place, alloc, kind, head, rest, endianness)
+    put_tail(slot, alloc, kind, head, rest, endianness)
 }
 
-/// Puts a record of this kind and head in a place. Returns its length in bytes.
+/// Puts a record of this kind and head in a slot. Returns its length in bytes.
 #[inline(always)]
-fn put_tail<P: Place>(
-    place: &mut P,
+fn put_tail<S: Slot>(
+    slot: &mut S,
     alloc: Global,
     kind: BtfKind,
     head: Head,
@@ -253,73 +253,73 @@ fn put_tail<P: Place>(
     endianness: Endianness,
 ) -> Result<usize, BtfError>
     requires { kind_of head.info ≡ Some (kinds.kind kind) }
-    ensures { Puts P.has_put (StaysOr P.has_kept) place.old place.new
+    ensures { Puts S.has_put (StaysOr S.has_kept) slot.old slot.new
         (ReadsTail endianness head (kinds.kind kind) rest.now) result }
 {
     let Head { name, info, third } = head;
     match kind {
-        BtfKind::Unknown => put(place, BtfType::Unknown),
-        BtfKind::Int => put(place, BtfType::Int(read_int(head, rest, endianness)?)),
-        BtfKind::Ptr => put(place, BtfType::Ptr(Ptr::new(name, third).with_info(info))),
-        BtfKind::Array => put(place, BtfType::Array(read_array(head, rest, endianness)?)),
-        BtfKind::Struct => put_with_list::<P, Struct>(place, alloc, &head, rest, endianness),
-        BtfKind::Union => put_with_list::<P, Union>(place, alloc, &head, rest, endianness),
-        BtfKind::Enum => put_with_list::<P, Enum>(place, alloc, &head, rest, endianness),
-        BtfKind::Fwd => put(place, BtfType::Fwd(Fwd::new(name, false).with_info(info))),
+        BtfKind::Unknown => put(slot, BtfType::Unknown),
+        BtfKind::Int => put(slot, BtfType::Int(read_int(head, rest, endianness)?)),
+        BtfKind::Ptr => put(slot, BtfType::Ptr(Ptr::new(name, third).with_info(info))),
+        BtfKind::Array => put(slot, BtfType::Array(read_array(head, rest, endianness)?)),
+        BtfKind::Struct => put_with_list::<S, Struct>(slot, alloc, &head, rest, endianness),
+        BtfKind::Union => put_with_list::<S, Union>(slot, alloc, &head, rest, endianness),
+        BtfKind::Enum => put_with_list::<S, Enum>(slot, alloc, &head, rest, endianness),
+        BtfKind::Fwd => put(slot, BtfType::Fwd(Fwd::new(name, false).with_info(info))),
         BtfKind::Typedef => {
             let record = Typedef::new(name, third);
-            put(place, BtfType::Typedef(record.with_info(info)))
+            put(slot, BtfType::Typedef(record.with_info(info)))
         }
         BtfKind::Volatile => {
             let record = Volatile::new(third).with_name_offset(name);
-            put(place, BtfType::Volatile(record.with_info(info)))
+            put(slot, BtfType::Volatile(record.with_info(info)))
         }
         BtfKind::Const => {
             let record = Const::new(third).with_name_offset(name);
-            put(place, BtfType::Const(record.with_info(info)))
+            put(slot, BtfType::Const(record.with_info(info)))
         }
         BtfKind::Restrict => {
             let record = Restrict::new(third).with_name_offset(name);
-            put(place, BtfType::Restrict(record.with_info(info)))
+            put(slot, BtfType::Restrict(record.with_info(info)))
         }
         BtfKind::Func => {
             let record = Func::new(name, third, FuncLinkage::Static);
-            put(place, BtfType::Func(record.with_info(info)))
+            put(slot, BtfType::Func(record.with_info(info)))
         }
-        BtfKind::FuncProto => put_with_list::<P, FuncProto>(place, alloc, &head, rest, endianness),
-        BtfKind::Var => put(place, BtfType::Var(read_var(head, rest, endianness)?)),
-        BtfKind::DataSec => put_with_list::<P, DataSec>(place, alloc, &head, rest, endianness),
+        BtfKind::FuncProto => put_with_list::<S, FuncProto>(slot, alloc, &head, rest, endianness),
+        BtfKind::Var => put(slot, BtfType::Var(read_var(head, rest, endianness)?)),
+        BtfKind::DataSec => put_with_list::<S, DataSec>(slot, alloc, &head, rest, endianness),
         BtfKind::Float => put(
-            place,
+            slot,
             BtfType::Float(Float::new(name, third).with_info(info)),
         ),
         BtfKind::DeclTag => put(
-            place,
+            slot,
             BtfType::DeclTag(read_decl_tag(head, rest, endianness)?),
         ),
         BtfKind::TypeTag => put(
-            place,
+            slot,
             BtfType::TypeTag(TypeTag::new(name, third).with_info(info)),
         ),
-        BtfKind::Enum64 => put_with_list::<P, Enum64>(place, alloc, &head, rest, endianness),
+        BtfKind::Enum64 => put_with_list::<S, Enum64>(slot, alloc, &head, rest, endianness),
     }
 }
 
-/// Puts a record with a list, of this head, in a place. Returns its length in bytes. Its list is on the call stack until
+/// Puts a record with a list, of this head, in a slot. Returns its length in bytes. Its list is on the call stack until
 /// then, which takes a call of its own, as a function clears all that it has there when it is called.
-fn put_with_list<P: Place, R: WithList>(
-    place: &mut P,
+fn put_with_list<S: Slot, R: WithList>(
+    slot: &mut S,
     alloc: Global,
     head: &Head,
     rest: &[u8],
     endianness: Endianness,
 ) -> Result<usize, BtfError>
     requires { kind_of head.now.info ≡ Some R.kind }
-    ensures { Puts P.has_put (StaysOr P.has_kept) place.old place.new
+    ensures { Puts S.has_put (StaysOr S.has_kept) slot.old slot.new
         (ReadsTail endianness head.now R.kind rest.now) result }
 {
     let record: R = read_with_list(alloc, *head, rest, endianness)?;
-    put(place, record.into_type())
+    put(slot, record.into_type())
 }
 
 /// Writes an ARRAY at the end of bytes, its third word as 0.

@@ -3,8 +3,8 @@
 
 mod btf_type;
 mod codec;
-mod place;
 mod records;
+mod slot;
 
 pub use btf_items::{
     BtfEnum, BtfEnum64, BtfMember, BtfParam, DataSecEntry, Enum64Fallback, Enum64VariantFallback,

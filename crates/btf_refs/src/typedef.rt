@@ -65,7 +65,8 @@ impl Typedef {
 
     /// The string offset of the name.
     pub fn name_offset(&self) -> u32
-        ensures { result ≡ self.now.name }
+        ensures value { result ≡ self.now.name }
+        ensures kind { kind_of self.now.info ≡ Some model.Typedef }
     {
         self.name_offset
     }
@@ -88,10 +89,9 @@ impl Typedef {
 
     /// The length of the record in bytes.
     pub fn type_info_size(&self) -> usize
-        ensures { result ≡ 12 + 4 * length self.now.tail }
+        ensures len { result ≡ 12 + 4 * length self.now.tail }
+        ensures kind { kind_of self.now.info ≡ Some model.Typedef }
     {
-        // The contract speaks of the words, which a use of a field shows.
-        let _ = &self.info;
-        12
+        3 * size_of_val(&self.info)
     }
 }

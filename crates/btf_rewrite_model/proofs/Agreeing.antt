@@ -16,8 +16,8 @@ use Rattle.btf_rewrite_model.specs.declared.feature.FeatureAnswer.{FeatureAnswer
 use Rattle.btf_rewrite_model.specs.Made.{entries, variants, record_at, kind_at, byte_int, static_var, const, typedef, struct, union, enum, data_sec, with_linkage, unsigned}
 use Rattle.btf_rewrite_model.specs.Checks.{Check, first_fault, is_read, has_room, have_room, fits, record_len}
 use Rattle.btf_model.specs.Table.{type_bytes}
-use Rattle.btf_rewrite_model.specs.Pass.{Pass, has, name_of, name_checks, least, or_this, is_least, renaming, section_size, is_unsized, is_zero_or, is_positive, fills_sized_one, fills_unsized, gets_filler, sized_asks_zero, unsized_asks_zero, makes_filler, wants_placeholder, makes_placeholder, param_texts, filler, filler_type_text, filler_text, placeholder_text, texts, texts_by, texts_below, texts_len, offset_at, filler_offset, added_by, added_below, with_added, free_id, added, growth_below, type_len_at, func_asks, asks_by, asks, asks_below, is_builtin, is_enum64}
-use Rattle.btf_rewrite_model.specs.Rule.{becomes_by, ruled_below, with_ruled, known_func, new_name, name_or, filler_id, placed, named_params, variant_members, entry_members, placeholder_id}
+use Rattle.btf_rewrite_model.specs.Pass.{Pass, has, name_of, name_checks, least, passing_or, is_least, renaming, section_size, is_unsized, is_zero_or, is_positive, fills_sized_one, fills_unsized, gets_filler, sized_asks_zero, unsized_asks_zero, makes_filler, wants_member_type, makes_member_type, param_texts, filler, filler_type_text, filler_text, member_type_text, texts, texts_by, texts_below, texts_len, offset_at, filler_offset, added_by, added_below, with_added, free_id, added, growth_below, type_len_at, func_asks, asks_by, asks, asks_below, is_builtin, is_enum64}
+use Rattle.btf_rewrite_model.specs.Rule.{becomes_by, ruled_below, with_ruled, known_func, new_name, name_or, filler_id, placed, named_params, variant_members, entry_members, member_type_id}
 use Rattle.btf_rewrite_model.specs.Fault.{fault, checks_by, completing_checks, filling_checks, member_checks, entry_checks, is_sized, all_fit}
 use Rattle.btf_rewrite_model.specs.Rewritten.{AreRuled}
 use Rattle.btf_rewrite_model.specs.RewriteLaws.{IsAmong, with_answers, Agree, IsSameBelow}
@@ -35,7 +35,7 @@ least_alike : (test other : ℕ → Bool) (n : ℕ) → ((j : ℕ) → j ≤ n �
 least_alike test other zero alike = refl
 least_alike test other (suc n) alike =
     let below : least test n ≡ least other n = least_alike test other n (λ j le. alike j (omega (arith, le))) in
-    ap (λ (found : ℕ). or_this test found (suc n)) below ∙ ap (λ (b : Bool). if b then least other n else suc n) (alike (least other n) (omega (arith, least_le other n)))
+    ap (λ (found : ℕ). passing_or test found (suc n)) below ∙ ap (λ (b : Bool). if b then least other n else suc n) (alike (least other n) (omega (arith, least_le other n)))
 
 pub is_least_alike : (test other : ℕ → Bool) (n : ℕ) → ((j : ℕ) → j ≤ n → test j ≡ other j) → is_least test n ≡ is_least other n
 is_least_alike test other n alike = ap (λ (b : Bool). b && (least test n == n)) (alike n (omega arith)) ∙ ap (λ (m : ℕ). other n && (m == n)) (least_alike test other n alike)
@@ -128,12 +128,12 @@ asks_unsized true false true true false size is_d is_z is_e is_room is_size = ab
 asks_unsized true false true true true false is_d is_z is_e is_room is_size = absurd (false≢true is_size)
 
 asks_sized : (d s z e named a : Bool) → d ≡ true → s ≡ true → z ≡ false → e ≡ true → named ≡ true → (d && ((s && not z && e && named) || a)) ≡ true
-asks_sized true true false true true a is_d is_s is_z is_e is_named = refl
-asks_sized false s z e named a is_d is_s is_z is_e is_named = absurd (false≢true is_d)
-asks_sized true false z e named a is_d is_s is_z is_e is_named = absurd (false≢true is_s)
-asks_sized true true true e named a is_d is_s is_z is_e is_named = absurd (false≢true (sym is_z))
-asks_sized true true false false named a is_d is_s is_z is_e is_named = absurd (false≢true is_e)
-asks_sized true true false true false a is_d is_s is_z is_e is_named = absurd (false≢true is_named)
+asks_sized true true false true true a is_d is_s is_z is_e named_is = refl
+asks_sized false s z e named a is_d is_s is_z is_e named_is = absurd (false≢true is_d)
+asks_sized true false z e named a is_d is_s is_z is_e named_is = absurd (false≢true is_s)
+asks_sized true true true e named a is_d is_s is_z is_e named_is = absurd (false≢true (sym is_z))
+asks_sized true true false false named a is_d is_s is_z is_e named_is = absurd (false≢true is_e)
+asks_sized true true false true false a is_d is_s is_z is_e named_is = absurd (false≢true named_is)
 
 first_two : (a b c : Bool) → (a && b && c) ≡ true → (a ≡ true) × (b ≡ true)
 first_two true true c is = (refl, refl)
@@ -183,7 +183,7 @@ texts_same p answers id (Some kinds.FuncProto) kind agree filler_made =
     ap (λ (b : Bool). if b then param_texts 0 (record_at p.table id).tail else []) same
 texts_same p answers id (Some kinds.Enum64) kind agree filler_made =
     let same : grants answers features.Enum64 ≡ has p features.Enum64 = agree_of p answers id (Some kinds.Enum64) features.Enum64 agree kind refl in
-    ap (λ (b : Bool). if b then placeholder_text ∷ [] else []) (is_least_alike (wants_placeholder (with_answers p answers)) (wants_placeholder p) id (λ j le. ap (λ (b : Bool). is_enum64 (kind_at p.table j) && not b) same))
+    ap (λ (b : Bool). if b then member_type_text ∷ [] else []) (is_least_alike (wants_member_type (with_answers p answers)) (wants_member_type p) id (λ j le. ap (λ (b : Bool). is_enum64 (kind_at p.table j) && not b) same))
 texts_same p answers id (Some kinds.DataSec) kind agree filler_made =
     let same : renaming (with_answers p answers) (name_of p id) ≡ renaming p (name_of p id) = renaming_same p answers (name_of p id) (section_agrees p answers id agree kind) in
     ap (λ (ts : List (List ℕ)). ts ++ (if makes_filler (with_answers p answers) id then filler_type_text ∷ filler_text ∷ [] else [])) same
@@ -196,8 +196,8 @@ added_same : (p : Pass) (answers : List FeatureAnswer) (free id : ℕ) (k : Opti
     → offset_at (with_answers p answers) id ≡ offset_at p id → added_by (with_answers p answers) free id k ≡ added_by p free id k
 added_same p answers free id (Some kinds.Enum64) kind agree filler_made offset =
     let same : grants answers features.Enum64 ≡ has p features.Enum64 = agree_of p answers id (Some kinds.Enum64) features.Enum64 agree kind refl in
-    ap (λ (o : ℕ). if makes_placeholder (with_answers p answers) id then byte_int o ∷ [] else []) offset
-    ∙ ap (λ (b : Bool). if b then byte_int (offset_at p id) ∷ [] else []) (is_least_alike (wants_placeholder (with_answers p answers)) (wants_placeholder p) id (λ j le. ap (λ (b : Bool). is_enum64 (kind_at p.table j) && not b) same))
+    ap (λ (o : ℕ). if makes_member_type (with_answers p answers) id then byte_int o ∷ [] else []) offset
+    ∙ ap (λ (b : Bool). if b then byte_int (offset_at p id) ∷ [] else []) (is_least_alike (wants_member_type (with_answers p answers)) (wants_member_type p) id (λ j le. ap (λ (b : Bool). is_enum64 (kind_at p.table j) && not b) same))
 added_same p answers free id (Some kinds.DataSec) kind agree filler_made offset =
     let same : renaming (with_answers p answers) (name_of p id) ≡ renaming p (name_of p id) = renaming_same p answers (name_of p id) (section_agrees p answers id agree kind) in
     ap (λ (b : Bool). if b then filler (filler_offset (with_answers p answers) id) free else []) filler_made
@@ -250,7 +250,7 @@ record Same (p : Pass) (answers : List FeatureAnswer) (id : ℕ) : Type 0 where
   read : kind_at p.table id ≡ Some kinds.Func → is_read (name_of p id) ≡ None
   gets : gets_filler (with_answers p answers) id ≡ gets_filler p id
   filler_at : filler_id (with_answers p answers) id ≡ filler_id p id
-  placeholder : kind_at p.table id ≡ Some kinds.Enum64 → placeholder_id (with_answers p answers) id ≡ placeholder_id p id
+  member_type : kind_at p.table id ≡ Some kinds.Enum64 → member_type_id (with_answers p answers) id ≡ member_type_id p id
 
 known_alike : (d g b h i : Bool) (x y z : Record) → (d ≡ true → g ≡ true → b ≡ false → i ≡ h) → (if d then (if g && (b || not i) then x else y) else z) ≡ (if d then (if g && (b || not h) then x else y) else z)
 known_alike false g b h i x y z same = refl
@@ -320,8 +320,8 @@ becomes_same p answers lower id (Some kinds.Enum) kind same =
     (λ signed. agree_of p answers id (Some kinds.Enum) features.Enum64 same.agree kind (signed_among (is_signed (record_at p.table id)) signed))
 becomes_same p answers lower id (Some kinds.Enum64) kind same =
     let r : Record = record_at p.table id in
-    ap (λ (b : Bool). if b then r else union r.name r.third (vlen r.info) (variant_members (placeholder_id (with_answers p answers) id) (variants r.tail))) (agree_of p answers id (Some kinds.Enum64) features.Enum64 same.agree kind refl)
-    ∙ ap (λ (n : ℕ). if has p features.Enum64 then r else union r.name r.third (vlen r.info) (variant_members n (variants r.tail))) (same.placeholder kind)
+    ap (λ (b : Bool). if b then r else union r.name r.third (vlen r.info) (variant_members (member_type_id (with_answers p answers) id) (variants r.tail))) (agree_of p answers id (Some kinds.Enum64) features.Enum64 same.agree kind refl)
+    ∙ ap (λ (n : ℕ). if has p features.Enum64 then r else union r.name r.third (vlen r.info) (variant_members n (variants r.tail))) (same.member_type kind)
 becomes_same p answers lower id (Some kinds.Func) kind same =
     func_same p answers (record_at p.table id) (name_of p id) (λ f among. agree_of p answers id (Some kinds.Func) f same.agree kind among) (same.read kind)
 becomes_same p answers lower id (Some kinds.FuncProto) kind same =
@@ -359,7 +359,7 @@ all_same p answers id agree ruled fillers below = record {
   read = read_of_ruled p id ruled;
   gets = fillers id (omega arith);
   filler_at = ap (λ (n : ℕ). n + 1) (made_same p answers id (gets_filler (with_answers p answers)) (gets_filler p) fillers below);
-  placeholder = λ kind. made_same p answers id (wants_placeholder (with_answers p answers)) (wants_placeholder p)
+  member_type = λ kind. made_same p answers id (wants_member_type (with_answers p answers)) (wants_member_type p)
       (λ j le. ap (λ (b : Bool). is_enum64 (kind_at p.table j) && not b) (agree_of p answers id (Some kinds.Enum64) features.Enum64 agree kind refl)) below;
 }
 

@@ -6,7 +6,7 @@ use Rattle.btf_model.specs.Record as kinds
 use Rattle.btf_model.specs.Record.{Kind, Record}
 use Rattle.btf_model.specs.Refusal.{Refusal}
 use Rattle.btf_rewrite_model.specs.declared.feature.BtfFeature.TheVariants as features
-use Rattle.btf_rewrite_model.specs.Feature.{same_feature, needs_by, is_sized_and_empty, fills_sized, is_global, is_signed, has_no_entries}
+use Rattle.btf_rewrite_model.specs.Feature.{same_feature, needs_by, is_sized_and_empty, fills_sized, is_global, has_no_entries}
 use Rattle.btf_rewrite_model.specs.declared.feature.BtfFeature.{BtfFeature}
 use Rattle.btf_rewrite_model.specs.Pass.{Pass, has, name_of, name_checks, func_asks, asks_by, is_builtin, offset_at, renaming, section_size, is_positive}
 use Rattle.btf_rewrite_model.specs.Checks.{first_fault, have_room}

@@ -11,7 +11,7 @@ use Rattle.btf_rewrite_model.specs.declared.feature.FillPolicy.{FillPolicy}
 use Rattle.btf_rewrite_model.specs.Ksyms.{appends_int, each_stepped, stepped, int_text}
 use Rattle.btf_rewrite_model.specs.declared.ksyms_ids.KsymsIds.{KsymsIds}
 use Rattle.btf_rewrite_model.specs.Made.{record_at, kind_at, c_int, byte_int, static_var}
-use Rattle.btf_rewrite_model.specs.Pass.{Pass, Layout, is_least, wants_placeholder, gets_filler, added_by, added_below, makes_placeholder, makes_filler, offset_at, filler_offset, filler_type_text}
+use Rattle.btf_rewrite_model.specs.Pass.{Pass, Layout, is_least, wants_member_type, gets_filler, added_by, added_below, makes_member_type, makes_filler, offset_at, filler_offset, filler_type_text}
 use Rattle.btf_rewrite_model.specs.Rewritten.{begun, pass_of, old_count, Rewritten}
 use Rattle.btf_rewrite_model.specs.Rule.{ruled_below}
 use Rattle.btf_rewrite_model.specs.Passing.{MadeBelow}
@@ -57,36 +57,36 @@ two_if : {X : Type 0} (b : Bool) (x y : X) (more : ℕ) → length (if b then x 
 two_if true x y more = omega arith
 two_if false x y more = omega arith
 
-added_few : (p : Pass) (free id : ℕ) (k : Option Kind) → length (added_by p free id k) ≤ once (wants_placeholder p) id + 2 * once (gets_filler p) id
-added_few p free id (Some kinds.Enum64) = one_if (makes_placeholder p id) (byte_int (offset_at p id)) (2 * once (gets_filler p) id)
+added_few : (p : Pass) (free id : ℕ) (k : Option Kind) → length (added_by p free id k) ≤ once (wants_member_type p) id + 2 * once (gets_filler p) id
+added_few p free id (Some kinds.Enum64) = one_if (makes_member_type p id) (byte_int (offset_at p id)) (2 * once (gets_filler p) id)
 added_few p free id (Some kinds.DataSec) =
     let offset : ℕ = filler_offset p id in
-    two_if (makes_filler p id) (byte_int offset) (static_var (offset + length filler_type_text + 1) free) (once (wants_placeholder p) id)
+    two_if (makes_filler p id) (byte_int offset) (static_var (offset + length filler_type_text + 1) free) (once (wants_member_type p) id)
 added_few p free id k = omega arith
 
 -- ---- a pass
 
 record FewBelow (p : Pass) (n : ℕ) : Type 0 where
-  placeholder : Option ℕ
+  member_type : Option ℕ
   filler : Option ℕ
-  has_placeholder : MadeBelow (wants_placeholder p) itself n placeholder
+  has_member_type : MadeBelow (wants_member_type p) itself n member_type
   has_filler : MadeBelow (gets_filler p) itself n filler
-  few : length (added_below p n) ≤ seen placeholder + 2 * seen filler
+  few : length (added_below p n) ≤ seen member_type + 2 * seen filler
 
 few_below : (p : Pass) (n : ℕ) → FewBelow p n
 few_below p zero =
-    record { placeholder = None; filler = None; has_placeholder = none_below_zero (wants_placeholder p) itself; has_filler = none_below_zero (gets_filler p) itself; few = omega arith }
+    record { member_type = None; filler = None; has_member_type = none_below_zero (wants_member_type p) itself; has_filler = none_below_zero (gets_filler p) itself; few = omega arith }
 few_below p (suc n) =
     let here = few_below p n in
-    let one = next_seen (wants_placeholder p) n here.placeholder here.has_placeholder in
+    let one = next_seen (wants_member_type p) n here.member_type here.has_member_type in
     let two = next_seen (gets_filler p) n here.filler here.has_filler in
     let before : List Record = added_below p n in
     let free : ℕ = length p.table.records + length before in
     let new : List Record = added_by p free n (kind_at p.table n) in
     record {
-      placeholder = one.made;
+      member_type = one.made;
       filler = two.made;
-      has_placeholder = one.below;
+      has_member_type = one.below;
       has_filler = two.below;
       few = omega (arith, here.few, one.count, two.count, length-append before new, added_few p free n (kind_at p.table n));
     }
@@ -98,7 +98,7 @@ seen_few (Some made) = omega arith
 pub few_in_a_pass : (p : Pass) (n : ℕ) → length (added_below p n) ≤ 3
 few_in_a_pass p n =
     let here = few_below p n in
-    omega (arith, here.few, seen_few here.placeholder, seen_few here.filler)
+    omega (arith, here.few, seen_few here.member_type, seen_few here.filler)
 
 -- ---- the step of `.ksyms`, and a whole rewrite
 

@@ -1,4 +1,4 @@
--- What a pass makes once, by the least id that wants it: the placeholder of ENUM64s, and the filler.
+-- What a pass makes once, by the least id that wants it: the member_type of ENUM64s, and the filler.
 use Rattle.std.proofs.Common.{◌≡◌, ◌==◌, ℕ, zero, suc, ◌<◌, ◌≤◌, Bool, true, false, not, ◌&&◌, List, Option, None, Some, refl, sym, ap, ◌∙◌, arith, inl, inr}
 use Rattle.std.specs.Prelude.{if◌then◌else◌}
 use Rattle.std.proofs.lemmas.Bool.{false≢true, eqb-true, eq-eqb, cases_order, false_from_ne_true}
@@ -8,7 +8,7 @@ use Rattle.btf_rewrite_model.specs.declared.feature.BtfFeature.TheVariants as fe
 use Rattle.btf_rewrite_model.specs.Feature.{grants}
 use Rattle.btf_rewrite_model.specs.declared.feature.FeatureAnswer.{FeatureAnswer}
 use Rattle.btf_rewrite_model.specs.Made.{kind_at}
-use Rattle.btf_rewrite_model.specs.Pass.{Pass, has, least, or_this, is_least, is_enum64, wants_placeholder, gets_filler}
+use Rattle.btf_rewrite_model.specs.Pass.{Pass, has, least, passing_or, is_least, is_enum64, wants_member_type, gets_filler}
 use Rattle.btf_rewrite_model.specs.Rewritten.{AreRuled}
 use Rattle.btf_rewrite_model.specs.RewriteLaws.{with_answers, Agree}
 use Rattle.btf_rewrite_model.specs.Passing.{MadeBelow}
@@ -20,7 +20,7 @@ least_of_none : (test : ℕ → Bool) (n : ℕ) → ((j : ℕ) → j < n → tes
 least_of_none test zero none = refl
 least_of_none test (suc n) none =
     let below : least test n ≡ n = least_of_none test n (λ j lt. none j (omega (arith, lt))) in
-    ap (λ (m : ℕ). or_this test m (suc n)) below ∙ ap (λ (b : Bool). if b then n else suc n) (none n (omega arith))
+    ap (λ (m : ℕ). passing_or test m (suc n)) below ∙ ap (λ (b : Bool). if b then n else suc n) (none n (omega arith))
 
 both : (a b : Bool) → (a && b) ≡ true → (a ≡ true) × (b ≡ true)
 both true true is = (refl, refl)
@@ -36,7 +36,7 @@ least_of_first test k (suc n) first le =
     elim (cases_order k (suc n)) as (λ c. least test (suc n) ≡ k) [
       | inl same ↦ ap (least test) (sym same) ∙ eqb-true (least test k) k parts.1
       | inr other ↦ elim other as (λ c. least test (suc n) ≡ k) [
-        | inl less ↦ ap (λ (m : ℕ). or_this test m (suc n)) (least_of_first test k n first (omega (arith, less))) ∙ ap (λ (b : Bool). if b then k else suc n) parts.0
+        | inl less ↦ ap (λ (m : ℕ). passing_or test m (suc n)) (least_of_first test k n first (omega (arith, less))) ∙ ap (λ (b : Bool). if b then k else suc n) parts.0
         | inr more ↦ absurd (omega (arith, le, more))
       ]
     ]
@@ -96,9 +96,9 @@ enum64_alike : (p : Pass) (answers : List FeatureAnswer) (id : ℕ) (k : Option 
 enum64_alike p answers id (Some kinds.Enum64) kind agree = ap not (agree_of p answers id (Some kinds.Enum64) features.Enum64 agree kind refl)
 enum64_alike p answers id k kind agree = refl
 
--- The ids below that want a placeholder are the same.
-pub placeholder_alike : (p : Pass) (answers : List FeatureAnswer) (n : ℕ) → Agree p answers n → (j : ℕ) → j < n → wants_placeholder (with_answers p answers) j ≡ wants_placeholder p j
-placeholder_alike p answers n agree j lt = enum64_alike p answers j (kind_at p.table j) refl (agree_at p answers n j lt agree)
+-- The ids below that want a member_type are the same.
+pub member_type_alike : (p : Pass) (answers : List FeatureAnswer) (n : ℕ) → Agree p answers n → (j : ℕ) → j < n → wants_member_type (with_answers p answers) j ≡ wants_member_type p j
+member_type_alike p answers n agree j lt = enum64_alike p answers j (kind_at p.table j) refl (agree_at p answers n j lt agree)
 
 -- So are those that get a filler.
 pub filler_alike_below : (p : Pass) (answers : List FeatureAnswer) (n : ℕ) → Agree p answers n → AreRuled p n → (j : ℕ) → j < n → gets_filler (with_answers p answers) j ≡ gets_filler p j

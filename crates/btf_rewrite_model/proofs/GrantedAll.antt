@@ -14,7 +14,7 @@ use Rattle.btf_rewrite_model.specs.declared.feature.FeatureAnswer.{FeatureAnswer
 use Rattle.btf_rewrite_model.specs.declared.feature.FillPolicy.{FillPolicy}
 use Rattle.btf_rewrite_model.specs.Made.{record_at, kind_at, byte_int, static_var}
 use Rattle.btf_rewrite_model.specs.declared.ksyms_ids.KsymsIds.{KsymsIds}
-use Rattle.btf_rewrite_model.specs.Pass.{Pass, Layout, has, makes_filler, makes_placeholder, filler, filler_type_text, offset_at, filler_offset, added_by, added_below, Asked, asks_below}
+use Rattle.btf_rewrite_model.specs.Pass.{Pass, Layout, has, makes_filler, makes_member_type, filler, filler_type_text, offset_at, filler_offset, added_by, added_below, Asked, asks_below}
 use Rattle.btf_rewrite_model.specs.Rule.{becomes, ruled_below}
 use Rattle.btf_rewrite_model.specs.Fault.{fault}
 use Rattle.btf_rewrite_model.specs.Rewritten.{begun, pass_of, old_count, Rewritten}
@@ -46,7 +46,7 @@ filler_granted : (p : Pass) (offset id : ℕ) → has p features.DataSec ≡ tru
 filler_granted p offset id granted = (nothing_needed p offset, (var_granted p (offset + length filler_type_text + 1) id granted, tt))
 
 added_granted : (p : Pass) (free id : ℕ) (k : Option Kind) → AllByRecursion (AddedGranted p) (added_by p free id k)
-added_granted p free id (Some kinds.Enum64) = by_test p (makes_placeholder p id) (byte_int (offset_at p id) ∷ []) (λ made. (nothing_needed p (offset_at p id), tt))
+added_granted p free id (Some kinds.Enum64) = by_test p (makes_member_type p id) (byte_int (offset_at p id) ∷ []) (λ made. (nothing_needed p (offset_at p id), tt))
 added_granted p free id (Some kinds.DataSec) = by_test p (makes_filler p id) (filler (filler_offset p id) free) (λ made. filler_granted p (filler_offset p id) free (made_granted (has p features.DataSec) _ _ made))
 added_granted p free id k = tt
 

@@ -12,14 +12,14 @@ use Rattle.btf_model.specs.Refusal.{Refusal, UnknownBtfType, MaximumTypeDepthRea
 use Rattle.btf_model.specs.Table.{Table}
 use Rattle.btf_model.specs.Walk.{Extent, Finding, Ends, GoesOn, Leads, WalkAnswers, By, Elements, size_in, size_by, extent, modified, modified_type, behind_modifier, unmodified_in, Resolves, HasSize}
 use Rattle.btf_rewrite_model.specs.declared.feature.BtfFeature.TheVariants as features
-use Rattle.btf_rewrite_model.specs.Feature.{is_global, is_signed}
+use Rattle.btf_rewrite_model.specs.Feature.{is_signed}
 use Rattle.btf_rewrite_model.specs.declared.feature.FeatureAnswer.{FeatureAnswer}
 use Rattle.btf_rewrite_model.specs.declared.feature.FillPolicy.{FillPolicy}
 use Rattle.btf_rewrite_model.specs.Made.{entries, variants, record_at, kind_at, table_ids, byte_int, const, struct, union, enum, data_sec, unsigned, c_int}
 use Rattle.btf_rewrite_model.specs.Ksyms.{stepped, each_stepped, appends_int}
 use Rattle.btf_rewrite_model.specs.declared.ksyms_ids.KsymsIds.{KsymsIds}
 use Rattle.btf_rewrite_model.specs.Pass.{Pass, Layout, has, gets_filler, section_size, offset_at}
-use Rattle.btf_rewrite_model.specs.Rule.{becomes, becomes_by, ruled_below, completed, sized, filled, new_name, placed, named_params, variant_members, entry_members, placeholder_id}
+use Rattle.btf_rewrite_model.specs.Rule.{becomes, becomes_by, ruled_below, completed, sized, filled, new_name, placed, named_params, variant_members, entry_members, member_type_id}
 use Rattle.btf_rewrite_model.specs.Rewritten.{begun, pass_of, Rewritten}
 use Rattle.btf_rewrite_model.specs.RewriteLaws.{keeps_size, FindsKept}
 use Rattle.btf_model.proofs.Blobs.{slice_get-append_left}
@@ -51,7 +51,7 @@ keeps_extent p lower id (Some kinds.TypeTag) r kind keeps = by_both (λ q. exten
 keeps_extent p lower id (Some kinds.Enum) r kind keeps =
     by_both (λ q. extent (kind_of q.info) q ≡ extent (Some kinds.Enum) r) (is_signed r && not (has p features.Enum64)) (unsigned r) r (sized_as (unsigned r) kinds.Enum (unsigned_kind r kind)) (sized_as r kinds.Enum kind)
 keeps_extent p lower id (Some kinds.Enum64) r kind keeps =
-    let made : Record = union r.name r.third (vlen r.info) (variant_members (placeholder_id p id) (variants r.tail)) in
+    let made : Record = union r.name r.third (vlen r.info) (variant_members (member_type_id p id) (variants r.tail)) in
     by_both (λ q. extent (kind_of q.info) q ≡ extent (Some kinds.Enum64) r) (has p features.Enum64) r made (sized_as r kinds.Enum64 kind)
     (sized_as made kinds.Union (kind_made 5 (vlen r.info) kinds.Union (omega arith) (vlen_small r.info) refl))
 keeps_extent p lower id k r kind keeps = ap (λ (j : Option Kind). extent j r) kind
@@ -85,7 +85,7 @@ keeps_modified p lower id (Some kinds.TypeTag) r kind other = by_both (λ q. mod
 keeps_modified p lower id (Some kinds.Enum) r kind other =
     by_both (λ q. modified_type q ≡ None) (is_signed r && not (has p features.Enum64)) (unsigned r) r (modified_as (unsigned r) kinds.Enum (unsigned_kind r kind)) (modified_as r kinds.Enum kind)
 keeps_modified p lower id (Some kinds.Enum64) r kind other =
-    let made : Record = union r.name r.third (vlen r.info) (variant_members (placeholder_id p id) (variants r.tail)) in
+    let made : Record = union r.name r.third (vlen r.info) (variant_members (member_type_id p id) (variants r.tail)) in
     by_both (λ q. modified_type q ≡ None) (has p features.Enum64) r made (modified_as r kinds.Enum64 kind) (no_modifier made 5 (vlen r.info) kinds.Union refl (omega arith) (vlen_small r.info) refl refl)
 keeps_modified p lower id (Some kinds.FuncProto) r kind other =
     let made : Record = enum r.name (vlen r.info) r.tail in

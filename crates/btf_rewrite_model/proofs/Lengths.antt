@@ -16,7 +16,7 @@ use Rattle.btf_rewrite_model.specs.Made.{Entry, entries, entry_words, variants, 
 use Rattle.btf_rewrite_model.specs.Checks.{record_len}
 use Rattle.btf_rewrite_model.specs.Pass.{Pass, has, name_of, is_builtin, gets_filler, section_size, is_unsized, is_zero_or, param_text, offset_at}
 use Rattle.btf_rewrite_model.specs.Rule as rule
-use Rattle.btf_rewrite_model.specs.Rule.{becomes, becomes_by, ruled_below, known_func, completed, sized, new_name, filler_id, placed, named_params, variant_members, entry_members, member_name, placeholder_id}
+use Rattle.btf_rewrite_model.specs.Rule.{becomes, becomes_by, ruled_below, known_func, completed, sized, new_name, filler_id, placed, named_params, variant_members, entry_members, member_name, member_type_id}
 
 -- ---- items
 
@@ -80,7 +80,7 @@ stays_long p lower id kinds.DeclTag r tail unfilled = by_both (AsLong r) (has p 
 stays_long p lower id kinds.TypeTag r tail unfilled = by_both (AsLong r) (has p features.TypeTag) r (const r.third) refl (sym tail)
 stays_long p lower id kinds.Enum r tail unfilled = by_both (AsLong r) (is_signed r && not (has p features.Enum64)) (unsigned r) r refl refl
 stays_long p lower id kinds.Enum64 r tail unfilled =
-    by_both (AsLong r) (has p features.Enum64) r (union r.name r.third (vlen r.info) (variant_members (placeholder_id p id) (variants r.tail))) refl (members_len (placeholder_id p id) (vlen r.info) r.tail tail)
+    by_both (AsLong r) (has p features.Enum64) r (union r.name r.third (vlen r.info) (variant_members (member_type_id p id) (variants r.tail))) refl (members_len (member_type_id p id) (vlen r.info) r.tail tail)
 stays_long p lower id kinds.Func r tail unfilled = by_both (AsLong r) (has p features.Func) (known_func p r (name_of p id)) (typedef r.name r.third) (known_len p r (name_of p id)) (sym tail)
 stays_long p lower id kinds.FuncProto r tail unfilled =
     by_both (AsLong r) (has p features.Func) (record r { tail = named_params 0 (offset_at p id) r.tail }) (enum r.name (vlen r.info) r.tail) (named_len 0 (offset_at p id) r.tail) refl

@@ -19,7 +19,7 @@ use Rattle.btf_rewrite_model.specs.Feature.{is_global, is_signed}
 use Rattle.btf_rewrite_model.specs.Made.{record_at, kind_at, entries, variants, const, typedef, wants_name, byte_int, struct, union, enum, data_sec, with_linkage, unsigned}
 use Rattle.btf_rewrite_model.specs.Checks.{first_fault, is_read}
 use Rattle.btf_rewrite_model.specs.Pass.{Pass, has, name_of, name_checks, replaced, slash, dot, section_name, renaming, gets_filler, makes_filler, filler_type_text, filler_text, section_size, is_builtin, texts, texts_by, texts_below, offset_at, param_text}
-use Rattle.btf_rewrite_model.specs.Rule.{becomes, becomes_by, ruled_below, known_func, new_name, name_or, completed, sized, filled, named_params, placed, entry_members, variant_members, placeholder_id}
+use Rattle.btf_rewrite_model.specs.Rule.{becomes, becomes_by, ruled_below, known_func, new_name, name_or, completed, sized, filled, named_params, placed, entry_members, variant_members, member_type_id}
 use Rattle.btf_rewrite_model.specs.Fault.{fault, checks_by}
 use Rattle.btf_rewrite_model.specs.Rewritten.{ended}
 use Rattle.btf_rewrite_model.proofs.Granted.{kind_made, vlen_small, passed_head, passed_left, static_vlen, static_number, unsigned_number}
@@ -181,7 +181,7 @@ fact_by p lower n id (Some kinds.Enum) lt some kind passed =
     (λ _. of_kind p (after p n) (unsigned (record_at p.table id)) (Some kinds.Enum) (ap (λ (m : ℕ). slice_get (take 20 kinds.kinds) m) (unsigned_number (record_at p.table id).info) ∙ kind) tt) (λ _. of_kind p (after p n) (record_at p.table id) (Some kinds.Enum) kind tt)
 fact_by p lower n id (Some kinds.Enum64) lt some kind passed =
     one_of (Fact p (after p n)) (has p features.Enum64) (record_at p.table id) _ (λ _. of_kind p (after p n) (record_at p.table id) (Some kinds.Enum64) kind tt)
-    (λ _. of_kind p (after p n) (union (record_at p.table id).name (record_at p.table id).third (vlen (record_at p.table id).info) (variant_members (placeholder_id p id) (variants (record_at p.table id).tail))) (Some kinds.Union) (kind_made 5 (vlen (record_at p.table id).info) kinds.Union (omega arith) (vlen_small (record_at p.table id).info) refl) tt)
+    (λ _. of_kind p (after p n) (union (record_at p.table id).name (record_at p.table id).third (vlen (record_at p.table id).info) (variant_members (member_type_id p id) (variants (record_at p.table id).tail))) (Some kinds.Union) (kind_made 5 (vlen (record_at p.table id).info) kinds.Union (omega arith) (vlen_small (record_at p.table id).info) refl) tt)
 fact_by p lower n id (Some kinds.Func) lt some kind passed =
     one_of (Fact p (after p n)) (has p features.Func) (known_func p (record_at p.table id) (name_of p id)) (typedef (record_at p.table id).name (record_at p.table id).third)
     (λ _. func_fact p (flat_map ended (texts_below p n)) (record_at p.table id) (name_of p id) kind (passed_head (is_read (name_of p id)) [] passed) refl) (λ _. of_kind p (after p n) (typedef (record_at p.table id).name (record_at p.table id).third) (Some kinds.Typedef) refl tt)

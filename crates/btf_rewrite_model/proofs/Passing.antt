@@ -12,7 +12,7 @@ use Rattle.std.proofs.lemmas.List.Folds.{list_any-append}
 use Rattle.std.proofs.lemmas.List.Concat.{flat_map-append}
 use Rattle.std.proofs.lemmas.List.Sums.{sum_by-append}
 use Rattle.btf_rewrite_model.specs.declared.feature.BtfFeature.TheVariants as features
-use Rattle.btf_rewrite_model.specs.Feature.{is_sized_and_empty, fills_sized, number, same_feature, grants, has_no_entries}
+use Rattle.btf_rewrite_model.specs.Feature.{is_sized_and_empty, fills_sized, number, same_feature, grants, has_no_entries, answer_to}
 use Rattle.btf_rewrite_model.specs.declared.feature.BtfFeature.{BtfFeature}
 use Rattle.btf_rewrite_model.specs.declared.feature.FeatureAnswer.{FeatureAnswer}
 use Rattle.btf_rewrite_model.specs.declared.feature.FillPolicy.{FillPolicy}
@@ -95,26 +95,21 @@ grants_new (answer ∷ answers) f granted absent =
     let parts = or_parts (same_feature f answer.feature) (list_any (same_feature f) (features_of answers)) absent in
     ap (λ (b : Bool). if b then answer.granted else grants (answers ++ record { feature = f; granted = granted } ∷ []) f) (same_sym answer.feature f ∙ parts.0) ∙ grants_new answers f granted parts.1
 
--- what was answered to a feature: what its first answer says
-abbrev pub answer_to : List FeatureAnswer → BtfFeature → Option Bool
-answer_to [] f = None
-answer_to (answer ∷ answers) f = if same_feature answer.feature f then Some answer.granted else answer_to answers f
-
 -- Asking for one more feature: the old answer, or a new one after the others.
 abbrev pub AnswersWith : Option Bool → List FeatureAnswer → BtfFeature → Bool → List FeatureAnswer → Type 0
-AnswersWith (Some told) answers f granted new = (granted ≡ told) × (new ≡ answers)
+AnswersWith (Some was) answers f granted new = (granted ≡ was) × (new ≡ answers)
 AnswersWith None answers f granted new = new ≡ answers ++ record { feature = f; granted = granted } ∷ []
 
 abbrev pub NextAnswers : List FeatureAnswer → BtfFeature → Bool → List FeatureAnswer → Type 0
 NextAnswers answers f granted new = AnswersWith (answer_to answers f) answers f granted new
 
-answered : (answers : List FeatureAnswer) (f : BtfFeature) (told : Bool) → answer_to answers f ≡ Some told → IsAmong f (features_of answers) × (grants answers f ≡ told)
-answered [] f told is = absurd (none-some told is)
-answered (answer ∷ answers) f told is =
-    elim (same_feature answer.feature f) as (λ (b : Bool). same_feature answer.feature f ≡ b → (if b then Some answer.granted else answer_to answers f) ≡ Some told → ((same_feature f answer.feature || list_any (same_feature f) (features_of answers)) ≡ true) × ((if b then answer.granted else grants answers f) ≡ told)) [
-      | true ↦ λ same first. (or_from_left (same_feature f answer.feature) (list_any (same_feature f) (features_of answers)) (same_sym f answer.feature ∙ same), same_Some answer.granted told first)
+answered : (answers : List FeatureAnswer) (f : BtfFeature) (was : Bool) → answer_to answers f ≡ Some was → IsAmong f (features_of answers) × (grants answers f ≡ was)
+answered [] f was is = absurd (none-some was is)
+answered (answer ∷ answers) f was is =
+    elim (same_feature answer.feature f) as (λ (b : Bool). same_feature answer.feature f ≡ b → (if b then Some answer.granted else answer_to answers f) ≡ Some was → ((same_feature f answer.feature || list_any (same_feature f) (features_of answers)) ≡ true) × ((if b then answer.granted else grants answers f) ≡ was)) [
+      | true ↦ λ same first. (or_from_left (same_feature f answer.feature) (list_any (same_feature f) (features_of answers)) (same_sym f answer.feature ∙ same), same_Some answer.granted was first)
       | false ↦ λ other later.
-          let rest : IsAmong f (features_of answers) × (grants answers f ≡ told) = answered answers f told later in
+          let rest : IsAmong f (features_of answers) × (grants answers f ≡ was) = answered answers f was later in
           (or_right (same_feature f answer.feature) (list_any (same_feature f) (features_of answers)) rest.0, rest.1)
     ] refl is
   where
@@ -143,8 +138,8 @@ asked_next fs answers new f granted asked next =
             ap (λ (xs : List FeatureAnswer). grants xs f) is ∙ grants_new answers f granted absent,
             (record { feature = f; granted = granted } ∷ [], is),
           )
-      | Some told ↦ λ some is.
-          let there : IsAmong f (features_of answers) × (grants answers f ≡ told) = answered answers f told some in
+      | Some was ↦ λ some is.
+          let there : IsAmong f (features_of answers) × (grants answers f ≡ was) = answered answers f was some in
           let old_one : list_any (same_feature f) fs ≡ true = each_among f fs (ap (list_any (same_feature f)) (sym asked) ∙ there.0) in (
             ap features_of is.1 ∙ asked ∙ ap (λ (b : Bool). pushed b (each_once fs) f) (sym old_one) ∙ sym (each_once_push fs f),
             ap (λ (xs : List FeatureAnswer). grants xs f) is.1 ∙ there.1 ∙ sym is.0,

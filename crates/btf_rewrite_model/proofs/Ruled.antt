@@ -16,7 +16,7 @@ use Rattle.btf_rewrite_model.specs.Feature.{grants}
 use Rattle.btf_rewrite_model.specs.declared.feature.FeatureAnswer.{FeatureAnswer}
 use Rattle.btf_rewrite_model.specs.declared.feature.FillPolicy.{FillPolicy}
 use Rattle.btf_rewrite_model.specs.Pass.{Pass, Layout, has, added_below}
-use Rattle.btf_rewrite_model.specs.Rule.{becomes, becomes_by, ruled_below, falls_back, falls_back_by, variant_members, placeholder_id}
+use Rattle.btf_rewrite_model.specs.Rule.{becomes, becomes_by, ruled_below, falls_back, falls_back_by, variant_members, member_type_id}
 use Rattle.btf_rewrite_model.specs.Rewritten.{begun, old_count, pass_of, Rewritten}
 use Rattle.btf_rewrite_model.proofs.Granted.{kind_made}
 use Rattle.btf_model.proofs.Blobs.{slice_get-push, slice_get-append_left}
@@ -71,8 +71,8 @@ module _ (policy : FillPolicy) (old new : Table) (ids : Option KsymsIds) (layout
 -- one that is denied becomes a UNION, and leaves a fallback
 union_kind : (p : Pass) (lower : List Record) (id : ℕ) (k : Option Kind) (r : Record) → k ≡ Some kinds.Enum64 → has p features.Enum64 ≡ false → kind_of (becomes_by p lower id k r).info ≡ Some kinds.Union
 union_kind p lower id k r is denied =
-    let made : becomes_by p lower id k r ≡ union r.name r.third (vlen r.info) (variant_members (placeholder_id p id) (variants r.tail)) =
-    ap (λ (j : Option Kind). becomes_by p lower id j r) is ∙ ap (λ (b : Bool). if b then r else union r.name r.third (vlen r.info) (variant_members (placeholder_id p id) (variants r.tail))) denied in
+    let made : becomes_by p lower id k r ≡ union r.name r.third (vlen r.info) (variant_members (member_type_id p id) (variants r.tail)) =
+    ap (λ (j : Option Kind). becomes_by p lower id j r) is ∙ ap (λ (b : Bool). if b then r else union r.name r.third (vlen r.info) (variant_members (member_type_id p id) (variants r.tail))) denied in
     ap (λ (q : Record). kind_of q.info) made ∙ kind_made 5 (vlen r.info) kinds.Union (omega arith) (omega arith) refl
 
 left_fallback : (p : Pass) (k : Option Kind) (r : Record) (before : Option Fallback) → k ≡ Some kinds.Enum64 → has p features.Enum64 ≡ false → falls_back_by p k r before ≡ Some (fallback_of r)

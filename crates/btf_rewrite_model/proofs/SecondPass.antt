@@ -11,11 +11,10 @@ use Rattle.btf_model.specs.Table.{Fallback}
 use Rattle.btf_rewrite_model.specs.declared.feature.BtfFeature.TheVariants as features
 use Rattle.btf_rewrite_model.specs.Feature.{same_feature, is_global, is_signed, has_no_entries, needs_by, is_sized_and_empty, fills_sized}
 use Rattle.btf_rewrite_model.specs.declared.feature.BtfFeature.{BtfFeature}
-use Rattle.btf_rewrite_model.specs.declared.feature.FeatureAnswer.{FeatureAnswer}
 use Rattle.btf_rewrite_model.specs.Made.{record_at, kind_at, entries, variants, byte_int, const, typedef, struct, union, enum, with_linkage, unsigned, fallback_of}
 use Rattle.btf_rewrite_model.specs.Checks.{first_fault, is_read, have_room, fits, record_len}
-use Rattle.btf_rewrite_model.specs.Pass.{Pass, has, name_of, name_checks, sized_asks_zero, unsized_asks_zero, replaced, slash, dot, section_name, renaming, gets_filler, makes_filler, makes_placeholder, wants_placeholder, least, is_enum64, is_unsized, is_zero_or, is_positive, section_size, is_builtin, texts, texts_by, param_texts, offset_at, added, added_by, free_id, func_asks, data_sec_asks, asks_by, filler_type_text, filler_text, filler, filler_offset, placeholder_text, param_text, underscore, type_len_at}
-use Rattle.btf_rewrite_model.specs.Rule.{becomes_by, known_func, new_name, name_or, named_params, falls_back_by, completed, sized, filled, variant_members, entry_members, placeholder_id}
+use Rattle.btf_rewrite_model.specs.Pass.{Pass, has, name_of, name_checks, sized_asks_zero, unsized_asks_zero, replaced, slash, dot, section_name, renaming, gets_filler, makes_filler, makes_member_type, wants_member_type, least, is_enum64, is_unsized, is_zero_or, is_positive, section_size, is_builtin, texts, texts_by, param_texts, offset_at, added, added_by, free_id, func_asks, data_sec_asks, asks_by, filler_type_text, filler_text, filler, filler_offset, member_type_text, param_text, underscore, type_len_at}
+use Rattle.btf_rewrite_model.specs.Rule.{becomes_by, known_func, new_name, name_or, named_params, falls_back_by, completed, sized, filled, variant_members, entry_members, member_type_id}
 use Rattle.btf_rewrite_model.specs.Fault.{checks_by, completing_checks, filling_checks, filler_checks, growth_checks, member_checks, all_fit}
 use Rattle.btf_rewrite_model.specs.RewriteLaws.{IsAmong}
 use Rattle.btf_rewrite_model.proofs.Asking.{needed_by}
@@ -96,10 +95,10 @@ and_false true = refl
 and_false false = refl
 
 module _ (p q : Pass) (id : ℕ) where
-  no_placeholder : has q features.Enum64 ≡ true → makes_placeholder q id ≡ false
-  no_placeholder granted =
-      let wants_none : wants_placeholder q id ≡ false = ap (λ (b : Bool). is_enum64 (kind_at q.table id) && not b) granted ∙ and_false (is_enum64 (kind_at q.table id)) in
-      ap (λ (b : Bool). b && (least (wants_placeholder q) id == id)) wants_none
+  no_member_type : has q features.Enum64 ≡ true → makes_member_type q id ≡ false
+  no_member_type granted =
+      let wants_none : wants_member_type q id ≡ false = ap (λ (b : Bool). is_enum64 (kind_at q.table id) && not b) granted ∙ and_false (is_enum64 (kind_at q.table id)) in
+      ap (λ (b : Bool). b && (least (wants_member_type q) id == id)) wants_none
 
   -- one that has a size gets no filler where what it asks for is granted
   no_filler : kind_at q.table id ≡ Some kinds.DataSec → ((record_at q.table id).third == 0) ≡ false → has q features.DataSec ≡ true → first_fault (name_checks q id) ≡ None
@@ -112,12 +111,12 @@ module _ (p q : Pass) (id : ℕ) where
       (λ is. granted features.DataSecZero (second_among (has q features.DataSec && (sized_asks_zero q id r || unsized_asks_zero q id r)) is))
     where
       never : (d s e z h named a x : Bool) → d ≡ true → z ≡ false → named ≡ true → ((d && ((s && not z && e && named) || a)) ≡ true → h ≡ true) → (d && ((s && (e && not z) && not h) || (z && e && x))) ≡ false
-      never false s e z h named a x is_d is_z is_named asked = absurd (false≢true is_d)
-      never true s e true h named a x is_d is_z is_named asked = absurd (false≢true (sym is_z))
-      never true s e false h false a x is_d is_z is_named asked = absurd (false≢true is_named)
-      never true true true false h true a x is_d is_z is_named asked = ap (λ (b : Bool). not b || false) (asked refl)
-      never true true false false h true a x is_d is_z is_named asked = refl
-      never true false e false h true a x is_d is_z is_named asked = refl
+      never false s e z h named a x is_d is_z named_is asked = absurd (false≢true is_d)
+      never true s e true h named a x is_d is_z named_is asked = absurd (false≢true (sym is_z))
+      never true s e false h false a x is_d is_z named_is asked = absurd (false≢true named_is)
+      never true true true false h true a x is_d is_z named_is asked = ap (λ (b : Bool). not b || false) (asked refl)
+      never true true false false h true a x is_d is_z named_is asked = refl
+      never true false e false h true a x is_d is_z named_is asked = refl
 
   pub stays : (k : Option Kind) → kind_at q.table id ≡ k → FactOf p q.table.strings k (record_at q.table id) → (k ≡ Some kinds.DataSec → ((record_at q.table id).third == 0) ≡ false)
       → ((f : BtfFeature) → IsAmong f (asks_by q id k (record_at q.table id)) → has q f ≡ true) → Stays q id k
@@ -131,11 +130,11 @@ module _ (p q : Pass) (id : ℕ) where
   stays (Some kinds.Enum64) kind fact sized granted =
       let r : Record = record_at q.table id in
       let is_granted : has q features.Enum64 ≡ true = granted features.Enum64 refl in
-      let makes_none : makes_placeholder q id ≡ false = no_placeholder is_granted in
-      let no_texts : texts_by q id (Some kinds.Enum64) r ≡ [] = ap (λ (b : Bool). if b then placeholder_text ∷ [] else []) makes_none in
+      let makes_none : makes_member_type q id ≡ false = no_member_type is_granted in
+      let no_texts : texts_by q id (Some kinds.Enum64) r ≡ [] = ap (λ (b : Bool). if b then member_type_text ∷ [] else []) makes_none in
       let none_added : (free : ℕ) → added_by q free id (Some kinds.Enum64) ≡ [] = λ free. ap (λ (b : Bool). if b then byte_int (offset_at q id) ∷ [] else []) makes_none in
       kept q id (Some kinds.Enum64)
-      (λ lower. ap (λ (b : Bool). if b then r else union r.name r.third (vlen r.info) (variant_members (placeholder_id q id) (variants r.tail))) is_granted) no_texts none_added
+      (λ lower. ap (λ (b : Bool). if b then r else union r.name r.third (vlen r.info) (variant_members (member_type_id q id) (variants r.tail))) is_granted) no_texts none_added
       (λ old. ap (λ (b : Bool). if b then old else Some (fallback_of r)) is_granted)
       (ap (λ ts. first_fault (have_room (offset_at q id) ts ++ all_fit (type_len_at q id) (added q id))) (ap (λ k. texts_by q id k r) kind ∙ no_texts)
       ∙ ap (λ rs. first_fault ([] ++ all_fit (type_len_at q id) rs)) (ap (λ k. added_by q (free_id q id) id k) kind ∙ none_added (free_id q id)))

@@ -15,7 +15,7 @@ use Rattle.btf_model.specs.Table.{Table, Fallback, no_fallbacks}
 use Rattle.btf_rewrite_model.specs.Feature.{same_feature, is_sized_and_empty}
 use Rattle.btf_rewrite_model.specs.declared.feature.BtfFeature.{BtfFeature}
 use Rattle.btf_rewrite_model.specs.Made.{record_at, kind_at, table_ids, byte_int, static_var}
-use Rattle.btf_rewrite_model.specs.Pass.{Pass, makes_placeholder, makes_filler, offset_at, filler_offset, filler, filler_type_text, texts, texts_below, added_by, added_below, asks, asks_below}
+use Rattle.btf_rewrite_model.specs.Pass.{Pass, makes_member_type, makes_filler, offset_at, filler_offset, filler, filler_type_text, texts, texts_below, added_by, added_below, asks, asks_below}
 use Rattle.btf_rewrite_model.specs.Rule.{becomes, ruled_below, falls_back}
 use Rattle.btf_rewrite_model.specs.Rewritten.{pass_of, old_count, ended, rewritten, AreRuled}
 use Rattle.btf_rewrite_model.specs.RewriteLaws.{IsAmong, SecondRewriteChangesNothing}
@@ -66,14 +66,14 @@ module _ (q : Pass) (each : (id : ℕ) → id < old_count q → Stays q id (kind
 
 -- ---- the records of a rewritten table
 
-placeholder_has : (P : Record → Type 0) (b : Bool) (rs : List Record) → AllByRecursion P rs → AllByRecursion P (if b then rs else [])
-placeholder_has P true rs all = all
-placeholder_has P false rs all = tt
+member_type_has : (P : Record → Type 0) (b : Bool) (rs : List Record) → AllByRecursion P rs → AllByRecursion P (if b then rs else [])
+member_type_has P true rs all = all
+member_type_has P false rs all = tt
 
 one_adds : (P : Record → Type 0) → ((name : ℕ) → P (byte_int name)) → ((name type : ℕ) → P (static_var name type)) → (p : Pass) (free id : ℕ) (k : Option Kind) → AllByRecursion P (added_by p free id k)
-one_adds P int var p free id (Some kinds.Enum64) = placeholder_has P (makes_placeholder p id) (byte_int (offset_at p id) ∷ []) (int (offset_at p id), tt)
+one_adds P int var p free id (Some kinds.Enum64) = member_type_has P (makes_member_type p id) (byte_int (offset_at p id) ∷ []) (int (offset_at p id), tt)
 one_adds P int var p free id (Some kinds.DataSec) =
-    placeholder_has P (makes_filler p id) (filler (filler_offset p id) free) (int (filler_offset p id), (var (filler_offset p id + length filler_type_text + 1) free, tt))
+    member_type_has P (makes_filler p id) (filler (filler_offset p id) free) (int (filler_offset p id), (var (filler_offset p id + length filler_type_text + 1) free, tt))
 one_adds P int var p free id k = tt
 
 -- what holds of the records that may be appended holds of all that are

@@ -21,7 +21,7 @@ use Rattle.btf_rewrite_model.specs.Made.{record_at, kind_at, union, unsigned, va
 use Rattle.btf_rewrite_model.specs.Ksyms.{appends_int, each_stepped, int_text}
 use Rattle.btf_rewrite_model.specs.declared.ksyms_ids.KsymsIds.{KsymsIds}
 use Rattle.btf_rewrite_model.specs.Pass.{Pass, Layout, has, texts_below}
-use Rattle.btf_rewrite_model.specs.Rule.{becomes, becomes_by, ruled_below, falls_back, falls_back_by, variant_members, placeholder_id}
+use Rattle.btf_rewrite_model.specs.Rule.{becomes, becomes_by, ruled_below, falls_back, falls_back_by, variant_members, member_type_id}
 use Rattle.btf_rewrite_model.specs.Rewritten.{begun, ended, old_count, pass_of, Rewritten}
 use Rattle.btf_rewrite_model.specs.RewriteLaws.{keeps_size}
 use Rattle.btf_model.proofs.Blobs.{slice_get-append_left}
@@ -60,7 +60,7 @@ rule_keeps p lower id vs (Some kinds.Enum) r fallback kind is =
     by_both (λ q. Ok vs ≡ variants_by id (kind_of q.info) q fallback) (is_signed r && not (has p features.Enum64)) (unsigned r) r
     (variants_as id vs (unsigned r) kinds.Enum fallback (unsigned_kind r kind) is) (variants_as id vs r kinds.Enum fallback kind is)
 rule_keeps p lower id vs (Some kinds.Enum64) r fallback kind is =
-    enum64_stays id vs (has p features.Enum64) r (union r.name r.third (vlen r.info) (variant_members (placeholder_id p id) (variants r.tail))) fallback kind
+    enum64_stays id vs (has p features.Enum64) r (union r.name r.third (vlen r.info) (variant_members (member_type_id p id) (variants r.tail))) fallback kind
     (kind_made 5 (vlen r.info) kinds.Union (omega arith) (vlen_small r.info) refl) is
 rule_keeps p lower id vs (Some kinds.Union) r fallback kind is = variants_as id vs r kinds.Union fallback kind is
 rule_keeps p lower id vs k r fallback kind is = absurd (no_variants vs _ is)

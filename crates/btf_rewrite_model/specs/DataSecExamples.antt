@@ -9,7 +9,6 @@ use Rattle.btf_model.specs.Refusal.{InvalidStringOffset, InvalidTypeInfo, Invali
 use Rattle.btf_rewrite_model.specs.declared.feature.BtfFeature.TheVariants as features
 use Rattle.btf_rewrite_model.specs.Feature.{needs}
 use Rattle.btf_rewrite_model.specs.declared.feature.BtfFeature.{BtfFeature}
-use Rattle.btf_rewrite_model.specs.declared.feature.FeatureAnswer.{FeatureAnswer}
 use Rattle.btf_rewrite_model.specs.declared.feature.FillPolicy.{FillPolicy}
 use Rattle.btf_rewrite_model.specs.declared.feature.FillPolicy.TheVariants.{KeepSized, FillSized}
 use Rattle.btf_rewrite_model.specs.Pass.{Pass, Asked, asks, texts_below, added_below}
@@ -100,22 +99,22 @@ sized_section_is_taken : (becomes (sized_section FillSized (features.DataSec ∷
 unfolding pieces_from encode
 sized_section_is_taken = (refl, refl)
 
--- ".a" at 1: ENUM64 1 without variants, and DATASEC 2 of size 0 without entries: the placeholder stands before the
+-- ".a" at 1: ENUM64 1 without variants, and DATASEC 2 of size 0 without entries: the member type is appended before the
 -- filler
-abbrev placeholder_and_filler : Pass
-placeholder_and_filler = record {
+abbrev member_type_and_filler : Pass
+member_type_and_filler = record {
   table = named_table (codes ".a" ∷ []) (record { name = 0; info = 0x13000000; third = 8; tail = [] } ∷ data_sec 1 0 0 [] ∷ []);
   layout = record { sections = only (codes ".a") 0; symbols = λ name. None };
   policy = KeepSized;
   answers = granted (features.DataSec ∷ []);
 }
 
-three_types_are_added : added_below placeholder_and_filler 3
+three_types_are_added : added_below member_type_and_filler 3
     ≡ record { name = 4; info = 0x01000000; third = 1; tail = 8 ∷ [] } ∷ record { name = 23; info = 0x01000000; third = 1; tail = 8 ∷ [] } ∷ record { name = 49; info = 0x0e000000; third = 4; tail = 0 ∷ [] } ∷ []
 unfolding pieces_from encode
 three_types_are_added = refl
 
-filled_by_the_third : becomes placeholder_and_filler 2 ≡ data_sec 1 1 1 (5 ∷ 0 ∷ 1 ∷ [])
+filled_by_the_third : becomes member_type_and_filler 2 ≡ data_sec 1 1 1 (5 ∷ 0 ∷ 1 ∷ [])
 unfolding pieces_from encode
 filled_by_the_third = refl
 

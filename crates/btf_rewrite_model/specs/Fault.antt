@@ -9,7 +9,7 @@ use Rattle.btf_rewrite_model.specs.declared.feature.BtfFeature.TheVariants as fe
 use Rattle.btf_rewrite_model.specs.Made.{Entry, entries, record_at, kind_at, is_static, byte_int, static_var}
 use Rattle.btf_rewrite_model.specs.Checks.{Check, first_fault, is_read, is_known, has_room, have_room, fits, record_len}
 use Rattle.btf_rewrite_model.specs.Ksyms.{is_var}
-use Rattle.btf_rewrite_model.specs.Pass.{Pass, has, name_of, name_checks, section_size, gets_filler, makes_filler, filler_type_text, filler_text, filler_offset, texts, added, offset_at, type_len_at, symbol_offset}
+use Rattle.btf_rewrite_model.specs.Pass.{Pass, has, name_of, name_checks, section_size, gets_filler, makes_filler, filler_type_text, filler_text, filler_offset, texts, added, offset_at, type_len_at, symbol_offset, member_type_text}
 
 -- ---- DATASEC
 
@@ -35,12 +35,16 @@ entry_checks p e =
     ∷ (if is_static (record_at p.table e.type) then None else is_placed (symbol_offset p e.type) (name_of p e.type))
     ∷ []
 
--- room for the filler: for its texts and its records in turn
+-- room for the filler, its texts from this offset on, its records after so many bytes: for each text and its record
+abbrev pub filler_has_room : ℕ → ℕ → List Check
+filler_has_room offset used =
+    has_room offset filler_type_text ∷ fits used (record_len (byte_int 0))
+    ∷ has_room (offset + length filler_type_text + 1) filler_text
+    ∷ fits (used + record_len (byte_int 0)) (record_len (static_var 0 0)) ∷ []
+
+-- room for the filler that an id appends
 abbrev pub filler_checks : Pass → ℕ → List Check
-filler_checks p id =
-    has_room (filler_offset p id) filler_type_text ∷ fits (type_len_at p id) (record_len (byte_int 0))
-    ∷ has_room (filler_offset p id + length filler_type_text + 1) filler_text
-    ∷ fits (type_len_at p id + record_len (byte_int 0)) (record_len (static_var 0 0)) ∷ []
+filler_checks p id = filler_has_room (filler_offset p id) (type_len_at p id)
 
 -- room for the entry of the filler, after what was added
 abbrev pub growth_checks : Pass → ℕ → List Check
@@ -63,6 +67,10 @@ completing_checks p id r =
 abbrev pub all_fit : ℕ → List Record → List Check
 all_fit used [] = []
 all_fit used (r ∷ rs) = fits used (record_len r) ∷ all_fit (used + record_len r) rs
+
+-- room for the member type, its text at this offset, its record after so many bytes
+abbrev pub member_type_has_room : ℕ → ℕ → List Check
+member_type_has_room offset used = have_room offset (member_type_text ∷ []) ++ all_fit used (byte_int offset ∷ [])
 
 -- The tests of an id, in order, by its kind.
 abbrev pub checks_by : Pass → ℕ → Option Kind → Record → List Check

@@ -1,7 +1,7 @@
 -- The features of a kernel's BTF that a rewrite asks for, and those that a record needs. Source: aya-obj's
 -- `BtfFeatures`, and which kind came with which in the kernel's BTF documentation; when the lack of a DATASEC without
 -- entries is asked for, and that a caller may have those filled that have a size, is this project's profile.
-use Rattle.std.specs.Prelude.{ℕ, ◌==◌, ◌&&◌, not, Bool, true, false, if◌then◌else◌, List, [], ◌∷◌, Option, Some}
+use Rattle.std.specs.Prelude.{ℕ, ◌==◌, ◌&&◌, not, Bool, true, false, if◌then◌else◌, List, [], ◌∷◌, Option, Some, None}
 use Rattle.btf_model.specs.Record as kinds
 use Rattle.btf_model.specs.Record.{Kind, Record, kind_of, vlen, kind_flag}
 use Rattle.btf_rewrite_model.specs.declared.feature.BtfFeature.{BtfFeature}
@@ -30,6 +30,11 @@ same_feature f g = number f == number g
 abbrev pub grants : List FeatureAnswer → BtfFeature → Bool
 grants [] f = false
 grants (answer ∷ answers) f = if same_feature answer.feature f then answer.granted else grants answers f
+
+-- the answer to a feature: what the first answer that is for it says
+abbrev pub answer_to : List FeatureAnswer → BtfFeature → Option Bool
+answer_to [] f = None
+answer_to (answer ∷ answers) f = if same_feature answer.feature f then Some answer.granted else answer_to answers f
 
 -- a DATASEC that has a size and no entries is filled
 abbrev pub fills_sized : FillPolicy → Bool

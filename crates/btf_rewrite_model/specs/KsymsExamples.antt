@@ -7,7 +7,6 @@ use Rattle.btf_model.specs.Refusal.{InvalidDatasec, InvalidStringOffset, Unknown
 use Rattle.btf_model.specs.Table.{Table}
 use Rattle.btf_rewrite_model.specs.declared.feature.FillPolicy.TheVariants.{KeepSized}
 use Rattle.btf_rewrite_model.specs.declared.feature.BtfFeature.TheVariants as features
-use Rattle.btf_rewrite_model.specs.declared.feature.BtfFeature.{BtfFeature}
 use Rattle.btf_rewrite_model.specs.Ksyms.{ksyms_table, ksyms_fault}
 use Rattle.btf_rewrite_model.specs.declared.ksyms_ids.KsymsIds.{KsymsIds}
 use Rattle.btf_rewrite_model.specs.Pass.{Pass, Asked}

@@ -40,14 +40,14 @@ has p feature = grants p.answers feature
 abbrev pub name_of : Pass → ℕ → Result (List ℕ) Refusal
 name_of p id = text_at p.table.strings (record_at p.table id).name
 
--- what was found, where the test passes there, or else this
-abbrev pub or_this : (ℕ → Bool) → ℕ → ℕ → ℕ
-or_this test found this = if test found then found else this
+-- a number, where the test passes at it, or else another
+abbrev pub passing_or : (ℕ → Bool) → ℕ → ℕ → ℕ
+passing_or test n other = if test n then n else other
 
 -- The least number up to this one at which the test passes, or this one where it passes at no lower one.
 abbrev pub least : (ℕ → Bool) → ℕ → ℕ
 least test zero = zero
-least test (suc n) = or_this test (least test n) (suc n)
+least test (suc n) = passing_or test (least test n) (suc n)
 
 -- The test passes here, and at no lower number.
 abbrev pub is_least : (ℕ → Bool) → ℕ → Bool
@@ -111,19 +111,21 @@ abbrev pub is_zero_or : Bool → Option ℕ → Bool
 is_zero_or other (Some size) = (size == 0) || other
 is_zero_or other None = false
 
--- One of size 0 without entries gets an entry of its own where its section has size 0, or the kernel takes no DATASEC
--- without entries.
+-- the kernel takes no DATASEC without entries
+abbrev pub wants_entries : Pass → Bool
+wants_entries p = not (has p features.DataSecZero)
+
+-- A DATASEC of size 0 without entries gets an entry of its own where its section has size 0, or the kernel takes no
+-- DATASEC without entries.
 abbrev pub fills_unsized : Pass → ℕ → Bool
 fills_unsized p id =
-    is_unsized (kind_at p.table id) (record_at p.table id) && has_no_entries (record_at p.table id)
-    && is_zero_or (not (has p features.DataSecZero)) (section_size p id)
+    let r = record_at p.table id in
+    is_unsized (kind_at p.table id) r && has_no_entries r && is_zero_or (wants_entries p) (section_size p id)
 
--- One that has a size and no entries gets an entry where the policy has it filled, and the kernel takes no DATASEC
--- without entries.
+-- A DATASEC that has a size and no entries gets one where the policy has it filled, and the kernel takes none without.
 abbrev pub fills_sized_one : Pass → ℕ → Bool
 fills_sized_one p id =
-    fills_sized p.policy && is_sized_and_empty (kind_at p.table id) (record_at p.table id)
-    && not (has p features.DataSecZero)
+    fills_sized p.policy && is_sized_and_empty (kind_at p.table id) (record_at p.table id) && wants_entries p
 
 -- A DATASEC that gets an entry of its own.
 abbrev pub gets_filler : Pass → ℕ → Bool
@@ -141,24 +143,24 @@ filler_type_text = codes "__aya_datasec_filler_type"
 abbrev pub filler_text : List ℕ
 filler_text = codes "__aya_datasec_filler"
 
--- ---- the placeholder of ENUM64s
+-- ---- the member type of the UNIONs that ENUM64s become
 
 -- the kind is ENUM64
 abbrev pub is_enum64 : Option Kind → Bool
 is_enum64 (Some kinds.Enum64) = true
 is_enum64 k = false
 
--- An ENUM64 that becomes a UNION, of members of one type.
-abbrev pub wants_placeholder : Pass → ℕ → Bool
-wants_placeholder p id = is_enum64 (kind_at p.table id) && not (has p features.Enum64)
+-- An ENUM64 becomes a UNION, whose members have one type.
+abbrev pub wants_member_type : Pass → ℕ → Bool
+wants_member_type p id = is_enum64 (kind_at p.table id) && not (has p features.Enum64)
 
--- That type, an INT of one byte, is made by the least id that wants it.
-abbrev pub makes_placeholder : Pass → ℕ → Bool
-makes_placeholder p id = is_least (wants_placeholder p) id
+-- That type, an INT of one byte, is appended by the lowest such id.
+abbrev pub makes_member_type : Pass → ℕ → Bool
+makes_member_type p id = is_least (wants_member_type p) id
 
 -- the name of the INT of one byte
-abbrev pub placeholder_text : List ℕ
-placeholder_text = codes "enum64_placeholder"
+abbrev pub member_type_text : List ℕ
+member_type_text = codes "enum64_placeholder"
 
 -- ---- what an id appends
 
@@ -175,7 +177,7 @@ param_texts k words = []
 -- The texts that an id appends to the strings, in order.
 abbrev pub texts_by : Pass → ℕ → Option Kind → Record → List (List ℕ)
 texts_by p id (Some kinds.FuncProto) r = if has p features.Func then param_texts 0 r.tail else []
-texts_by p id (Some kinds.Enum64) r = if makes_placeholder p id then placeholder_text ∷ [] else []
+texts_by p id (Some kinds.Enum64) r = if makes_member_type p id then member_type_text ∷ [] else []
 texts_by p id (Some kinds.DataSec) r =
     renaming p (name_of p id) ++ (if makes_filler p id then filler_type_text ∷ filler_text ∷ [] else [])
 texts_by p id k r = []
@@ -207,7 +209,7 @@ filler offset id = byte_int offset ∷ static_var (offset + length filler_type_t
 
 -- The records that an id appends to the types, in order, where the free ids begin here.
 abbrev pub added_by : Pass → ℕ → ℕ → Option Kind → List Record
-added_by p free id (Some kinds.Enum64) = if makes_placeholder p id then byte_int (offset_at p id) ∷ [] else []
+added_by p free id (Some kinds.Enum64) = if makes_member_type p id then byte_int (offset_at p id) ∷ [] else []
 added_by p free id (Some kinds.DataSec) = if makes_filler p id then filler (filler_offset p id) free else []
 added_by p free id k = []
 
@@ -249,7 +251,9 @@ is_builtin name = list_any (bytes_eq name) builtins
 
 -- Func first; then, of a Global one that is no builtin, FuncGlobal.
 abbrev pub func_asks : Pass → Record → Result (List ℕ) Refusal → List BtfFeature
-func_asks p r (Ok name) = if has p features.Func && is_global r && not (is_builtin name) then features.Func ∷ features.FuncGlobal ∷ [] else features.Func ∷ []
+func_asks p r (Ok name) =
+    if has p features.Func && is_global r && not (is_builtin name)
+    then features.Func ∷ features.FuncGlobal ∷ [] else features.Func ∷ []
 func_asks p r (Err refusal) = []
 
 -- the size is known, and is not 0
@@ -261,21 +265,23 @@ is_positive None = false
 abbrev pub name_checks : Pass → ℕ → List Check
 name_checks p id = is_read (name_of p id) ∷ have_room (offset_at p id) (renaming p (name_of p id))
 
--- It matters whether the kernel takes a DATASEC without entries: of one of size 0 whose section has a size above 0,
+-- Whether the kernel takes a DATASEC without entries is asked of one of size 0 whose section has a size above 0, once its
+-- new name has room.
 abbrev pub unsized_asks_zero : Pass → ℕ → Record → Bool
 unsized_asks_zero p id r =
     (r.third == 0) && has_no_entries r && is_none (first_fault (have_room (offset_at p id) (renaming p (name_of p id))))
     && is_positive (section_size p id)
 
--- and of one that has a size, where the policy has it filled; of both once the new name has room.
+-- It is asked of one that has a size where the policy has it filled, once its name is read and the new one has room.
 abbrev pub sized_asks_zero : Pass → ℕ → Record → Bool
-sized_asks_zero p id r = fills_sized p.policy && not (r.third == 0) && has_no_entries r && is_none (first_fault (name_checks p id))
+sized_asks_zero p id r =
+    fills_sized p.policy && not (r.third == 0) && has_no_entries r && is_none (first_fault (name_checks p id))
 
--- DataSec first; then DataSecZero, where that matters.
+-- DataSec first; then DataSecZero, in these two cases.
 abbrev pub data_sec_asks : Pass → ℕ → Record → List BtfFeature
 data_sec_asks p id r =
-    if has p features.DataSec && (sized_asks_zero p id r || unsized_asks_zero p id r) then features.DataSec
-    ∷ features.DataSecZero ∷ [] else features.DataSec ∷ []
+    if has p features.DataSec && (sized_asks_zero p id r || unsized_asks_zero p id r)
+    then features.DataSec ∷ features.DataSecZero ∷ [] else features.DataSec ∷ []
 
 -- The features that an id asks for, in order, by its kind.
 abbrev pub asks_by : Pass → ℕ → Option Kind → Record → List BtfFeature

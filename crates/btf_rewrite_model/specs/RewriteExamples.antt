@@ -183,8 +183,8 @@ large_enum = record {
 enum64_becomes_union : becomes large_enum 1 ≡ record { name = 0; info = 0x05000002; third = 8; tail = 0 ∷ 2 ∷ 0 ∷ 0 ∷ 2 ∷ 0 ∷ [] }
 enum64_becomes_union = refl
 
-its_placeholder : (texts_below large_enum 2 ≡ codes "enum64_placeholder" ∷ []) × (added_below large_enum 2 ≡ record { name = 1; info = 0x01000000; third = 1; tail = 8 ∷ [] } ∷ [])
-its_placeholder = (refl, refl)
+its_member_type : (texts_below large_enum 2 ≡ codes "enum64_placeholder" ∷ []) × (added_below large_enum 2 ≡ record { name = 1; info = 0x01000000; third = 1; tail = 8 ∷ [] } ∷ [])
+its_member_type = (refl, refl)
 
 its_fallback : falls_back large_enum 1 ≡ Some (record { signed = false; variants = record { name = 0; value = 1 } ∷ record { name = 0; value = 4294967301 } ∷ [] })
 its_fallback = refl

@@ -8,9 +8,9 @@ use Rattle.btf_model.specs.Record.{Kind, Record, unknown, vlen}
 use Rattle.btf_model.specs.Refusal.{Refusal}
 use Rattle.btf_model.specs.Table.{Variant, Fallback}
 use Rattle.btf_rewrite_model.specs.declared.feature.BtfFeature.TheVariants as features
-use Rattle.btf_rewrite_model.specs.Feature.{is_global, is_signed, has_no_entries}
+use Rattle.btf_rewrite_model.specs.Feature.{is_global, is_signed}
 use Rattle.btf_rewrite_model.specs.Made.{Entry, entries, variants, record_at, kind_at, is_static, wants_name, byte_int, const, typedef, struct, union, enum, data_sec, with_linkage, unsigned, fallback_of}
-use Rattle.btf_rewrite_model.specs.Pass.{Pass, has, name_of, least, renaming, section_size, gets_filler, wants_placeholder, offset_at, free_id, is_builtin, param_text, symbol_offset}
+use Rattle.btf_rewrite_model.specs.Pass.{Pass, has, name_of, least, renaming, section_size, gets_filler, wants_member_type, offset_at, free_id, is_builtin, param_text, symbol_offset}
 
 -- ---- functions
 
@@ -28,9 +28,9 @@ named_params k offset words = words
 
 -- ---- ENUM64
 
--- the id of the placeholder, which the least id that wants it made
-abbrev pub placeholder_id : Pass → ℕ → ℕ
-placeholder_id p id = free_id p (least (wants_placeholder p) id)
+-- the id of the member type, which the lowest ENUM64 that becomes a UNION appends
+abbrev pub member_type_id : Pass → ℕ → ℕ
+member_type_id p id = free_id p (least (wants_member_type p) id)
 
 -- a member for each variant, of its name and of this type, all at bit 0
 abbrev pub variant_members : ℕ → List Variant → List ℕ
@@ -92,7 +92,7 @@ becomes_by p lower id (Some kinds.TypeTag) r = if has p features.TypeTag then r 
 becomes_by p lower id (Some kinds.Enum) r = if is_signed r && not (has p features.Enum64) then unsigned r else r
 becomes_by p lower id (Some kinds.Enum64) r =
     if has p features.Enum64 then r
-    else union r.name r.third (vlen r.info) (variant_members (placeholder_id p id) (variants r.tail))
+    else union r.name r.third (vlen r.info) (variant_members (member_type_id p id) (variants r.tail))
 becomes_by p lower id (Some kinds.Func) r =
     if has p features.Func then known_func p r (name_of p id) else typedef r.name r.third
 becomes_by p lower id (Some kinds.FuncProto) r =

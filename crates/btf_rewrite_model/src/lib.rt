@@ -1,6 +1,7 @@
 //! What a rewrite makes of a BTF table for a kernel that lacks some features, and the laws of that.
 //!
-//! The definitions lie in `specs/`. Each law is the contract of a function here that does nothing.
+//! The definitions lie in `specs/`, and the plain types that they share with the code here. Each law is the contract of
+//! a function that does nothing.
 #![tactic(auto)]
 
 ghost use Rattle.btf_rewrite_model.specs.RewriteLaws.{AskedOnlyIfNeeded, GrantedFeaturesSuffice, Enum64KeepsItsValues, RecordLengthsStay, FewTypesAreAppended, SizesStay, ResolutionsStay, VariantValueStays, OtherAnswersChangeNothing, SecondRewriteChangesNothing, SizedSectionsAreKept};

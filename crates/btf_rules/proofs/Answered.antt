@@ -1,17 +1,16 @@
 -- A list of distinct features has room for one that is not in it.
 use Rattle.std.proofs.Common.{◌≡◌, ℕ, ◌<◌, ◌≤◌, eqb, Bool, true, false, ◌||◌, List, [], ◌∷◌, ◌++◌, length, eqb-true, None, Some, refl, sym, subst, arith}
 use Rattle.std.specs.Prelude.{if◌then◌else◌}
-use Rattle.std.specs.List.{IsDistinct, AllByRecursion, list_any, find}
-use Rattle.std.specs.Option.{option_map}
+use Rattle.std.specs.List.{IsDistinct, AllByRecursion, list_any}
 use Rattle.std.proofs.lemmas.Bool.{false≢true}
 use Rattle.std.proofs.lemmas.Option.{none-some}
 use Rattle.std.proofs.lemmas.List.{length-append, length-map, map-append}
 use Rattle.std.proofs.lemmas.Map.Steps.{length-le_from_distinct_below}
 use Rattle.btf_rewrite_model.specs.declared.feature.BtfFeature.TheVariants as features
-use Rattle.btf_rewrite_model.specs.Feature.{number, same_feature}
+use Rattle.btf_rewrite_model.specs.Feature.{number, same_feature, answer_to}
 use Rattle.btf_rewrite_model.specs.declared.feature.BtfFeature.{BtfFeature}
 use Rattle.btf_rewrite_model.specs.declared.feature.FeatureAnswer.{FeatureAnswer}
-use Rattle.btf_rules.specs.Features.{told, numbers, AreDistinct}
+use Rattle.btf_rules.specs.Features.{numbers, AreDistinct}
 
 number_lt : (f : BtfFeature) → number f < 8
 number_lt features.Func = omega arith
@@ -35,11 +34,11 @@ numbers_lt (a ∷ answers) q is =
 abbrev IsNew : ℕ → List ℕ → Type 0
 IsNew n ns = AllByRecursion (λ (m : ℕ). eqb m n ≡ false) ns
 
-new_of_none : (answers : List FeatureAnswer) (f : BtfFeature) → told answers f ≡ None → IsNew (number f) (numbers answers)
+new_of_none : (answers : List FeatureAnswer) (f : BtfFeature) → answer_to answers f ≡ None → IsNew (number f) (numbers answers)
 new_of_none [] f none = tt
 new_of_none (a ∷ answers) f none =
     elim (same_feature a.feature f) as (λ (b : Bool).
-    same_feature a.feature f ≡ b → option_map (λ (a : FeatureAnswer). a.granted) (if b then Some a else find (λ (a : FeatureAnswer). same_feature a.feature f) answers) ≡ None
+    same_feature a.feature f ≡ b → (if b then Some a.granted else answer_to answers f) ≡ None
     → IsNew (number f) (numbers (a ∷ answers))) [
       | true ↦ λ same some. absurd (none-some a.granted (sym some))
       | false ↦ λ other rest. (other, new_of_none answers f rest)
@@ -55,13 +54,13 @@ with_new (m ∷ ns) n distinct new = (apart ns distinct.0, with_new ns n distinc
     apart (k ∷ ks) all = (all.0, apart ks all.1)
 
 -- An answer to a feature that has none leaves them distinct.
-pub distinct_with : (answers : List FeatureAnswer) (a : FeatureAnswer) → AreDistinct answers → told answers a.feature ≡ None → AreDistinct (answers ++ a ∷ [])
+pub distinct_with : (answers : List FeatureAnswer) (a : FeatureAnswer) → AreDistinct answers → answer_to answers a.feature ≡ None → AreDistinct (answers ++ a ∷ [])
 distinct_with answers a distinct none =
     subst (λ (ns : List ℕ). IsDistinct eqb ns) (sym (map-append (λ (b : FeatureAnswer). number b.feature) answers (a ∷ [])))
     (with_new (numbers answers) (number a.feature) distinct (new_of_none answers a.feature none))
 
 -- Where a feature has no answer, there are fewer than eight.
-pub has_room : (answers : List FeatureAnswer) (a : FeatureAnswer) → AreDistinct answers → told answers a.feature ≡ None → length answers < 8
+pub has_room : (answers : List FeatureAnswer) (a : FeatureAnswer) → AreDistinct answers → answer_to answers a.feature ≡ None → length answers < 8
 has_room answers a distinct none =
     let all : List FeatureAnswer = answers ++ a ∷ [] in
     let most : length (numbers all) ≤ 8 = length-le_from_distinct_below (numbers all) 8 (distinct_with answers a distinct none) (numbers_lt all) in

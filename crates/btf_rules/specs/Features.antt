@@ -1,20 +1,9 @@
 -- Features and answers as the definitions name them, and what it is to ask for a feature.
 use Rattle.std.specs.Prelude.{◌≡◌, ℕ, eqb, Bool, List, [], ◌∷◌, ◌++◌, map, Option, Some, None}
-use Rattle.std.specs.List.{IsDistinct, find}
-use Rattle.std.specs.Option.{option_map}
-use Rattle.btf_rewrite_model.specs.declared.feature.BtfFeature.TheVariants as model
-use Rattle.btf_rewrite_model.specs.Feature.{same_feature, number}
+use Rattle.std.specs.List.{IsDistinct}
+use Rattle.btf_rewrite_model.specs.Feature.{number, answer_to}
 use Rattle.btf_rewrite_model.specs.declared.feature.BtfFeature.{BtfFeature}
 use Rattle.btf_rewrite_model.specs.declared.feature.FeatureAnswer.{FeatureAnswer}
-use Rattle.btf_rewrite_model.specs.declared.feature.BtfFeature.TheVariants.{Func, FuncGlobal, DataSec, DataSecZero, Float, DeclTag, TypeTag, Enum64}
-use Rattle.btf_rewrite_model.specs.declared.feature.FillPolicy.{FillPolicy}
-use Rattle.btf_rewrite_model.specs.declared.feature.FillPolicy.TheVariants.{KeepSized, FillSized}
-
--- the answer for a feature: what the first answer that is for it says
-abbrev pub told : List FeatureAnswer → BtfFeature → Option Bool
-told answers feature =
-    option_map (λ (a : FeatureAnswer). a.granted)
-    (find (λ (a : FeatureAnswer). same_feature a.feature feature) answers)
 
 -- the places of the features that are answered
 abbrev pub numbers : List FeatureAnswer → List ℕ
@@ -28,14 +17,14 @@ AreDistinct answers = IsDistinct eqb (numbers answers)
 -- predicate as it is now, whose answer is put after the others.
 abbrev pub AsksFor : {F : Type 0} → (F → BtfFeature → Bool → F → Type 0) → BtfFeature → Option Bool → F
     × List FeatureAnswer → Bool → F × List FeatureAnswer → Type 0
-AsksFor step feature (Some told) old answer new = (answer ≡ told) × (new ≡ old)
+AsksFor step feature (Some was) old answer new = (answer ≡ was) × (new ≡ old)
 AsksFor step feature None old answer new =
     step old.0 feature answer new.0 × (new.1 ≡ old.1 ++ record { feature = feature; granted = answer } ∷ [])
 
 -- the same, by what was answered for the feature
 abbrev pub Asks : {F : Type 0} → (F → BtfFeature → Bool → F → Type 0) → BtfFeature → F × List FeatureAnswer → Bool → F
     × List FeatureAnswer → Type 0
-Asks step feature old answer new = AsksFor step feature (told old.1 feature) old answer new
+Asks step feature old answer new = AsksFor step feature (answer_to old.1 feature) old answer new
 
 -- The predicate was called for these features, in order, and gave these answers; that and nothing else led from one
 -- state to the other.

@@ -1,7 +1,8 @@
 //! What a kernel's BTF may hold, as a caller's predicate says.
 
 ghost use Rattle.std.specs.Prelude.{◌≡◌, IfOk};
-ghost use Rattle.btf_rules.specs.Features.{told as told_of, Asks};
+ghost use Rattle.btf_rewrite_model.specs.Feature.{answer_to as answer_of};
+ghost use Rattle.btf_rules.specs.Features.{Asks};
 
 use arrayvec::ArrayVec;
 use btf_rewrite_model::{BtfFeature, FeatureAnswer};
@@ -49,7 +50,7 @@ impl<F: FnMut(BtfFeature) -> bool> BtfFeatureResolver<F> {
         ensures asks { Asks F.step feature self.old result self.new }
         ensures callable { F.IsAlwaysCallable self.new.0 }
     {
-        if let Some(granted) = told(&self.answers, feature) {
+        if let Some(granted) = answer_to(&self.answers, feature) {
             return granted;
         }
         let granted = (self.predicate)(feature);
@@ -77,8 +78,8 @@ pub fn copied_answers<F>(
 }
 
 /// The answer for a feature; None where it was not asked for.
-fn told(answers: &[FeatureAnswer], feature: BtfFeature) -> Option<bool>
-    ensures { result ≡ told_of answers.now feature }
+fn answer_to(answers: &[FeatureAnswer], feature: BtfFeature) -> Option<bool>
+    ensures { result ≡ answer_of answers.now feature }
 {
     for answer in answers {
         if answer.feature == feature {

@@ -6,6 +6,7 @@ ghost use Rattle.btf_model.specs.Record.{kind_of};
 ghost use Rattle.btf_rewrite_model.specs.Ksyms as model;
 ghost use Rattle.btf_records.specs.BtfType.{record_of};
 
+use btf_plain::BtfKind;
 use btf_records::BtfType;
 
 /// Whether a type is an INT of 4 bytes.
@@ -13,12 +14,7 @@ fn is_int_of_4(btf_type: &BtfType) -> bool
     ensures { result ≡ model.is_int_of_4 (kind_of (record_of btf_type.now).info)
         (record_of btf_type.now) }
 {
-    // The contract speaks of the kind in the info word, which a use of it shows.
-    let _ = btf_type.info();
-    match btf_type {
-        BtfType::Int(int) => int.size() == 4,
-        _ => false,
-    }
+    btf_type.kind() == BtfKind::Int && btf_type.size() == Some(4)
 }
 
 /// The id of the first INT of 4 bytes, or the number of types where there is none.

@@ -1,7 +1,9 @@
 //! Types that ask for one feature at most, and change in place: their rule appends nothing, and takes no memory.
 
 ghost use Rattle.std.specs.Prelude.{◌≡◌, ℕ, List, Option, None, Some, length, true, if◌then◌else◌};
+ghost use Rattle.btf_model.specs.Record as kinds;
 ghost use Rattle.btf_model.specs.Record.{Record, kind_of};
+ghost use Rattle.btf_rewrite_model.specs.Feature.{is_signed};
 ghost use Rattle.btf_rewrite_model.specs.Made as model;
 ghost use Rattle.btf_rewrite_model.specs.Pass.{Pass};
 ghost use Rattle.btf_rewrite_model.specs.Rule.{becomes_by};
@@ -11,7 +13,7 @@ ghost use Rattle.btf_rules.specs.InPlace.{denied, denied_type};
 ghost use Rattle.btf_rules.specs.SoleFeature.{IsGranted};
 ghost use Rattle.btf_rules.specs.SoleFeature as sole;
 
-use btf_plain::{Const, Int, IntEncoding, Typedef};
+use btf_plain::{BtfKind, Const, Int, IntEncoding, Typedef};
 use btf_records::{BtfType, Struct};
 use btf_rewrite_model::BtfFeature;
 use std::alloc::Global;
@@ -22,17 +24,25 @@ pub fn sole_feature(btf_type: &BtfType) -> Option<BtfFeature>
     ensures { result ≡ sole.sole_feature
         (kind_of (record_of btf_type.now).info) (record_of btf_type.now) }
 {
-    // The contract speaks of the kind in the info word, which a use of it shows.
-    let _ = btf_type.info();
-    match btf_type {
-        BtfType::Var(_) => Some(BtfFeature::DataSec),
-        BtfType::Float(_) => Some(BtfFeature::Float),
-        BtfType::DeclTag(_) => Some(BtfFeature::DeclTag),
-        BtfType::TypeTag(_) => Some(BtfFeature::TypeTag),
-        BtfType::FuncProto(_) => Some(BtfFeature::Func),
-        BtfType::Enum64(_) => Some(BtfFeature::Enum64),
-        BtfType::Enum(enumeration) if enumeration.is_signed() => Some(BtfFeature::Enum64),
+    match btf_type.kind() {
+        BtfKind::Var => Some(BtfFeature::DataSec),
+        BtfKind::Float => Some(BtfFeature::Float),
+        BtfKind::DeclTag => Some(BtfFeature::DeclTag),
+        BtfKind::TypeTag => Some(BtfFeature::TypeTag),
+        BtfKind::FuncProto => Some(BtfFeature::Func),
+        BtfKind::Enum64 => Some(BtfFeature::Enum64),
+        BtfKind::Enum if is_signed_enum(btf_type) => Some(BtfFeature::Enum64),
         _ => None,
+    }
+}
+
+/// Whether a type is an ENUM whose values are signed.
+fn is_signed_enum(btf_type: &BtfType) -> bool
+    ensures { type_kind btf_type.now ≡ kinds.Enum → result ≡ is_signed (record_of btf_type.now) }
+{
+    match btf_type {
+        BtfType::Enum(enumeration) => enumeration.is_signed(),
+        _ => false,
     }
 }
 
@@ -50,29 +60,8 @@ pub fn denied_name_offset(btf_type: &BtfType) -> u32
     ensures len { length (record_of (denied_type btf_type.now)).tail
         ≡ length (record_of btf_type.now).tail }
 {
-    match btf_type {
-        BtfType::Ptr(_) => 0,
-        // The contract speaks of the lengths of records, which a use of their words shows, here and below.
-        BtfType::Float(float) => {
-            let _ = float.info();
-            0
-        }
-        BtfType::TypeTag(tag) => {
-            let _ = tag.info();
-            0
-        }
-        BtfType::Var(var) => {
-            let _ = var.linkage();
-            var.name_offset()
-        }
-        BtfType::DeclTag(tag) => {
-            let _ = tag.component_index();
-            tag.name_offset()
-        }
-        BtfType::Func(func) => {
-            let _ = func.info();
-            func.name_offset()
-        }
+    match btf_type.kind() {
+        BtfKind::Ptr | BtfKind::Float | BtfKind::TypeTag => 0,
         _ => btf_type.name_offset(),
     }
 }
@@ -90,16 +79,11 @@ pub fn changes_in_place(btf_type: &BtfType, granted: bool) -> bool
     ensures fallback { fallback_of (if result then denied_type btf_type.now else btf_type.now)
         ≡ fallback_of btf_type.now }
 {
-    // The contract speaks of the kind in the info word, and of the length, which uses of these show.
-    let _ = btf_type.info();
-    let _ = denied_name_offset(btf_type);
-    match btf_type {
-        BtfType::Ptr(ptr) => ptr.name_offset() != 0,
-        BtfType::Var(_)
-        | BtfType::Float(_)
-        | BtfType::DeclTag(_)
-        | BtfType::TypeTag(_)
-        | BtfType::Enum(_) => !granted,
+    match btf_type.kind() {
+        BtfKind::Ptr => btf_type.name_offset() != 0,
+        BtfKind::Var | BtfKind::Float | BtfKind::DeclTag | BtfKind::TypeTag | BtfKind::Enum => {
+            !granted
+        }
         _ => false,
     }
 }
@@ -113,18 +97,15 @@ pub fn deny(alloc: Global, btf_type: &mut BtfType)
     ensures len { length (record_of btf_type.new).tail ≡ length (record_of btf_type.old).tail }
     ensures kind { kind_of (record_of btf_type.new).info ≡ Some (type_kind btf_type.new) }
 {
-    // The contract speaks of kinds in info words, and of the length, which uses of these show, here and below.
-    let _ = btf_type.info();
-    let _ = denied_name_offset(btf_type);
+    // The contract speaks of the kind in the info word, and of the length of the tail, which this shows.
+    let _ = btf_type.kind();
     let new_type = match btf_type {
         BtfType::Ptr(ptr) => {
             ptr.set_name_offset(0);
-            let _ = ptr.info();
             return;
         }
         BtfType::Enum(enumeration) => {
             enumeration.set_signed(false);
-            let _ = enumeration.info();
             return;
         }
         BtfType::Var(var) => byte_int(var.name_offset()),
@@ -136,6 +117,5 @@ pub fn deny(alloc: Global, btf_type: &mut BtfType)
         }
         _ => return,
     };
-    let _ = new_type.info();
     *btf_type = new_type;
 }

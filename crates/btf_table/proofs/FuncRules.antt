@@ -18,7 +18,7 @@ use Rattle.btf_table.proofs.PassAsking.{asked_none, asked_more, asked_kept}
 use Rattle.btf_rewrite_model.specs.Made.{record_at, typedef, with_linkage}
 use Rattle.btf_rewrite_model.specs.Checks.{first_fault, is_read}
 use Rattle.btf_model.specs.Text.{text_at}
-use Rattle.btf_rewrite_model.specs.Pass.{Pass, asks_below, has, name_of, is_builtin, func_asks, asks, asks_by, gets_filler, wants_placeholder, free_id}
+use Rattle.btf_rewrite_model.specs.Pass.{Pass, asks_below, has, name_of, is_builtin, func_asks, asks, asks_by, gets_filler, wants_member_type, free_id}
 use Rattle.btf_rewrite_model.specs.Rule.{becomes, known_func}
 use Rattle.btf_rewrite_model.specs.Fault.{fault}
 use Rattle.btf_plain.specs.Linkage.{func_linkage_of}
@@ -31,7 +31,8 @@ use Rattle.std.specs.Result.{result_ok, result_err}
 use Rattle.std.proofs.lemmas.Option.{none-some, same_Some}
 use Rattle.btf_rules.specs.Checked.{checked}
 use Rattle.btf_table.proofs.Readable.{builtin_is}
-use Rattle.btf_table.specs.PassStep.{Given, pass_on, IsType, IsHere, IsRuled, AsksUpTo}
+use Rattle.btf_table.specs.Btf.{IsType}
+use Rattle.btf_table.specs.PassStep.{Given, pass_on, IsHere, IsRuled, AsksUpTo}
 use Rattle.btf_table.specs.declared.sanitize.made.Made.{Made}
 
 module _ (p : Pass) (id : ℕ) (b : BtfType) (there : IsType p.table id b) (kind : kind_of (record_of b).info ≡ Some kinds.Func) where
@@ -60,19 +61,19 @@ module _ (p : Pass) (id : ℕ) (b : BtfType) (there : IsType p.table id b) (kind
     ruled_as : (q : Record) → becomes p id ≡ q → record_of new ≡ q → length q.tail ≡ length r.tail → IsRuled p id b made made new
     ruled_as q becomes_is is tail =
         let unfilled : gets_filler p id ≡ false = no_filler p id (Some kinds.Func) (kind_there p.table id b there ∙ kind) refl in
-        let wants : wants_placeholder p id ≡ false = wants_none p id (Some kinds.Func) (kind_there p.table id b there ∙ kind) refl in
+        let wants : wants_member_type p id ≡ false = wants_none p id (Some kinds.Func) (kind_there p.table id b there ∙ kind) refl in
         record {
           passed = fault_there p id b (Some kinds.Func) there kind ∙ ap (λ n. first_fault (is_read n ∷ [])) (func_name ∙ sym is_name);
           record_is = is ∙ sym becomes_is;
           fallback_is = new_none ∙ sym (falls_back_there p id b (Some kinds.Func) there kind ∙ none);
           len = same_len p id r (record_of new) (ap (λ (x : Record). length x.tail) is ∙ tail) unfilled;
           grown = grown_by p id made made [] [] (adds_none p.table made.changes here.room) (texts_there p id b (Some kinds.Func) there kind) (added_there p id b (Some kinds.Func) there kind) unfilled refl
-              (made_on (wants_placeholder p) (free_id p) id made.placeholder here.placeholder wants) here.filler refl;
+              (made_on (wants_member_type p) (free_id p) id made.member_type here.member_type wants) here.filler refl;
         }
 
-    pub func_denied : has p features.Func ≡ false → record_of new ≡ typedef r.name r.third → r.tail ≡ [] → IsRuled p id b made made new
+    pub func_denied : has p features.Func ≡ false → record_of new ≡ typedef r.name r.third → length r.tail ≡ 0 → IsRuled p id b made made new
     func_denied denied is no_tail =
-        ruled_as (typedef r.name r.third) (becomes_there p id b (Some kinds.Func) there kind ∙ ap (λ (g : Bool). if g then known_func p r (name_of p id) else typedef r.name r.third) denied) is (sym (ap length no_tail))
+        ruled_as (typedef r.name r.third) (becomes_there p id b (Some kinds.Func) there kind ∙ ap (λ (g : Bool). if g then known_func p r (name_of p id) else typedef r.name r.third) denied) is (sym no_tail)
 
     known : has p features.Func ≡ true → becomes p id ≡ (if is_global r && (is_builtin name || not (has p features.FuncGlobal)) then with_linkage 0 r else r)
     known granted =

@@ -1,20 +1,18 @@
 -- What a pass asks for, and what its predicate is called for.
-use Rattle.std.proofs.Common.{◌≡◌, ℕ, suc, ◌<◌, length, arith, Bool, true, false, List, [], ◌∷◌, ◌++◌, Option, None, Some, refl, sym, ap, subst, ◌∙◌}
-use Rattle.std.specs.Prelude.{if◌then◌else◌}
-use Rattle.std.specs.List.{list_any, find}
-use Rattle.std.specs.Option.{option_map}
+use Rattle.std.proofs.Common.{◌≡◌, ℕ, suc, ◌<◌, length, arith, Bool, List, [], ◌∷◌, ◌++◌, Option, None, Some, refl, sym, ap, subst, ◌∙◌}
+use Rattle.std.specs.List.{list_any}
 use Rattle.std.proofs.lemmas.List.{append-nil, append_assoc}
 use Rattle.std.proofs.lemmas.List.Folds.{list_any-append}
 use Rattle.std.proofs.lemmas.Bool.{or_right}
-use Rattle.btf_rewrite_model.specs.Feature.{same_feature, grants}
+use Rattle.btf_rewrite_model.specs.Feature.{same_feature, grants, answer_to}
 use Rattle.btf_rewrite_model.specs.declared.feature.BtfFeature.{BtfFeature}
 use Rattle.btf_rewrite_model.specs.declared.feature.FeatureAnswer.{FeatureAnswer}
 use Rattle.btf_rewrite_model.specs.Pass.{Pass, asks_below, each_once, Asked}
 use Rattle.btf_rewrite_model.specs.Pass.{asks as model_asks}
 use Rattle.btf_rewrite_model.specs.RewriteLaws.{IsAmong}
 use Rattle.btf_rewrite_model.specs.Passing.{AreAnswersTo, features_of, IsAt}
-use Rattle.btf_rewrite_model.proofs.Passing.{NextAnswers, AnswersWith, answer_to, asked_next, grants_append, among_each, further_same, asks_begin, each_once_begins}
-use Rattle.btf_rules.specs.Features.{told, Asks, AsksFor, Called, IsFurther}
+use Rattle.btf_rewrite_model.proofs.Passing.{NextAnswers, AnswersWith, asked_next, grants_append, among_each, further_same, asks_begin, each_once_begins}
+use Rattle.btf_rules.specs.Features.{Asks, AsksFor, Called, IsFurther}
 use Rattle.btf_table.specs.PassStep.{HasAsked, AsksUpTo, BeginsAsked}
 
 -- ---- the predicate
@@ -27,7 +25,7 @@ called_next step first before after (a ∷ answers) f granted called now = (call
 -- asking is a call, or nothing
 pub asks_called : {F : Type 0} (step : F → BtfFeature → Bool → F → Type 0) (first : F) (f : BtfFeature) (old new : F × List FeatureAnswer) (granted : Bool) → Asks step f old granted new → Called step first old.1 old.0 → Called step first new.1 new.0
 asks_called {F} step first f old new granted asks called =
-    elim (told old.1 f) as (λ (o : Option Bool). AsksFor step f o old granted new → Called step first new.1 new.0) [
+    elim (answer_to old.1 f) as (λ (o : Option Bool). AsksFor step f o old granted new → Called step first new.1 new.0) [
       | None ↦ λ one. subst (λ answers. Called step first answers new.0) (sym one.1) (called_next step first old.0 new.0 old.1 f granted called one.0)
       | Some was ↦ λ same. subst (λ (s : F × List FeatureAnswer). Called step first s.1 s.0) (sym same.1) called
     ] asks
@@ -35,7 +33,7 @@ asks_called {F} step first f old new granted asks called =
 -- and puts an answer after the others, or none
 pub asks_further : {F : Type 0} (step : F → BtfFeature → Bool → F → Type 0) (f : BtfFeature) (old new : F × List FeatureAnswer) (granted : Bool) → Asks step f old granted new → IsFurther old.1 new.1
 asks_further {F} step f old new granted asks =
-    elim (told old.1 f) as (λ (o : Option Bool). AsksFor step f o old granted new → IsFurther old.1 new.1) [
+    elim (answer_to old.1 f) as (λ (o : Option Bool). AsksFor step f o old granted new → IsFurther old.1 new.1) [
       | None ↦ λ one. (record { feature = f; granted = granted } ∷ [], one.1)
       | Some was ↦ λ same. ([], ap (λ (s : F × List FeatureAnswer). s.1) same.1 ∙ sym (append-nil old.1))
     ] asks
@@ -52,21 +50,13 @@ further_answers old new further = further.1
 
 -- ---- the answers
 
-told_is : (answers : List FeatureAnswer) (f : BtfFeature) → told answers f ≡ answer_to answers f
-told_is [] f = refl
-told_is (a ∷ answers) f =
-    elim (same_feature a.feature f) as (λ (b : Bool).
-    option_map (λ (x : FeatureAnswer). x.granted) (if b then Some a else find (λ (x : FeatureAnswer). same_feature x.feature f) answers) ≡ (if b then Some a.granted else answer_to answers f))
-    [ true ↦ refl | false ↦ told_is answers f ]
-
 pub asks_next : {F : Type 0} (step : F → BtfFeature → Bool → F → Type 0) (f : BtfFeature) (old new : F × List FeatureAnswer) (granted : Bool) → Asks step f old granted new
     → NextAnswers old.1 f granted new.1
 asks_next {F} step f old new granted asks =
-    subst (λ (o : Option Bool). AnswersWith o old.1 f granted new.1) (told_is old.1 f) (
-    elim (told old.1 f) as (λ (o : Option Bool). AsksFor step f o old granted new → AnswersWith o old.1 f granted new.1) [
+    elim (answer_to old.1 f) as (λ (o : Option Bool). AsksFor step f o old granted new → AnswersWith o old.1 f granted new.1) [
       | None ↦ λ one. one.1
       | Some was ↦ λ same. (same.0, ap (λ (s : F × List FeatureAnswer). s.1) same.1)
-    ] asks)
+    ] asks
 
 -- ---- an id
 

@@ -6,7 +6,7 @@ use Rattle.btf_model.specs.Record as kinds
 use Rattle.btf_model.specs.Record.{Kind, Record, kind_of}
 use Rattle.btf_model.specs.Table.{Table}
 use Rattle.btf_rewrite_model.specs.declared.feature.BtfFeature.TheVariants as features
-use Rattle.btf_rewrite_model.specs.Feature.{grants, is_signed}
+use Rattle.btf_rewrite_model.specs.Feature.{is_signed}
 use Rattle.btf_rewrite_model.specs.declared.feature.BtfFeature.{BtfFeature}
 use Rattle.btf_rewrite_model.specs.declared.feature.FeatureAnswer.{FeatureAnswer}
 use Rattle.btf_rewrite_model.specs.Made.{record_at}
@@ -16,7 +16,8 @@ use Rattle.btf_rewrite_model.proofs.Passing.{NextAnswers}
 use Rattle.btf_records.specs.BtfType.{record_of, type_kind}
 use Rattle.btf_records.specs.declared.btf_type.BtfType.TheVariants as types
 use Rattle.btf_records.specs.declared.btf_type.BtfType.{BtfType}
-use Rattle.btf_table.specs.PassStep.{Given, pass_on, IsType, AsksUpTo}
+use Rattle.btf_table.specs.Btf.{IsType}
+use Rattle.btf_table.specs.PassStep.{Given, pass_on, AsksUpTo}
 use Rattle.btf_rules.specs.SoleFeature.{sole_feature, asks_one, IsGranted}
 use Rattle.btf_table.proofs.PassAsking.{asked_none, asked_more}
 use Rattle.btf_table.proofs.PassRules.{record_there, kind_there}

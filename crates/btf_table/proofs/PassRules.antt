@@ -2,7 +2,7 @@
 use Rattle.std.proofs.Common.{◌≡◌, ◌==◌, ℕ, suc, ◌+◌, ◌*◌, Bool, true, false, not, ◌&&◌, ◌||◌, List, [], ◌∷◌, ◌++◌, length, Option, None, Some, refl, sym, ap, subst, ◌∙◌, arith}
 use Rattle.std.specs.Prelude.{if◌then◌else◌, slice_get}
 use Rattle.std.specs.Option.{unwrap_or}
-use Rattle.std.specs.List.{flat_map, sum_by}
+use Rattle.std.specs.List.{sum_by}
 use Rattle.std.proofs.lemmas.Bool.{false≢true, eqb-true}
 use Rattle.btf_model.specs.Record as kinds
 use Rattle.btf_model.specs.Record.{Kind, Record, unknown, kind_of, vlen}
@@ -13,8 +13,8 @@ use Rattle.btf_rewrite_model.specs.Feature.{fills_sized, has_no_entries, is_size
 use Rattle.btf_rewrite_model.specs.Made as model
 use Rattle.btf_rewrite_model.specs.Made.{record_at, kind_at, byte_int}
 use Rattle.btf_rewrite_model.specs.Checks.{first_fault, have_room, record_len}
-use Rattle.btf_rewrite_model.specs.Pass.{Pass, has, texts, texts_by, added, added_by, free_id, offset_at, type_len_at, gets_filler, wants_placeholder, makes_placeholder, is_enum64, least, is_unsized, is_zero_or, section_size, param_texts, placeholder_text}
-use Rattle.btf_rewrite_model.specs.Rule.{becomes, becomes_by, ruled_below, falls_back, falls_back_by, named_params, placeholder_id, variant_members}
+use Rattle.btf_rewrite_model.specs.Pass.{Pass, has, texts, texts_by, added, added_by, free_id, offset_at, type_len_at, gets_filler, wants_member_type, makes_member_type, is_enum64, least, is_unsized, is_zero_or, section_size, param_texts, member_type_text}
+use Rattle.btf_rewrite_model.specs.Rule.{becomes, becomes_by, ruled_below, falls_back, falls_back_by, named_params, member_type_id, variant_members}
 use Rattle.btf_rewrite_model.specs.Fault.{fault, checks_by, all_fit}
 use Rattle.btf_rewrite_model.proofs.Lengths.{named_len, members_len}
 use Rattle.btf_rewrite_model.specs.Passing.{is_quiet}
@@ -24,13 +24,12 @@ use Rattle.btf_rewrite_model.proofs.FirstMade.{makes_first, made_first, none_nex
 use Rattle.btf_records.specs.BtfType.{record_of, fallback_of, type_kind}
 use Rattle.btf_records.specs.declared.btf_type.BtfType.TheVariants as types
 use Rattle.btf_records.specs.declared.btf_type.BtfType.{BtfType}
-use Rattle.btf_items.specs.Items.{enum64_words}
-use Rattle.btf_items.specs.declared.items.BtfEnum64.{BtfEnum64}
 use Rattle.btf_table.specs.Adding.{strings_end, next_id, Adds}
 use Rattle.btf_table.specs.Params.{lack_a_name}
 use Rattle.btf_table.proofs.Prototypes.{no_texts, names_stay}
 use Rattle.btf_table.proofs.Adding.{adds_none}
-use Rattle.btf_table.specs.PassStep.{IsType, IsHere, IsGrown, IsRuled, growth}
+use Rattle.btf_table.specs.Btf.{IsType}
+use Rattle.btf_table.specs.PassStep.{IsHere, IsGrown, IsRuled, growth}
 use Rattle.btf_rules.specs.SoleFeature.{asks_one}
 use Rattle.btf_rules.specs.InPlace.{denied_type}
 use Rattle.btf_table.specs.declared.sanitize.made.Made.{Made}
@@ -69,7 +68,7 @@ pub made_on : (test : ℕ → Bool) (number : ℕ → ℕ) (n : ℕ) (made : Opt
 made_on test number n None made fails = none_next test number n made fails
 made_on test number n (Some k) made fails = made_next test number n k made
 
-pub wants_none : (p : Pass) (id : ℕ) (k : Option Kind) → kind_at p.table id ≡ k → is_enum64 k ≡ false → wants_placeholder p id ≡ false
+pub wants_none : (p : Pass) (id : ℕ) (k : Option Kind) → kind_at p.table id ≡ k → is_enum64 k ≡ false → wants_member_type p id ≡ false
 wants_none p id k kind other = ap (λ (b : Bool). b && not (has p features.Enum64)) (ap is_enum64 kind ∙ other)
 
 never : (d s u w e z h : Bool) → (u || w) ≡ false → (d && ((s && w && h) || (u && e && z))) ≡ false
@@ -90,8 +89,8 @@ no_filler p id k kind other =
 
 -- what was appended is what the id appends, where it gets no filler
 pub grown_by : (p : Pass) (id : ℕ) (old new : Made) (ts : List (List ℕ)) (rs : List Record) → Adds p.table old.changes new.changes ts rs → texts p id ≡ ts → added p id ≡ rs → gets_filler p id ≡ false → new.names ≡ old.names
-    → MadeBelow (wants_placeholder p) (free_id p) (suc id) new.placeholder → MadeBelow (gets_filler p) (λ k. free_id p k + 1) id old.filler → new.filler ≡ old.filler → IsGrown p id old new
-grown_by p id old new ts rs adds texts_are added_are unfilled names placeholder filler stays =
+    → MadeBelow (wants_member_type p) (free_id p) (suc id) new.member_type → MadeBelow (gets_filler p) (λ k. free_id p k + 1) id old.filler → new.filler ≡ old.filler → IsGrown p id old new
+grown_by p id old new ts rs adds texts_are added_are unfilled names member_type filler stays =
     let all : Adds p.table old.changes new.changes (texts p id) (added p id) = subst (λ us. Adds p.table old.changes new.changes us (added p id)) (sym texts_are) (subst (Adds p.table old.changes new.changes ts) (sym added_are) adds) in
     record {
       strings = all.strings;
@@ -100,7 +99,7 @@ grown_by p id old new ts rs adds texts_are added_are unfilled names placeholder 
       types = all.types;
       type_len = all.type_len ∙ sym (ap (λ (b : Bool). old.changes.type_len + sum_by record_len (added p id) + (if b then 12 else 0)) unfilled ∙ plus_none (old.changes.type_len + sum_by record_len (added p id)));
       names = names;
-      placeholder = placeholder;
+      member_type = member_type;
       filler = subst (MadeBelow (gets_filler p) (λ k. free_id p k + 1) (suc id)) (sym stays) (made_on (gets_filler p) (λ k. free_id p k + 1) id old.filler filler unfilled);
       room = all.room;
     }
@@ -135,7 +134,7 @@ quiet_ruled p id b new before there is_q here is tail fallback =
       fallback_is = fallback ∙ sym (q.fallback ∙ ap (λ (o : Option (Option Fallback)). unwrap_or o None) there.fallback_is);
       len = same_len p id (record_of b) (record_of new) tail q.no_filler;
       grown = grown_by p id before before [] [] (adds_none p.table before.changes here.room) q.no_texts q.none_added q.no_filler refl
-          (made_on (wants_placeholder p) (free_id p) id before.placeholder here.placeholder (wants_none p id k kind other.0)) here.filler refl;
+          (made_on (wants_member_type p) (free_id p) id before.member_type here.member_type (wants_none p id k kind other.0)) here.filler refl;
     }
 
 -- ---- FUNC_PROTO
@@ -155,11 +154,11 @@ proto_fault p id b offset there kind granted at =
 
 pub proto_named : (p : Pass) (id : ℕ) (b new : BtfType) (before after : Made) → IsType p.table id b → kind_of (record_of b).info ≡ Some kinds.FuncProto → IsHere p id before → has p features.Func ≡ true
     → first_fault (have_room (strings_end p.table before.changes) (param_texts 0 (record_of b).tail)) ≡ None → record_of new ≡ record (record_of b) { tail = named_params 0 (strings_end p.table before.changes) (record_of b).tail }
-    → fallback_of b ≡ None → fallback_of new ≡ None → Adds p.table before.changes after.changes (param_texts 0 (record_of b).tail) [] → after.names ≡ before.names → after.placeholder ≡ before.placeholder → after.filler ≡ before.filler
+    → fallback_of b ≡ None → fallback_of new ≡ None → Adds p.table before.changes after.changes (param_texts 0 (record_of b).tail) [] → after.names ≡ before.names → after.member_type ≡ before.member_type → after.filler ≡ before.filler
     → IsRuled p id b before after new
-proto_named p id b new before after there kind here granted passed is none fallback adds names placeholder filler =
+proto_named p id b new before after there kind here granted passed is none fallback adds names member_type filler =
     let unfilled : gets_filler p id ≡ false = loud_no_filler p id b (Some kinds.FuncProto) there kind refl in
-    let wants : wants_placeholder p id ≡ false = wants_none p id (Some kinds.FuncProto) (kind_there p.table id b there ∙ kind) refl in
+    let wants : wants_member_type p id ≡ false = wants_none p id (Some kinds.FuncProto) (kind_there p.table id b there ∙ kind) refl in
     record {
       passed = proto_fault p id b (strings_end p.table before.changes) there kind granted here.offset ∙ passed;
       record_is = is ∙ sym (
@@ -170,7 +169,7 @@ proto_named p id b new before after there kind here granted passed is none fallb
       fallback_is = fallback ∙ sym (falls_back_there p id b (Some kinds.FuncProto) there kind ∙ none);
       len = same_len p id (record_of b) (record_of new) (ap (λ (r : Record). length r.tail) is ∙ named_len 0 (strings_end p.table before.changes) (record_of b).tail) unfilled;
       grown = grown_by p id before after (param_texts 0 (record_of b).tail) [] adds (proto_names p id b there kind granted) (added_there p id b (Some kinds.FuncProto) there kind) unfilled names
-          (subst (MadeBelow (wants_placeholder p) (free_id p) (suc id)) (sym placeholder) (made_on (wants_placeholder p) (free_id p) id before.placeholder here.placeholder wants)) here.filler filler;
+          (subst (MadeBelow (wants_member_type p) (free_id p) (suc id)) (sym member_type) (made_on (wants_member_type p) (free_id p) id before.member_type here.member_type wants)) here.filler filler;
     }
 
 -- one whose parameters all have names stays
@@ -188,7 +187,7 @@ pub proto_as_enum : (p : Pass) (id : ℕ) (b new : BtfType) (before : Made) → 
     → record_of new ≡ model.enum (record_of b).name (vlen (record_of b).info) (record_of b).tail → fallback_of b ≡ None → fallback_of new ≡ None → IsRuled p id b before before new
 proto_as_enum p id b new before there kind here denied is none fallback =
     let unfilled : gets_filler p id ≡ false = loud_no_filler p id b (Some kinds.FuncProto) there kind refl in
-    let wants : wants_placeholder p id ≡ false = wants_none p id (Some kinds.FuncProto) (kind_there p.table id b there ∙ kind) refl in
+    let wants : wants_member_type p id ≡ false = wants_none p id (Some kinds.FuncProto) (kind_there p.table id b there ∙ kind) refl in
     let no_texts : texts p id ≡ [] = texts_there p id b (Some kinds.FuncProto) there kind ∙ ap (λ (g : Bool). if g then param_texts 0 (record_of b).tail else []) denied in
     record {
       passed = fault_there p id b (Some kinds.FuncProto) there kind ∙ ap (λ ts. first_fault (have_room (offset_at p id) ts)) no_texts;
@@ -199,12 +198,12 @@ proto_as_enum p id b new before there kind here denied is none fallback =
       fallback_is = fallback ∙ sym (falls_back_there p id b (Some kinds.FuncProto) there kind ∙ none);
       len = same_len p id (record_of b) (record_of new) (ap (λ (r : Record). length r.tail) is) unfilled;
       grown = grown_by p id before before [] [] (adds_none p.table before.changes here.room) no_texts (added_there p id b (Some kinds.FuncProto) there kind) unfilled refl
-          (made_on (wants_placeholder p) (free_id p) id before.placeholder here.placeholder wants) here.filler refl;
+          (made_on (wants_member_type p) (free_id p) id before.member_type here.member_type wants) here.filler refl;
     }
 
 -- ---- ENUM64
 
-granted_wants : (p : Pass) (id : ℕ) → has p features.Enum64 ≡ true → wants_placeholder p id ≡ false
+granted_wants : (p : Pass) (id : ℕ) → has p features.Enum64 ≡ true → wants_member_type p id ≡ false
 granted_wants p id granted = ap (λ (g : Bool). is_enum64 (kind_at p.table id) && not g) granted ∙ and_false (is_enum64 (kind_at p.table id))
   where
     and_false : (b : Bool) → (b && false) ≡ false
@@ -215,56 +214,56 @@ granted_wants p id granted = ap (λ (g : Bool). is_enum64 (kind_at p.table id) &
 pub enum64_stays : (p : Pass) (id : ℕ) (b : BtfType) (before : Made) → IsType p.table id b → kind_of (record_of b).info ≡ Some kinds.Enum64 → IsHere p id before → has p features.Enum64 ≡ true → IsRuled p id b before before b
 enum64_stays p id b before there kind here granted =
     let unfilled : gets_filler p id ≡ false = loud_no_filler p id b (Some kinds.Enum64) there kind refl in
-    let wants : wants_placeholder p id ≡ false = granted_wants p id granted in
-    let makes : makes_placeholder p id ≡ false = ap (λ (w : Bool). w && (least (wants_placeholder p) id == id)) wants in
-    let no_texts : texts p id ≡ [] = texts_there p id b (Some kinds.Enum64) there kind ∙ ap (λ (m : Bool). if m then placeholder_text ∷ [] else []) makes in
+    let wants : wants_member_type p id ≡ false = granted_wants p id granted in
+    let makes : makes_member_type p id ≡ false = ap (λ (w : Bool). w && (least (wants_member_type p) id == id)) wants in
+    let no_texts : texts p id ≡ [] = texts_there p id b (Some kinds.Enum64) there kind ∙ ap (λ (m : Bool). if m then member_type_text ∷ [] else []) makes in
     let none_added : added p id ≡ [] = added_there p id b (Some kinds.Enum64) there kind ∙ ap (λ (m : Bool). if m then byte_int (offset_at p id) ∷ [] else []) makes in
     record {
       passed = fault_there p id b (Some kinds.Enum64) there kind ∙ ap (λ ts. first_fault (have_room (offset_at p id) ts ++ all_fit (type_len_at p id) (added p id))) no_texts ∙ ap (λ rs. first_fault (all_fit (type_len_at p id) rs)) none_added;
       record_is = sym (becomes_there p id b (Some kinds.Enum64) there kind
-          ∙ ap (λ (g : Bool). if g then record_of b else model.union (record_of b).name (record_of b).third (vlen (record_of b).info) (variant_members (placeholder_id p id) (model.variants (record_of b).tail))) granted);
+          ∙ ap (λ (g : Bool). if g then record_of b else model.union (record_of b).name (record_of b).third (vlen (record_of b).info) (variant_members (member_type_id p id) (model.variants (record_of b).tail))) granted);
       fallback_is = sym (falls_back_there p id b (Some kinds.Enum64) there kind ∙ ap (λ (g : Bool). if g then fallback_of b else Some (model.fallback_of (record_of b))) granted);
       len = same_len p id (record_of b) (record_of b) refl unfilled;
       grown = grown_by p id before before [] [] (adds_none p.table before.changes here.room) no_texts none_added unfilled refl
-          (made_on (wants_placeholder p) (free_id p) id before.placeholder here.placeholder wants) here.filler refl;
+          (made_on (wants_member_type p) (free_id p) id before.member_type here.member_type wants) here.filler refl;
     }
 
-pub wants_one : (p : Pass) (id : ℕ) (b : BtfType) → IsType p.table id b → kind_of (record_of b).info ≡ Some kinds.Enum64 → has p features.Enum64 ≡ false → wants_placeholder p id ≡ true
+pub wants_one : (p : Pass) (id : ℕ) (b : BtfType) → IsType p.table id b → kind_of (record_of b).info ≡ Some kinds.Enum64 → has p features.Enum64 ≡ false → wants_member_type p id ≡ true
 wants_one p id b there kind denied = ap (λ (g : Bool). is_enum64 (kind_at p.table id) && not g) denied ∙ ap (λ (k : Option Kind). is_enum64 k && true) (kind_there p.table id b there ∙ kind)
 
--- What the placeholder is for an id that wants it: the one that is there, or a new one.
-pub record HasPlaceholder (p : Pass) (id : ℕ) (before after : Made) (number : ℕ) : Type 0 where
-  pub checks : first_fault (have_room (offset_at p id) (if makes_placeholder p id then placeholder_text ∷ [] else []) ++ all_fit (type_len_at p id) (if makes_placeholder p id then byte_int (offset_at p id) ∷ [] else [])) ≡ None
-  pub adds : Adds p.table before.changes after.changes (if makes_placeholder p id then placeholder_text ∷ [] else []) (if makes_placeholder p id then byte_int (offset_at p id) ∷ [] else [])
-  pub made : MadeBelow (wants_placeholder p) (free_id p) (suc id) after.placeholder
-  pub number_is : placeholder_id p id ≡ number
+-- What the member_type is for an id that wants it: the one that is there, or a new one.
+pub record HasMemberType (p : Pass) (id : ℕ) (before after : Made) (number : ℕ) : Type 0 where
+  pub checks : first_fault (have_room (offset_at p id) (if makes_member_type p id then member_type_text ∷ [] else []) ++ all_fit (type_len_at p id) (if makes_member_type p id then byte_int (offset_at p id) ∷ [] else [])) ≡ None
+  pub adds : Adds p.table before.changes after.changes (if makes_member_type p id then member_type_text ∷ [] else []) (if makes_member_type p id then byte_int (offset_at p id) ∷ [] else [])
+  pub made : MadeBelow (wants_member_type p) (free_id p) (suc id) after.member_type
+  pub number_is : member_type_id p id ≡ number
 
-pub placeholder_there : (p : Pass) (id : ℕ) (before after : Made) (number : ℕ) → IsHere p id before → wants_placeholder p id ≡ true → before.placeholder ≡ Some number → after ≡ before → HasPlaceholder p id before after number
-placeholder_there p id before after number here wants some same =
-    let m : MadeBelow (wants_placeholder p) (free_id p) id (Some number) = subst (MadeBelow (wants_placeholder p) (free_id p) id) some here.placeholder in
-    let makes : makes_placeholder p id ≡ false = makes_no_second (wants_placeholder p) (free_id p) id number m in
+pub member_type_there : (p : Pass) (id : ℕ) (before after : Made) (number : ℕ) → IsHere p id before → wants_member_type p id ≡ true → before.member_type ≡ Some number → after ≡ before → HasMemberType p id before after number
+member_type_there p id before after number here wants some same =
+    let m : MadeBelow (wants_member_type p) (free_id p) id (Some number) = subst (MadeBelow (wants_member_type p) (free_id p) id) some here.member_type in
+    let makes : makes_member_type p id ≡ false = makes_no_second (wants_member_type p) (free_id p) id number m in
     let none : Adds p.table before.changes after.changes [] [] = subst (λ (a : Made). Adds p.table before.changes a.changes [] []) (sym same) (adds_none p.table before.changes here.room) in
     record {
-      checks = ap (λ (b : Bool). first_fault (have_room (offset_at p id) (if b then placeholder_text ∷ [] else []) ++ all_fit (type_len_at p id) (if b then byte_int (offset_at p id) ∷ [] else []))) makes;
-      adds = subst (λ (b : Bool). Adds p.table before.changes after.changes (if b then placeholder_text ∷ [] else []) (if b then byte_int (offset_at p id) ∷ [] else [])) (sym makes) none;
-      made = subst (MadeBelow (wants_placeholder p) (free_id p) (suc id)) (sym (ap (λ (a : Made). a.placeholder) same ∙ some)) (made_next (wants_placeholder p) (free_id p) id number m);
-      number_is = made_is (wants_placeholder p) (free_id p) id number m;
+      checks = ap (λ (b : Bool). first_fault (have_room (offset_at p id) (if b then member_type_text ∷ [] else []) ++ all_fit (type_len_at p id) (if b then byte_int (offset_at p id) ∷ [] else []))) makes;
+      adds = subst (λ (b : Bool). Adds p.table before.changes after.changes (if b then member_type_text ∷ [] else []) (if b then byte_int (offset_at p id) ∷ [] else [])) (sym makes) none;
+      made = subst (MadeBelow (wants_member_type p) (free_id p) (suc id)) (sym (ap (λ (a : Made). a.member_type) same ∙ some)) (made_next (wants_member_type p) (free_id p) id number m);
+      number_is = made_is (wants_member_type p) (free_id p) id number m;
     }
 
-pub placeholder_new : (p : Pass) (id : ℕ) (before after : Made) (number : ℕ) → IsHere p id before → wants_placeholder p id ≡ true → before.placeholder ≡ None
-    → first_fault (have_room (strings_end p.table before.changes) (placeholder_text ∷ []) ++ all_fit before.changes.type_len (byte_int (strings_end p.table before.changes) ∷ [])) ≡ None → number ≡ next_id p.table before.changes
-    → Adds p.table before.changes after.changes (placeholder_text ∷ []) (byte_int (strings_end p.table before.changes) ∷ []) → after.placeholder ≡ Some (next_id p.table before.changes) → HasPlaceholder p id before after number
-placeholder_new p id before after number here wants none passed is adds made =
-    let m : MadeBelow (wants_placeholder p) (free_id p) id None = subst (MadeBelow (wants_placeholder p) (free_id p) id) none here.placeholder in
-    let makes : makes_placeholder p id ≡ true = makes_first (wants_placeholder p) (free_id p) id m ∙ wants in
-    let checks : ℕ → ℕ → Option Refusal = λ o n. first_fault (have_room o (placeholder_text ∷ []) ++ all_fit n (byte_int o ∷ [])) in
+pub member_type_new : (p : Pass) (id : ℕ) (before after : Made) (number : ℕ) → IsHere p id before → wants_member_type p id ≡ true → before.member_type ≡ None
+    → first_fault (have_room (strings_end p.table before.changes) (member_type_text ∷ []) ++ all_fit before.changes.type_len (byte_int (strings_end p.table before.changes) ∷ [])) ≡ None → number ≡ next_id p.table before.changes
+    → Adds p.table before.changes after.changes (member_type_text ∷ []) (byte_int (strings_end p.table before.changes) ∷ []) → after.member_type ≡ Some (next_id p.table before.changes) → HasMemberType p id before after number
+member_type_new p id before after number here wants none passed is adds made =
+    let m : MadeBelow (wants_member_type p) (free_id p) id None = subst (MadeBelow (wants_member_type p) (free_id p) id) none here.member_type in
+    let makes : makes_member_type p id ≡ true = makes_first (wants_member_type p) (free_id p) id m ∙ wants in
+    let checks : ℕ → ℕ → Option Refusal = λ o n. first_fault (have_room o (member_type_text ∷ []) ++ all_fit n (byte_int o ∷ [])) in
     record {
-      checks = ap (λ (b : Bool). first_fault (have_room (offset_at p id) (if b then placeholder_text ∷ [] else []) ++ all_fit (type_len_at p id) (if b then byte_int (offset_at p id) ∷ [] else []))) makes
+      checks = ap (λ (b : Bool). first_fault (have_room (offset_at p id) (if b then member_type_text ∷ [] else []) ++ all_fit (type_len_at p id) (if b then byte_int (offset_at p id) ∷ [] else []))) makes
           ∙ ap (λ (o : ℕ). checks o (type_len_at p id)) here.offset ∙ ap (checks (strings_end p.table before.changes)) here.type_len ∙ passed;
-      adds = subst (λ (b : Bool). Adds p.table before.changes after.changes (if b then placeholder_text ∷ [] else []) (if b then byte_int (offset_at p id) ∷ [] else [])) (sym makes)
-          (subst (λ (o : ℕ). Adds p.table before.changes after.changes (placeholder_text ∷ []) (byte_int o ∷ [])) (sym here.offset) adds);
-      made = subst (MadeBelow (wants_placeholder p) (free_id p) (suc id)) (sym (made ∙ ap (λ (n : ℕ). Some n) (sym here.free))) (made_first (wants_placeholder p) (free_id p) id m wants);
-      number_is = ap (free_id p) (eqb-true (least (wants_placeholder p) id) id (least_here (wants_placeholder p id) (least (wants_placeholder p) id == id) makes)) ∙ here.free ∙ sym is;
+      adds = subst (λ (b : Bool). Adds p.table before.changes after.changes (if b then member_type_text ∷ [] else []) (if b then byte_int (offset_at p id) ∷ [] else [])) (sym makes)
+          (subst (λ (o : ℕ). Adds p.table before.changes after.changes (member_type_text ∷ []) (byte_int o ∷ [])) (sym here.offset) adds);
+      made = subst (MadeBelow (wants_member_type p) (free_id p) (suc id)) (sym (made ∙ ap (λ (n : ℕ). Some n) (sym here.free))) (made_first (wants_member_type p) (free_id p) id m wants);
+      number_is = ap (free_id p) (eqb-true (least (wants_member_type p) id) id (least_here (wants_member_type p id) (least (wants_member_type p) id == id) makes)) ∙ here.free ∙ sym is;
     }
   where
     least_here : (a b : Bool) → (a && b) ≡ true → b ≡ true
@@ -272,42 +271,34 @@ placeholder_new p id before after number here wants none passed is adds made =
     least_here false b both = absurd (false≢true both)
 
 pub enum64_as_union : (p : Pass) (id : ℕ) (b new : BtfType) (before after : Made) (number : ℕ) → IsType p.table id b → kind_of (record_of b).info ≡ Some kinds.Enum64 → IsHere p id before → has p features.Enum64 ≡ false
-    → HasPlaceholder p id before after number → length (record_of b).tail ≡ 3 * vlen (record_of b).info
+    → HasMemberType p id before after number → length (record_of b).tail ≡ 3 * vlen (record_of b).info
     → record_of new ≡ model.union (record_of b).name (record_of b).third (vlen (record_of b).info) (variant_members number (model.variants (record_of b).tail)) → fallback_of new ≡ Some (model.fallback_of (record_of b))
     → after.names ≡ before.names → after.filler ≡ before.filler → IsRuled p id b before after new
-enum64_as_union p id b new before after number there kind here denied placeholder tail is fallback names filler =
+enum64_as_union p id b new before after number there kind here denied member_type tail is fallback names filler =
     let unfilled : gets_filler p id ≡ false = loud_no_filler p id b (Some kinds.Enum64) there kind refl in
-    let texts_are : texts p id ≡ (if makes_placeholder p id then placeholder_text ∷ [] else []) = texts_there p id b (Some kinds.Enum64) there kind in
-    let added_are : added p id ≡ (if makes_placeholder p id then byte_int (offset_at p id) ∷ [] else []) = added_there p id b (Some kinds.Enum64) there kind in
+    let texts_are : texts p id ≡ (if makes_member_type p id then member_type_text ∷ [] else []) = texts_there p id b (Some kinds.Enum64) there kind in
+    let added_are : added p id ≡ (if makes_member_type p id then byte_int (offset_at p id) ∷ [] else []) = added_there p id b (Some kinds.Enum64) there kind in
     let made : ℕ → Record = λ n. model.union (record_of b).name (record_of b).third (vlen (record_of b).info) (variant_members n (model.variants (record_of b).tail)) in
     record {
       passed = fault_there p id b (Some kinds.Enum64) there kind ∙ ap (λ ts. first_fault (have_room (offset_at p id) ts ++ all_fit (type_len_at p id) (added p id))) texts_are
-          ∙ ap (λ rs. first_fault (have_room (offset_at p id) (if makes_placeholder p id then placeholder_text ∷ [] else []) ++ all_fit (type_len_at p id) rs)) added_are ∙ placeholder.checks;
-      record_is = is ∙ ap made (sym placeholder.number_is) ∙ sym (becomes_there p id b (Some kinds.Enum64) there kind ∙ ap (λ (g : Bool). if g then record_of b else made (placeholder_id p id)) denied);
+          ∙ ap (λ rs. first_fault (have_room (offset_at p id) (if makes_member_type p id then member_type_text ∷ [] else []) ++ all_fit (type_len_at p id) rs)) added_are ∙ member_type.checks;
+      record_is = is ∙ ap made (sym member_type.number_is) ∙ sym (becomes_there p id b (Some kinds.Enum64) there kind ∙ ap (λ (g : Bool). if g then record_of b else made (member_type_id p id)) denied);
       fallback_is = fallback ∙ sym (falls_back_there p id b (Some kinds.Enum64) there kind ∙ ap (λ (g : Bool). if g then fallback_of b else Some (model.fallback_of (record_of b))) denied);
       len = same_len p id (record_of b) (record_of new) (ap (λ (r : Record). length r.tail) is ∙ members_len number (vlen (record_of b).info) (record_of b).tail tail) unfilled;
-      grown = grown_by p id before after _ _ placeholder.adds texts_are added_are unfilled names placeholder.made here.filler filler;
+      grown = grown_by p id before after _ _ member_type.adds texts_are added_are unfilled names member_type.made here.filler filler;
     }
 
--- the tests of an ENUM64, where it makes the placeholder
-pub enum64_fault : (p : Pass) (id : ℕ) (b : BtfType) (before : Made) → IsType p.table id b → kind_of (record_of b).info ≡ Some kinds.Enum64 → IsHere p id before → has p features.Enum64 ≡ false → before.placeholder ≡ None
-    → fault p id ≡ first_fault (have_room (strings_end p.table before.changes) (placeholder_text ∷ []) ++ all_fit before.changes.type_len (byte_int (strings_end p.table before.changes) ∷ []))
+-- the tests of an ENUM64, where it makes the member_type
+pub enum64_fault : (p : Pass) (id : ℕ) (b : BtfType) (before : Made) → IsType p.table id b → kind_of (record_of b).info ≡ Some kinds.Enum64 → IsHere p id before → has p features.Enum64 ≡ false → before.member_type ≡ None
+    → fault p id ≡ first_fault (have_room (strings_end p.table before.changes) (member_type_text ∷ []) ++ all_fit before.changes.type_len (byte_int (strings_end p.table before.changes) ∷ []))
 enum64_fault p id b before there kind here denied none =
-    let m : MadeBelow (wants_placeholder p) (free_id p) id None = subst (MadeBelow (wants_placeholder p) (free_id p) id) none here.placeholder in
-    let makes : makes_placeholder p id ≡ true = makes_first (wants_placeholder p) (free_id p) id m ∙ wants_one p id b there kind denied in
-    let checks : ℕ → ℕ → Option Refusal = λ o n. first_fault (have_room o (placeholder_text ∷ []) ++ all_fit n (byte_int o ∷ [])) in
+    let m : MadeBelow (wants_member_type p) (free_id p) id None = subst (MadeBelow (wants_member_type p) (free_id p) id) none here.member_type in
+    let makes : makes_member_type p id ≡ true = makes_first (wants_member_type p) (free_id p) id m ∙ wants_one p id b there kind denied in
+    let checks : ℕ → ℕ → Option Refusal = λ o n. first_fault (have_room o (member_type_text ∷ []) ++ all_fit n (byte_int o ∷ [])) in
     fault_there p id b (Some kinds.Enum64) there kind
-    ∙ ap (λ ts. first_fault (have_room (offset_at p id) ts ++ all_fit (type_len_at p id) (added p id))) (texts_there p id b (Some kinds.Enum64) there kind ∙ ap (λ (g : Bool). if g then placeholder_text ∷ [] else []) makes)
-    ∙ ap (λ rs. first_fault (have_room (offset_at p id) (placeholder_text ∷ []) ++ all_fit (type_len_at p id) rs)) (added_there p id b (Some kinds.Enum64) there kind ∙ ap (λ (g : Bool). if g then byte_int (offset_at p id) ∷ [] else []) makes)
+    ∙ ap (λ ts. first_fault (have_room (offset_at p id) ts ++ all_fit (type_len_at p id) (added p id))) (texts_there p id b (Some kinds.Enum64) there kind ∙ ap (λ (g : Bool). if g then member_type_text ∷ [] else []) makes)
+    ∙ ap (λ rs. first_fault (have_room (offset_at p id) (member_type_text ∷ []) ++ all_fit (type_len_at p id) rs)) (added_there p id b (Some kinds.Enum64) there kind ∙ ap (λ (g : Bool). if g then byte_int (offset_at p id) ∷ [] else []) makes)
     ∙ ap (λ (o : ℕ). checks o (type_len_at p id)) here.offset ∙ ap (checks (strings_end p.table before.changes)) here.type_len
-
--- the words of variants
-pub three_words : (r : Record) (vs : List BtfEnum64) → r.tail ≡ flat_map enum64_words vs → vlen r.info ≡ length vs → length r.tail ≡ 3 * vlen r.info
-three_words r vs words count = ap length words ∙ each_three vs ∙ ap (λ (n : ℕ). 3 * n) (sym count)
-  where
-    each_three : (vs : List BtfEnum64) → length (flat_map enum64_words vs) ≡ 3 * length vs
-    each_three [] = refl
-    each_three (v ∷ vs) = omega (arith, each_three vs)
 
 -- ---- kinds that ask for one feature at most
 

@@ -12,7 +12,7 @@ use Rattle.std.proofs.lemmas.Option.{slice_get-get_or, slice_get-map, slice_get_
 use Rattle.std.specs.Option.{option_map}
 use Rattle.std.proofs.Math.Seq.{take-suc}
 use Rattle.btf_model.specs.Record as kinds
-use Rattle.btf_model.specs.Record.{Kind, Record, unknown, kind_of}
+use Rattle.btf_model.specs.Record.{vlen, tail_words, Kind, Record, unknown, kind_of}
 use Rattle.btf_model.specs.Refusal.{Refusal}
 use Rattle.btf_model.specs.Table.{Table, Fallback, type_bytes, no_fallbacks}
 use Rattle.btf_rewrite_model.specs.declared.feature.BtfFeature.TheVariants as features
@@ -22,7 +22,7 @@ use Rattle.btf_rewrite_model.specs.declared.feature.FeatureAnswer.{FeatureAnswer
 use Rattle.btf_rewrite_model.specs.Made as model
 use Rattle.btf_rewrite_model.specs.Made.{record_at, kind_at}
 use Rattle.btf_rewrite_model.specs.Checks.{record_len}
-use Rattle.btf_rewrite_model.specs.Pass.{Pass, has, asks, asks_by, asks_below, each_once, is_enum64, texts, texts_below, added, added_by, added_below, free_id, offset_at, filler_type_text, gets_filler, makes_filler, makes_placeholder, filler_offset, growth_below, wants_placeholder}
+use Rattle.btf_rewrite_model.specs.Pass.{Pass, has, asks, asks_by, asks_below, each_once, is_enum64, texts, texts_below, added, added_by, added_below, free_id, offset_at, filler_type_text, gets_filler, makes_filler, makes_member_type, filler_offset, growth_below, wants_member_type}
 use Rattle.btf_rewrite_model.specs.Rule.{becomes, becomes_by, ruled_below, falls_back, falls_back_by}
 use Rattle.btf_rewrite_model.specs.Fault.{fault}
 use Rattle.btf_rewrite_model.specs.Rewritten.{ended, AreRuled, rewritten}
@@ -30,7 +30,7 @@ use Rattle.btf_rewrite_model.specs.RewriteLaws.{IsAmong, with_answers, Agree, Is
 use Rattle.btf_rewrite_model.proofs.Agreeing.{AgreeAt, agree_at, agree_of, same_below, same_refused}
 use Rattle.btf_rewrite_model.proofs.Appending.{ended_len}
 use Rattle.btf_rewrite_model.specs.Passing.{MadeBelow}
-use Rattle.btf_rewrite_model.proofs.FirstMade.{none_next, none_below_zero, made_alike, placeholder_alike, filler_alike_below}
+use Rattle.btf_rewrite_model.proofs.FirstMade.{none_next, none_below_zero, made_alike, member_type_alike, filler_alike_below}
 use Rattle.btf_rewrite_model.specs.Passing.{features_of, is_quiet, AreAnswersTo, IsAt}
 use Rattle.btf_rewrite_model.proofs.Passing.{IsQuiet, quiet, Grows, grows, further_agree, further_same, goes_on, made_next}
 use Rattle.btf_rewrite_model.proofs.Ruled.{length-ruled}
@@ -39,7 +39,8 @@ use Rattle.btf_records.specs.declared.btf_type.BtfType.{BtfType}
 use Rattle.btf_table.specs.Adding.{HasRoom}
 use Rattle.btf_table.specs.Changes.{put_all, each, AreInside, AreOf, changed}
 use Rattle.btf_table.specs.Denied.{AllHaveKinds, AreIds, deny_all, with_denied}
-use Rattle.btf_table.specs.PassStep.{kept_changes, kept_ids, made_of, placed_of, placed_below, IsType, IsHere, IsRuled, HasAsked, AsksUpTo, IsMade, Steps, Passes, growth}
+use Rattle.btf_table.specs.Btf.{IsType}
+use Rattle.btf_table.specs.PassStep.{kept_changes, kept_ids, made_of, placed_of, placed_below, IsHere, IsRuled, HasAsked, AsksUpTo, IsMade, Steps, Passes, growth}
 use Rattle.btf_table.specs.declared.sanitize.made.Made.{Made}
 use Rattle.btf_table.specs.declared.sanitize.outcome.Outcome.{Outcome}
 use Rattle.btf_table.specs.declared.sanitize.outcome.Outcome.TheVariants.{Same, Denied, Other}
@@ -96,7 +97,7 @@ range_alike f g (suc n) alike =
 
 -- Further answers change nothing of what was made.
 pub here_of_made : (p : Pass) (id : ℕ) (m : Made) (ids : List ℕ) (answers more : List FeatureAnswer) → answers ≡ p.answers ++ more → IsAt p id → IsMade p id m ids → IsHere (record p { answers = answers }) id m
-here_of_made p id m ids answers more is at made = subst (λ (told : List FeatureAnswer). IsHere (with_answers p told) id m) (sym is) here
+here_of_made p id m ids answers more is at made = subst (λ (given : List FeatureAnswer). IsHere (with_answers p given) id m) (sym is) here
   where
     here : IsHere (with_answers p (p.answers ++ more)) id m
     here =
@@ -112,7 +113,7 @@ here_of_made p id m ids answers more is at made = subst (λ (told : List Feature
           type_len = g.type_len ∙ sym made.has_made.type_len_is;
           names = made.names ∙ ap (map (λ (r : Record). r.name)) (sym same.ruled);
           count = length-ruled q id;
-          placeholder = made_alike (wants_placeholder p) (wants_placeholder q) (free_id p) (free_id q) id m.placeholder (placeholder_alike p all id agree) free made.placeholder;
+          member_type = made_alike (wants_member_type p) (wants_member_type q) (free_id p) (free_id q) id m.member_type (member_type_alike p all id agree) free made.member_type;
           filler = made_alike (gets_filler p) (gets_filler q) (λ k. free_id p k + 1) (λ k. free_id q k + 1) id m.filler (filler_alike_below p all id agree at.ruled) (λ j lt. ap (λ (n : ℕ). n + 1) (free j lt)) made.filler;
           room = made.room;
         }
@@ -126,7 +127,7 @@ at_next p id answers at asks_up passed =
     let has : HasAsked p id some answers = asks_up.1 in
     let all_asked : AreAnswersTo (asks_below p id ++ asks (with_answers p answers) id) answers =
     subst (λ fs. AreAnswersTo (asks_below p id ++ fs) answers) (sym (asks_up.2 ∙ append-nil some)) has.asked in
-    subst (λ (told : List FeatureAnswer). AreAnswersTo (asks_below p id ++ asks (with_answers p told) id) told → fault (with_answers p told) id ≡ None → IsAt (with_answers p told) (suc id))
+    subst (λ (given : List FeatureAnswer). AreAnswersTo (asks_below p id ++ asks (with_answers p given) id) given → fault (with_answers p given) id ≡ None → IsAt (with_answers p given) (suc id))
     (sym has.further) (goes_on p id has.more at) all_asked passed
 
 -- What is kept of an id, with the ids that are to be denied before and after.
@@ -134,13 +135,12 @@ pub record Keeps (id : ℕ) (b : BtfType) (o : Outcome) (old new : Made) (ids mo
   pub types : new.changes.types.items ≡ kept_changes old.changes.types.items id o
   pub denied : more ≡ kept_ids ids id o
   pub names : new.names.items ≡ old.names.items ++ (record_of (made_of o b)).name ∷ []
-  pub known : kind_of (record_of b).info ≡ Some (type_kind b)
   pub kind : kind_of (record_of (placed_of o b)).info ≡ Some (type_kind (placed_of o b))
   pub len : length (record_of (made_of o b)).tail ≡ length (record_of (placed_of o b)).tail
   pub strings : new.changes.new_strings ≡ old.changes.new_strings
   pub new_types : new.changes.new_types ≡ old.changes.new_types
   pub type_len : new.changes.type_len ≡ old.changes.type_len
-  pub placeholder : new.placeholder ≡ old.placeholder
+  pub member_type : new.member_type ≡ old.member_type
   pub filler : new.filler ≡ old.filler
 
 -- a list up to one more place
@@ -211,7 +211,7 @@ one_more p id more b o before mid after ids more_ids low at made there keeps rul
       has_made = record {
         strings_are = strings ∙ n.strings_are;
         types_are = records ∙ n.types_are;
-        new_are = ap (λ is. deny_all is (placed_below q (suc id) after)) keeps.denied ∙ ap (deny_all (kept_ids ids id o)) placed_is ∙ deny_next ids front id b o made.denied long keeps.known
+        new_are = ap (λ is. deny_all is (placed_below q (suc id) after)) keeps.denied ∙ ap (deny_all (kept_ids ids id o)) placed_is ∙ deny_next ids front id b o made.denied long there.kind_is
             ∙ ap (λ r. deny_all ids front ++ r ∷ []) ruled.record_is ∙ n.new_are;
         type_len_is = type_len ∙ n.type_len_is;
       };
@@ -227,7 +227,7 @@ one_more p id more b o before mid after ids more_ids low at made there keeps rul
       denied = subst (AreIds (suc id)) (sym keeps.denied) (denied_inside ids id o low made.denied);
       kinds = subst AllHaveKinds (sym placed_is) (one_more_kind front (record_of placed) (type_kind placed) made.kinds keeps.kind);
       len = omega (arith, placed_len, taken_len, made.len, ruled.len, keeps.len, g.growth);
-      placeholder = subst (MadeBelow (wants_placeholder q) (free_id q) (suc id)) (sym keeps.placeholder) ruled.grown.placeholder;
+      member_type = subst (MadeBelow (wants_member_type q) (free_id q) (suc id)) (sym keeps.member_type) ruled.grown.member_type;
       filler = subst (MadeBelow (gets_filler q) (λ k. free_id q k + 1) (suc id)) (sym keeps.filler) ruled.grown.filler;
       room = record {
         strings = omega (arith, room.strings, ap (λ v. length v.items) keeps.strings);
@@ -240,7 +240,7 @@ one_more p id more b o before mid after ids more_ids low at made there keeps rul
 pub made_on_next : (p : Pass) (id : ℕ) (answers more : List FeatureAnswer) → answers ≡ p.answers ++ more → (b : BtfType) (o : Outcome) (before mid after : Made) (ids more_ids : List ℕ) → 0 < id → IsAt p id → IsMade p id before ids → IsType p.table id b
     → IsRuled (record p { answers = answers }) id b before mid (made_of o b) → Keeps id b o mid after ids more_ids → IsMade (record p { answers = answers }) (suc id) after more_ids
 made_on_next p id answers more is b o before mid after ids more_ids low at made there ruled keeps =
-    subst (λ (told : List FeatureAnswer). IsRuled (with_answers p told) id b before mid (made_of o b) → IsMade (with_answers p told) (suc id) after more_ids) (sym is)
+    subst (λ (given : List FeatureAnswer). IsRuled (with_answers p given) id b before mid (made_of o b) → IsMade (with_answers p given) (suc id) after more_ids) (sym is)
     (one_more p id more b o before mid after ids more_ids low at made there keeps) ruled
 
 -- An id whose asks are answered and whose rule is kept is gone past.
@@ -265,7 +265,7 @@ refused_at p id answers refusal lt at asks_up faults =
     let has : HasAsked p id some answers = asks_up.1 in
     let all_asked : AreAnswersTo (asks_below p id ++ asks (with_answers p answers) id) answers =
     subst (λ fs. AreAnswersTo (asks_below p id ++ fs) answers) (sym (asks_up.2 ∙ append-nil some)) has.asked in
-    subst (λ (told : List FeatureAnswer). AreAnswersTo (asks_below p id ++ asks (with_answers p told) id) told → fault (with_answers p told) id ≡ Some refusal → Passes (with_answers p told) (Err refusal)) (sym has.further)
+    subst (λ (given : List FeatureAnswer). AreAnswersTo (asks_below p id ++ asks (with_answers p given) id) given → fault (with_answers p given) id ≡ Some refusal → Passes (with_answers p given) (Err refusal)) (sym has.further)
     (λ asked refused. (
       id,
       lt,
@@ -279,7 +279,7 @@ refused_at p id answers refusal lt at asks_up faults =
 -- the records that are appended have kinds
 added_kind : (p : Pass) (free id : ℕ) (k : Option Kind) (rs : List Record) → AllHaveKinds rs → AllHaveKinds (rs ++ added_by p free id k)
 added_kind p free id (Some kinds.Enum64) rs have =
-    elim (makes_placeholder p id) as (λ (b : Bool). AllHaveKinds (rs ++ (if b then model.byte_int (offset_at p id) ∷ [] else []))) [
+    elim (makes_member_type p id) as (λ (b : Bool). AllHaveKinds (rs ++ (if b then model.byte_int (offset_at p id) ∷ [] else []))) [
       | true ↦ one_more_kind rs (model.byte_int (offset_at p id)) kinds.Int have refl
       | false ↦ subst AllHaveKinds (sym (append-nil rs)) have
     ]
@@ -361,7 +361,7 @@ pub record Begins (t : Table) (m : Made) : Type 0 where
   pub type_len : m.changes.type_len ≡ length (type_bytes t)
   pub room : HasRoom t m.changes
   pub names : m.names.items ≡ 0 ∷ []
-  pub placeholder : m.placeholder ≡ None
+  pub member_type : m.member_type ≡ None
   pub filler : m.filler ≡ None
 
 -- id 0 is Unknown, which asks for nothing, appends nothing and stays
@@ -398,7 +398,7 @@ made_at_start p m rs first_fallback first there none begins =
         denied = tt;
         kinds = subst AllHaveKinds (sym placed) only_unknown;
         len = ap (sum_by record_len) (placed ∙ sym taken) ∙ plus_none (sum_by record_len (take 1 p.table.records)) ∙ ap (λ (n : ℕ). sum_by record_len (take 1 p.table.records) + n) (sym growth_none);
-        placeholder = subst (MadeBelow (wants_placeholder p) (free_id p) 1) (sym begins.placeholder) (none_next (wants_placeholder p) (free_id p) 0 (none_below_zero (wants_placeholder p) (free_id p)) (ap (λ k. is_enum64 k && not (has p features.Enum64)) kind));
+        member_type = subst (MadeBelow (wants_member_type p) (free_id p) 1) (sym begins.member_type) (none_next (wants_member_type p) (free_id p) 0 (none_below_zero (wants_member_type p) (free_id p)) (ap (λ k. is_enum64 k && not (has p features.Enum64)) kind));
         filler = subst (MadeBelow (gets_filler p) (λ k. free_id p k + 1) 1) (sym begins.filler) (none_next (gets_filler p) (λ k. free_id p k + 1) 0 (none_below_zero (gets_filler p) (λ k. free_id p k + 1)) q.no_filler);
         room = begins.room;
       },
@@ -415,10 +415,6 @@ made_at_start p m rs first_fallback first there none begins =
 
 -- ---- the types of a table
 
-pub type_there : (t : Table) (ts : List BtfType) → map record_of ts ≡ t.records → map fallback_of ts ≡ t.fallbacks → (i : ℕ) (b : BtfType) → i < length ts → b ≡ get_or ts i b → IsType t i b
-type_there t ts records fallbacks i b lt at =
-    let here : slice_get ts i ≡ Some b = slice_get_read ts (length ts) i b refl lt at in
-    record {
-      record_is = ap (λ rs. slice_get rs i) (sym records) ∙ slice_get-map record_of ts i ∙ ap (option_map record_of) here;
-      fallback_is = ap (λ fs. slice_get fs i) (sym fallbacks) ∙ slice_get-map fallback_of ts i ∙ ap (option_map fallback_of) here;
-    }
+pub fallback_there : (t : Table) (ts : List BtfType) → map fallback_of ts ≡ t.fallbacks → (i : ℕ) (b : BtfType) → i < length ts → b ≡ get_or ts i b → slice_get t.fallbacks i ≡ Some (fallback_of b)
+fallback_there t ts fallbacks i b lt at =
+    ap (λ fs. slice_get fs i) (sym fallbacks) ∙ slice_get-map fallback_of ts i ∙ ap (option_map fallback_of) (slice_get_read ts (length ts) i b refl lt at)

@@ -21,7 +21,7 @@ use Rattle.btf_rewrite_model.specs.declared.feature.FillPolicy.{FillPolicy}
 use Rattle.btf_rewrite_model.specs.Made as model
 use Rattle.btf_rewrite_model.specs.Made.{entries, record_at, kind_at, byte_int, static_var}
 use Rattle.btf_rewrite_model.specs.Checks.{Check, first_fault, is_read, has_room, have_room, fits, record_len}
-use Rattle.btf_rewrite_model.specs.Pass.{Pass, has, name_of, name_checks, sized_asks_zero, unsized_asks_zero, renaming, section_size, size_by_name, is_unsized, is_zero_or, is_positive, gets_filler, makes_filler, least, filler_type_text, filler_text, filler, filler_offset, texts, texts_len, added, free_id, offset_at, type_len_at, wants_placeholder, asks, asks_by, asks_below, data_sec_asks}
+use Rattle.btf_rewrite_model.specs.Pass.{Pass, has, name_of, name_checks, sized_asks_zero, unsized_asks_zero, renaming, section_size, size_by_name, is_unsized, is_zero_or, is_positive, gets_filler, makes_filler, least, filler_type_text, filler_text, filler, filler_offset, texts, texts_len, added, free_id, offset_at, type_len_at, wants_member_type, asks, asks_by, asks_below, data_sec_asks}
 use Rattle.btf_rewrite_model.specs.Rule as rule
 use Rattle.btf_rewrite_model.specs.Rule.{becomes_by, ruled_below, new_name, name_or, completed, placed, filler_id, entry_members, member_name}
 use Rattle.btf_rewrite_model.specs.Fault.{fault, member_checks, entry_checks, completing_checks, filling_checks, filler_checks, growth_checks, is_sized}
@@ -37,7 +37,8 @@ use Rattle.btf_records.specs.declared.btf_type.BtfType.{BtfType}
 use Rattle.btf_records.specs.declared.btf_type.BtfType.TheVariants.{DataSec}
 use Rattle.btf_table.specs.Adding.{strings_end, next_id, Adds}
 use Rattle.btf_rules.specs.Checked.{checked}
-use Rattle.btf_table.specs.PassStep.{IsType, IsHere, IsRuled, Rules, growth, HasAsked, AsksUpTo}
+use Rattle.btf_table.specs.Btf.{IsType}
+use Rattle.btf_table.specs.PassStep.{IsHere, IsRuled, Rules, growth, HasAsked, AsksUpTo}
 use Rattle.btf_table.specs.SectionStep.{HasNewName, filled, final_size, is_fillable, asks_zero}
 use Rattle.btf_table.specs.declared.sanitize.made.Made.{Made}
 use Rattle.btf_table.proofs.Adding.{adds_none, adds_then}
@@ -45,8 +46,6 @@ use Rattle.btf_rules.proofs.Checks.{fault_behind, fault_before, fault_third, che
 use Rattle.btf_table.proofs.Prototypes.{end_after}
 use Rattle.btf_words.proofs.Refused.{handed_on}
 use Rattle.btf_table.proofs.SectionItems.{id_stays}
-use Rattle.btf_items.specs.Items.{entry_words}
-use Rattle.btf_items.specs.declared.items.DataSecEntry.{DataSecEntry}
 use Rattle.btf_rules.specs.Features.{Asks, Called, IsFurther}
 use Rattle.btf_table.proofs.PassAsking.{asks_called, asks_further, further_none, asked_none, asked_more, asked_kept}
 use Rattle.btf_table.proofs.PassRules.{record_there, kind_there, becomes_there, fault_there, texts_there, added_there, falls_back_there, made_on, wants_none, grown_by, same_len}
@@ -193,11 +192,11 @@ module _ (p : Pass) (id : ℕ) (r : Record) (there : IsType p.table id (DataSec 
 -- ---- one that gets no filler
 
 module _ (p : Pass) (id : ℕ) (r : Record) (name : ℕ) (before now : Made) (n : HasNewName p id r name before now) where
-  wants_is : wants_placeholder p id ≡ false
+  wants_is : wants_member_type p id ≡ false
   wants_is = wants_none p id (Some kinds.DataSec) (kind_is p id r n.there n.kind) refl
 
-  placeholder_is : MadeBelow (wants_placeholder p) (free_id p) (suc id) now.placeholder
-  placeholder_is = subst (MadeBelow (wants_placeholder p) (free_id p) (suc id)) (sym n.placeholder) (made_on (wants_placeholder p) (free_id p) id before.placeholder n.here.placeholder wants_is)
+  member_type_is : MadeBelow (wants_member_type p) (free_id p) (suc id) now.member_type
+  member_type_is = subst (MadeBelow (wants_member_type p) (free_id p) (suc id)) (sym n.member_type) (made_on (wants_member_type p) (free_id p) id before.member_type n.here.member_type wants_is)
 
   unfilled_ruled : (new : BtfType) → gets_filler p id ≡ false → fault p id ≡ None → record_of new ≡ becomes_by p (ruled_below p id) id (Some kinds.DataSec) r → length (record_of new).tail ≡ length r.tail → fallback_of new ≡ None → IsRuled p id (DataSec r) before now new
   unfilled_ruled new unfilled passed is tail none =
@@ -209,7 +208,7 @@ module _ (p : Pass) (id : ℕ) (r : Record) (name : ℕ) (before now : Made) (n 
         len = same_len p id r (record_of new) tail unfilled;
         grown = grown_by p id before now (renaming p (name_of p id)) [] n.adds
             (texts_there p id (DataSec r) (Some kinds.DataSec) n.there n.kind ∙ ap (λ (b : Bool). renaming p (name_of p id) ++ (if b then filler_type_text ∷ filler_text ∷ [] else [])) makes ∙ append-nil (renaming p (name_of p id)))
-            (added_there p id (DataSec r) (Some kinds.DataSec) n.there n.kind ∙ ap (λ (b : Bool). if b then filler (filler_offset p id) (free_id p id) else []) makes) unfilled n.names placeholder_is n.here.filler n.filler;
+            (added_there p id (DataSec r) (Some kinds.DataSec) n.there n.kind ∙ ap (λ (b : Bool). if b then filler (filler_offset p id) (free_id p id) else []) makes) unfilled n.names member_type_is n.here.filler n.filler;
       }
 
   abbrev completed_is : Record
@@ -431,9 +430,9 @@ module _ (p : Pass) (id : ℕ) (r : Record) (name : ℕ) (before now : Made) (n 
           (adds_then p.table before.changes now.changes after.changes (renaming p (name_of p id)) (if makes_filler p id then filler_type_text ∷ filler_text ∷ [] else []) []
           (if makes_filler p id then filler (filler_offset p id) (free_id p id) else []) n.adds h.adds))
 
-      pub filled_ruled : (new : BtfType) → fits after.changes.type_len 12 ≡ None → record_of new ≡ filled name size number → fallback_of new ≡ None → after.names ≡ now.names → after.placeholder ≡ now.placeholder
+      pub filled_ruled : (new : BtfType) → fits after.changes.type_len 12 ≡ None → record_of new ≡ filled name size number → fallback_of new ≡ None → after.names ≡ now.names → after.member_type ≡ now.member_type
           → IsRuled p id (DataSec r) before (record after { changes = record after.changes { type_len = after.changes.type_len + 12 } }) new
-      filled_ruled new fits_in is none names placeholder =
+      filled_ruled new fits_in is none names member_type =
           let all = has_all in
           let below : after.changes.type_len + 12 ≤ section_limit = leb-true (after.changes.type_len + 12) section_limit (passes_if (nat_le (after.changes.type_len + 12) section_limit) InvalidTypeInfo fits_in) in
           let entry : ℕ → model.Entry = λ k. record { type = k; offset = 0; size = max size 1 } in
@@ -450,7 +449,7 @@ module _ (p : Pass) (id : ℕ) (r : Record) (name : ℕ) (before now : Made) (n 
               types = all.types;
               type_len = ap (λ (m : ℕ). m + 12) all.type_len ∙ ap (λ (b : Bool). before.changes.type_len + sum_by record_len (added p id) + (if b then 12 else 0)) (sym fills);
               names = names ∙ n.names;
-              placeholder = subst (MadeBelow (wants_placeholder p) (free_id p) (suc id)) (sym placeholder) (placeholder_is p id r name before now n);
+              member_type = subst (MadeBelow (wants_member_type p) (free_id p) (suc id)) (sym member_type) (member_type_is p id r name before now n);
               filler = h.made;
               room = record { strings = all.room.strings; types = below; ids = omega (arith, all.room.ids) };
             };
@@ -520,10 +519,10 @@ module _ (p : Pass) (id : ℕ) (r : Record) (there : IsType p.table id (DataSec 
       let checks : first_fault (name_checks p id) ≡ Some refusal = name_checks_are offset at ∙ faults in
       (unnamed_asks p id r there kind refusal checks, unnamed_faults p id r there kind refusal checks)
 
-  pub is_named : (before now : Made) (name : ℕ) → length r.tail ≡ 3 * vlen r.info → IsHere p id before
+  pub has_new_name : (before now : Made) (name : ℕ) → length r.tail ≡ 3 * vlen r.info → IsHere p id before
       → ◌≡◌ {A = Result ℕ Refusal} (Ok name) (checked (first_fault (name_tests (strings_end p.table before.changes))) (name_or r.name (strings_end p.table before.changes) (renaming p old_name)))
-      → Adds p.table before.changes now.changes (renaming p old_name) [] → now.names ≡ before.names → now.placeholder ≡ before.placeholder → now.filler ≡ before.filler → HasNewName p id r name before now
-  is_named before now name tail here answer adds names placeholder filler =
+      → Adds p.table before.changes now.changes (renaming p old_name) [] → now.names ≡ before.names → now.member_type ≡ before.member_type → now.filler ≡ before.filler → HasNewName p id r name before now
+  has_new_name before now name tail here answer adds names member_type filler =
       let ok = checked_ok _ _ _ answer in
       record {
         there = there;
@@ -534,7 +533,7 @@ module _ (p : Pass) (id : ℕ) (r : Record) (there : IsType p.table id (DataSec 
         name_is = ap (λ (o : Result (List ℕ) Refusal). name_or r.name (offset_at p id) (renaming p o)) (section_name_is p id r there kind) ∙ ap (λ (o : ℕ). name_or r.name o (renaming p old_name)) here.offset ∙ sym ok.1;
         adds = subst (λ (o : Result (List ℕ) Refusal). Adds p.table before.changes now.changes (renaming p o) []) (sym (section_name_is p id r there kind)) adds;
         names = names;
-        placeholder = placeholder;
+        member_type = member_type;
         filler = filler;
       }
 
@@ -642,14 +641,6 @@ zero_called {F} step first policy r size old new fills quiet asked called =
       | true ↦ λ is. asks_called step first features.DataSecZero old new (not fills) (asked is) called
       | false ↦ λ is. subst (λ (s : F × List FeatureAnswer). Called step first s.1 s.0) (sym (quiet is).0) called
     ] refl
-
--- three words for each entry
-pub entry_tail : (r : Record) (es : List DataSecEntry) → r.tail ≡ flat_map entry_words es → vlen r.info ≡ length es → length r.tail ≡ 3 * vlen r.info
-entry_tail r es words count = ap length words ∙ each_three es ∙ ap (λ (m : ℕ). 3 * m) (sym count)
-  where
-    each_three : (xs : List DataSecEntry) → length (flat_map entry_words xs) ≡ 3 * length xs
-    each_three [] = refl
-    each_three (x ∷ xs) = omega (arith, each_three xs)
 
 pub zero_further : {F : Type 0} (step : F → BtfFeature → Bool → F → Type 0) (policy : FillPolicy) (r : Record) (size : ℕ) (old new : F × List FeatureAnswer) (fills : Bool) → (asks_zero policy r size ≡ false → (new ≡ old) × (fills ≡ is_fillable policy r))
     → (asks_zero policy r size ≡ true → Asks step features.DataSecZero old (not fills) new) → IsFurther old.1 new.1

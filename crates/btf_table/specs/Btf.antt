@@ -1,9 +1,10 @@
 -- The table that a `Btf` is seen as, and what it keeps beside that.
-use Rattle.std.specs.Prelude.{◌≡◌, ◌<◌, ◌≤◌, ◌^◌, List, ◌∷◌, length, map}
-use Rattle.btf_model.specs.Record.{Record, unknown}
+use Rattle.std.specs.Prelude.{◌≡◌, ◌<◌, ◌≤◌, ◌^◌, ℕ, List, ◌∷◌, length, map, slice_get, Some}
+use Rattle.btf_model.specs.Record.{Record, unknown, kind_of, vlen, tail_words}
 use Rattle.btf_model.specs.Table.{Table, type_bytes, section_limit}
 use Rattle.btf_model.specs.Fields.{HaveKinds}
-use Rattle.btf_records.specs.BtfType.{record_of, fallback_of}
+use Rattle.btf_records.specs.BtfType.{record_of, fallback_of, type_kind}
+use Rattle.btf_records.specs.declared.btf_type.BtfType.{BtfType}
 use Rattle.btf_table.specs.declared.table.Btf.TheInside.{Inside}
 
 -- the table that the fields of a `Btf` are
@@ -29,3 +30,10 @@ pub record IsKept (b : Inside) : Type 0 where
   pub types : b.type_len ≡ length (type_bytes (table_of b))
   pub first : (rs : List Record) × (map record_of b.types.items ≡ unknown ∷ rs)
   pub kinds : HaveKinds (table_of b)
+
+-- The table has this type at an id; its kind is the one in its info word, and its tail is as long as that word says.
+pub record IsType (t : Table) (id : ℕ) (b : BtfType) : Type 0 where
+  pub record_is : slice_get t.records id ≡ Some (record_of b)
+  pub fallback_is : slice_get t.fallbacks id ≡ Some (fallback_of b)
+  pub kind_is : kind_of (record_of b).info ≡ Some (type_kind b)
+  pub tail_is : length (record_of b).tail ≡ tail_words (type_kind b) (vlen (record_of b).info)

@@ -7,7 +7,7 @@ use Rattle.btf_model.specs.Table.{Table, no_fallbacks}
 use Rattle.btf_rewrite_model.specs.declared.feature.BtfFeature.{BtfFeature}
 use Rattle.btf_rewrite_model.specs.declared.feature.FeatureAnswer.{FeatureAnswer}
 use Rattle.btf_rewrite_model.specs.Checks.{record_len}
-use Rattle.btf_rewrite_model.specs.Pass.{Pass, Layout, asks, asks_below, Asked, texts, added, free_id, offset_at, type_len_at, gets_filler, growth_below, wants_placeholder}
+use Rattle.btf_rewrite_model.specs.Pass.{Pass, Layout, asks, asks_below, Asked, texts, added, free_id, offset_at, type_len_at, gets_filler, growth_below, wants_member_type}
 use Rattle.btf_rewrite_model.specs.Rule.{becomes, ruled_below, falls_back}
 use Rattle.btf_rewrite_model.specs.Fault.{fault}
 use Rattle.btf_rewrite_model.specs.Rewritten.{ended, AreRuled, rewritten}
@@ -15,6 +15,7 @@ use Rattle.btf_rewrite_model.specs.Passing.{AreAnswersTo, IsAt, HasMade}
 use Rattle.btf_rewrite_model.specs.Passing.{MadeBelow}
 use Rattle.btf_records.specs.BtfType.{record_of, fallback_of}
 use Rattle.btf_records.specs.declared.btf_type.BtfType.{BtfType}
+use Rattle.btf_table.specs.Btf.{IsType}
 use Rattle.btf_table.specs.Adding.{strings_end, next_id, HasRoom}
 use Rattle.btf_rules.specs.InPlace.{denied_type}
 use Rattle.btf_table.specs.Changes.{put_all, each, AreInside, AreOf, changed}
@@ -64,11 +65,6 @@ abbrev pub kept_ids : List ℕ → ℕ → Outcome → List ℕ
 kept_ids ids id Denied = ids ++ id ∷ []
 kept_ids ids id o = ids
 
--- the table has this type at an id
-pub record IsType (t : Table) (id : ℕ) (b : BtfType) : Type 0 where
-  pub record_is : slice_get t.records id ≡ Some (record_of b)
-  pub fallback_is : slice_get t.fallbacks id ≡ Some (fallback_of b)
-
 -- What is there when a pass comes to an id: where its texts and types are appended, and what lower ids have made.
 pub record IsHere (p : Pass) (id : ℕ) (m : Made) : Type 0 where
   pub offset : offset_at p id ≡ strings_end p.table m.changes
@@ -76,9 +72,16 @@ pub record IsHere (p : Pass) (id : ℕ) (m : Made) : Type 0 where
   pub type_len : type_len_at p id ≡ m.changes.type_len
   pub names : m.names.items ≡ map (λ (r : Record). r.name) (ruled_below p id)
   pub count : length (ruled_below p id) ≡ id
-  pub placeholder : MadeBelow (wants_placeholder p) (free_id p) id m.placeholder
+  pub member_type : MadeBelow (wants_member_type p) (free_id p) id m.member_type
   pub filler : MadeBelow (gets_filler p) (λ k. free_id p k + 1) id m.filler
   pub room : HasRoom p.table m.changes
+
+-- A pass over this table comes to an id that has this type: the first answers are to all that lower ids ask for, and
+-- under the second, which go on from them, lower ids have made this.
+pub record Comes (t : Table) (given : Given) (id : ℕ) (b : BtfType) (first second : List FeatureAnswer) (m : Made) : Type 0 where
+  pub there : IsType t id b
+  pub answered : AreAnswersTo (asks_below (pass_on t given first) id) first
+  pub here : IsHere (pass_on t given second) id m
 
 -- the bytes by which a DATASEC grows
 abbrev pub growth : Pass → ℕ → ℕ
@@ -93,7 +96,7 @@ pub record IsGrown (p : Pass) (id : ℕ) (old new : Made) : Type 0 where
   pub types : new.changes.types ≡ old.changes.types
   pub type_len : new.changes.type_len ≡ old.changes.type_len + sum_by record_len (added p id) + growth p id
   pub names : new.names ≡ old.names
-  pub placeholder : MadeBelow (wants_placeholder p) (free_id p) (suc id) new.placeholder
+  pub member_type : MadeBelow (wants_member_type p) (free_id p) (suc id) new.member_type
   pub filler : MadeBelow (gets_filler p) (λ k. free_id p k + 1) (suc id) new.filler
   pub room : HasRoom p.table new.changes
 
@@ -142,7 +145,7 @@ pub record IsMade (p : Pass) (id : ℕ) (m : Made) (ids : List ℕ) : Type 0 whe
   pub denied : AreIds id ids
   pub kinds : (j : ℕ) (r : Record) → slice_get (placed_below p id m) j ≡ Some r → (k : Kind) × (kind_of r.info ≡ Some k)
   pub len : sum_by record_len (placed_below p id m) ≡ sum_by record_len (take id p.table.records) + growth_below p id
-  pub placeholder : MadeBelow (wants_placeholder p) (free_id p) id m.placeholder
+  pub member_type : MadeBelow (wants_member_type p) (free_id p) id m.member_type
   pub filler : MadeBelow (gets_filler p) (λ k. free_id p k + 1) id m.filler
   pub room : HasRoom p.table m.changes
 

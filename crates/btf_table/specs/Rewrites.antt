@@ -1,6 +1,5 @@
 -- What a rewrite returns.
 use Rattle.std.specs.Prelude.{◌≡◌, ◌≢◌, ◌≤◌, ◌+◌, ◌⊎◌, ℕ, suc, List, [], length, map, slice_get, Option, Some, None, Result, Ok, Err}
-use Rattle.std.specs.Option.{option_map}
 use Rattle.btf_model.specs.Record as kinds
 use Rattle.btf_model.specs.Record.{Record}
 use Rattle.btf_model.specs.Refusal.{Refusal, MaximumTypeDepthReached}
@@ -15,12 +14,9 @@ use Rattle.btf_rewrite_model.specs.Feature.{needs}
 use Rattle.btf_rewrite_model.specs.declared.feature.BtfFeature.{BtfFeature}
 use Rattle.btf_rewrite_model.specs.declared.feature.FeatureAnswer.{FeatureAnswer}
 use Rattle.btf_rewrite_model.specs.declared.feature.FillPolicy.{FillPolicy}
-use Rattle.btf_rewrite_model.specs.declared.feature.FillPolicy.TheVariants.{KeepSized}
-use Rattle.btf_rewrite_model.specs.Ksyms as model
 use Rattle.btf_rewrite_model.specs.Pass.{Pass, Layout, asks_below, each_once, Asked}
 use Rattle.btf_rewrite_model.specs.Rewritten.{begun, pass_of, step_fault, FaultsAt, Rewritten, rewritten, AreRuled, old_count}
 use Rattle.btf_rewrite_model.specs.declared.ksyms_ids.KsymsIds.{KsymsIds}
-use Rattle.btf_table.specs.KsymsStep.{ksyms_ids}
 use Rattle.btf_table.specs.PassStep.{BeginsAsked}
 
 -- the features that were asked for

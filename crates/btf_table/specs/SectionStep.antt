@@ -10,7 +10,8 @@ use Rattle.btf_rewrite_model.specs.Feature.{fills_sized, has_no_entries}
 use Rattle.btf_rewrite_model.specs.declared.feature.FillPolicy.{FillPolicy}
 use Rattle.btf_records.specs.declared.btf_type.BtfType.TheVariants.{DataSec}
 use Rattle.btf_table.specs.Adding.{Adds}
-use Rattle.btf_table.specs.PassStep.{IsType, IsHere}
+use Rattle.btf_table.specs.Btf.{IsType}
+use Rattle.btf_table.specs.PassStep.{IsHere}
 use Rattle.btf_table.specs.declared.sanitize.made.Made.{Made}
 
 -- The id is this DATASEC, and its new name is read and appended: nothing else is made for it yet.
@@ -23,7 +24,7 @@ pub record HasNewName (p : Pass) (id : ℕ) (r : Record) (name : ℕ) (before no
   pub name_is : new_name p id r ≡ name
   pub adds : Adds p.table before.changes now.changes (renaming p (name_of p id)) []
   pub names : now.names ≡ before.names
-  pub placeholder : now.placeholder ≡ before.placeholder
+  pub member_type : now.member_type ≡ before.member_type
   pub filler : now.filler ≡ before.filler
 
 -- a DATASEC of this name, whose one entry is the filler of this id

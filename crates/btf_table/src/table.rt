@@ -21,6 +21,7 @@ ghost use Rattle.btf_model.specs.Walk.{Resolves, HasSize};
 ghost use Rattle.btf_words.specs.Error.{MeetsOrNoMemory, IsOrNoMemory, Meets};
 ghost use Rattle.btf_words.specs.Kind as kinds;
 ghost use Rattle.btf_records.specs.BtfType.{record_of, fallback_of, type_kind};
+ghost use Rattle.btf_table.specs.Btf.{IsType};
 ghost use Rattle.btf_table.specs.BtfStr.{text_bytes};
 ghost use Rattle.btf_model.specs.Text.{text_at};
 ghost use Rattle.btf_rewrite_model.specs.Checks.{is_read};
@@ -130,8 +131,6 @@ impl Btf {
             return Err(BtfError::InvalidTypeInfo);
         }
         let id = self.types.len() as u32;
-        // Each record of a table has a kind, which a use of the info word shows of this one.
-        let _ = btf_type.info();
         self.types.push(btf_type)?;
         self.type_len = (type_len + size) as u32;
         Ok(id)
@@ -242,12 +241,10 @@ impl Btf {
             × (kind_of (record_of t.now).info ≡ Some (type_kind t.now)))
             (λ e. (length self.now.records ≤ type_id) × (e ≡ BtfError.UnknownBtfType type_id)) }
     {
-        let Some(btf_type) = self.types.get(type_id as usize) else {
+        if type_id as usize >= self.types.len() {
             return Err(BtfError::UnknownBtfType { type_id });
-        };
-        // The contract speaks of the kind in the info word, which a use of it shows.
-        let _ = btf_type.info();
-        Ok(btf_type)
+        }
+        Ok(self.type_at(type_id))
     }
 
     /// The types in the order of their ids, id 0 first.
@@ -313,6 +310,18 @@ impl Btf {
         *self.strings.allocator()
     }
 
+    /// The type of an id of the table.
+    #[inline(always)]
+    pub(crate) fn type_at(&self, type_id: u32) -> &BtfType
+        requires { type_id < length self.now.records }
+        ensures { IsType self.now type_id result.now }
+    {
+        let btf_type = &self.types[type_id as usize];
+        // The contract speaks of the kind in the info word, and of the length of the tail, which this shows.
+        let _ = btf_type.kind();
+        btf_type
+    }
+
     /// The types by id.
     pub(crate) fn as_slice(&self) -> &[BtfType]
         ensures records { map record_of result.now ≡ self.now.records }
@@ -362,10 +371,12 @@ impl Btf {
         self.strings.len()
     }
 
-    /// The length of the records from id 1 on, in bytes.
+    /// The length of the records from id 1 on, in bytes. Each of them has at least 12.
     pub(crate) fn type_len(&self) -> usize
         ensures len { result ≡ length (type_bytes self.now) }
         ensures limit { result ≤ SECTION_LIMIT }
+        ensures strings { length self.now.strings ≤ SECTION_LIMIT }
+        ensures long { 12 * length self.now.records ≤ result + 12 }
     {
         self.type_len as usize
     }

@@ -1,14 +1,13 @@
 -- How a call ends in which an allocation failed, or that was refused.
-use Rattle.std.proofs.Common.{◌≡◌, ◌⊎◌, inl, inr, ℕ}
+use Rattle.std.proofs.Common.{inl, inr, ℕ}
 use Rattle.std.specs.Prelude.{Option, Some, None, Result, Err, IfSome}
 use Rattle.btf_model.specs.Refusal.{Refusal}
 use Rattle.vbtf.specs.declared.fault.Fault.{Fault}
-use Rattle.vbtf.specs.Status.{Reports, ReportsError, EndsOrNoMemory, EndsFindingOrNoMemory, no_memory}
+use Rattle.vbtf.specs.Status.{ReportsError, Fails, EndsOrNoMemory, EndsFindingOrNoMemory}
 
--- by the refusal of an error: an allocation failed, or the refusal meets P
+-- by the refusal of an error
 pub refused : {Y : Type 0} (status : ℕ) (fault : Fault) (o : Option Refusal) (P : Result Y Refusal → Type 0)
-    → IfSome o (λ r. P (Err r)) → ReportsError status fault o
-    → (status ≡ no_memory) ⊎ ((refusal : Refusal) × Reports status fault refusal × P (Err refusal))
+    → IfSome o (λ r. P (Err r)) → ReportsError status fault o → Fails status fault P
 refused status fault (Some r) P holds reported = inr (r, reported, holds)
 refused status fault None P holds reported = inl reported.0
 

@@ -1,13 +1,14 @@
 -- How a call ends that adds to a table.
-use Rattle.std.specs.Prelude.{◌≡◌, ◌≢◌, ◌⊎◌, ◌+◌, ◌*◌, ℕ, List, length, Option, Some, None, Result, Ok, Err}
+use Rattle.std.specs.Prelude.{◌≡◌, ◌≢◌, ◌⊎◌, ℕ, List, length, Option, Some, None, Result, Ok, Err}
 use Rattle.btf_model.specs.Blob.{ReadsFront}
 use Rattle.btf_model.specs.Record.{Record}
 use Rattle.btf_model.specs.Refusal.{Refusal}
 use Rattle.btf_model.specs.Table.{Table, with_type, type_place}
 use Rattle.btf_model.specs.declared.endianness.Endianness.{Endianness}
+use Rattle.btf_rewrite_model.specs.Checks.{record_len}
 use Rattle.vbtf.specs.declared.fault.Fault.{Fault}
 use Rattle.vbtf.specs.declared.handle.Handle.{Handle}
-use Rattle.vbtf.specs.Status.{Reports, no_memory}
+use Rattle.vbtf.specs.Status.{Reports, Fails, no_memory}
 
 -- How a call ends that adds to the table of a handle: with status 0 and the place, and the handle owns the new table; or
 -- with a refusal, or a failed allocation, and the handle owns the unchanged table.
@@ -15,12 +16,7 @@ abbrev pub Adds : ℕ → Handle → Handle → ℕ → Fault → Result ℕ Ref
 Adds status old new value fault place table =
     (new.state ≡ 1)
     × (((status ≡ 0) × (Ok value ≡ place) × (new.opened ≡ record old.opened { btf = table }))
-    ⊎ ((new.opened ≡ old.opened)
-    × ((status ≡ no_memory) ⊎ ((refusal : Refusal) × Reports status fault refusal × (Err refusal ≡ place)))))
-
--- the length of a record in bytes: three words, and the tail
-abbrev pub record_len : Record → ℕ
-record_len r = 12 + 4 * length r.tail
+    ⊎ ((new.opened ≡ old.opened) × Fails status fault (λ answer. answer ≡ place)))
 
 -- What adding the type of a record that bytes are returns: its id, and the table has it; none where bytes follow the
 -- record; or why no record begins the bytes, or why it has no room. In these two cases the table is unchanged.

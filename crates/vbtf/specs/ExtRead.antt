@@ -4,7 +4,7 @@ use Rattle.std.specs.List.{flat_map}
 use Rattle.btf_ext.specs.BtfExt.{ext as said}
 use Rattle.btf_model.specs.Ext.{Records, little_bytes, no_records}
 use Rattle.btf_model.specs.Refusal.{Refusal}
-use Rattle.btf_model.specs.Words.{RelocationSection, Words}
+use Rattle.btf_model.specs.RelocationWords.{RelocationSection, Words}
 use Rattle.vbtf.specs.Ext.{OpenedExt, AreNames}
 
 -- texts, each with a zero byte after it

@@ -16,7 +16,7 @@ use Rattle.vbtf.specs.declared.kernel.Kernel.{Kernel}
 use Rattle.vbtf.specs.declared.kernel.Asked.{Asked}
 use Rattle.vbtf.specs.declared.fault.Fault.{Fault}
 use Rattle.vbtf.specs.declared.handle.Handle.{Handle}
-use Rattle.vbtf.specs.Status.{Reports, no_memory}
+use Rattle.vbtf.specs.Status.{Fails}
 
 -- the bit of a feature is set
 abbrev pub has_bit : ℕ → BtfFeature → Bool
@@ -65,6 +65,5 @@ EndsRewriting status kernel layout old new asked fault =
     (new.state ≡ 1) × (new.opened.ext ≡ old.opened.ext)
     × (((status ≡ 0) × (listed : List FeatureAnswer) × ListsAnswers asked listed
     × RewritesFor kernel.features (policy_chosen kernel) old.opened.btf (ids_chosen kernel) layout new.opened.btf (Ok listed))
-    ⊎ ((new.opened.btf ≡ old.opened.btf)
-    × ((status ≡ no_memory) ⊎ ((refusal : Refusal) × Reports status fault refusal
-    × RewritesFor kernel.features (policy_chosen kernel) old.opened.btf (ids_chosen kernel) layout new.opened.btf (Err refusal)))))
+    ⊎ ((new.opened.btf ≡ old.opened.btf) × Fails status fault
+    (RewritesFor kernel.features (policy_chosen kernel) old.opened.btf (ids_chosen kernel) layout new.opened.btf)))

@@ -1,6 +1,6 @@
 pub mod Held
 pub mod Status
-pub mod Words
+pub mod TypeWords
 pub mod Kernel
 pub mod Program
 pub mod Orders

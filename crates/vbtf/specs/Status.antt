@@ -101,12 +101,17 @@ EndsFindingOrNoMemory status value fault P = EndsFinding status value fault P �
 abbrev pub EndsOrNoMemory : {Y : Type 0} → ℕ → Y → Fault → (Result Y Refusal → Type 0) → Type 0
 EndsOrNoMemory status value fault P = Ends status value fault P ⊎ (status ≡ no_memory)
 
+-- How a call fails: an allocation failed, or a refusal that meets P is reported.
+abbrev pub Fails : {Y : Type 0} → ℕ → Fault → (Result Y Refusal → Type 0) → Type 0
+Fails status fault P =
+    (status ≡ no_memory) ⊎ ((refusal : Refusal) × Reports status fault refusal × P (Err refusal))
+
 -- How a call ends that opens a handle: with status 0, and the handle owns a table that meets P; or with a refusal that
 -- meets P, or a failed allocation, and the handle is unchanged.
 abbrev pub Opens : ℕ → Handle → Handle → Fault → (Result Table Refusal → Type 0) → Type 0
 Opens status old new fault P =
     ((status ≡ 0) × (new.state ≡ 1) × (new.opened.ext ≡ None) × P (Ok new.opened.btf))
-    ⊎ ((new ≡ old) × ((status ≡ no_memory) ⊎ ((refusal : Refusal) × Reports status fault refusal × P (Err refusal))))
+    ⊎ ((new ≡ old) × Fails status fault P)
 
 -- A call that only reads leaves the handle unchanged.
 pub record Keeps (old new : Handle) : Type 0 where
@@ -128,5 +133,4 @@ Fills items old new needed status =
 -- allocation, and the buffer is unchanged.
 abbrev pub EndsFilling : ℕ → List ℕ → List ℕ → ℕ → Fault → (Result (List ℕ) Refusal → Type 0) → Type 0
 EndsFilling status old new needed fault P =
-    ((bytes : List ℕ) × Fills bytes old new needed status × P (Ok bytes))
-    ⊎ ((new ≡ old) × ((status ≡ no_memory) ⊎ ((refusal : Refusal) × Reports status fault refusal × P (Err refusal))))
+    ((bytes : List ℕ) × Fills bytes old new needed status × P (Ok bytes)) ⊎ ((new ≡ old) × Fails status fault P)

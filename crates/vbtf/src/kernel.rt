@@ -1,6 +1,6 @@
 //! What C says of a kernel, and what a rewrite asked about it.
 
-ghost use Rattle.std.specs.Prelude.{◌≡◌, ◌≤◌, List, length};
+ghost use Rattle.std.specs.Prelude.{◌≡◌, ◌≤◌, length};
 ghost use Rattle.vbtf.specs.Kernel.{has_bit, policy_chosen, ids_chosen, ListsAnswers};
 
 use btf::{BtfFeature, FeatureAnswer, FillPolicy, KsymsIds};

@@ -1,6 +1,6 @@
 //! A share of a loan of a value.
 
-ghost use Rattle.std.specs.Prelude.{◌≡◌, ℕ, [], ◌∷◌};
+ghost use Rattle.std.specs.Prelude.{◌≡◌, ℕ};
 ghost use base.Fml.{Share};
 ghost use denote.Struct.Lending.{lent_at};
 ghost use Rattle.vbtf.specs.Held.{loan_owns, coded_share};

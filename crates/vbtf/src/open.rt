@@ -5,7 +5,7 @@ ghost use Rattle.btf_model.specs.Table.{Table, empty_table};
 ghost use Rattle.btf_model.specs.Blob.{IsTable, Parses};
 ghost use Rattle.btf_words.specs.declared.error.BtfError.TheVariants.{OutOfMemory};
 ghost use Rattle.vbtf.specs.Orders.{order_chosen};
-ghost use Rattle.vbtf.specs.Status.{Opens, ReportsError};
+ghost use Rattle.vbtf.specs.Status.{Opens};
 
 use crate::fault::{Fault, INVALID_ARGUMENT, report};
 use crate::handle::{Handle, owner, taken};

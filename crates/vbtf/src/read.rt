@@ -1,14 +1,14 @@
 //! Reading a table.
 
-ghost use Rattle.std.specs.Prelude.{◌≡◌, ◌≢◌, ◌⊎◌, length, slice_get, Some, None};
+ghost use Rattle.std.specs.Prelude.{◌≡◌, ◌≢◌, ◌⊎◌, length, slice_get, Some, None, true, false};
 ghost use Rattle.std.specs.Option.{MatchOption};
 ghost use Rattle.std.specs.Str.{IsUtf8};
 ghost use Rattle.btf_model.specs.Record.{Kind, kinds};
 ghost use Rattle.btf_model.specs.Text.{FindsName};
 ghost use Rattle.btf_words.specs.Error.{Meets, MeetsOrNoMemory};
-ghost use Rattle.btf_records.specs.BtfType.{record_of};
+ghost use Rattle.btf_records.specs.BtfType.{record_of, type_kind, has_no_third};
 ghost use Rattle.vbtf.specs.Status.{Ends, EndsOrNoMemory, Keeps};
-ghost use Rattle.vbtf.specs.Words.{WordsOf};
+ghost use Rattle.vbtf.specs.TypeWords.{WordsOf};
 
 use crate::fault::{CLOSED, Fault, INVALID_ARGUMENT, report};
 use crate::handle::{Handle, lent};
@@ -134,9 +134,11 @@ fn words_of(table: &Btf, id: u32) -> Result<TypeWords, BtfError>
     })
 }
 
-/// The third word of a record.
+/// The third word of a record; 0 for an ARRAY and a FWD, which use none.
 fn third_word(btf_type: &BtfType) -> u32
-    ensures { result ≡ (record_of btf_type.now).third }
+    ensures used { has_no_third (type_kind btf_type.now) ≡ false
+        → result ≡ (record_of btf_type.now).third }
+    ensures unused { has_no_third (type_kind btf_type.now) ≡ true → result ≡ 0 }
 {
     match btf_type {
         BtfType::Int(t) => t.size(),
@@ -156,17 +158,8 @@ fn third_word(btf_type: &BtfType) -> u32
         BtfType::DeclTag(t) => t.btf_type(),
         BtfType::TypeTag(t) => t.btf_type(),
         BtfType::Enum64(t) => t.size(),
-        BtfType::Array(t) => unused_word(t.info()),
-        BtfType::Fwd(t) => unused_word(t.info()),
-        BtfType::Unknown => 0,
+        BtfType::Array(_) | BtfType::Fwd(_) | BtfType::Unknown => 0,
     }
-}
-
-/// The third word of the kinds that use none. What proves that it is 0 is the call that returns the info word.
-fn unused_word(_info: u32) -> u32
-    ensures { result ≡ 0 }
-{
-    0
 }
 
 /// The id of a kind and a name; None where the name is not UTF-8, or no kind has the number.

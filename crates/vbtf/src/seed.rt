@@ -19,7 +19,8 @@ impl RandomSource for Seed {
     }
 }
 
-/// A hash builder whose keys are made of a number. Who does not know the number cannot choose names that collide.
+/// A hash builder whose keys are made of a number. An attacker who does not know the number cannot choose names that
+/// collide.
 pub(crate) fn keyed_by(seed: u64) -> io::Result<RandomState> {
     RandomState::new(&Seed(seed))
 }

@@ -1,10 +1,7 @@
 //! Variants of the three kinds of enumeration, and the first one of a name.
 
-ghost use Rattle.std.specs.Prelude.{◌≡◌, IfSome, map};
-ghost use Rattle.std.specs.List.{AllByRecursion};
-ghost use Rattle.std.specs.Str.{IsUtf8};
+ghost use Rattle.std.specs.Prelude.{◌≡◌, map};
 ghost use Rattle.btf_model.specs.Table as model;
-ghost use Rattle.btf_model.specs.Text.{bytes_at};
 ghost use Rattle.btf_model.specs.Value.{FindsVariant};
 ghost use Rattle.btf_words.specs.Error.{MeetsOrNoMemory, Meets};
 ghost use Rattle.btf_items.specs.Fallback.{variant_of};

@@ -8,9 +8,9 @@ ghost use Rattle.btf_ext.specs.SecInfo.{section_of};
 ghost use Rattle.btf_ext.specs.ExtHeader.{part as part_of};
 ghost use Rattle.btf_ext.specs.Info.{by_name, AreByName, GainsUnder};
 
-use crate::ext::SecInfo;
-use crate::ext::header::Part;
-use crate::ext::read::{name_at, readable_sections};
+use crate::header::Part;
+use crate::read::{name_at, readable_sections};
+use crate::sections::SecInfo;
 use btf_plain::{BtfError, Endianness};
 use btf_table::Btf;
 use std::alloc::{AllocError, Global};

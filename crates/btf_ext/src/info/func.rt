@@ -5,9 +5,9 @@ ghost use Rattle.btf_model.specs.Ext.{little_bytes, no_records};
 ghost use Rattle.btf_words.specs.Error.{IsOrNoMemory};
 ghost use Rattle.btf_ext.specs.Info.{func_words, func_records};
 
-use crate::ext::SecInfo;
 use crate::info::by_section::{BySection, SectionRecords};
-use crate::info::records::{INSTRUCTION_LEN, Record, read_records};
+use crate::records::{INSTRUCTION_LEN, Record, read_records};
+use crate::sections::SecInfo;
 use crate::words::{push_little, split_word};
 use btf_plain::{BtfError, Endianness};
 use std::alloc::{AllocError, Global};

@@ -1,11 +1,9 @@
 //! DATASEC: a data section, the variables of which are its entries.
 
-ghost use Rattle.std.specs.Prelude.{◌≡◌, ◌+◌, ◌*◌, ◌^◌, ◌≤◌, ◌++◌, length, Some, Ok, OnOk, vec_len, ◌<◌, ◌∷◌, take, drop};
+ghost use Rattle.std.specs.Prelude.{◌≡◌, ◌+◌, ◌*◌, ◌^◌, ◌≤◌, ◌++◌, length, Some, Ok, vec_len, ◌<◌, take, drop};
 ghost use Rattle.std.specs.List.{flat_map};
-ghost use Rattle.btf_model.specs.Word.{word};
 ghost use Rattle.btf_model.specs.Record as model;
 ghost use Rattle.btf_model.specs.Record.{kind_of, vlen};
-ghost use Rattle.btf_model.specs.Spelling.{spell, IsWhole};
 ghost use Rattle.btf_words.specs.Error.{IsOrNoMemory};
 ghost use Rattle.btf_items.specs.Items.{entry_words};
 
@@ -75,7 +73,8 @@ impl DataSec {
 
     /// The string offset of the name.
     pub fn name_offset(&self) -> u32
-        ensures { result ≡ self.now.name }
+        ensures value { result ≡ self.now.name }
+        ensures kind { kind_of self.now.info ≡ Some model.DataSec }
     {
         self.name_offset
     }
@@ -84,6 +83,7 @@ impl DataSec {
     pub fn info(&self) -> u32
         ensures value { result ≡ self.now.info }
         ensures kind { kind_of result ≡ Some model.DataSec }
+        ensures tail { length self.now.tail ≡ 3 * vlen self.now.info }
     {
         self.info
     }
@@ -130,9 +130,10 @@ impl DataSec {
 
     /// The length of the record in bytes.
     pub fn type_info_size(&self) -> usize
-        ensures { result ≡ 12 + 4 * length self.now.tail }
+        ensures len { result ≡ 12 + 4 * length self.now.tail }
+        ensures kind { kind_of self.now.info ≡ Some model.DataSec }
     {
-        12 + 12 * self.items().len()
+        3 * size_of_val(&self.info) + 12 * self.items().len()
     }
 
     /// An equal record. `OutOfMemory` is the only error.

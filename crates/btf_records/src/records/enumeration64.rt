@@ -1,13 +1,11 @@
 //! ENUM64: an enumeration of 64-bit values.
 
-ghost use Rattle.std.specs.Prelude.{◌≡◌, ◌+◌, ◌*◌, ◌^◌, ◌≤◌, ◌++◌, length, Some, Ok, OnOk, vec_len, ◌/◌, ◌%◌, ◌↔◌, IsTrue};
+ghost use Rattle.std.specs.Prelude.{◌≡◌, ◌+◌, ◌*◌, ◌^◌, ◌≤◌, length, Some, Ok, vec_len, ◌↔◌, IsTrue};
 ghost use Rattle.std.specs.List.{flat_map};
-ghost use Rattle.btf_model.specs.Word.{word};
 ghost use Rattle.btf_model.specs.Record as model;
 ghost use Rattle.btf_model.specs.Record.{kind_of, vlen, kind_flag};
-ghost use Rattle.btf_model.specs.Spelling.{spell, IsWhole};
 ghost use Rattle.btf_words.specs.Error.{IsOrNoMemory};
-ghost use Rattle.btf_model.specs.Info.{flag_bit, with_flag};
+ghost use Rattle.btf_model.specs.Info.{flag_bit};
 ghost use Rattle.btf_items.specs.Items.{enum64_words};
 
 use crate::btf_type::BtfType;
@@ -77,7 +75,8 @@ impl Enum64 {
 
     /// The string offset of the name.
     pub fn name_offset(&self) -> u32
-        ensures { result ≡ self.now.name }
+        ensures value { result ≡ self.now.name }
+        ensures kind { kind_of self.now.info ≡ Some model.Enum64 }
     {
         self.name_offset
     }
@@ -86,6 +85,7 @@ impl Enum64 {
     pub fn info(&self) -> u32
         ensures value { result ≡ self.now.info }
         ensures kind { kind_of result ≡ Some model.Enum64 }
+        ensures tail { length self.now.tail ≡ 3 * vlen self.now.info }
     {
         self.info
     }
@@ -114,9 +114,10 @@ impl Enum64 {
 
     /// The length of the record in bytes.
     pub fn type_info_size(&self) -> usize
-        ensures { result ≡ 12 + 4 * length self.now.tail }
+        ensures len { result ≡ 12 + 4 * length self.now.tail }
+        ensures kind { kind_of self.now.info ≡ Some model.Enum64 }
     {
-        12 + 12 * self.items().len()
+        3 * size_of_val(&self.info) + 12 * self.items().len()
     }
 
     /// An equal record. `OutOfMemory` is the only error.

@@ -1,11 +1,9 @@
 //! STRUCT: a structure.
 
-ghost use Rattle.std.specs.Prelude.{◌≡◌, ◌+◌, ◌*◌, ◌^◌, ◌≤◌, ◌++◌, length, Some, Ok, OnOk, vec_len};
+ghost use Rattle.std.specs.Prelude.{◌≡◌, ◌+◌, ◌*◌, ◌^◌, ◌≤◌, length, Some, Ok, vec_len};
 ghost use Rattle.std.specs.List.{flat_map};
-ghost use Rattle.btf_model.specs.Word.{word};
 ghost use Rattle.btf_model.specs.Record as model;
 ghost use Rattle.btf_model.specs.Record.{kind_of, vlen, member_bit_offset, member_bit_field_size};
-ghost use Rattle.btf_model.specs.Spelling.{spell, IsWhole};
 ghost use Rattle.btf_words.specs.Error.{IsOrNoMemory};
 ghost use Rattle.btf_items.specs.Items.{member_words};
 
@@ -74,7 +72,8 @@ impl Struct {
 
     /// The string offset of the name.
     pub fn name_offset(&self) -> u32
-        ensures { result ≡ self.now.name }
+        ensures value { result ≡ self.now.name }
+        ensures kind { kind_of self.now.info ≡ Some model.Struct }
     {
         self.name_offset
     }
@@ -83,6 +82,7 @@ impl Struct {
     pub fn info(&self) -> u32
         ensures value { result ≡ self.now.info }
         ensures kind { kind_of result ≡ Some model.Struct }
+        ensures tail { length self.now.tail ≡ 3 * vlen self.now.info }
     {
         self.info
     }
@@ -126,9 +126,10 @@ impl Struct {
 
     /// The length of the record in bytes.
     pub fn type_info_size(&self) -> usize
-        ensures { result ≡ 12 + 4 * length self.now.tail }
+        ensures len { result ≡ 12 + 4 * length self.now.tail }
+        ensures kind { kind_of self.now.info ≡ Some model.Struct }
     {
-        12 + 12 * self.items().len()
+        3 * size_of_val(&self.info) + 12 * self.items().len()
     }
 
     /// An equal record. `OutOfMemory` is the only error.

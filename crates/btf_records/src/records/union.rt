@@ -1,12 +1,10 @@
 //! UNION: a union.
 
-ghost use Rattle.std.specs.Prelude.{◌≡◌, ◌+◌, ◌*◌, ◌^◌, ◌≤◌, ◌++◌, length, Some, Ok, OnOk, vec_len, None};
+ghost use Rattle.std.specs.Prelude.{◌≡◌, ◌+◌, ◌*◌, ◌^◌, ◌≤◌, length, Some, Ok, vec_len, None};
 ghost use Rattle.std.specs.Option.{option_copied};
 ghost use Rattle.std.specs.List.{flat_map};
-ghost use Rattle.btf_model.specs.Word.{word};
 ghost use Rattle.btf_model.specs.Record as model;
 ghost use Rattle.btf_model.specs.Record.{kind_of, vlen, member_bit_offset, member_bit_field_size};
-ghost use Rattle.btf_model.specs.Spelling.{spell, IsWhole};
 ghost use Rattle.btf_words.specs.Error.{IsOrNoMemory};
 ghost use Rattle.btf_items.specs.Fallback.{fallback_of_option};
 ghost use Rattle.btf_items.specs.Items.{member_words};
@@ -82,7 +80,7 @@ impl Members {
 impl Model for Union {
     ghost use Rattle.std.specs.Prelude.{◌≡◌, length, Some};
     ghost use Rattle.std.specs.List.{flat_map};
-    ghost use Rattle.btf_model.specs.Record.{Record, kind_of, vlen, Union as UnionKind};
+    ghost use Rattle.btf_model.specs.Record.{kind_of, vlen, Union as UnionKind};
     ghost use Rattle.btf_model.specs.Table.{UnionRecord};
     ghost use Rattle.btf_items.specs.Items.{member_words};
     ghost use Rattle.btf_items.specs.ItemList.{items_of};
@@ -142,7 +140,8 @@ impl Union {
 
     /// The string offset of the name.
     pub fn name_offset(&self) -> u32
-        ensures { result ≡ self.now.words.name }
+        ensures value { result ≡ self.now.words.name }
+        ensures kind { kind_of self.now.words.info ≡ Some model.Union }
     {
         self.name_offset
     }
@@ -151,6 +150,7 @@ impl Union {
     pub fn info(&self) -> u32
         ensures value { result ≡ self.now.words.info }
         ensures kind { kind_of result ≡ Some model.Union }
+        ensures tail { length self.now.words.tail ≡ 3 * vlen self.now.words.info }
     {
         self.info
     }
@@ -204,9 +204,10 @@ impl Union {
 
     /// The length of the record in bytes.
     pub fn type_info_size(&self) -> usize
-        ensures { result ≡ 12 + 4 * length self.now.words.tail }
+        ensures len { result ≡ 12 + 4 * length self.now.words.tail }
+        ensures kind { kind_of self.now.words.info ≡ Some model.Union }
     {
-        12 + 12 * self.items().len()
+        3 * size_of_val(&self.info) + 12 * self.items().len()
     }
 
     /// An equal record. `OutOfMemory` is the only error.

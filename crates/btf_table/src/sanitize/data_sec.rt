@@ -7,17 +7,15 @@ ghost use Rattle.std.specs.Prelude.{◌≡◌, ◌==◌, ℕ, List, [], ◌∷�
 ghost use Rattle.std.specs.List.{flat_map};
 ghost use Rattle.std.specs.Option.{unwrap_or};
 ghost use Rattle.btf_model.specs.Record.{Record, vlen};
-ghost use Rattle.btf_rewrite_model.specs.declared.feature.BtfFeature.TheVariants as features;
 ghost use Rattle.btf_rewrite_model.specs.declared.feature.BtfFeature.{BtfFeature};
 ghost use Rattle.btf_rewrite_model.specs.declared.feature.FeatureAnswer.{FeatureAnswer};
 ghost use Rattle.btf_rewrite_model.specs.Made as model;
 ghost use Rattle.btf_rewrite_model.specs.Made.{entries};
-ghost use Rattle.btf_rewrite_model.specs.Checks.{first_fault, is_read, in_a_word};
-ghost use Rattle.btf_rewrite_model.specs.Pass.{Pass, asks_below, gets_filler, size_by_name};
+ghost use Rattle.btf_rewrite_model.specs.Checks.{first_fault, is_read};
+ghost use Rattle.btf_rewrite_model.specs.Pass.{Pass, gets_filler, size_by_name};
 ghost use Rattle.btf_rewrite_model.specs.Rule.{entry_members, placed};
 ghost use Rattle.btf_rewrite_model.specs.Fault.{member_checks, entry_checks, is_sized};
 ghost use Rattle.btf_model.specs.Text.{text_at};
-ghost use Rattle.btf_rewrite_model.specs.Passing.{AreAnswersTo};
 ghost use Rattle.btf_words.specs.Error.{MeetsOrNoMemory, IsOrNoMemory};
 ghost use Rattle.btf_records.specs.BtfType.{record_of, fallback_of};
 ghost use Rattle.btf_table.specs.Adding.{HasRoom};
@@ -26,8 +24,9 @@ ghost use Rattle.btf_rules.specs.Features.{Called, Asks, IsFurther};
 ghost use Rattle.btf_rules.specs.Layout.{sizes_of, offsets_of, layout_of};
 ghost use Rattle.btf_table.specs.ReadNames.{AreFound, AreRead};
 ghost use Rattle.btf_table.specs.Readable.{IsReadableEnd};
-ghost use Rattle.btf_table.specs.PassStep.{Given, pass_on, IsType, IsHere, AsksUpTo, Steps, Rules};
+ghost use Rattle.btf_table.specs.PassStep.{Given, pass_on, under, Comes, AsksUpTo, Steps, Rules};
 ghost use Rattle.btf_table.specs.SectionStep.{HasNewName, final_size, is_fillable, asks_zero};
+ghost use Rattle.btf_records.specs.declared.btf_type.BtfType.{BtfType};
 
 use crate::sanitize::data_sec::entries::{members, placed_entries};
 use crate::sanitize::data_sec::name::new_name;
@@ -161,107 +160,93 @@ fn wants_filler<F: FnMut(BtfFeature) -> bool>(
     size == 0 || !resolver.is_supported(BtfFeature::DataSecZero)
 }
 
-impl Made {
-    ghost use Rattle.btf_records.specs.declared.btf_type.BtfType.{BtfType};
+/// The DATASEC of this name and size whose one entry is the filler. It has 12 bytes more than one without entries.
+///
+/// `InvalidStringOffset` and `InvalidTypeInfo` where strings or types have no room for the filler;
+/// `InvalidTypeInfo` where types have none for the entry.
+fn filled(
+    made: &mut Made,
+    btf: &Btf,
+    name_offset: u32,
+    size: u32,
+) -> Result<Option<BtfType>, BtfError>
+    requires { HasRoom btf.now made.old.changes }
+    ensures { (given : Given) (answers : List FeatureAnswer) (id : ℕ) (r : Record) (before : Made)
+        → HasNewName (pass_on btf.now given answers) id r name_offset before made.old
+        → gets_filler (pass_on btf.now given answers) id ≡ true
+        → final_size (pass_on btf.now given answers) id r ≡ Some size
+        → MeetsOrNoMemory (λ new. unwrap_or new (BtfType.DataSec r)) result
+        (Rules (pass_on btf.now given answers) id (BtfType.DataSec r) before made.new) }
+{
+    let filler = made.filler(btf)?;
+    record_fits(made.changes.type_len, ENTRY_LEN)?;
+    made.changes.type_len += ENTRY_LEN;
+    let size = size.max(1);
+    let mut entries = Vec::with_capacity(btf.allocator(), 1)?;
+    entries.push(DataSecEntry {
+        btf_type: filler,
+        offset: 0,
+        size,
+    })?;
+    Ok(Some(BtfType::DataSec(DataSec::new(name_offset, entries, size))))
+}
 
-    /// The DATASEC of this name and size whose one entry is the filler. It has 12 bytes more than one without entries.
-    ///
-    /// `InvalidStringOffset` and `InvalidTypeInfo` where strings or types have no room for the filler;
-    /// `InvalidTypeInfo` where types have none for the entry.
-    fn filled(
-        &mut self,
-        btf: &Btf,
-        name_offset: u32,
-        size: u32,
-    ) -> Result<Option<BtfType>, BtfError>
-        requires { HasRoom btf.now self.old.changes }
-        ensures { (given : Given) (answers : List FeatureAnswer) (id : ℕ) (r : Record) (before : Made)
-            → HasNewName (pass_on btf.now given answers) id r name_offset before self.old
-            → gets_filler (pass_on btf.now given answers) id ≡ true
-            → final_size (pass_on btf.now given answers) id r ≡ Some size
-            → MeetsOrNoMemory (λ new. unwrap_or new (BtfType.DataSec r)) result
-            (Rules (pass_on btf.now given answers) id (BtfType.DataSec r) before self.new) }
-    {
-        let filler = self.filler(btf)?;
-        record_fits(self.changes.type_len, ENTRY_LEN)?;
-        self.changes.type_len += ENTRY_LEN;
-        let size = size.max(1);
-        let mut entries = Vec::with_capacity(btf.allocator(), 1)?;
-        entries.push(DataSecEntry {
-            btf_type: filler,
-            offset: 0,
-            size,
-        })?;
-        Ok(Some(BtfType::DataSec(DataSec::new(name_offset, entries, size))))
+/// The rule of a DATASEC; None where it stays. A kernel that takes none gets a STRUCT of its entries. For
+/// another, a DATASEC of size 0 gets the size of its section, and each entry the offset of its symbol; one that
+/// has no entries gets the filler for its entry, where its section has size 0, or where the kernel takes no
+/// DATASEC without entries. One that has a size keeps it, and gets the filler only under a policy that fills
+/// such, where the kernel takes none without entries. Its name becomes one that the kernel takes.
+///
+/// The first cause is reported. `InvalidStringOffset` where the name can't be read or strings have no room
+/// for the new one. As a STRUCT: `UnknownBtfType` of an entry's id that has no type, and `InvalidTypeInfo` where
+/// its offset in bits has more than 32 bits. Of a DATASEC of size 0: `UnknownSectionSize` where the size of its
+/// section isn't known or has more than 32 bits. Of one that gets the filler: `InvalidStringOffset` and
+/// `InvalidTypeInfo` where strings or types have no room for it. Of each entry of a DATASEC of size 0 in turn:
+/// `UnknownBtfType`, `InvalidDatasec` where it names no VAR, `InvalidStringOffset` where the name of that can't
+/// be read, and `SymbolOffsetNotFound` where the offset of its symbol isn't known or has more than 32 bits.
+pub fn rewrite_section<F: FnMut(BtfFeature) -> bool>(
+    made: &mut Made,
+    btf: &Btf,
+    sections: &HashMap<String, (SectionIndex, u64)>,
+    symbols: &HashMap<String, u64>,
+    data_sec: &DataSec,
+    policy: FillPolicy,
+    names: &mut ReadNames,
+    resolver: &mut BtfFeatureResolver<F>,
+) -> Result<Option<BtfType>, BtfError>
+    requires room { HasRoom btf.now made.old.changes }
+    requires read { AreRead btf.now.strings (layout_of sections.now symbols.now) names.old }
+    requires callable { F.IsAlwaysCallable resolver.old.0 }
+    ensures callable { F.IsAlwaysCallable resolver.new.0 }
+    ensures called { (first : F) → Called F.step first resolver.old.1 resolver.old.0
+        → Called F.step first resolver.new.1 resolver.new.0 }
+    ensures further { IsFurther resolver.old.1 resolver.new.1 }
+    ensures asks { (given : Given) (id : ℕ)
+        → given ≡ under policy (layout_of sections.now symbols.now)
+        → Comes btf.now given id (BtfType.DataSec data_sec.now) resolver.old.1 resolver.new.1 made.old
+        → (left : List BtfFeature)
+        × AsksUpTo (pass_on btf.now given resolver.old.1) id
+        resolver.new.1 left }
+    ensures steps { (given : Given) (id : ℕ)
+        → given ≡ under policy (layout_of sections.now symbols.now)
+        → Comes btf.now given id (BtfType.DataSec data_sec.now) resolver.old.1 resolver.new.1 made.old
+        → MeetsOrNoMemory (λ new. unwrap_or new (BtfType.DataSec data_sec.now)) result
+        (Steps (pass_on btf.now given resolver.old.1) id resolver.new.1
+        (BtfType.DataSec data_sec.now) made.old made.new) }
+    ensures read { OnOk result
+        (AreRead btf.now.strings (layout_of sections.now symbols.now) names.new) }
+{
+    let granted = resolver.is_supported(BtfFeature::DataSec);
+    let name_offset = new_name(btf, &mut made.changes, &mut names.kept, data_sec, granted)?;
+    if !granted {
+        return as_struct(btf, &made.names, data_sec, name_offset);
     }
-
-    /// The rule of a DATASEC; None where it stays. A kernel that takes none gets a STRUCT of its entries. For
-    /// another, a DATASEC of size 0 gets the size of its section, and each entry the offset of its symbol; one that
-    /// has no entries gets the filler for its entry, where its section has size 0, or where the kernel takes no
-    /// DATASEC without entries. One that has a size keeps it, and gets the filler only under a policy that fills
-    /// such, where the kernel takes none without entries. Its name becomes one that the kernel takes.
-    ///
-    /// The first cause is reported. `InvalidStringOffset` where the name can't be read or strings have no room
-    /// for the new one. As a STRUCT: `UnknownBtfType` of an entry's id that has no type, and `InvalidTypeInfo` where
-    /// its offset in bits has more than 32 bits. Of a DATASEC of size 0: `UnknownSectionSize` where the size of its
-    /// section isn't known or has more than 32 bits. Of one that gets the filler: `InvalidStringOffset` and
-    /// `InvalidTypeInfo` where strings or types have no room for it. Of each entry of a DATASEC of size 0 in turn:
-    /// `UnknownBtfType`, `InvalidDatasec` where it names no VAR, `InvalidStringOffset` where the name of that can't
-    /// be read, and `SymbolOffsetNotFound` where the offset of its symbol isn't known or has more than 32 bits.
-    pub fn rewrite_section<F: FnMut(BtfFeature) -> bool>(
-        &mut self,
-        btf: &Btf,
-        sections: &HashMap<String, (SectionIndex, u64)>,
-        symbols: &HashMap<String, u64>,
-        data_sec: &DataSec,
-        policy: FillPolicy,
-        names: &mut ReadNames,
-        resolver: &mut BtfFeatureResolver<F>,
-    ) -> Result<Option<BtfType>, BtfError>
-        requires room { HasRoom btf.now self.old.changes }
-        requires read { AreRead btf.now.strings (layout_of sections.now symbols.now) names.old }
-        requires callable { F.IsAlwaysCallable resolver.old.0 }
-        ensures callable { F.IsAlwaysCallable resolver.new.0 }
-        ensures called { (first : F) → Called F.step first resolver.old.1 resolver.old.0
-            → Called F.step first resolver.new.1 resolver.new.0 }
-        ensures further { IsFurther resolver.old.1 resolver.new.1 }
-        ensures asks { (given : Given) (id : ℕ) → given.policy ≡ policy
-            → given.layout.sections ≡ sizes_of sections.now
-            → IsType btf.now id (BtfType.DataSec data_sec.now)
-            → IsHere (pass_on btf.now given resolver.new.1) id self.old
-            → AreAnswersTo (asks_below (pass_on btf.now given resolver.old.1) id)
-            resolver.old.1
-            → (left : List BtfFeature)
-            × AsksUpTo (pass_on btf.now given resolver.old.1) id
-            resolver.new.1 left }
-        ensures steps { (given : Given) (id : ℕ) → given.policy ≡ policy
-            → given.layout.sections ≡ sizes_of sections.now
-            → given.layout.symbols ≡ offsets_of symbols.now
-            → IsType btf.now id (BtfType.DataSec data_sec.now)
-            → AreAnswersTo (asks_below (pass_on btf.now given resolver.old.1) id)
-            resolver.old.1
-            → IsHere (pass_on btf.now given resolver.new.1) id self.old
-            → MeetsOrNoMemory (λ new. unwrap_or new (BtfType.DataSec data_sec.now)) result
-            (Steps (pass_on btf.now given resolver.old.1) id resolver.new.1
-            (BtfType.DataSec data_sec.now) self.old self.new) }
-        ensures read { OnOk result
-            (AreRead btf.now.strings (layout_of sections.now symbols.now) names.new) }
-    {
-        // The contract speaks of the kind in the info word, and of the words, which a use of them shows.
-        let _ = data_sec.info();
-        let _ = data_sec.entries();
-        let granted = resolver.is_supported(BtfFeature::DataSec);
-        let name_offset = new_name(btf, &mut self.changes, &mut names.kept, data_sec, granted)?;
-        if !granted {
-            return as_struct(btf, &self.names, data_sec, name_offset);
-        }
-        let size = final_size(btf, sections, &mut names.sizes, data_sec)?;
-        if wants_filler(data_sec, size, policy, resolver) {
-            return self.filled(btf, name_offset, size);
-        }
-        if data_sec.size() != 0 {
-            return renamed(data_sec, name_offset);
-        }
-        with_symbol_offsets(btf, symbols, names, data_sec, name_offset, size)
+    let size = final_size(btf, sections, &mut names.sizes, data_sec)?;
+    if wants_filler(data_sec, size, policy, resolver) {
+        return filled(made, btf, name_offset, size);
     }
+    if data_sec.size() != 0 {
+        return renamed(data_sec, name_offset);
+    }
+    with_symbol_offsets(btf, symbols, names, data_sec, name_offset, size)
 }

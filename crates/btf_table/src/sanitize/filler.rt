@@ -1,12 +1,12 @@
 //! The entry that an empty DATASEC gets.
 
-ghost use Rattle.std.specs.Prelude.{◌≡◌, ◌+◌, [], ◌∷◌, length, OnOk};
-ghost use Rattle.btf_rewrite_model.specs.Made.{byte_int, static_var};
-ghost use Rattle.btf_rewrite_model.specs.Checks.{first_fault, has_room, fits, record_len};
+ghost use Rattle.std.specs.Prelude.{◌+◌, [], ◌∷◌, OnOk};
+ghost use Rattle.btf_rewrite_model.specs.Checks.{first_fault};
 ghost use Rattle.btf_rewrite_model.specs.Pass.{filler_type_text, filler_text, filler};
 ghost use Rattle.btf_words.specs.Error.{IsOrNoMemory};
 ghost use Rattle.btf_table.specs.Adding.{strings_end, next_id, HasRoom, Adds};
 ghost use Rattle.btf_rules.specs.Checked.{checked};
+ghost use Rattle.btf_rewrite_model.specs.Fault.{filler_has_room};
 
 use crate::table::{Btf, Changes};
 use btf_plain::{BtfError, Int, IntEncoding, Var, VarLinkage};
@@ -23,11 +23,8 @@ const FILLER: &str = "__aya_datasec_filler";
 /// `InvalidStringOffset` and `InvalidTypeInfo` where strings or types have no room.
 pub fn append_filler(btf: &Btf, changes: &mut Changes) -> Result<u32, BtfError>
     requires { HasRoom btf.now changes.old }
-    ensures answer { IsOrNoMemory (λ id. id) result (checked
-        (first_fault (has_room (strings_end btf.now changes.old) filler_type_text
-        ∷ fits changes.old.type_len (record_len (byte_int 0))
-        ∷ has_room (strings_end btf.now changes.old + length filler_type_text + 1) filler_text
-        ∷ fits (changes.old.type_len + record_len (byte_int 0)) (record_len (static_var 0 0)) ∷ []))
+    ensures answer { IsOrNoMemory (λ id. id) result (checked (first_fault
+        (filler_has_room (strings_end btf.now changes.old) changes.old.type_len))
         (next_id btf.now changes.old + 1)) }
     ensures adds { OnOk result (Adds btf.now changes.old changes.new
         (filler_type_text ∷ filler_text ∷ [])

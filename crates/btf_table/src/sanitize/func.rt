@@ -1,14 +1,13 @@
 //! The rule of a FUNC.
 
-ghost use Rattle.std.specs.Prelude.{◌≡◌, ℕ, Bool, List, IfOk, IsTrue, Ok};
+ghost use Rattle.std.specs.Prelude.{ℕ, List, Ok};
 ghost use Rattle.btf_rewrite_model.specs.declared.feature.BtfFeature.{BtfFeature};
-ghost use Rattle.btf_rewrite_model.specs.Made.{with_linkage};
-ghost use Rattle.btf_rewrite_model.specs.Pass as model;
 ghost use Rattle.btf_rewrite_model.specs.Pass.{asks_below};
 ghost use Rattle.btf_rewrite_model.specs.Passing.{AreAnswersTo};
 ghost use Rattle.btf_words.specs.Error.{MeetsOrNoMemory};
 ghost use Rattle.btf_rules.specs.Features.{Called, IsFurther};
-ghost use Rattle.btf_table.specs.PassStep.{Given, pass_on, IsType, IsHere, AsksUpTo, Steps, made_of};
+ghost use Rattle.btf_table.specs.Btf.{IsType};
+ghost use Rattle.btf_table.specs.PassStep.{Given, pass_on, Comes, AsksUpTo, Steps, made_of};
 ghost use Rattle.btf_table.specs.Readable.{IsReadableEnd};
 ghost use Rattle.btf_table.specs.declared.sanitize.made.Made as made;
 
@@ -17,7 +16,6 @@ use crate::table::Btf;
 use btf_plain::{BtfError, Func, FuncLinkage};
 use btf_records::BtfType;
 use btf_rules::{BtfFeature, BtfFeatureResolver, is_builtin, made_static};
-use std::alloc::AllocError;
 
 /// What a FUNC becomes. For a kernel that has no functions it changes in place, to a TYPEDEF of the prototype; for one
 /// that has no Global ones, or knows a Global one as its own, it becomes Static.
@@ -43,16 +41,11 @@ pub fn rewrite_func<F: FnMut(BtfFeature) -> bool>(
         × AsksUpTo (pass_on btf.now given resolver.old.1) id
         resolver.new.1 left }
     ensures steps { (given : Given) (id : ℕ) (made : made.Made)
-        → IsType btf.now id (BtfType.Func func.now)
-        → AreAnswersTo (asks_below (pass_on btf.now given resolver.old.1) id)
-        resolver.old.1
-        → IsHere (pass_on btf.now given resolver.new.1) id made
+        → Comes btf.now given id (BtfType.Func func.now) resolver.old.1 resolver.new.1 made
         → MeetsOrNoMemory (λ o. made_of o (BtfType.Func func.now)) result
         (Steps (pass_on btf.now given resolver.old.1) id resolver.new.1
         (BtfType.Func func.now) made made) }
 {
-    // The contract speaks of the kind in the info word, which a use of it shows.
-    let _ = func.info();
     let name_offset = func.name_offset();
     btf.check_name(name_offset, readable_end)?;
     if !resolver.is_supported(BtfFeature::Func) {

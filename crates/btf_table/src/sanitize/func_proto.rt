@@ -1,24 +1,21 @@
 //! Prototypes: with names for all their parameters, or as enumerations.
 
-ghost use Rattle.std.specs.Prelude.{◌≡◌, ◌≤◌, if◌then◌else◌, ℕ, [], ◌∷◌, length, string_bytes, IfOk, OnOk, Ok};
-ghost use Rattle.std.specs.List.{flat_map, list_any};
-ghost use Rattle.btf_model.specs.Record.{vlen};
-ghost use Rattle.btf_rewrite_model.specs.Made.{enum, wants_name};
+ghost use Rattle.std.specs.Prelude.{◌≡◌, if◌then◌else◌, [], OnOk, Ok};
+ghost use Rattle.std.specs.List.{list_any};
+ghost use Rattle.btf_rewrite_model.specs.Made.{wants_name};
 ghost use Rattle.btf_rewrite_model.specs.Checks.{first_fault, have_room};
-ghost use Rattle.btf_rewrite_model.specs.Pass as model;
 ghost use Rattle.btf_rewrite_model.specs.Pass.{param_texts};
 ghost use Rattle.btf_rewrite_model.specs.Rule.{named_params};
 ghost use Rattle.btf_words.specs.Error.{IsOrNoMemory};
-ghost use Rattle.btf_items.specs.Items.{enum_words, param_words};
+ghost use Rattle.btf_items.specs.Items.{param_words};
 ghost use Rattle.btf_table.specs.Adding.{strings_end, HasRoom, Adds};
 ghost use Rattle.btf_table.specs.Params.{lack_a_name};
 ghost use Rattle.btf_rules.specs.Checked.{checked};
 
 use crate::table::{Btf, Changes};
 use btf_plain::BtfError;
-use btf_records::{BtfEnum, BtfParam, Enum, FuncProto};
+use btf_records::{BtfParam, FuncProto};
 use btf_rules::param_text;
-use std::alloc::{AllocError, Global};
 
 /// Whether a parameter gets a new text for its name: it has a type and no name.
 fn is_unnamed(param: &BtfParam) -> bool

@@ -1,21 +1,20 @@
 //! The first step of a rewrite: the kernel's symbols become ordinary variables.
 
-ghost use Rattle.std.specs.Prelude.{◌≡◌, ◌≤◌, if◌then◌else◌, ℕ, [], ◌∷◌, length, map, Option, None, Ok, IfOk};
-ghost use Rattle.std.specs.List.{position_or_len};
-ghost use Rattle.btf_model.specs.Record.{kind_of};
-ghost use Rattle.btf_rewrite_model.specs.Made.{Entry, entries, record_at, wants_name, with_linkage};
+ghost use Rattle.std.specs.Prelude.{◌≡◌, ◌<◌, ◌^◌, ◌∷◌, ℕ, List, length, map, Option, None, Ok, IfOk};
+ghost use Rattle.btf_model.specs.Record.{Record, unknown};
+ghost use Rattle.btf_rewrite_model.specs.Made.{Entry, entries, record_at};
 ghost use Rattle.btf_rewrite_model.specs.Checks.{first_fault};
 ghost use Rattle.btf_rewrite_model.specs.Ksyms as model;
-ghost use Rattle.btf_rewrite_model.specs.Ksyms.{placeholder_checks, data_sec_checks, ksyms_entry_checks, named};
+ghost use Rattle.btf_rewrite_model.specs.Ksyms.{placeholder_checks, data_sec_checks, ksyms_entry_checks};
 ghost use Rattle.btf_words.specs.Error.{IsOrNoMemory, MeetsOrNoMemory};
-ghost use Rattle.btf_records.specs.BtfType.{record_of};
+ghost use Rattle.btf_records.specs.BtfType.{record_of, fallback_of};
 ghost use Rattle.btf_rules.specs.Checked.{checked};
 ghost use Rattle.btf_table.specs.KsymsStep.{target_of, prototype_of, laid_out_anew, FindsSymbols, StepsWith, ksyms_ids, MakesKsyms};
 ghost use Rattle.btf_table.specs.Readable.{IsReadableEnd};
 
 use crate::table::{Btf, Changes, record_fits, text_fits};
-use btf_plain::{BtfError, Func, FuncLinkage, Int, IntEncoding, Var, VarLinkage};
-use btf_records::{BtfParam, BtfType, DataSec, DataSecEntry, FuncProto};
+use btf_plain::{BtfError, Func, Int, IntEncoding, Var};
+use btf_records::{BtfType, DataSec, DataSecEntry, FuncProto};
 use btf_rules::{global, global_of, int_of_4, with_names};
 use std::alloc::{AllocError, Global};
 use std::collections::BTreeSet;
@@ -293,7 +292,7 @@ impl Step {
                 Ok(Some(BtfType::Func(global(func)?)))
             }
             BtfType::Var(var) if self.symbols.ids.contains(&id) => {
-                Ok(Some(BtfType::Var(global_of(var, self.target.symbol_type)?)))
+                Ok(Some(BtfType::Var(global_of(var, self.target.symbol_type))))
             }
             BtfType::FuncProto(proto) if self.symbols.prototypes.contains(&id) => {
                 self.target.new_proto(proto)
@@ -306,11 +305,14 @@ impl Step {
     }
 
     /// The types that change, by their ids.
-    fn new_types(&self, btf: &Btf) -> Result<Vec<(u32, BtfType)>, BtfError>
+    fn new_types(&self, btf: &Btf, types: &[BtfType]) -> Result<Vec<(u32, BtfType)>, BtfError>
+        requires records { map record_of types.now ≡ btf.now.records }
+        requires fallbacks { map fallback_of types.now ≡ btf.now.fallbacks }
+        requires first { (rs : List Record) × (btf.now.records ≡ unknown ∷ rs) }
+        requires ids { length types.now < 2 ^ 32 }
         ensures { (ids : KsymsIds) → IsStep btf.now ids self.now
             → MeetsOrNoMemory (λ v. v.items) result (StepsAll btf.now ids) }
     {
-        let types = btf.as_slice();
         let mut new_types = Vec::new(btf.allocator());
         for id in 1..types.len() {
             if let Some(new_type) = self.new_type(btf, id as u32, &types[id])? {
@@ -332,11 +334,9 @@ pub fn ksyms_changes(
 {
     let step = Step::new(btf, datasec_id, placeholder_id)?;
     let alloc = btf.allocator();
-    // The contract speaks of id 0 and of fallbacks, which a use of the types shows.
-    let _ = btf.as_slice();
     let name_offset = btf.string_len();
     let mut changes = Changes {
-        types: step.new_types(btf)?,
+        types: step.new_types(btf, btf.as_slice())?,
         new_strings: Vec::new(alloc),
         new_types: Vec::new(alloc),
         type_len: btf.type_len(),

@@ -1,19 +1,19 @@
 //! What a pass has made so far.
 
 ghost use Rattle.std.specs.Prelude.{◌≡◌, ◌+◌, ◌++◌, ◌<◌, [], ◌∷◌, length, None, Some, IfOk, OnOk, Ok};
-ghost use Rattle.btf_rewrite_model.specs.Made.{byte_int, static_var};
-ghost use Rattle.btf_rewrite_model.specs.Checks.{first_fault, have_room, has_room, fits, record_len};
-ghost use Rattle.btf_rewrite_model.specs.Fault.{all_fit};
-ghost use Rattle.btf_rewrite_model.specs.Pass.{placeholder_text, filler_type_text, filler_text, filler};
+ghost use Rattle.btf_rewrite_model.specs.Made.{byte_int};
+ghost use Rattle.btf_rewrite_model.specs.Checks.{first_fault};
+ghost use Rattle.btf_rewrite_model.specs.Pass.{member_type_text, filler_type_text, filler_text, filler};
 ghost use Rattle.btf_model.specs.Table.{type_bytes};
 ghost use Rattle.btf_words.specs.Error.{IsOrNoMemory};
 ghost use Rattle.btf_records.specs.BtfType.{record_of};
 ghost use Rattle.btf_table.specs.Adding.{strings_end, next_id, HasRoom, Adds};
 ghost use Rattle.btf_rules.specs.Checked.{checked};
+ghost use Rattle.btf_rewrite_model.specs.Fault.{filler_has_room, member_type_has_room};
 
 use crate::sanitize::filler::append_filler;
+use crate::sanitize::member_type::append_member_type;
 use crate::sanitize::outcome::Outcome;
-use crate::sanitize::placeholder::append_placeholder;
 use crate::table::{Btf, Changes};
 use btf_plain::BtfError;
 use btf_records::BtfType;
@@ -27,13 +27,12 @@ pub struct Made {
     /// The string offset of the name that each of these ids has now.
     pub names: Vec<u32>,
     /// The type of the members of UNIONs that were ENUM64s, once there is one.
-    pub placeholder: Option<u32>,
+    pub member_type: Option<u32>,
     /// The variable of DATASECs that have no other, once there is one.
     pub filler: Option<u32>,
 }
 
 impl Made {
-    ghost use Rattle.std.specs.Prelude.{map};
     ghost use Rattle.btf_model.specs.Record.{kind_of};
     ghost use Rattle.btf_records.specs.BtfType.{type_kind};
     ghost use Rattle.btf_table.specs.PassStep.{kept_changes, kept_ids, made_of, placed_of};
@@ -46,7 +45,7 @@ impl Made {
         ensures type_len { IfOk result (λ m. m.changes.type_len ≡ length (type_bytes btf.now)) }
         ensures room { IfOk result (λ m. HasRoom btf.now m.changes) }
         ensures names { IfOk result (λ m. m.names.items ≡ 0 ∷ []) }
-        ensures placeholder { IfOk result (λ m. m.placeholder ≡ None) }
+        ensures member_type { IfOk result (λ m. m.member_type ≡ None) }
         ensures filler { IfOk result (λ m. m.filler ≡ None) }
     {
         let mut names = Vec::with_capacity(btf.allocator(), btf.as_slice().len())?;
@@ -54,36 +53,34 @@ impl Made {
         Ok(Made {
             changes: Changes::new(btf),
             names,
-            placeholder: None,
+            member_type: None,
             filler: None,
         })
     }
 
     /// The type of the members of UNIONs that were ENUM64s, which is appended where there is none yet.
     /// `InvalidStringOffset` and `InvalidTypeInfo` where strings or types have no room for it.
-    pub fn placeholder(&mut self, btf: &Btf) -> Result<u32, BtfError>
+    pub fn member_type(&mut self, btf: &Btf) -> Result<u32, BtfError>
         requires { HasRoom btf.now self.old.changes }
-        ensures there { (id : _) → self.old.placeholder ≡ Some id → (result ≡ Ok id)
+        ensures there { (id : _) → self.old.member_type ≡ Some id → (result ≡ Ok id)
             × (self.new ≡ self.old) }
-        ensures answer { self.old.placeholder ≡ None
-            → IsOrNoMemory (λ id. id) result (checked
-            (first_fault (have_room (strings_end btf.now self.old.changes) (placeholder_text ∷ [])
-            ++ all_fit self.old.changes.type_len
-            (byte_int (strings_end btf.now self.old.changes) ∷ [])))
-            (next_id btf.now self.old.changes)) }
-        ensures adds { self.old.placeholder ≡ None
-            → OnOk result (Adds btf.now self.old.changes self.new.changes (placeholder_text ∷ [])
+        ensures answer { self.old.member_type ≡ None
+            → IsOrNoMemory (λ id. id) result (checked (first_fault
+            (member_type_has_room (strings_end btf.now self.old.changes)
+            self.old.changes.type_len)) (next_id btf.now self.old.changes)) }
+        ensures adds { self.old.member_type ≡ None
+            → OnOk result (Adds btf.now self.old.changes self.new.changes (member_type_text ∷ [])
             (byte_int (strings_end btf.now self.old.changes) ∷ [])) }
-        ensures made { self.old.placeholder ≡ None
-            → OnOk result (self.new.placeholder ≡ Some (next_id btf.now self.old.changes)) }
+        ensures made { self.old.member_type ≡ None
+            → OnOk result (self.new.member_type ≡ Some (next_id btf.now self.old.changes)) }
         ensures names { self.new.names ≡ self.old.names }
         ensures filler { self.new.filler ≡ self.old.filler }
     {
-        if let Some(id) = self.placeholder {
+        if let Some(id) = self.member_type {
             return Ok(id);
         }
-        let id = append_placeholder(btf, &mut self.changes)?;
-        self.placeholder = Some(id);
+        let id = append_member_type(btf, &mut self.changes)?;
+        self.member_type = Some(id);
         Ok(id)
     }
 
@@ -94,12 +91,9 @@ impl Made {
         ensures there { (id : _) → self.old.filler ≡ Some id → (result ≡ Ok id)
             × (self.new ≡ self.old) }
         ensures answer { self.old.filler ≡ None
-            → IsOrNoMemory (λ id. id) result (checked
-            (first_fault (has_room (strings_end btf.now self.old.changes) filler_type_text
-            ∷ fits self.old.changes.type_len (record_len (byte_int 0))
-            ∷ has_room (strings_end btf.now self.old.changes + length filler_type_text + 1)
-            filler_text ∷ fits (self.old.changes.type_len + record_len (byte_int 0))
-            (record_len (static_var 0 0)) ∷ [])) (next_id btf.now self.old.changes + 1)) }
+            → IsOrNoMemory (λ id. id) result (checked (first_fault
+            (filler_has_room (strings_end btf.now self.old.changes) self.old.changes.type_len))
+            (next_id btf.now self.old.changes + 1)) }
         ensures adds { self.old.filler ≡ None
             → OnOk result (Adds btf.now self.old.changes self.new.changes
             (filler_type_text ∷ filler_text ∷ [])
@@ -107,7 +101,7 @@ impl Made {
         ensures made { self.old.filler ≡ None
             → OnOk result (self.new.filler ≡ Some (next_id btf.now self.old.changes + 1)) }
         ensures names { self.new.names ≡ self.old.names }
-        ensures placeholder { self.new.placeholder ≡ self.old.placeholder }
+        ensures member_type { self.new.member_type ≡ self.old.member_type }
     {
         if let Some(id) = self.filler {
             return Ok(id);
@@ -126,6 +120,7 @@ impl Made {
         btf_type: &BtfType,
         outcome: Outcome,
     ) -> Result<(), AllocError>
+        requires { kind_of (record_of btf_type.now).info ≡ Some (type_kind btf_type.now) }
         ensures types { OnOk result (self.new.changes.types.items
             ≡ kept_changes self.old.changes.types.items id outcome) }
         ensures denied { OnOk result (denied.new.items ≡ kept_ids denied.old.items id outcome) }
@@ -134,16 +129,13 @@ impl Made {
         ensures strings { self.new.changes.new_strings ≡ self.old.changes.new_strings }
         ensures new_types { self.new.changes.new_types ≡ self.old.changes.new_types }
         ensures type_len { self.new.changes.type_len ≡ self.old.changes.type_len }
-        ensures placeholder { self.new.placeholder ≡ self.old.placeholder }
+        ensures member_type { self.new.member_type ≡ self.old.member_type }
         ensures filler { self.new.filler ≡ self.old.filler }
-        ensures known { kind_of (record_of btf_type.now).info ≡ Some (type_kind btf_type.now) }
         ensures kind { OnOk result (kind_of (record_of (placed_of outcome btf_type.now)).info
             ≡ Some (type_kind (placed_of outcome btf_type.now))) }
         ensures len { OnOk result (length (record_of (made_of outcome btf_type.now)).tail
             ≡ length (record_of (placed_of outcome btf_type.now)).tail) }
     {
-        // The contract speaks of the kind in the info word, which a use of it shows.
-        let _ = btf_type.info();
         match outcome {
             Outcome::Same => self.names.push(btf_type.name_offset())?,
             Outcome::Denied => {
@@ -151,7 +143,6 @@ impl Made {
                 denied.push(id)?;
             }
             Outcome::Other(new_type) => {
-                let _ = new_type.info();
                 self.names.push(new_type.name_offset())?;
                 self.changes.types.push((id, new_type))?;
             }

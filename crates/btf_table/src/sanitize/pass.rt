@@ -10,16 +10,19 @@ ghost use Rattle.btf_words.specs.Error.{MeetsOrNoMemory};
 ghost use Rattle.btf_records.specs.BtfType.{record_of};
 ghost use Rattle.btf_table.specs.Adding.{HasRoom};
 ghost use Rattle.btf_rules.specs.Features.{Called, IsFurther};
-ghost use Rattle.btf_rules.specs.Layout.{sizes_of, offsets_of, layout_of};
+ghost use Rattle.btf_rules.specs.Layout.{layout_of};
 ghost use Rattle.btf_rules.specs.SoleFeature as step;
-ghost use Rattle.btf_table.specs.PassStep.{Given, pass_on, under, IsType, IsHere, AsksUpTo, Steps, Passes, BeginsAsked, made_of};
+ghost use Rattle.btf_table.specs.Btf.{IsType};
+ghost use Rattle.btf_table.specs.PassStep.{Given, pass_on, under, Comes, AsksUpTo, Steps, Passes, BeginsAsked, made_of};
 ghost use Rattle.btf_rules.specs.SoleFeature.{asks_one, IsGranted};
 ghost use Rattle.btf_table.specs.ReadNames.{AreRead};
 
+use crate::sanitize::data_sec::rewrite_section;
 use crate::sanitize::func::rewrite_func;
 use crate::sanitize::made::Made;
 use crate::sanitize::outcome::{Outcome, placed};
 use crate::sanitize::read_names::ReadNames;
+use crate::sanitize::single::rewrite_by;
 use crate::table::{Btf, Changes};
 use btf_plain::{BtfError, SectionIndex};
 use btf_records::BtfType;
@@ -55,62 +58,53 @@ fn has_sole_feature<F: FnMut(BtfFeature) -> bool>(
     }
 }
 
-impl Made {
-    /// The rule of a type, by its kind. `names` are those that the pass has read.
-    ///
-    /// `InvalidStringOffset` where the name of a FUNC or a DATASEC can't be read, or strings have no room for what is
-    /// appended; `InvalidTypeInfo` where types have no room for it; and of a DATASEC, `UnknownBtfType`,
-    /// `InvalidDatasec`, `UnknownSectionSize` and `SymbolOffsetNotFound`.
-    fn rewrite<F: FnMut(BtfFeature) -> bool>(
-        &mut self,
-        btf: &Btf,
-        sections: &HashMap<String, (SectionIndex, u64)>,
-        symbols: &HashMap<String, u64>,
-        btf_type: &BtfType,
-        policy: FillPolicy,
-        names: &mut ReadNames,
-        resolver: &mut BtfFeatureResolver<F>,
-    ) -> Result<Outcome, BtfError>
-        requires room { HasRoom btf.now self.old.changes }
-        requires read { AreRead btf.now.strings (layout_of sections.now symbols.now) names.old }
-        requires callable { F.IsAlwaysCallable resolver.old.0 }
-        ensures callable { F.IsAlwaysCallable resolver.new.0 }
-        ensures called { (first : F) → Called F.step first resolver.old.1 resolver.old.0
-            → Called F.step first resolver.new.1 resolver.new.0 }
-        ensures further { IsFurther resolver.old.1 resolver.new.1 }
-        ensures asks { (given : Given) (id : ℕ) → given.policy ≡ policy
-            → given.layout.sections ≡ sizes_of sections.now → IsType btf.now id btf_type.now
-            → IsHere (pass_on btf.now given resolver.new.1) id self.old
-            → AreAnswersTo (asks_below (pass_on btf.now given resolver.old.1) id)
-            resolver.old.1
-            → (left : List BtfFeature)
-            × AsksUpTo (pass_on btf.now given resolver.old.1) id
-            resolver.new.1 left }
-        ensures steps { (given : Given) (id : ℕ) → given.policy ≡ policy
-            → given.layout.sections ≡ sizes_of sections.now
-            → given.layout.symbols ≡ offsets_of symbols.now → IsType btf.now id btf_type.now
-            → AreAnswersTo (asks_below (pass_on btf.now given resolver.old.1) id)
-            resolver.old.1
-            → IsHere (pass_on btf.now given resolver.new.1) id self.old
-            → MeetsOrNoMemory (λ o. made_of o btf_type.now) result
-            (Steps (pass_on btf.now given resolver.old.1) id resolver.new.1
-            btf_type.now self.old self.new) }
-        ensures read { OnOk result
-            (AreRead btf.now.strings (layout_of sections.now symbols.now) names.new) }
-    {
-        // The contract speaks of the kind in the info word, which a use of it shows.
-        let _ = btf_type.info();
-        match btf_type {
-            BtfType::Func(func) => rewrite_func(btf, func, names.readable_end, resolver),
-            BtfType::DataSec(data_sec) => {
-                placed(self.rewrite_section(
-                    btf, sections, symbols, data_sec, policy, names, resolver,
-                ))
-            }
-            _ => {
-                let granted = has_sole_feature(btf_type, resolver);
-                self.rewrite_by(btf, btf_type, granted)
-            }
+/// The rule of a type, by its kind. `names` are those that the pass has read.
+///
+/// `InvalidStringOffset` where the name of a FUNC or a DATASEC can't be read, or strings have no room for what is
+/// appended; `InvalidTypeInfo` where types have no room for it; and of a DATASEC, `UnknownBtfType`,
+/// `InvalidDatasec`, `UnknownSectionSize` and `SymbolOffsetNotFound`.
+fn rewrite_type<F: FnMut(BtfFeature) -> bool>(
+    made: &mut Made,
+    btf: &Btf,
+    sections: &HashMap<String, (SectionIndex, u64)>,
+    symbols: &HashMap<String, u64>,
+    btf_type: &BtfType,
+    policy: FillPolicy,
+    names: &mut ReadNames,
+    resolver: &mut BtfFeatureResolver<F>,
+) -> Result<Outcome, BtfError>
+    requires room { HasRoom btf.now made.old.changes }
+    requires read { AreRead btf.now.strings (layout_of sections.now symbols.now) names.old }
+    requires callable { F.IsAlwaysCallable resolver.old.0 }
+    ensures callable { F.IsAlwaysCallable resolver.new.0 }
+    ensures called { (first : F) → Called F.step first resolver.old.1 resolver.old.0
+        → Called F.step first resolver.new.1 resolver.new.0 }
+    ensures further { IsFurther resolver.old.1 resolver.new.1 }
+    ensures asks { (given : Given) (id : ℕ)
+        → given ≡ under policy (layout_of sections.now symbols.now)
+        → Comes btf.now given id btf_type.now resolver.old.1 resolver.new.1 made.old
+        → (left : List BtfFeature)
+        × AsksUpTo (pass_on btf.now given resolver.old.1) id
+        resolver.new.1 left }
+    ensures steps { (given : Given) (id : ℕ)
+        → given ≡ under policy (layout_of sections.now symbols.now)
+        → Comes btf.now given id btf_type.now resolver.old.1 resolver.new.1 made.old
+        → MeetsOrNoMemory (λ o. made_of o btf_type.now) result
+        (Steps (pass_on btf.now given resolver.old.1) id resolver.new.1
+        btf_type.now made.old made.new) }
+    ensures read { OnOk result
+        (AreRead btf.now.strings (layout_of sections.now symbols.now) names.new) }
+{
+    match btf_type {
+        BtfType::Func(func) => rewrite_func(btf, func, names.readable_end, resolver),
+        BtfType::DataSec(data_sec) => {
+            placed(rewrite_section(
+                made, btf, sections, symbols, data_sec, policy, names, resolver,
+            ))
+        }
+        _ => {
+            let granted = has_sole_feature(btf_type, resolver);
+            rewrite_by(made, btf, btf_type, granted)
         }
     }
 }
@@ -142,14 +136,14 @@ pub fn pass_changes<F: FnMut(BtfFeature) -> bool>(
         (Passes (pass_on btf.now (under policy (layout_of sections.now symbols.now))
         resolver.new.1)) }
 {
-    let types = btf.as_slice();
+    let count = btf.as_slice().len();
     let mut made = Made::new(btf)?;
     let mut denied = Vec::new(btf.allocator());
     let mut names = ReadNames::new(btf);
-    for id in 1..types.len() {
-        let btf_type = &types[id];
-        let outcome = made.rewrite(
-            btf, sections, symbols, btf_type, policy, &mut names, resolver,
+    for id in 1..count {
+        let btf_type = btf.type_at(id as u32);
+        let outcome = rewrite_type(
+            &mut made, btf, sections, symbols, btf_type, policy, &mut names, resolver,
         )?;
         made.keep(&mut denied, id as u32, btf_type, outcome)?;
     }

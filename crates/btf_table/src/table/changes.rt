@@ -45,9 +45,6 @@ impl Changes {
         ensures room { HasRoom btf.now result }
     {
         let alloc = btf.allocator();
-        // The contract speaks of the lengths of both sections, which a use of them shows.
-        let _ = btf.as_slice();
-        let _ = btf.string_len();
         Changes {
             types: Vec::new(alloc),
             new_strings: Vec::new(alloc),

@@ -1,6 +1,6 @@
 //! The header of a blob.
 
-ghost use Rattle.std.specs.Prelude.{◌≡◌, ◌+◌, ◌<◌, ◌≤◌, ◌++◌, length, take, drop, MatchResult, MatchOption, OnOk};
+ghost use Rattle.std.specs.Prelude.{◌≡◌, ◌+◌, ◌<◌, ◌≤◌, ◌++◌, length, MatchResult, MatchOption, OnOk};
 ghost use Rattle.btf_model.specs.Blob.{header_len, header_of, header_bytes, slice};
 ghost use Rattle.btf_table.specs.Header.{header};
 

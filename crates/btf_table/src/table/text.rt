@@ -131,8 +131,6 @@ pub fn strings_from(strings: &[u8], offset: u32) -> &[u8]
 fn has_kind(btf_type: &BtfType, kind: BtfKind) -> bool
     ensures { IsTrue result ↔ (kind_of (record_of btf_type.now).info ≡ Some (kinds.kind kind)) }
 {
-    // The contract speaks of the kind in the info word, which a use of it shows.
-    let _ = btf_type.info();
     btf_type.kind() == kind
 }
 
@@ -172,7 +170,7 @@ fn has_name_at(strings: &[u8], offset: u32, name: &str) -> bool
 
 /// Whether a type has this kind and this name, or why the name of one of this kind can't be read. With a readable end
 /// the bytes are compared, and otherwise the text that they are read as.
-fn is_named(
+fn has_kind_and_name(
     alloc: Global,
     strings: &[u8],
     btf_type: &BtfType,
@@ -218,7 +216,7 @@ pub fn find_named(
 {
     let readable_end = comparable_end(strings, name);
     for (id, btf_type) in types.iter().enumerate() {
-        if is_named(alloc, strings, btf_type, name, kind, readable_end)? {
+        if has_kind_and_name(alloc, strings, btf_type, name, kind, readable_end)? {
             return Ok(id as u32);
         }
     }

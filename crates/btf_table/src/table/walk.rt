@@ -1,14 +1,15 @@
 //! Walks from type to type.
 
-ghost use Rattle.std.specs.Prelude.{◌≡◌, ◌*◌, ◌<◌, ◌≤◌, ◌^◌, map, MatchResult};
+ghost use Rattle.std.specs.Prelude.{◌≡◌, ◌*◌, ◌<◌, ◌≤◌, ◌^◌, map, Some, MatchResult};
+ghost use Rattle.btf_model.specs.Record as kinds;
 ghost use Rattle.btf_model.specs.Record.{kind_of};
 ghost use Rattle.btf_model.specs.Walk as model;
 ghost use Rattle.btf_model.specs.Walk.{modified_type, Resolves, HasSize};
 ghost use Rattle.btf_words.specs.Error.{Meets};
-ghost use Rattle.btf_records.specs.BtfType.{record_of};
+ghost use Rattle.btf_records.specs.BtfType.{record_of, type_kind};
 ghost use Rattle.btf_table.specs.Extent.{extent_of};
 
-use btf_plain::BtfError;
+use btf_plain::{BtfError, BtfKind};
 use btf_records::BtfType;
 
 /// The number of types, or of pairs of types, that a walk looks at.
@@ -50,14 +51,12 @@ fn resolve_on(types: &[BtfType], type_id: u32) -> Result<u32, BtfError>
 fn modified(btf_type: &BtfType) -> Option<u32>
     ensures { result ≡ modified_type (record_of btf_type.now) }
 {
-    // The contract speaks of the kind in the info word, which a use of it shows.
-    let _ = btf_type.info();
-    match btf_type {
-        BtfType::Typedef(t) => Some(t.btf_type()),
-        BtfType::Volatile(t) => Some(t.btf_type()),
-        BtfType::Const(t) => Some(t.btf_type()),
-        BtfType::Restrict(t) => Some(t.btf_type()),
-        BtfType::TypeTag(t) => Some(t.btf_type()),
+    match btf_type.kind() {
+        BtfKind::Typedef
+        | BtfKind::Volatile
+        | BtfKind::Const
+        | BtfKind::Restrict
+        | BtfKind::TypeTag => btf_type.btf_type(),
         _ => None,
     }
 }
@@ -100,11 +99,8 @@ fn extent_at(btf_type: &BtfType) -> Extent
     ensures { extent_of result ≡ model.extent (kind_of (record_of btf_type.now).info)
         (record_of btf_type.now) }
 {
-    // The contract speaks of the kind in the info word, which a use of it shows.
-    let _ = btf_type.info();
-    if let BtfType::Array(t) = btf_type {
-        let array = t.array();
-        return Extent::Times(array.len, array.element_type);
+    if btf_type.kind() == BtfKind::Array {
+        return array_extent(btf_type);
     }
     if let Some(bytes) = btf_type.size() {
         return Extent::Bytes(bytes);
@@ -112,6 +108,20 @@ fn extent_at(btf_type: &BtfType) -> Extent
     match btf_type.btf_type() {
         Some(next) => Extent::Times(1, next),
         None => Extent::Nothing,
+    }
+}
+
+/// What an ARRAY says of its size.
+fn array_extent(btf_type: &BtfType) -> Extent
+    ensures { type_kind btf_type.now ≡ kinds.Array
+        → extent_of result ≡ model.extent (Some kinds.Array) (record_of btf_type.now) }
+{
+    match btf_type {
+        BtfType::Array(t) => {
+            let array = t.array();
+            Extent::Times(array.len, array.element_type)
+        }
+        _ => Extent::Nothing,
     }
 }
 

@@ -14,7 +14,7 @@ pub returns : goal.returns
 returns g c =
     let held = g.W.Write.contents in
     let r = record_of c.args.btf_type.now in
-    let named : kind_text (kind c.kind-kind.result) ≡ kind_part (kind_of r.info) = ap kind_text c.kind-kind.ensures ∙ sym (ap kind_part c.info.ensures.kind) ∙ ap (λ (info : ℕ). kind_part (kind_of info)) c.info.ensures.value in
+    let named : kind_text (kind c.kind-kind.result) ≡ kind_part (kind_of r.info) = ap kind_text c.kind-kind.ensures.value ∙ sym (ap kind_part c.kind-kind.ensures.info) in
     let head : List ℕ = decimal c.args.id ++ codes " " ++ kind_part (kind_of r.info) in
     let name : List ℕ = name_part (text_at c.args.table.now.strings r.name) in
     let written = kind_text (kind c.kind-kind.result) in

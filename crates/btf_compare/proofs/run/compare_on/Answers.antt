@@ -32,7 +32,7 @@ first_told g local target root result begun now h before began = told_on local t
 pub returns-in_err-insert : goal.returns-in_err-insert
 returns-in_err-insert g c =
     first_told g c.args.local.now c.args.target.now c.args.first.pair c.from_residual.result c.args.starts.now c.args.starts.now
-    (root_no_memory c.args.local.now c.args.target.now c.args.first.pair (told g c.args.first.pair c.args.starts.now c.args.starts.now) c.requires.begins (λ before began. began) c.allocator_of.ensures c.allocator_of-2.ensures c.from_residual.result
+    (root_no_memory c.args.local.now c.args.target.now c.args.first.pair (told g c.args.first.pair c.args.starts.now c.args.starts.now) c.requires.begins (λ before began. began) c.allocator_of.ensures c.requires.kinds c.from_residual.result
     (handed c.from_residual.result OutOfMemory c.from_residual.ensures.1))
 
 -- before its first step
@@ -125,7 +125,7 @@ returns-in_err-pass g c =
     first_told g c.args.local.now c.args.target.now c.args.first.pair _ c.args.starts.now _
     (
     no_memory c.args.local.now c.args.target.now (pair_of c.args.first.pair) (opened_in c.steps.run.seen) (settled_in c.steps.run.seen) (frame_of c.steps.top) (stack_of c.steps.run.below.items) (count c.steps.run.seen) (told g c.args.first.pair c.args.starts.now c.steps.starts) c.steps.invariant.0
-    c.allocator_of.ensures c.allocator_of-2.ensures c.from_residual-in_err-pass.result (handed c.from_residual-in_err-pass.result OutOfMemory c.from_residual-in_err-pass.ensures.1)
+    c.allocator_of.ensures c.requires.kinds c.from_residual-in_err-pass.result (handed c.from_residual-in_err-pass.result OutOfMemory c.from_residual-in_err-pass.ensures.1)
     )
 
 -- no parameter is left
@@ -235,7 +235,7 @@ returns-in_err-end g c =
       | inl refused ↦
           told_on c.args.local.now c.args.target.now (pair_of c.args.first.pair) result (told g c.args.first.pair c.args.starts.now c.steps.starts) (told g c.args.first.pair c.args.starts.now c.start.new.starts) (λ ids h before began. refused.1 before ids (h before began))
           (is_refused c.args.local.now c.args.target.now (pair_of c.args.first.pair) (opened_in c.steps.run.seen) (settled_in c.steps.run.seen) (frame_of c.steps.top) (stack_of c.steps.run.below.items) (count c.steps.run.seen) (told g c.args.first.pair c.args.starts.now c.steps.starts) c.steps.invariant.0
-          (pair_of c.in-Some-2.pair) (frame_of c.pay.new.self) (waits_for c.args.local.now c.args.target.now c.steps.top c.pay.new.self c.in-Owes.found c.in_ok-pair.field-0 c.in-Some-2.pair c.in-Some-2.is c.in_ok-pair.ensures.next) (ap tells_open (unknown_if c.in-Some-2.pair.0 (known c.steps.run.seen c.in-Some-2.pair) (sym c.in_ok-is_settled.ensures ∙ ap (λ (b : Bool). Ok b) c.if-branch.false))) (ap tells_settled (unknown_if c.in-Some-2.pair.0 (known c.steps.run.seen c.in-Some-2.pair) (sym c.in_ok-is_settled.ensures ∙ ap (λ (b : Bool). Ok b) c.if-branch.false))) c.allocator_of.ensures c.allocator_of-2.ensures
+          (pair_of c.in-Some-2.pair) (frame_of c.pay.new.self) (waits_for c.args.local.now c.args.target.now c.steps.top c.pay.new.self c.in-Owes.found c.in_ok-pair.field-0 c.in-Some-2.pair c.in-Some-2.is c.in_ok-pair.ensures.next) (ap tells_open (unknown_if c.in-Some-2.pair.0 (known c.steps.run.seen c.in-Some-2.pair) (sym c.in_ok-is_settled.ensures ∙ ap (λ (b : Bool). Ok b) c.if-branch.false))) (ap tells_settled (unknown_if c.in-Some-2.pair.0 (known c.steps.run.seen c.in-Some-2.pair) (sym c.in_ok-is_settled.ensures ∙ ap (λ (b : Bool). Ok b) c.if-branch.false))) c.allocator_of.ensures c.requires.kinds
           c.in_err-end.field-0.0 result refused.0 is)
       | inr walked ↦
           let w = walked_unless_false c.args.local.now c.args.target.now (passed_in c.steps.run.passed) (pair_of c.in-Some-2.pair) c.start.new.frame (Err c.in_err-end.field-0.0) refl walked.0 in
@@ -297,7 +297,7 @@ returns-in_err-push-in-Owes-end g c =
     let w = walked_unless_false c.args.local.now c.args.target.now (passed_in c.steps.run.passed) (pair_of c.in-Some-2.pair) c.start.new.frame (Ok (Owes c.in-Owes-end.inside)) refl (subst (λ (p : Place). HasStarted c.args.local.now c.args.target.now (passed_in c.steps.run.passed) (pair_of c.in-Some-2.pair) c.start.new.frame (Ok p)) is h.0) in
     let inner = above g s (Ok (Owes c.in-Owes-end.inside)) w (λ ids told before began. h.3 before ids (told before began)) in
     first_told g c.args.local.now c.args.target.now c.args.first.pair _ c.args.starts.now _
-    (inner_no_memory inner c.allocator_of.ensures c.allocator_of-2.ensures c.from_residual-in_err-push-in-Owes-end.result
+    (inner_no_memory inner c.allocator_of.ensures c.requires.kinds c.from_residual-in_err-push-in-Owes-end.result
     (handed c.from_residual-in_err-push-in-Owes-end.result OutOfMemory c.from_residual-in_err-push-in-Owes-end.ensures.1))
 
 pub steps-smaller : goal.steps-smaller

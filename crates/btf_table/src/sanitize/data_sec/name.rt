@@ -1,12 +1,12 @@
 //! The names that DATASECs get in a rewrite.
 
-ghost use Rattle.std.specs.Prelude.{◌≡◌, ◌↔◌, [], ◌∷◌, if◌then◌else◌, Some, IfOk, OnOk, IsTrue, string_bytes};
+ghost use Rattle.std.specs.Prelude.{◌≡◌, ◌↔◌, [], ◌∷◌, Some, OnOk, IsTrue};
 ghost use Rattle.std.specs.BTreeMap.{get};
 ghost use Rattle.std.specs.Ordering.{nat_cmp};
 ghost use Rattle.btf_rewrite_model.specs.declared.feature.BtfFeature.TheVariants as features;
 ghost use Rattle.btf_model.specs.Text.{text_at};
 ghost use Rattle.btf_rewrite_model.specs.Checks.{first_fault, is_read, have_room};
-ghost use Rattle.btf_rewrite_model.specs.Pass.{Pass, has, renaming, replaced, slash, dot, underscore};
+ghost use Rattle.btf_rewrite_model.specs.Pass.{Pass, has, renaming};
 ghost use Rattle.btf_rewrite_model.specs.Rule.{name_or};
 ghost use Rattle.btf_words.specs.Error.{IsOrNoMemory};
 ghost use Rattle.btf_table.specs.Adding.{strings_end, HasRoom, Adds};
@@ -18,7 +18,6 @@ use crate::table::{Btf, Changes};
 use btf_plain::BtfError;
 use btf_records::DataSec;
 use btf_rules::section_name;
-use std::alloc::{AllocError, Global};
 use std::collections::BTreeMap;
 
 /// Whether a DATASEC is known to keep the name at this offset, where the kernel takes DATASECs or takes none.

@@ -2,7 +2,7 @@ use Rattle.std.proofs.Common.{Ok, ◌≤◌, arith, List, ℕ, map, length, ◌+
 use Rattle.std.specs.Option.{option_map}
 use Rattle.std.proofs.lemmas.Option.{slice_get-map, slice_get_read}
 use Rattle.std.proofs.lemmas.List.{length-map}
-use Rattle.btf_model.specs.Words.{RelocationSection, Words}
+use Rattle.btf_model.specs.RelocationWords.{RelocationSection, Words}
 use Rattle.btf_words.specs.Error.{MeetsOrNoMemory}
 use Rattle.btf_ext.specs.Relocation.{relocation}
 use Rattle.btf_above.proofs.Finding.{handed, section_error, only_words, all_read, names_more, words_joined, words_passed}

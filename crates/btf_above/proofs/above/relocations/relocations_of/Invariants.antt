@@ -1,5 +1,5 @@
 use Rattle.std.proofs.Common.{◌≡◌, map, take}
-use Rattle.btf_model.specs.Words.{HaveNames, words_named}
+use Rattle.btf_model.specs.RelocationWords.{HaveNames, words_named}
 use Rattle.btf_ext.specs.Relocation.{relocation}
 use Rattle.btf_above.proofs.above.relocations.relocations_of.Given as goal
 

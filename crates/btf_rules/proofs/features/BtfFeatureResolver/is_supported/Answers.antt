@@ -1,6 +1,7 @@
 use Rattle.std.proofs.Common.{◌≡◌, None, List, sym, subst, arith, ◌∙◌}
 use Rattle.btf_rewrite_model.specs.declared.feature.FeatureAnswer.{FeatureAnswer}
-use Rattle.btf_rules.specs.Features.{told, AreDistinct}
+use Rattle.btf_rewrite_model.specs.Feature.{answer_to}
+use Rattle.btf_rules.specs.Features.{AreDistinct}
 use Rattle.btf_rules.proofs.Answered.{has_room, distinct_with}
 use Rattle.btf_rules.proofs.features.BtfFeatureResolver.is_supported.Goals as goal
 
@@ -8,10 +9,10 @@ pub push-requires : goal.push-requires
 push-requires g c = (
   omega arith,
   has_room c.self.inside.answers.items (record { feature = c.args.feature; granted = c.call_mut-granted.result }) c.self.invariant
-      (subst (λ (answers : List FeatureAnswer). told answers c.args.feature ≡ None) c.deref.ensures.0 (sym c.told.ensures ∙ c.in_default.is)),
+      (subst (λ (answers : List FeatureAnswer). answer_to answers c.args.feature ≡ None) c.deref.ensures.0 (sym c.answer_to.ensures ∙ c.in_default.is)),
 )
 
 pub invariant_of-self : goal.invariant_of-self
 invariant_of-self g c =
     subst AreDistinct (sym c.push.ensures.items) (distinct_with c.self.inside.answers.items (record { feature = c.args.feature; granted = c.call_mut-granted.result }) c.self.invariant
-    (subst (λ (answers : List FeatureAnswer). told answers c.args.feature ≡ None) c.deref.ensures.0 (sym c.told.ensures ∙ c.in_default.is)))
+    (subst (λ (answers : List FeatureAnswer). answer_to answers c.args.feature ≡ None) c.deref.ensures.0 (sym c.answer_to.ensures ∙ c.in_default.is)))

@@ -1,5 +1,4 @@
-use Rattle.std.proofs.Common.{sym, ap, ◌∙◌}
-use Rattle.std.specs.Option.{option_map}
+use Rattle.std.proofs.Common.{sym, ◌∙◌}
 use Rattle.btf_table.proofs.PassAsking.{asks_called, asks_next, asks_further, further_none}
 use Rattle.btf_table.proofs.PassOne.{one_asked, one_granted, none_asked}
 use Rattle.btf_table.specs.contracts.sanitize.pass.has_sole_feature.F-FnMut.{words}

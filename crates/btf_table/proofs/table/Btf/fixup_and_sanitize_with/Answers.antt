@@ -1,9 +1,7 @@
-use Rattle.std.proofs.Common.{IfSome, ◌≡◌, Option, None, Some, Ok, Err, List, refl, sym, ap, subst, ◌∙◌}
+use Rattle.std.proofs.Common.{IfSome, ◌≡◌, Option, None, Some, Ok, Err, List, refl, sym, subst, ◌∙◌}
 use Rattle.std.proofs.lemmas.Option.{IfSome_then}
 use Rattle.std.specs.Prelude.{OnOk}
 use Rattle.btf_model.specs.Table.{Table}
-use Rattle.btf_rewrite_model.specs.Ksyms as model
-use Rattle.btf_rewrite_model.specs.Ksyms.{ksyms_table, ksyms_fault}
 use Rattle.btf_rewrite_model.specs.Rewritten.{begun, pass_of}
 use Rattle.btf_words.specs.Error.{refusal_of}
 use Rattle.btf_table.specs.KsymsStep.{ksyms_ids}

@@ -14,4 +14,4 @@ loop-id-preserved c =
     let t : _ = c.index-types-id.result in
     passed_one c.args.strings.now (map record_of types) (kinds.kind c.args.kind) c.args.name.now c.loop-id.id (record_of t) c.loop-id.invariant
     (slice_get-map record_of types c.loop-id.id ∙ ap (option_map record_of) (slice_get_read types (length types) c.loop-id.id t refl c.loop-id-test.true c.index-types-id.is))
-    (subst (λ (same : Bool). IsNamed c.args.strings.now (kinds.kind c.args.kind) c.args.name.now (record_of t) (Ok same)) c.if-branch.false c.in_ok-is_named.ensures)
+    (subst (λ (same : Bool). IsNamed c.args.strings.now (kinds.kind c.args.kind) c.args.name.now (record_of t) (Ok same)) c.if-branch.false c.in_ok-has_kind_and_name.ensures)

@@ -1,0 +1,67 @@
+//! Records of a section: so many of one size, of which the first words are read.
+
+ghost use Rattle.std.specs.Prelude.{◌≡◌, ℕ, ◌*◌, ◌≤◌, List, length, map, IfOk};
+ghost use Rattle.btf_model.specs.Word.{words_at};
+ghost use Rattle.btf_model.specs.Ext.{IsSection, record_words};
+ghost use Rattle.btf_ext.specs.SecInfo.{section_of};
+
+use crate::sections::SecInfo;
+use crate::words::four_words;
+use btf_plain::Endianness;
+use std::alloc::{AllocError, Global};
+
+/// The number of bytes that an instruction has.
+pub const INSTRUCTION_LEN: u32 = 8;
+
+/// A record of which the first words are read.
+pub trait Record: Sized + Drop {
+    /// How many words are read.
+    ghost width: { ℕ };
+
+    /// The words that a record is seen as.
+    ghost words: { Self → List ℕ };
+
+    /// Those words, of the words that are read.
+    ghost read_as: { List ℕ → List ℕ };
+
+    /// The record at the front of bytes.
+    fn read(bytes: &[u8], endianness: Endianness) -> Self
+        requires { 4 * width ≤ length bytes.now }
+        ensures { words result ≡ read_as (words_at endianness width bytes.now) };
+}
+
+/// Four words as they stand.
+impl Record for [u32; 4] {
+    ghost width = { 4 };
+
+    ghost words = { λ words. words };
+
+    ghost read_as = { λ words. words };
+
+    fn read(bytes: &[u8], endianness: Endianness) -> Self {
+        four_words(bytes, endianness)
+    }
+}
+
+/// The records of a section, which have so many bytes each, in a vector of just their number.
+pub fn read_records<T: Record>(
+    alloc: Global,
+    section: &SecInfo<'_>,
+    rec_size: usize,
+    endianness: Endianness,
+) -> Result<Vec<T>, AllocError>
+    requires whole { IsSection rec_size (section_of section.now) }
+    requires wide { 4 * T.width ≤ rec_size }
+    ensures { IfOk result (λ v. map T.words v.items ≡ map T.read_as
+        (record_words endianness rec_size T.width section.now.num_info
+        section.now.bytes.now)) }
+{
+    let mut records = Vec::with_capacity(alloc, section.num_info as usize)?;
+    let mut rest = section.bytes;
+    for _ in 0..section.num_info {
+        let (_, behind) = rest.split_at(rec_size);
+        records.push(T::read(rest, endianness))?;
+        rest = behind;
+    }
+    Ok(records)
+}

@@ -1,0 +1,10 @@
+use Rattle.std.proofs.Common.{length, ap, arith, refl}
+use Rattle.btf_model.specs.Record.{vlen}
+use Rattle.btf_items.specs.Items.{param_words}
+use Rattle.btf_items.specs.ItemList.{items_of}
+use Rattle.btf_items.proofs.Lists.{length-items}
+use Rattle.btf_records.proofs.records.func_proto.FuncProto.info.Goals as goal
+
+pub returns-clause-tail : goal.returns-clause-tail
+returns-clause-tail c =
+    omega (arith, length-items 2 param_words (λ _. refl) (items_of c.self.inside.params), c.self.invariant.1, ap (λ r. length r.tail) c.self.view_is, ap (λ r. vlen r.info) c.self.view_is)
