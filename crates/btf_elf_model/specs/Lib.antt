@@ -1,0 +1,6 @@
+pub mod Header
+pub mod Section
+pub mod Symbols
+pub mod Object
+pub mod Laws
+pub mod Examples
