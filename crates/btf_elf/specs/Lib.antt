@@ -1,0 +1,4 @@
+pub mod Results
+pub mod Table
+pub mod SymbolTable
+pub mod Whole
