@@ -1,3 +1,4 @@
 pub mod Options
 pub mod Tables
 pub mod Parsing
+pub mod Names

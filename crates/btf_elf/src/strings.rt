@@ -95,7 +95,7 @@ pub fn has_name(strings: &[u8], offset: u32, name: &[u8]) -> bool
     ensures { result ≡ bytes_eq (name_at strings.now offset) name.now }
 {
     let rest = tail(strings, u64::from(offset));
-    let len = rest.len().min(name.len() + 1);
+    let len = (name.len() + 1).min(rest.len());
     before_zero(&rest[..len]) == name
 }
 
