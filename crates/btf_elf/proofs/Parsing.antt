@@ -2,7 +2,7 @@
 use Rattle.std.proofs.Common.{◌≡◌, ◌⊎◌, ◌∙◌, ℕ, List, [], ◌∷◌, Option, None, Some, Result, Ok, Err, refl, sym, ap, subst, inl, inr, map}
 use Rattle.std.specs.Prelude.{IsErrAnd, MatchResult}
 use Rattle.std.proofs.lemmas.Result.{err_from_is_err_and}
-use Rattle.btf_elf_model.specs.Header.{file_header}
+use Rattle.btf_elf_model.specs.Header.{front, file_header}
 use Rattle.btf_elf_model.specs.Section.{section_header, section_count, headers_of, sections_of}
 use Rattle.btf_elf_model.specs.Symbols.{symbol, symbol_table, symbols_of, symbol_names_of}
 use Rattle.btf_elf_model.specs.Object.{Object, IsObject, object_of, first_error, identification_error, header_error, table_error, section_error, name_error, symbol_table_error, symbol_error, parse_error}
@@ -38,8 +38,8 @@ none_comes (o ∷ more) p = ap (λ (x : Option ParseError). first_error (x ∷ m
 -- the errors of bytes whose file header and section headers are these
 abbrev pub errors_of : List ℕ → FileHeader → List SectionHeader → List (Option ParseError)
 errors_of bytes h sections =
-    identification_error bytes
-    ∷ header_error h bytes
+    identification_error (front bytes)
+    ∷ header_error h
     ∷ table_error h bytes
     ∷ section_error h bytes sections
     ∷ name_error (names_of h bytes sections) sections

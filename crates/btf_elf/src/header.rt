@@ -1,7 +1,7 @@
 //! The file header.
 
 ghost use Rattle.std.specs.Prelude.{◌≡◌, ◌≤◌, length, IfOk};
-ghost use Rattle.btf_elf_model.specs.Header.{header_in, file_header, header_len, order_of};
+ghost use Rattle.btf_elf_model.specs.Header.{header_in, file_header, header_len, front, order_of};
 ghost use Rattle.btf_elf_model.specs.Object.{identification_error, header_error};
 ghost use Rattle.btf_elf.specs.Results.{HasError};
 
@@ -15,7 +15,7 @@ pub const HEADER_LEN: usize = 64;
 /// The bytes that each object begins with.
 const MAGIC: [u8; 4] = [0x7f, b'E', b'L', b'F'];
 
-/// The file header at the front of the bytes, in a byte order.
+/// The file header that its bytes spell, in a byte order.
 fn header_in(bytes: &[u8], order: Endianness) -> FileHeader
     requires { header_len ≤ length bytes.now }
     ensures { result ≡ header_in order bytes.now }
@@ -40,42 +40,56 @@ fn header_in(bytes: &[u8], order: Endianness) -> FileHeader
     }
 }
 
-/// The byte order of an object's words. `NotElf`, `UnsupportedClass` and `UnsupportedEncoding`, in this order.
+/// The byte order of an object's words, by its first 64 bytes, or fewer where it has fewer. `NotElf`, `UnsupportedClass`,
+/// `UnsupportedEncoding` and `UnsupportedVersion`, in this order.
 #[tactic(auto, unfolding(btf_elf_model::specs::Object::identification_error))]
-fn identify(bytes: &[u8]) -> Result<Endianness, ParseError>
-    ensures error { HasError result (identification_error bytes.now) }
-    ensures ok { IfOk result (λ order. (order ≡ order_of bytes.now) × (header_len ≤ length bytes.now)) }
+fn identify(front: &[u8]) -> Result<Endianness, ParseError>
+    ensures error { HasError result (identification_error front.now) }
+    ensures ok { IfOk result (λ order. (order ≡ order_of front.now) × (header_len ≤ length front.now)) }
 {
-    if bytes.len() < HEADER_LEN || !bytes.starts_with(&MAGIC) {
+    if front.len() < HEADER_LEN || !front.starts_with(&MAGIC) {
         return Err(ParseError::NotElf);
     }
-    if bytes[4] != 2 {
-        return Err(ParseError::UnsupportedClass { class: bytes[4] });
+    if front[4] != 2 {
+        return Err(ParseError::UnsupportedClass { class: front[4] });
     }
-    match bytes[5] {
-        1 => Ok(Endianness::Little),
-        2 => Ok(Endianness::Big),
-        encoding => Err(ParseError::UnsupportedEncoding { encoding }),
+    let order = match front[5] {
+        1 => Endianness::Little,
+        2 => Endianness::Big,
+        encoding => return Err(ParseError::UnsupportedEncoding { encoding }),
+    };
+    if front[6] != 1 {
+        return Err(ParseError::UnsupportedVersion);
     }
+    Ok(order)
 }
 
-/// The file header at the front of the bytes. `NotElf`, `UnsupportedClass` and `UnsupportedEncoding`, in this order.
+/// The first 64 bytes, or fewer where there are fewer.
+fn front(bytes: &[u8]) -> &[u8]
+    ensures { result.now ≡ front bytes.now }
+{
+    let len = HEADER_LEN.min(bytes.len());
+    &bytes[..len]
+}
+
+/// The file header at the front of the bytes. The errors of the identification: `NotElf`, `UnsupportedClass`,
+/// `UnsupportedEncoding` and `UnsupportedVersion`, in this order.
 #[tactic(auto, unfolding(btf_elf_model::specs::Header::file_header))]
 pub fn read_header(bytes: &[u8]) -> Result<FileHeader, ParseError>
-    ensures error { HasError result (identification_error bytes.now) }
-    ensures ok { IfOk result (λ h. (h ≡ file_header bytes.now) × (header_len ≤ length bytes.now)) }
+    ensures error { HasError result (identification_error (front bytes.now)) }
+    ensures ok { IfOk result (λ h. h ≡ file_header bytes.now) }
 {
-    let order = identify(bytes)?;
-    Ok(header_in(bytes, order))
+    let front = front(bytes);
+    let order = identify(front)?;
+    Ok(header_in(front, order))
 }
 
 /// Checks the other words of a file header. `UnsupportedVersion` and `BadHeaderSize`, in this order.
 #[tactic(auto, unfolding(btf_elf_model::specs::Object::header_error))]
-pub fn check_header(header: &FileHeader, bytes: &[u8]) -> Result<(), ParseError>
-    requires { header_len ≤ length bytes.now }
-    ensures { HasError result (header_error header.now bytes.now) }
+pub fn check_header(header: &FileHeader) -> Result<(), ParseError>
+    ensures { HasError result (header_error header.now) }
 {
-    if bytes[6] != 1 || header.version != 1 {
+    if header.version != 1 {
         return Err(ParseError::UnsupportedVersion);
     }
     let has_sections = header.section_headers != 0;

@@ -47,7 +47,7 @@ impl<'a> Object<'a> {
         ensures { MatchResult result (model.IsObject bytes.now) (IsReason bytes.now) }
     {
         let header = read_header(bytes)?;
-        check_header(&header, bytes)?;
+        check_header(&header)?;
         let table = section_table(bytes, &header)?;
         let sections = read_sections(alloc, table, header.order)?;
         let headers = sections.as_slice();

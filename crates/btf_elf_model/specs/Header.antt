@@ -1,6 +1,6 @@
 -- The file header, and words of 64 bits.
 -- Source: ELF gABI, chapter 4 "Object Files", "ELF Header" and "ELF Identification", the 64-bit structures.
-use Rattle.std.specs.Prelude.{ℕ, ◌==◌, List, [], ◌∷◌, slice_index, if◌then◌else◌}
+use Rattle.std.specs.Prelude.{ℕ, ◌==◌, List, [], ◌∷◌, take, slice_index, if◌then◌else◌}
 use Rattle.std.specs.Int.{w64}
 use Rattle.btf_model.specs.Word.{number_of, half_of}
 use Rattle.btf_model.specs.Blob.{slice, word_at}
@@ -61,6 +61,10 @@ header_in order bytes = record {
   section_names = half_at order 62 bytes;
 }
 
+-- the first 64 bytes
+abbrev pub front : List ℕ → List ℕ
+front bytes = take header_len bytes
+
 -- the file header that bytes begin with, in their own byte order
 unfoldable pub file_header : List ℕ → FileHeader
-file_header bytes = header_in (order_of bytes) bytes
+file_header bytes = header_in (order_of (front bytes)) (front bytes)

@@ -4,7 +4,7 @@
 use Rattle.std.specs.Prelude.{◌≡◌, ℕ, ◌==◌, ◌||◌, ◌&&◌, not, nat_eq, nat_lt, Bool, List, [], ◌∷◌, length, map, position, if◌then◌else◌, Option, Some, None, is_none, option_map, unwrap_or}
 use Rattle.std.specs.List.{starts_with}
 use Rattle.std.specs.Option.{option_and_then}
-use Rattle.btf_elf_model.specs.Header.{magic, header_len, class_of, encoding_of, identification_version, file_header}
+use Rattle.btf_elf_model.specs.Header.{magic, header_len, class_of, encoding_of, identification_version, front, file_header}
 use Rattle.btf_elf_model.specs.Section.{section_count, table_end, sections_of, contents, is_past_end, is_over_headers, is_name, name_at, string_table, names_index}
 use Rattle.btf_elf_model.specs.Symbols.{is_symbol_table, symbol_table, is_malformed, symbols_of, symbol_names_of}
 use Rattle.btf_elf_model.specs.declared.file_header.FileHeader.{FileHeader}
@@ -59,15 +59,21 @@ first_error [] = None
 first_error (Some e ∷ more) = Some e
 first_error (None ∷ more) = first_error more
 
--- The first error of the file header.
-unfoldable pub header_error : List ℕ → Option ParseError
-header_error bytes = let h = file_header bytes in first_error (
-    when (nat_lt (length bytes) header_len || not (starts_with nat_eq bytes magic)) NotElf
-    ∷ when (not (class_of bytes == 2)) (UnsupportedClass (class_of bytes))
-    ∷ when (not (encoding_of bytes == 1) && not (encoding_of bytes == 2)) (UnsupportedEncoding (encoding_of bytes))
-    ∷ when (not (identification_version bytes == 1) || not (h.version == 1)) UnsupportedVersion
+-- The first error of the identification, by which the other words are read, in the first 64 bytes.
+unfoldable pub identification_error : List ℕ → Option ParseError
+identification_error header = first_error (
+    when (nat_lt (length header) header_len || not (starts_with nat_eq header magic)) NotElf
+    ∷ when (not (class_of header == 2)) (UnsupportedClass (class_of header))
+    ∷ when (not (encoding_of header == 1) && not (encoding_of header == 2)) (UnsupportedEncoding (encoding_of header))
+    ∷ when (not (identification_version header == 1)) UnsupportedVersion
+    ∷ [])
+
+-- The first error of the other words of the file header.
+unfoldable pub header_error : FileHeader → Option ParseError
+header_error h = first_error (
+    when (not (h.version == 1)) UnsupportedVersion
     ∷ when (not (h.header_size == 64) || (not (h.section_headers == 0) && not (h.section_header_size == 64)))
-    BadHeaderSize
+        BadHeaderSize
     ∷ [])
 
 -- The table of section headers begins in the file header, or ends past the end.
@@ -78,31 +84,40 @@ table_error h bytes =
     SectionTableOutOfRange
 
 -- The first section that ends past the end, or else the first that overlaps a header.
-unfoldable pub section_error : Object → Option ParseError
-section_error o = first_error (
-    option_map SectionOutOfRange (position (is_past_end (length o.bytes)) o.sections)
-    ∷ option_map SectionOverHeaders
-    (position (is_over_headers o.header.section_headers (table_end o.header o.bytes)) o.sections)
+unfoldable pub section_error : FileHeader → List ℕ → List SectionHeader → Option ParseError
+section_error h bytes sections = first_error (
+    option_map SectionOutOfRange (position (is_past_end (length bytes)) sections)
+    ∷ option_map SectionOverHeaders (position (is_over_headers h.section_headers (table_end h bytes)) sections)
     ∷ [])
 
 -- There is no table of section names, or else the first section whose name does not begin in it.
-unfoldable pub name_error : Object → Option ParseError
-name_error o = first_error (
-    when (is_none (name_table o)) BadNameTable
-    ∷ option_map BadSectionName (position (λ s. not (is_name (unwrap_or (name_table o) []) s.name)) o.sections)
+unfoldable pub name_error : Option (List ℕ) → List SectionHeader → Option ParseError
+name_error names sections = first_error (
+    when (is_none names) BadNameTable
+    ∷ option_map BadSectionName (position (λ s. not (is_name (unwrap_or names []) s.name)) sections)
     ∷ [])
 
--- The symbol table is malformed, or else the first symbol whose name does not begin in its string table.
-unfoldable pub symbol_error : Object → Option ParseError
-symbol_error o = first_error (
-    option_and_then (λ s. when (is_malformed o.bytes o.sections s) BadSymbolTable) (symbol_table o.sections)
-    ∷ option_map BadSymbolName (position (λ s. not (is_name (symbol_names o) s.name)) (symbols o))
-    ∷ [])
+-- The symbol table is malformed.
+unfoldable pub symbol_table_error : List ℕ → List SectionHeader → Option ParseError
+symbol_table_error bytes sections =
+    option_and_then (λ s. when (is_malformed bytes sections s) BadSymbolTable) (symbol_table sections)
+
+-- The first symbol whose name does not begin in the string table.
+unfoldable pub symbol_error : List ℕ → List Symbol → Option ParseError
+symbol_error names symbols = option_map BadSymbolName (position (λ s. not (is_name names s.name)) symbols)
 
 -- The first error of bytes; none where they are an object.
 unfoldable pub parse_error : List ℕ → Option ParseError
 parse_error bytes = let o = object_of bytes in
-    first_error (header_error bytes ∷ table_error o.header bytes ∷ section_error o ∷ name_error o ∷ symbol_error o ∷ [])
+    first_error (
+        identification_error (front bytes)
+        ∷ header_error o.header
+        ∷ table_error o.header bytes
+        ∷ section_error o.header bytes o.sections
+        ∷ name_error (name_table o) o.sections
+        ∷ symbol_table_error bytes o.sections
+        ∷ symbol_error (symbol_names o) (symbols o)
+        ∷ [])
 
 -- The bytes are this object: they have no error, and the object is what they say.
 pub record IsObject (bytes : List ℕ) (o : Object) : Type 0 where

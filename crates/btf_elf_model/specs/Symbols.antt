@@ -1,7 +1,7 @@
 -- Symbols.
 -- Source: ELF gABI, chapter 4, "Symbol Table": an object has one section of type SHT_SYMTAB at most, whose sh_link is the
 -- index of its string table. Where there are more, the first counts: a choice of this project.
-use Rattle.std.specs.Prelude.{ℕ, ◌/◌, ◌%◌, ◌==◌, ◌||◌, not, List, [], map, find, slice_index, Option, Some, None, is_none, unwrap_or, Bool}
+use Rattle.std.specs.Prelude.{ℕ, ◌/◌, ◌%◌, ◌==◌, ◌||◌, not, List, [], length, map, find, slice_index, Option, Some, None, is_none, unwrap_or, Bool}
 use Rattle.std.specs.Simd.{first_chunks}
 use Rattle.btf_model.specs.Blob.{word_at}
 use Rattle.btf_model.specs.declared.endianness.Endianness.{Endianness}
@@ -26,10 +26,6 @@ symbol order entry = record {
   size = xword_at order 16 entry;
 }
 
--- the symbols that bytes spell, one after another
-abbrev pub symbols_in : Endianness → ℕ → List ℕ → List Symbol
-symbols_in order count bytes = map (symbol order) (first_chunks symbol_len count bytes)
-
 -- The section is a symbol table.
 abbrev pub is_symbol_table : SectionHeader → Bool
 is_symbol_table s = s.kind == sht_symtab
@@ -41,12 +37,18 @@ symbol_table sections = find is_symbol_table sections
 -- A symbol table is malformed: its entries have another size than 24, the last is cut, or it has no string table.
 unfoldable pub is_malformed : List ℕ → List SectionHeader → SectionHeader → Bool
 is_malformed bytes sections s =
-    not (s.entry_size == symbol_len) || not (s.size % symbol_len == 0) || is_none (string_table bytes sections s.link)
+    not (s.entry_size == symbol_len) || not (length (contents bytes s) % symbol_len == 0)
+    || is_none (string_table bytes sections s.link)
 
--- the symbols of a symbol table; none without one
-unfoldable pub symbols_of : Endianness → List ℕ → Option SectionHeader → List Symbol
-symbols_of order bytes None = []
-symbols_of order bytes (Some s) = symbols_in order (s.size / symbol_len) (contents bytes s)
+-- the bytes of each symbol of a symbol table; none without one
+unfoldable pub symbol_entries : List ℕ → Option SectionHeader → List (List ℕ)
+symbol_entries bytes None = []
+symbol_entries bytes (Some s) = let entries = contents bytes s in
+    first_chunks symbol_len (length entries / symbol_len) entries
+
+-- the symbols of a symbol table
+abbrev pub symbols_of : Endianness → List ℕ → Option SectionHeader → List Symbol
+symbols_of order bytes table = map (symbol order) (symbol_entries bytes table)
 
 -- the string table of a symbol table; an empty one without one
 unfoldable pub symbol_names_of : List ℕ → List SectionHeader → Option SectionHeader → List ℕ
