@@ -31,7 +31,7 @@ first_comes [] e h = absurd h
 first_comes (o ∷ more) e (inl is) = ap (λ (x : Option ParseError). first_error (x ∷ more)) is
 first_comes (o ∷ more) e (inr p) = ap (λ (x : Option ParseError). first_error (x ∷ more)) p.0 ∙ first_comes more e p.1
 
-none_comes : (errors : List (Option ParseError)) → NoneComes errors → first_error errors ≡ None
+pub none_comes : (errors : List (Option ParseError)) → NoneComes errors → first_error errors ≡ None
 none_comes [] h = refl
 none_comes (o ∷ more) p = ap (λ (x : Option ParseError). first_error (x ∷ more)) p.0 ∙ none_comes more p.1
 
@@ -47,7 +47,7 @@ errors_of bytes h sections =
     ∷ symbol_error (symbol_names_of bytes sections (symbol_table sections)) (symbols_of h.order bytes (symbol_table sections))
     ∷ []
 
-by_parts : (bytes : List ℕ) (h : FileHeader) (sections : List SectionHeader) → h ≡ file_header bytes → sections ≡ sections_of bytes
+pub by_parts : (bytes : List ℕ) (h : FileHeader) (sections : List SectionHeader) → h ≡ file_header bytes → sections ≡ sections_of bytes
     → first_error (errors_of bytes h sections) ≡ parse_error bytes
 unfolding parse_error
 by_parts bytes h sections p q =

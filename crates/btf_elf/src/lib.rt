@@ -7,6 +7,7 @@
 mod error;
 mod header;
 mod object;
+mod replace;
 mod section;
 mod strings;
 mod symbols;

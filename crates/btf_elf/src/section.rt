@@ -8,7 +8,7 @@ ghost use Rattle.btf_elf.specs.Results.{HasError};
 use btf_elf_model::{FileHeader, ParseError, SectionHeader};
 
 /// Whether the file has bytes of a section.
-fn has_bytes(section: &SectionHeader) -> bool
+pub fn has_bytes(section: &SectionHeader) -> bool
     ensures { result ≡ has_bytes section.now }
 {
     section.kind != SectionHeader::NULL && section.kind != SectionHeader::NOBITS
