@@ -10,7 +10,7 @@ use Rattle.std.proofs.lemmas.List.Recursion.{found_set_other}
 use Rattle.std.proofs.lemmas.Option.{slice_get_past, slice_get-get_or, slice_get_within, get_or_from_slice_get}
 use Rattle.btf_model.specs.Word.{bytes_of}
 use Rattle.btf_model.specs.Blob.{slice}
-use Rattle.btf_elf_model.specs.Header.{front, file_header}
+use Rattle.btf_elf_model.specs.Header.{header_len, front, file_header}
 use Rattle.btf_elf_model.specs.Section.{section_count, table_end, sections_of, has_bytes, contents, is_past_end, is_over_headers, is_string_table, is_name, strings_in, string_table, link_of_first, names_index, sht_strtab, sht_symtab}
 use Rattle.btf_elf_model.specs.Symbols.{symbol, symbol_len, is_symbol_table, symbol_table, is_malformed, symbol_entries, symbols_of, symbol_names_of}
 use Rattle.btf_elf_model.specs.Object.{Object, IsObject, object_of, section_bytes, parse_error, first_error, identification_error, table_error, name_error, symbol_table_error, symbol_error, when}
@@ -21,7 +21,7 @@ use Rattle.btf_elf_model.specs.declared.symbol.Symbol.{Symbol}
 use Rattle.btf_elf_model.specs.declared.error.ParseError.{ParseError}
 use Rattle.btf_elf_model.specs.declared.error.ParseError.TheVariants.{BadNameTable, BadSectionName, BadSymbolTable}
 use Rattle.btf_elf.specs.Table.{names_of}
-use Rattle.btf_elf.specs.Writing.{put}
+use Rattle.btf_elf.specs.Writing.{rewritten, HasReplaced}
 use Rattle.btf_elf.proofs.Parsing.{NoneComes, none_comes, errors_of, by_parts}
 use Rattle.btf_elf.proofs.Placing.{none_passes, position-none, past_not, not_past, over_not}
 use Rattle.btf_elf.proofs.Entries.{found_at, slice_get-set_other, slice_get-set_same}
@@ -216,3 +216,44 @@ module _ (bytes : List ℕ) (index : ℕ) (s : SectionHeader) (given new : List 
     file_len = written.length-new bytes index s given new w;
     bytes = written.keeps bytes index s given new w;
   }
+
+-- These bytes were made of an object, with other bytes in the section of an index.
+pub record IsRewrite (o : Object) (index : ℕ) (s : SectionHeader) (given file : List ℕ) : Type 0 where
+  pub valid : IsObject o.bytes o
+  pub section : slice_get o.sections index ≡ Some s
+  pub replaceable : is_replaceable index s ≡ true
+  pub end : place o index s (length given) + length given < 2 ^ 64
+  pub file_is : file ≡ rewritten o.header o.bytes index (place o index s (length given)) given
+
+written_of : (bytes : List ℕ) (index : ℕ) (s : SectionHeader) (given file : List ℕ) → IsRewrite (object_of bytes) index s given file → IsWritten bytes index s given file
+written_of bytes index s given file r = record {
+  no_error = r.valid.no_error;
+  within = slice_get_within (sections_of bytes) index s r.section;
+  header = get_or_from_slice_get (sections_of bytes) index s s r.section;
+  replaceable = r.replaceable;
+  spare = max (length bytes) (place (object_of bytes) index s (length given) + length given) - length bytes;
+  room = omega arith;
+  small = omega (arith, r.end);
+  short = omega (arith, r.end);
+  new_is = r.file_is;
+}
+
+pub has_replaced : (o : Object) (index : ℕ) (s : SectionHeader) (given file : List ℕ) → IsRewrite o index s given file → HasReplaced o index given file
+has_replaced o index s given file r =
+    let same : o ≡ object_of o.bytes = r.valid.object in
+    let at = subst (λ (x : Object). IsRewrite x index s given file) same r in
+    let w = written_of o.bytes index s given file at in
+    subst (λ (x : Object). HasReplaced x index given file) (sym same)
+        (s, at.section, (new_object o.bytes index s given file w, is_object o.bytes index s given file w, replaces o.bytes index s given file w))
+
+-- the header of a section is in the file
+pub header_within : (o : Object) (index : ℕ) (s : SectionHeader) → IsObject o.bytes o → slice_get o.sections index ≡ Some s
+    → o.header.section_headers + header_len * index + 40 ≤ length o.bytes
+header_within o index s valid is =
+    let h = file_header o.bytes in
+    let lt = slice_get_within o.sections index s is in
+    let sections : length o.sections ≡ length (sections_of o.bytes) = ap (λ (x : Object). length x.sections) valid.object in
+    let count = written.length-sections o.bytes in
+    let fits = written.table_fits h o.bytes (no_errors o.bytes valid.no_error).1.1.0 (omega (arith, lt, sections, count)) in
+    let place : o.header.section_headers ≡ h.section_headers = ap (λ (x : Object). x.header.section_headers) valid.object in
+    omega (arith, lt, sections, count, fits.within, place)

@@ -2,6 +2,7 @@
 
 ghost use Rattle.std.specs.Prelude.{◌≡◌};
 ghost use Rattle.btf_elf.specs.declared.error.ObjectError.TheVariants.{Parse, OutOfMemory};
+ghost use Rattle.btf_elf.specs.declared.error.ReplaceError.TheVariants.{OutOfMemory as ReplaceOutOfMemory};
 
 use btf_elf_model::ParseError;
 use std::alloc::{AllocError, AllocFailed};
@@ -40,5 +41,36 @@ impl<T: Drop> From<AllocFailed<T>> for ObjectError {
 
     fn from(_e: AllocFailed<T>) -> ObjectError {
         ObjectError::OutOfMemory
+    }
+}
+
+/// Why the bytes of a section are not replaced.
+#[derive(Clone, Copy, Debug, PartialEq, Eq, Error)]
+pub enum ReplaceError {
+    /// There are fewer sections.
+    #[error("there is no section {index}")]
+    NoSuchSection {
+        /// The index that was asked for.
+        index: usize,
+    },
+
+    /// The section is section 0, or has type `SHT_NULL`, `SHT_NOBITS`, `SHT_STRTAB` or `SHT_SYMTAB`: it has no bytes in
+    /// the file, or the names of sections and the symbols depend on them.
+    #[error("the bytes of section {index} can't be replaced")]
+    NotReplaceable {
+        /// The index of the section.
+        index: usize,
+    },
+
+    /// An allocation failed, or the new file has more bytes than an allocation can have.
+    #[error("out of memory")]
+    OutOfMemory,
+}
+
+impl From<AllocError> for ReplaceError {
+    ghost from_gives = { λ _ f. f ≡ ReplaceOutOfMemory };
+
+    fn from(_e: AllocError) -> ReplaceError {
+        ReplaceError::OutOfMemory
     }
 }

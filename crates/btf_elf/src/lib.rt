@@ -16,5 +16,5 @@ mod words;
 
 pub use btf_elf_model::{FileHeader, ParseError, SectionHeader, Symbol};
 pub use btf_model::Endianness;
-pub use error::ObjectError;
+pub use error::{ObjectError, ReplaceError};
 pub use object::Object;

@@ -1,13 +1,16 @@
 //! Objects.
 
-ghost use Rattle.std.specs.Prelude.{◌≡◌, slice_get, position, MatchResult, length};
+ghost use Rattle.std.specs.Prelude.{◌≡◌, ◌⊎◌, ◌<◌, true, Some, IsSome, IfOk, IfErr, IsErrAnd, slice_get, position, MatchResult, length};
 ghost use Rattle.std.specs.Option.{option_copied};
 ghost use Rattle.std.specs.Str.{bytes_eq};
 ghost use Rattle.btf_elf_model.specs.Object as model;
+ghost use Rattle.btf_elf_model.specs.Replaced.{is_replaceable, place};
 ghost use Rattle.btf_elf.specs.Results.{IsReason};
+ghost use Rattle.btf_elf.specs.Writing.{replace_error, HasReplaced};
 
-use crate::error::ObjectError;
+use crate::error::{ObjectError, ReplaceError};
 use crate::header::{check_header, read_header};
+use crate::replace::{aligned_end, fits, is_replaceable, rewritten};
 use crate::section::{check_sections, contents};
 use crate::strings::{has_name, name_at, read_names};
 use crate::symbols::{SymbolTable, check_symbols, read_symbols, symbol};
@@ -131,5 +134,61 @@ impl<'a> Object<'a> {
         ensures { result.now ≡ model.symbol_name self.now symbol.now }
     {
         name_at(self.symbols.names, symbol.name)
+    }
+
+    /// The header of a section whose bytes can be replaced.
+    fn replaceable(&self, index: usize) -> Result<SectionHeader, ReplaceError>
+        ensures { MatchResult result
+            (λ s. (slice_get self.now.sections index ≡ Some s) × (is_replaceable index s ≡ true))
+            (λ e. replace_error self.now index ≡ Some e) }
+    {
+        let Some(section) = self.sections.get(index) else {
+            return Err(ReplaceError::NoSuchSection { index });
+        };
+        if !is_replaceable(index, section) {
+            return Err(ReplaceError::NotReplaceable { index });
+        }
+        Ok(*section)
+    }
+
+    /// Where so many bytes of a section are put: in its place if they fit there, else at the end of the file, aligned.
+    #[tactic(auto, unfolding(btf_elf_model::specs::Replaced::place))]
+    fn place(&self, index: usize, section: &SectionHeader, len: u64) -> u64
+        requires { index < length self.now.sections }
+        ensures { result ≡ place self.now index section.now len }
+    {
+        if fits(self.sections.as_slice(), index, section, len) {
+            section.offset
+        } else {
+            aligned_end(self.bytes.len(), section)
+        }
+    }
+
+    /// The file with other bytes in a section: in its place where they are no more than the section has and no other
+    /// section shares them, else at the end of the file, at a multiple of `sh_addralign`, but of 4096 at most. Of the
+    /// header of the section `sh_offset` and `sh_size` change, and nothing else does: the new file is an object, in
+    /// which the section has these bytes, and each other section, the symbols and all names are as they were. Bytes
+    /// that no section has any more stay in the file.
+    ///
+    /// `NoSuchSection`, `NotReplaceable` and `OutOfMemory`, in this order.
+    pub fn with_section(
+        &self,
+        alloc: Global,
+        index: usize,
+        given: &[u8],
+    ) -> Result<Vec<u8>, ReplaceError>
+        ensures ok { IfOk result (λ file. HasReplaced self.now index given.now file.items) }
+        ensures refused { IsSome (replace_error self.now index)
+            → IsErrAnd result (λ e. replace_error self.now index ≡ Some e) }
+        ensures only { IfErr result (λ e. (replace_error self.now index ≡ Some e)
+            ⊎ (e ≡ ReplaceError.OutOfMemory)) }
+    {
+        let section = self.replaceable(index)?;
+        let offset = self.place(index, &section, given.len() as u64);
+        if offset.checked_add(given.len() as u64).is_none() {
+            return Err(ReplaceError::OutOfMemory);
+        }
+        let file = rewritten(alloc, &self.header, self.bytes, index, offset, given)?;
+        Ok(file)
     }
 }
