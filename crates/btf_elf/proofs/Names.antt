@@ -36,7 +36,7 @@ same_front (x ∷ xs) (c ∷ cs) =
 
 pub has_name_lem : (strings name : List ℕ) (offset : ℕ)
     → bytes_eq (before_first is_zero (take (min (length name + 1) (length (drop offset strings))) (drop offset strings))) name
-        ≡ bytes_eq (name_at strings offset) name
+    ≡ bytes_eq (name_at strings offset) name
 unfolding name_at
 has_name_lem strings name offset =
     let rest = drop offset strings in

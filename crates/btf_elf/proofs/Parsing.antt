@@ -68,7 +68,7 @@ pub refused : (bytes : List ℕ) (h : FileHeader) (sections : List SectionHeader
 refused bytes h sections e r err p q comes =
     let at = err_from_is_err_and r err in
     subst (λ (x : Result Object ObjectError). MatchResult x (IsObject bytes) (IsReason bytes)) (sym (at.1 ∙ ap (λ (x : ObjectError). Err x) at.2))
-        (sym (by_parts bytes h sections p q) ∙ first_comes (errors_of bytes h sections) e comes)
+    (sym (by_parts bytes h sections p q) ∙ first_comes (errors_of bytes h sections) e comes)
 
 -- the bytes are the object, where no error comes
 pub parsed : (bytes : List ℕ) (h : FileHeader) (headers sections : List SectionHeader) → h ≡ file_header bytes → headers ≡ sections_of bytes

@@ -61,23 +61,23 @@ module _ (bytes : List ℕ) (index : ℕ) (s : SectionHeader) (given new : List 
   strings_kept : (i : ℕ) → option_and_then (strings_in new) (slice_get ss' i) ≡ option_and_then (strings_in bytes) (slice_get ss i)
   strings_kept i =
       ⊎_elim
-          (λ same.
-              ap (λ (k : ℕ). option_and_then (strings_in new) (slice_get ss' k)) same
-              ∙ ap (option_and_then (strings_in new)) (slice_get-set_same ss index there w.within)
-              ∙ no_strings new there is_some.2
-              ∙ sym (no_strings bytes s is_some.2)
-              ∙ sym (ap (option_and_then (strings_in bytes)) section_was)
-              ∙ ap (λ (k : ℕ). option_and_then (strings_in bytes) (slice_get ss k)) (sym same))
-          (λ other. ⊎_elim
-              (λ lt.
-                  ap (option_and_then (strings_in new)) (slice_get-set_other ss index i there s other lt)
-                  ∙ ap (λ (ys : List ℕ). if ((get_or ss i s).kind == sht_strtab) && is_string_table ys then Some ys else None) (written.contents_kept bytes index s given new w i s other lt)
-                  ∙ sym (ap (option_and_then (strings_in bytes)) (slice_get-get_or ss i s lt)))
-              (λ past.
-                  ap (option_and_then (strings_in new)) (slice_get_past ss' i (omega (arith, past, length-set ss index there)))
-                  ∙ sym (ap (option_and_then (strings_in bytes)) (slice_get_past ss i past)))
-              (cases_lt i (length ss)))
-          (cases_eq i index)
+      (λ same.
+      ap (λ (k : ℕ). option_and_then (strings_in new) (slice_get ss' k)) same
+      ∙ ap (option_and_then (strings_in new)) (slice_get-set_same ss index there w.within)
+      ∙ no_strings new there is_some.2
+      ∙ sym (no_strings bytes s is_some.2)
+      ∙ sym (ap (option_and_then (strings_in bytes)) section_was)
+      ∙ ap (λ (k : ℕ). option_and_then (strings_in bytes) (slice_get ss k)) (sym same))
+      (λ other. ⊎_elim
+      (λ lt.
+      ap (option_and_then (strings_in new)) (slice_get-set_other ss index i there s other lt)
+      ∙ ap (λ (ys : List ℕ). if ((get_or ss i s).kind == sht_strtab) && is_string_table ys then Some ys else None) (written.contents_kept bytes index s given new w i s other lt)
+      ∙ sym (ap (option_and_then (strings_in bytes)) (slice_get-get_or ss i s lt)))
+      (λ past.
+      ap (option_and_then (strings_in new)) (slice_get_past ss' i (omega (arith, past, length-set ss index there)))
+      ∙ sym (ap (option_and_then (strings_in bytes)) (slice_get_past ss i past)))
+      (cases_lt i (length ss)))
+      (cases_eq i index)
 
   string_table_kept : (i : ℕ) → string_table new ss' i ≡ string_table bytes ss i
   unfolding string_table
@@ -101,8 +101,8 @@ module _ (bytes : List ℕ) (index : ℕ) (s : SectionHeader) (given new : List 
   table_kept t is =
       let at = found_at is_symbol_table ss t is in
       let other : at.0 ≢ index = λ same.
-          let here : t ≡ s = sym at.2 ∙ ap (λ (k : ℕ). get_or ss k t) same ∙ get_or_default ss index t s w.within ∙ w.header in
-          both_ways (is_symbol_table s) is_some.3 (sym (ap is_symbol_table here) ∙ at.3) in
+      let here : t ≡ s = sym at.2 ∙ ap (λ (k : ℕ). get_or ss k t) same ∙ get_or_default ss index t s w.within ∙ w.header in
+      both_ways (is_symbol_table s) is_some.3 (sym (ap is_symbol_table here) ∙ at.3) in
       subst (λ (x : SectionHeader). contents new x ≡ contents bytes x) at.2 (written.contents_kept bytes index s given new w at.0 t other at.1)
 
   malformed_kept : (o : Option SectionHeader) → symbol_table ss ≡ o
@@ -142,9 +142,9 @@ module _ (bytes : List ℕ) (index : ℕ) (s : SectionHeader) (given new : List 
   each_holds P others this k d lt =
       let within : k < length ss = omega (arith, lt, length-set ss index there) in
       ⊎_elim
-          (λ same. subst (λ (i : ℕ). P (get_or ss' i d)) (sym same) (subst P (sym (get_or-set_same ss index there d w.within)) this))
-          (λ other. subst P (sym (get_or-set_other ss index k there d other)) (others k d other within))
-          (cases_eq k index)
+      (λ same. subst (λ (i : ℕ). P (get_or ss' i d)) (sym same) (subst P (sym (get_or-set_same ss index there d w.within)) this))
+      (λ other. subst P (sym (get_or-set_other ss index k there d other)) (others k d other within))
+      (cases_eq k index)
 
   longer : length bytes ≤ length new
   longer = omega (arith, written.length-new bytes index s given new w)
@@ -165,7 +165,7 @@ module _ (bytes : List ℕ) (index : ℕ) (s : SectionHeader) (given new : List 
         clear = each_holds (λ t. is_over_headers h.section_headers (table_end h new) t ≡ false)
             (λ k d other lt. ap (λ (n : ℕ). is_over_headers h.section_headers n (get_or ss k d)) end ∙ old.clear k d lt)
             (ap (λ (n : ℕ). is_over_headers h.section_headers n there) end
-                ∙ over_not h.section_headers (table_end h bytes) there (written.at_clear bytes index s given new w));
+            ∙ over_not h.section_headers (table_end h bytes) there (written.at_clear bytes index s given new w));
       }
 
   name_error_with : (names : Option (List ℕ)) → name_error names ss ≡ None → name_error names ss' ≡ None
@@ -176,22 +176,35 @@ module _ (bytes : List ℕ) (index : ℕ) (s : SectionHeader) (given new : List 
       let each = none_passes nameless ss s (map_none BadSectionName (position nameless ss) errors.1.0) in
       let all = each_holds (λ t. nameless t ≡ false) (λ k d other lt. ap nameless (get_or_default ss k d s lt) ∙ each k lt) (sym (ap nameless w.header) ∙ each index w.within) in
       none_comes (when (is_none names) BadNameTable ∷ option_map BadSectionName (position nameless ss') ∷ [])
-          (errors.0, (ap (option_map BadSectionName) (position-none nameless ss' s (λ k lt. all k s lt)), tt))
+      (errors.0, (ap (option_map BadSectionName) (position-none nameless ss' s (λ k lt. all k s lt)), tt))
 
   no_error : parse_error new ≡ None
   no_error =
       let old = no_errors bytes w.no_error in
       sym (by_parts new h ss' (sym (written.header_same bytes index s given new w)) (sym (written.sections_same bytes index s given new w)))
-      ∙ none_comes (errors_of new h ss')
-          ( ap identification_error (written.front_same bytes index s given new w) ∙ old.0
-          , ( old.1.0
-          , ( table_error_none
-          , ( fit_sections h new ss' s sections_fit_new
-          , ( name_error_with (names_of h new ss') (ap (λ (names : Option (List ℕ)). name_error names ss) names_kept ∙ old.1.1.1.1.0)
-          , ( symbol_table_error_kept ∙ old.1.1.1.1.1.0
-          , ( ap (λ (names : List ℕ). symbol_error names (symbols_of h.order new (symbol_table ss'))) symbol_names_kept
-              ∙ ap (symbol_error (symbol_names_of bytes ss (symbol_table ss))) symbols_kept ∙ old.1.1.1.1.1.1.0
-          , tt)))))))
+      ∙ none_comes (errors_of new h ss') (
+        ap identification_error (written.front_same bytes index s given new w) ∙ old.0,
+        (
+          old.1.0,
+          (
+            table_error_none,
+            (
+              fit_sections h new ss' s sections_fit_new,
+              (
+                name_error_with (names_of h new ss') (ap (λ (names : Option (List ℕ)). name_error names ss) names_kept ∙ old.1.1.1.1.0),
+                (
+                  symbol_table_error_kept ∙ old.1.1.1.1.1.0,
+                  (
+                    ap (λ (names : List ℕ). symbol_error names (symbols_of h.order new (symbol_table ss'))) symbol_names_kept
+                        ∙ ap (symbol_error (symbol_names_of bytes ss (symbol_table ss))) symbols_kept ∙ old.1.1.1.1.1.1.0,
+                    tt,
+                  ),
+                ),
+              ),
+            ),
+          ),
+        ),
+      )
 
   abbrev pub new_object : Object
   new_object = record { header = h; sections = ss'; bytes = new }
@@ -244,7 +257,7 @@ has_replaced o index s given file r =
     let at = subst (λ (x : Object). IsRewrite x index s given file) same r in
     let w = written_of o.bytes index s given file at in
     subst (λ (x : Object). HasReplaced x index given file) (sym same)
-        (s, at.section, (new_object o.bytes index s given file w, is_object o.bytes index s given file w, replaces o.bytes index s given file w))
+    (s, at.section, (new_object o.bytes index s given file w, is_object o.bytes index s given file w, replaces o.bytes index s given file w))
 
 -- the header of a section is in the file
 pub header_within : (o : Object) (index : ℕ) (s : SectionHeader) → IsObject o.bytes o → slice_get o.sections index ≡ Some s

@@ -66,10 +66,10 @@ unfolding table_error
 table_fits h bytes none some =
     let test = when_none (not (h.section_headers == 0) && (nat_lt h.section_headers header_len || nat_lt (length bytes) (table_end h bytes))) SectionTableOutOfRange none in
     ⊎_elim
-        (λ e. absurd (eqb-false-of h.section_headers (has_table h bytes some) (not-false (h.section_headers == 0) e)))
-        (λ e. let parts = or_parts (nat_lt h.section_headers header_len) (nat_lt (length bytes) (table_end h bytes)) e in
-            record { behind = ltb-false h.section_headers header_len parts.0; within = ltb-false (length bytes) (table_end h bytes) parts.1 })
-        (and_cases (not (h.section_headers == 0)) (nat_lt h.section_headers header_len || nat_lt (length bytes) (table_end h bytes)) test)
+    (λ e. absurd (eqb-false-of h.section_headers (has_table h bytes some) (not-false (h.section_headers == 0) e)))
+    (λ e. let parts = or_parts (nat_lt h.section_headers header_len) (nat_lt (length bytes) (table_end h bytes)) e in
+    record { behind = ltb-false h.section_headers header_len parts.0; within = ltb-false (length bytes) (table_end h bytes) parts.1 })
+    (and_cases (not (h.section_headers == 0)) (nat_lt h.section_headers header_len || nat_lt (length bytes) (table_end h bytes)) test)
   where
     eqb-false-of : (n : ℕ) → n ≢ 0 → (n == 0) ≡ true → ⊥
     eqb-false-of n ne is = ne (eqb-true n 0 is)
@@ -78,7 +78,7 @@ pub fits_table : (h : FileHeader) (bytes : List ℕ) → TableFits h bytes → t
 unfolding table_error
 fits_table h bytes f =
     let inside : (nat_lt h.section_headers header_len || nat_lt (length bytes) (table_end h bytes)) ≡ false =
-        or_from (nat_lt h.section_headers header_len) (nat_lt (length bytes) (table_end h bytes)) (le-ltb h.section_headers header_len f.behind) (le-ltb (length bytes) (table_end h bytes) f.within) in
+    or_from (nat_lt h.section_headers header_len) (nat_lt (length bytes) (table_end h bytes)) (le-ltb h.section_headers header_len f.behind) (le-ltb (length bytes) (table_end h bytes) f.within) in
     ap (λ (b : Bool). when b SectionTableOutOfRange) (and_right (not (h.section_headers == 0)) _ inside)
 
 -- what is asked of each section
@@ -94,7 +94,7 @@ pub sections_fit : (h : FileHeader) (bytes : List ℕ) (sections : List SectionH
 unfolding section_error
 sections_fit h bytes sections none =
     let errors = all_none (option_map SectionOutOfRange (position (is_past_end (length bytes)) sections)
-        ∷ option_map SectionOverHeaders (position (is_over_headers h.section_headers (table_end h bytes)) sections) ∷ []) none in
+    ∷ option_map SectionOverHeaders (position (is_over_headers h.section_headers (table_end h bytes)) sections) ∷ []) none in
     record {
       within = λ k d lt. none_passes (is_past_end (length bytes)) sections d (map_none SectionOutOfRange _ errors.0) k lt;
       clear = λ k d lt. none_passes (is_over_headers h.section_headers (table_end h bytes)) sections d (map_none SectionOverHeaders _ errors.1.0) k lt;
@@ -104,9 +104,9 @@ pub fit_sections : (h : FileHeader) (bytes : List ℕ) (sections : List SectionH
 unfolding section_error
 fit_sections h bytes sections d f =
     ap (λ (o : Option ℕ). first_error (option_map SectionOutOfRange o ∷ option_map SectionOverHeaders (position (is_over_headers h.section_headers (table_end h bytes)) sections) ∷ []))
-        (position-none (is_past_end (length bytes)) sections d (λ k lt. f.within k d lt))
+    (position-none (is_past_end (length bytes)) sections d (λ k lt. f.within k d lt))
     ∙ ap (λ (o : Option ℕ). first_error (option_map SectionOverHeaders o ∷ []))
-        (position-none (is_over_headers h.section_headers (table_end h bytes)) sections d (λ k lt. f.clear k d lt))
+    (position-none (is_over_headers h.section_headers (table_end h bytes)) sections d (λ k lt. f.clear k d lt))
 
 pub length-sections : (bytes : List ℕ) → length (sections_of bytes) ≡ section_count (file_header bytes) bytes
 unfolding sections_of
@@ -147,13 +147,13 @@ module _ (bytes : List ℕ) (index : ℕ) (s : SectionHeader) (given new : List 
   unfolding place
   at_clear some =
       cond_both (fits (sections_of bytes) index s (length given)) s.offset (aligned (length bytes) (alignment_of s))
-          (λ n. (header_len ≤ n) × ((table_end h bytes ≤ n) ⊎ (n + length given ≤ h.section_headers)))
-          (λ fit.
-              let few = (fits_apart (sections_of bytes) index s (length given) w.within fit).0 in
-              let clear = not_over h.section_headers (table_end h bytes) s (ap (is_over_headers h.section_headers (table_end h bytes)) (sym w.header) ∙ old_sections.clear index s w.within) is_some.1 (omega (arith, some, few)) in
-              (clear.0, ⊎_elim (λ le. inl le) (λ le. inr (omega (arith, le, few))) clear.1))
-          (λ _. let above = aligned_above (length bytes) (alignment_of s) in
-              (omega (arith, above, table.behind, table.within), inl (omega (arith, above, table.within))))
+      (λ n. (header_len ≤ n) × ((table_end h bytes ≤ n) ⊎ (n + length given ≤ h.section_headers)))
+      (λ fit.
+      let few = (fits_apart (sections_of bytes) index s (length given) w.within fit).0 in
+      let clear = not_over h.section_headers (table_end h bytes) s (ap (is_over_headers h.section_headers (table_end h bytes)) (sym w.header) ∙ old_sections.clear index s w.within) is_some.1 (omega (arith, some, few)) in
+      (clear.0, ⊎_elim (λ le. inl le) (λ le. inr (omega (arith, le, few))) clear.1))
+      (λ _. let above = aligned_above (length bytes) (alignment_of s) in
+      (omega (arith, above, table.behind, table.within), inl (omega (arith, above, table.within))))
 
   -- they are written apart from the bytes of each other section
   pub at_apart : (k : ℕ) (d : SectionHeader) → k ≢ index → k < length (sections_of bytes) → has_bytes (get_or (sections_of bytes) k d) ≡ true
@@ -162,9 +162,9 @@ module _ (bytes : List ℕ) (index : ℕ) (s : SectionHeader) (given new : List 
   at_apart k d other lt some =
       let t = get_or (sections_of bytes) k d in
       cond_both (fits (sections_of bytes) index s (length given)) s.offset (aligned (length bytes) (alignment_of s))
-          (λ n. Apart t.offset t.size n (length given))
-          (λ fit. (fits_apart (sections_of bytes) index s (length given) w.within fit).1 k d other lt some)
-          (λ _ _ _. inl (omega (arith, aligned_above (length bytes) (alignment_of s), not_past (length bytes) t (old_sections.within k d lt) some)))
+      (λ n. Apart t.offset t.size n (length given))
+      (λ fit. (fits_apart (sections_of bytes) index s (length given) w.within fit).1 k d other lt some)
+      (λ _ _ _. inl (omega (arith, aligned_above (length bytes) (alignment_of s), not_past (length bytes) t (old_sections.within k d lt) some)))
 
   -- the two words of the header
   abbrev pub words : List ℕ
@@ -208,8 +208,8 @@ module _ (bytes : List ℕ) (index : ℕ) (s : SectionHeader) (given new : List 
   pub front_same : front new ≡ front bytes
   front_same =
       keeps 0 header_len (omega (arith, table.behind, table.within))
-          (λ _ _. inl (omega (arith, table.behind)))
-          (λ _ some. inl (omega (arith, (at_clear some).0)))
+      (λ _ _. inl (omega (arith, table.behind)))
+      (λ _ some. inl (omega (arith, (at_clear some).0)))
 
   pub header_same : file_header new ≡ h
   unfolding file_header
@@ -219,9 +219,9 @@ module _ (bytes : List ℕ) (index : ℕ) (s : SectionHeader) (given new : List 
   unfolding section_count
   count_same =
       let first : slice h.section_headers header_len new ≡ slice h.section_headers header_len bytes =
-          keeps h.section_headers header_len (omega (arith, table.within))
-              (λ _ _. inl (omega (arith, is_some.0)))
-              (table_apart h.section_headers header_len (omega arith) (omega arith)) in
+      keeps h.section_headers header_len (omega (arith, table.within))
+      (λ _ _. inl (omega (arith, is_some.0)))
+      (table_apart h.section_headers header_len (omega arith) (omega arith)) in
       ap (λ (f : List ℕ). if h.section_headers == 0 then 0 else (if h.section_header_count == 0 then (section_header h.order f).size else h.section_header_count)) first
 
   pub table_end_same : table_end h new ≡ table_end h bytes
@@ -233,16 +233,16 @@ module _ (bytes : List ℕ) (index : ℕ) (s : SectionHeader) (given new : List 
       → slice (h.section_headers + header_len * k) header_len new ≡ slice (h.section_headers + header_len * k) header_len bytes
   header_kept k other lt =
       keeps (h.section_headers + header_len * k) header_len (omega (arith, lt, count_is, table.within))
-          (λ _ _. ⊎_elim (λ before. inl (omega (arith, before))) (λ behind. inr (omega (arith, behind, other))) (cases_lt k index))
-          (table_apart (h.section_headers + header_len * k) header_len (omega arith) (omega (arith, lt, count_is)))
+      (λ _ _. ⊎_elim (λ before. inl (omega (arith, before))) (λ behind. inr (omega (arith, behind, other))) (cases_lt k index))
+      (table_apart (h.section_headers + header_len * k) header_len (omega arith) (omega (arith, lt, count_is)))
 
   -- a part of the section's header beside the two words stays
   part_kept : (j n : ℕ) → j + n ≤ header_len → (j + n ≤ 24) ⊎ (40 ≤ j) → slice j n (slice entry header_len new) ≡ slice j n (slice entry header_len bytes)
   part_kept j n within beside =
       slice-slice j n entry header_len new within
       ∙ keeps (entry + j) n (omega (arith, within, entry_within, table.within))
-          (λ _ _. ⊎_elim (λ le. inl (omega (arith, le))) (λ le. inr (omega (arith, le))) beside)
-          (table_apart (entry + j) n (omega arith) (omega (arith, within, entry_within)))
+      (λ _ _. ⊎_elim (λ le. inl (omega (arith, le))) (λ le. inr (omega (arith, le))) beside)
+      (table_apart (entry + j) n (omega arith) (omega (arith, within, entry_within)))
       ∙ sym (slice-slice j n entry header_len bytes within)
 
   -- the two words are those that were written
@@ -262,7 +262,7 @@ module _ (bytes : List ℕ) (index : ℕ) (s : SectionHeader) (given new : List 
   size_written : xword_at h.order 32 (slice entry header_len new) ≡ length given
   size_written =
       ap (number_of w64 h.order) (word_written 8 (omega arith)
-          ∙ slice-second (bytes_of w64 h.order at) (bytes_of w64 h.order (length given)) (length-xword h.order at) (length-xword h.order (length given)))
+      ∙ slice-second (bytes_of w64 h.order at) (bytes_of w64 h.order (length given)) (length-xword h.order at) (length-xword h.order (length given)))
       ∙ number_of-bytes_of h.order (length given) w.short
 
   header_was : section_header h.order (slice entry header_len bytes) ≡ s
@@ -276,8 +276,10 @@ module _ (bytes : List ℕ) (index : ℕ) (s : SectionHeader) (given new : List 
     where
       word : (j : ℕ) → j + 4 ≤ header_len → (j + 4 ≤ 24) ⊎ (40 ≤ j) → word_at h.order j (slice entry header_len new) ≡ word_at h.order j (slice entry header_len bytes)
       word j within beside = ap (word_of h.order) (part_kept j 4 within beside)
+
       xword : (j : ℕ) → j + 8 ≤ header_len → (j + 8 ≤ 24) ⊎ (40 ≤ j) → xword_at h.order j (slice entry header_len new) ≡ xword_at h.order j (slice entry header_len bytes)
       xword j within beside = ap (number_of w64 h.order) (part_kept j 8 within beside)
+
       fields : section_header h.order (slice entry header_len new) ≡ moved at (length given) (section_header h.order (slice entry header_len bytes))
       fields = λ i. record {
         name = word 0 (omega arith) (inl (omega arith)) i;
@@ -297,25 +299,27 @@ module _ (bytes : List ℕ) (index : ℕ) (s : SectionHeader) (given new : List 
   unfolding sections_of
   sections_same =
       headers_new ∙ ext_get_or s (headers_of h (section_count h bytes) new) (slice_set (sections_of bytes) index (moved at (length given) s))
-          (length-headers h (section_count h bytes) new ∙ count_is ∙ sym (length-set (sections_of bytes) index (moved at (length given) s)))
-          (λ k lt. each k (omega (arith, lt, length-headers h (section_count h bytes) new, count_is)))
+      (length-headers h (section_count h bytes) new ∙ count_is ∙ sym (length-set (sections_of bytes) index (moved at (length given) s)))
+      (λ k lt. each k (omega (arith, lt, length-headers h (section_count h bytes) new, count_is)))
     where
       headers_new : sections_of new ≡ headers_of h (section_count h bytes) new
       headers_new = ap (λ (x : FileHeader). headers_of x (section_count x new) new) header_same ∙ ap (λ (n : ℕ). headers_of h n new) count_same
+
       at_old : (k : ℕ) → k < length (sections_of bytes) → get_or (sections_of bytes) k s ≡ section_header h.order (slice (h.section_headers + header_len * k) header_len bytes)
       at_old k lt = header_at h (section_count h bytes) bytes k s (omega (arith, lt, count_is))
+
       each : (k : ℕ) → k < length (sections_of bytes) → get_or (headers_of h (section_count h bytes) new) k s ≡ get_or (slice_set (sections_of bytes) index (moved at (length given) s)) k s
       each k lt =
           header_at h (section_count h bytes) new k s (omega (arith, lt, count_is))
           ∙ ⊎_elim
-              (λ same. ap (λ (n : ℕ). section_header h.order (slice (h.section_headers + header_len * n) header_len new)) same
-                  ∙ header_moved
-                  ∙ sym (get_or-set_same (sections_of bytes) index (moved at (length given) s) s w.within)
-                  ∙ ap (λ (n : ℕ). get_or (slice_set (sections_of bytes) index (moved at (length given) s)) n s) (sym same))
-              (λ other. ap (section_header h.order) (header_kept k other lt)
-                  ∙ sym (at_old k lt)
-                  ∙ sym (get_or-set_other (sections_of bytes) index k (moved at (length given) s) s other))
-              (cases_eq k index)
+          (λ same. ap (λ (n : ℕ). section_header h.order (slice (h.section_headers + header_len * n) header_len new)) same
+          ∙ header_moved
+          ∙ sym (get_or-set_same (sections_of bytes) index (moved at (length given) s) s w.within)
+          ∙ ap (λ (n : ℕ). get_or (slice_set (sections_of bytes) index (moved at (length given) s)) n s) (sym same))
+          (λ other. ap (section_header h.order) (header_kept k other lt)
+          ∙ sym (at_old k lt)
+          ∙ sym (get_or-set_other (sections_of bytes) index k (moved at (length given) s) s other))
+          (cases_eq k index)
 
   -- ---- the bytes of sections
 
@@ -325,14 +329,14 @@ module _ (bytes : List ℕ) (index : ℕ) (s : SectionHeader) (given new : List 
   contents_kept k d other lt =
       let t = get_or (sections_of bytes) k d in
       ⊎_elim
-          (λ some.
-              let clear = not_over h.section_headers (table_end h bytes) t (old_sections.clear k d lt) some in
-              ap (λ (ys : List ℕ). if has_bytes t then ys else [])
-                  (keeps t.offset t.size (not_past (length bytes) t (old_sections.within k d lt) some)
-                      (λ size _. ⊎_elim (λ le. inr (omega (arith, le, entry_within))) (λ le. inl (omega (arith, le))) (clear size).1)
-                      (at_apart k d other lt some)))
-          (λ none. cond-false (has_bytes t) (slice t.offset t.size new) [] none ∙ sym (cond-false (has_bytes t) (slice t.offset t.size bytes) [] none))
-          (cases_Bool (has_bytes t))
+      (λ some.
+      let clear = not_over h.section_headers (table_end h bytes) t (old_sections.clear k d lt) some in
+      ap (λ (ys : List ℕ). if has_bytes t then ys else [])
+      (keeps t.offset t.size (not_past (length bytes) t (old_sections.within k d lt) some)
+      (λ size _. ⊎_elim (λ le. inr (omega (arith, le, entry_within))) (λ le. inl (omega (arith, le))) (clear size).1)
+      (at_apart k d other lt some)))
+      (λ none. cond-false (has_bytes t) (slice t.offset t.size new) [] none ∙ sym (cond-false (has_bytes t) (slice t.offset t.size bytes) [] none))
+      (cases_Bool (has_bytes t))
 
   pub contents_new : contents new (moved at (length given) s) ≡ given
   unfolding contents
@@ -340,8 +344,8 @@ module _ (bytes : List ℕ) (index : ℕ) (s : SectionHeader) (given new : List 
       cond-true (has_bytes s) (slice at (length given) new) [] is_some.1
       ∙ ap (slice at (length given)) w.new_is
       ∙ slice-put at (length given) (entry + 24) words base
-          (λ some _. ⊎_elim (λ le. inr (omega (arith, le, entry_within, length-words))) (λ le. inl (omega (arith, le))) (at_clear some).1)
-          (omega (arith, length-words, length-base, entry_within, table.within))
+      (λ some _. ⊎_elim (λ le. inr (omega (arith, le, entry_within, length-words))) (λ le. inl (omega (arith, le))) (at_clear some).1)
+      (omega (arith, length-words, length-base, entry_within, table.within))
       ∙ ap (λ (n : ℕ). slice n (length given) base) place_is
       ∙ slice-put_same 0 (length given) at given (bytes ++ replicate w.spare 0) (omega arith) (omega (arith, length-spare, w.room))
       ∙ take_all (length given) given (omega arith)

@@ -41,8 +41,8 @@ pub stated : (h : FileHeader) (bytes : List ℕ) (entries : List (List ℕ)) (fi
     → IsFound h bytes entries first count → count ≡ section_count h bytes
 stated h bytes entries first count f =
     let at : first ≡ take header_len (drop h.section_headers bytes) =
-        first_of_chunks header_len ((length bytes - h.section_headers) / 64) (drop h.section_headers bytes) first (omega (arith, f.entry, f.count_of_entries))
-            (f.first_is ∙ ap (λ (es : List (List ℕ)). get_or es 0 first) f.entries_are) in
+    first_of_chunks header_len ((length bytes - h.section_headers) / 64) (drop h.section_headers bytes) first (omega (arith, f.entry, f.count_of_entries))
+    (f.first_is ∙ ap (λ (es : List (List ℕ)). get_or es 0 first) f.entries_are) in
     f.count_is ∙ ap (count_by_first h) at ∙ sym (count_is h bytes f.some)
 
 pub is_outside : (h : FileHeader) (bytes : List ℕ) (entries : List (List ℕ)) (first : List ℕ) (count : ℕ)

@@ -26,8 +26,14 @@ put_back at ys xs = refl
 pub length-put : (at : ℕ) (ys xs : List ℕ) → at + length ys ≤ length xs → length (put at ys xs) ≡ length xs
 length-put at ys xs le =
     ap length (put_front at ys xs)
-    ∙ omega (arith, le, length-append (take at xs) (ys ++ drop (at + length ys) xs), length-append ys (drop (at + length ys) xs),
-        length-take-le at xs (omega (arith, le)), length-drop (at + length ys) xs)
+    ∙ omega (
+      arith,
+      le,
+      length-append (take at xs) (ys ++ drop (at + length ys) xs),
+      length-append ys (drop (at + length ys) xs),
+      length-take-le at xs (omega (arith, le)),
+      length-drop (at + length ys) xs,
+    )
 
 -- a slice of a slice
 pub slice-slice : (f k p n : ℕ) (xs : List ℕ) → f + k ≤ n → slice f k (slice p n xs) ≡ slice (p + f) k xs
@@ -80,7 +86,7 @@ slice-put at zero other ys xs apart within = refl
 slice-put at (suc len) other [] xs apart within = ap (slice at (suc len)) (put_nothing other xs)
 slice-put at (suc len) other (y ∷ ys) xs apart within =
     ⊎_elim (λ le. slice-put_before at (suc len) other (y ∷ ys) xs le (omega (arith, within))) (λ le. slice-put_after at (suc len) other (y ∷ ys) xs le (omega (arith, within)))
-        (apart (omega arith) (omega arith))
+    (apart (omega arith) (omega arith))
 
 -- a slice of what is written
 pub slice-put_same : (f k other : ℕ) (ys xs : List ℕ) → f + k ≤ length ys → other + length ys ≤ length xs → slice (other + f) k (put other ys xs) ≡ slice f k ys

@@ -26,7 +26,7 @@ place_words h offset size = bytes_of w64 h.order offset ++ bytes_of w64 h.order 
 abbrev pub rewritten : FileHeader → List ℕ → ℕ → ℕ → List ℕ → List ℕ
 rewritten h bytes index offset given =
     put (h.section_headers + header_len * index + 24) (place_words h offset (length given))
-        (put offset given (up_to (offset + length given) bytes))
+    (put offset given (up_to (offset + length given) bytes))
 
 -- why the bytes of a section, if there is one, can't be replaced
 abbrev pub error_at : ℕ → Option SectionHeader → Option ReplaceError

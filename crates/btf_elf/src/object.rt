@@ -111,7 +111,9 @@ impl<'a> Object<'a> {
             self.now.sections }
     {
         let names = self.names;
-        self.sections.iter().position(|s| has_name(names, s.name, name))
+        self.sections
+            .iter()
+            .position(|s| has_name(names, s.name, name))
     }
 
     /// How many symbols there are.

@@ -129,6 +129,10 @@ pub fn rewritten(
     let mut file = copy_up_to(alloc, bytes, offset + given.len())?;
     put(&mut file, offset, given);
     let words = place_words(header, offset as u64, given.len() as u64);
-    put(&mut file, header.section_headers as usize + 64 * index + 24, &words);
+    put(
+        &mut file,
+        header.section_headers as usize + 64 * index + 24,
+        &words,
+    );
     Ok(file)
 }

@@ -40,11 +40,7 @@ fn is_string_table(strings: &[u8]) -> bool
 /// The string table that an index names, and an empty one for index 0. None where there is no such section, or it is no
 /// string table.
 #[tactic(auto, unfolding(btf_elf_model::specs::Section::string_table))]
-pub fn string_table<'a>(
-    bytes: &'a [u8],
-    sections: &[SectionHeader],
-    index: u32,
-) -> Option<&'a [u8]>
+pub fn string_table<'a>(bytes: &'a [u8], sections: &[SectionHeader], index: u32) -> Option<&'a [u8]>
     ensures { option_copied result ≡ string_table bytes.now sections.now index }
 {
     if index == 0 {
@@ -55,7 +51,11 @@ pub fn string_table<'a>(
         return None;
     }
     let strings = contents(bytes, section);
-    if is_string_table(strings) { Some(strings) } else { None }
+    if is_string_table(strings) {
+        Some(strings)
+    } else {
+        None
+    }
 }
 
 /// Whether a name begins at an offset.

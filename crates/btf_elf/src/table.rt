@@ -59,10 +59,7 @@ fn entries_at(bytes: &[u8], offset: u64) -> Option<&[[u8; 64]]>
 
 /// The table of section headers, or `SectionTableOutOfRange`.
 #[tactic(auto, unfolding(btf_elf_model::specs::Object::table_error, btf_elf_model::specs::Section::section_count, crate::specs::Table::table_of))]
-pub fn section_table<'a>(
-    bytes: &'a [u8],
-    header: &FileHeader,
-) -> Result<&'a [[u8; 64]], ParseError>
+pub fn section_table<'a>(bytes: &'a [u8], header: &FileHeader) -> Result<&'a [[u8; 64]], ParseError>
     ensures error { HasError result (table_error header.now bytes.now) }
     ensures ok { IfOk result (λ t. (t.now ≡ table_of header.now bytes.now)
         × (length t.now ≡ section_count header.now bytes.now)) }

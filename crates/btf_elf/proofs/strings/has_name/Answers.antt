@@ -12,6 +12,6 @@ returns c =
     let len = length name + 1 in
     c.eq.ensures
     ∙ ap (λ (ys : List ℕ). bytes_eq ys name) (c.before_zero.ensures ∙ ap (λ (n : ℕ). before_first is_zero (take n c.tail-rest.result.now)) c.min-len.ensures
-        ∙ ap (λ (rest : List ℕ). before_first is_zero (take (min len (length rest)) rest)) c.tail-rest.ensures)
+    ∙ ap (λ (rest : List ℕ). before_first is_zero (take (min len (length rest)) rest)) c.tail-rest.ensures)
     ∙ has_name_lem c.args.strings.now name c.from.result
     ∙ ap (λ (n : ℕ). bytes_eq (name_at c.args.strings.now n) name) c.from.ensures

@@ -76,12 +76,12 @@ returns c =
 pub invariant_of-result : goal.invariant_of-result
 invariant_of-result c = record {
   object =
-        let bytes = c.args.bytes.now in
-        let h = c.in_ok-header.header in
-        let p = c.in_ok-header.ensures.ok in
-        let headers = c.as_slice-headers.result.now in
-        let q : headers ≡ sections_of bytes = c.as_slice-headers.ensures.value ∙ sections_are bytes h c.in_ok-table.table.now c.in_ok-sections.sections.items p c.in_ok-table.ensures.ok.0 c.in_ok-sections.ensures in
-        parsed bytes h headers c.in_ok-sections.sections.items p q c.as_slice-headers.ensures.value (c.in_ok-header.ensures.error, (c.in_ok-check_header.ensures, (c.in_ok-table.ensures.error, (c.in_ok-check_sections.ensures, (c.in_ok-names.ensures.error, (c.in_ok-symbols.ensures.error, ((symbols_checked bytes h headers c.in_ok-symbols.symbols c.in_ok-symbols.ensures.ok _ c.in_ok-check_symbols.ensures), tt)))))));
+      let bytes = c.args.bytes.now in
+      let h = c.in_ok-header.header in
+      let p = c.in_ok-header.ensures.ok in
+      let headers = c.as_slice-headers.result.now in
+      let q : headers ≡ sections_of bytes = c.as_slice-headers.ensures.value ∙ sections_are bytes h c.in_ok-table.table.now c.in_ok-sections.sections.items p c.in_ok-table.ensures.ok.0 c.in_ok-sections.ensures in
+      parsed bytes h headers c.in_ok-sections.sections.items p q c.as_slice-headers.ensures.value (c.in_ok-header.ensures.error, (c.in_ok-check_header.ensures, (c.in_ok-table.ensures.error, (c.in_ok-check_sections.ensures, (c.in_ok-names.ensures.error, (c.in_ok-symbols.ensures.error, ((symbols_checked bytes h headers c.in_ok-symbols.symbols c.in_ok-symbols.ensures.ok _ c.in_ok-check_symbols.ensures), tt)))))));
   names = subst (λ (xs : List SectionHeader). names_of c.in_ok-header.header c.args.bytes.now xs ≡ Some c.in_ok-names.names.now) c.as_slice-headers.ensures.value c.in_ok-names.ensures.ok;
   symbols = subst (λ (xs : List SectionHeader). IsTable c.args.bytes.now xs (symbol_table xs) c.in_ok-symbols.symbols) c.as_slice-headers.ensures.value c.in_ok-symbols.ensures.ok;
 }

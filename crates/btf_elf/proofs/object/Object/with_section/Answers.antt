@@ -12,7 +12,7 @@ rewritten-requires-clause-header c =
     let o = c.args.self.now in
     let valid : model.IsObject o.bytes o = subst (λ (x : model.Object). model.IsObject x.bytes x) c.self.view_is c.self.invariant.object in
     subst (λ (x : model.Object). x.header.section_headers + header_len * c.args.index + 40 ≤ length x.bytes) (sym c.self.view_is)
-        (header_within o c.args.index c.in_ok-section.section valid c.in_ok-section.ensures.0)
+    (header_within o c.args.index c.in_ok-section.section valid c.in_ok-section.ensures.0)
 
 pub returns-clause-ok : goal.returns-clause-ok
 returns-clause-ok c =
