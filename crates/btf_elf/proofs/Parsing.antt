@@ -57,7 +57,7 @@ by_parts bytes h sections p q =
 -- the headers that the table spells are the sections of the bytes
 pub sections_are : (bytes : List ℕ) (h : FileHeader) (table : List (List ℕ)) (sections : List SectionHeader)
     → h ≡ file_header bytes → table ≡ table_of h bytes → sections ≡ map (section_header h.order) table → sections ≡ sections_of bytes
-unfolding sections_of headers_of table_of
+unfolding sections_of headers_of
 sections_are bytes h table sections p q r =
     r ∙ ap (map (section_header h.order)) q ∙ ap (λ (x : FileHeader). headers_of x (section_count x bytes) bytes) p
 

@@ -119,7 +119,6 @@ module _ (bytes : List ℕ) (index : ℕ) (s : SectionHeader) (given new : List 
       ap (option_and_then (λ t. when (is_malformed new ss' t) BadSymbolTable)) symbol_table_kept ∙ malformed_kept (symbol_table ss) refl
 
   entries_of : (o : Option SectionHeader) → symbol_table ss ≡ o → symbol_entries new o ≡ symbol_entries bytes o
-  unfolding symbol_entries
   entries_of None is = refl
   entries_of (Some t) is = ap (λ (ys : List ℕ). first_chunks symbol_len (length ys / symbol_len) ys) (table_kept t is)
 
@@ -127,7 +126,6 @@ module _ (bytes : List ℕ) (index : ℕ) (s : SectionHeader) (given new : List 
   symbols_kept = ap (map (symbol h.order)) (ap (symbol_entries new) symbol_table_kept ∙ entries_of (symbol_table ss) refl)
 
   symbol_names_with : (o : Option SectionHeader) → symbol_names_of new ss' o ≡ symbol_names_of bytes ss o
-  unfolding symbol_names_of
   symbol_names_with None = refl
   symbol_names_with (Some t) = ap (λ (o : Option (List ℕ)). unwrap_or o []) (string_table_kept t.link)
 

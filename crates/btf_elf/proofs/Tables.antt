@@ -59,7 +59,6 @@ is_inside h bytes entries first count f le =
 
 pub table_is : (h : FileHeader) (bytes : List ℕ) (entries : List (List ℕ)) (first : List ℕ) (count : ℕ)
     → IsFound h bytes entries first count → count ≤ length entries → take count entries ≡ table_of h bytes
-unfolding table_of
 table_is h bytes entries first count f le =
     let c = stated h bytes entries first count f in
     ap (take count) f.entries_are

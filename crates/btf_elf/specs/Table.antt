@@ -7,7 +7,7 @@ use Rattle.btf_elf_model.specs.declared.section_header.SectionHeader.{SectionHea
 use Rattle.btf_elf_model.specs.declared.file_header.FileHeader.{FileHeader}
 
 -- the bytes of each section header
-unfoldable pub table_of : FileHeader → List ℕ → List (List ℕ)
+abbrev pub table_of : FileHeader → List ℕ → List (List ℕ)
 table_of h bytes = first_chunks header_len (section_count h bytes) (drop h.section_headers bytes)
 
 -- the number of sections, by the bytes of the header of section 0

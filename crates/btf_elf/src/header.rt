@@ -40,12 +40,14 @@ fn header_in(bytes: &[u8], order: Endianness) -> FileHeader
     }
 }
 
-/// The byte order of an object's words, by its first 64 bytes, or fewer where it has fewer. `NotElf`, `UnsupportedClass`,
-/// `UnsupportedEncoding` and `UnsupportedVersion`, in this order.
+/// The byte order of an object's words, by its first 64 bytes, or fewer where it has fewer.
+///
+/// `NotElf`, `UnsupportedClass`, `UnsupportedEncoding` and `UnsupportedVersion`, in this order.
 #[tactic(auto, unfolding(btf_elf_model::specs::Object::identification_error))]
 fn identify(front: &[u8]) -> Result<Endianness, ParseError>
     ensures error { HasError result (identification_error front.now) }
-    ensures ok { IfOk result (λ order. (order ≡ order_of front.now) × (header_len ≤ length front.now)) }
+    ensures ok { IfOk result (λ order. (order ≡ order_of front.now)
+        × (header_len ≤ length front.now)) }
 {
     if front.len() < HEADER_LEN || !front.starts_with(&MAGIC) {
         return Err(ParseError::NotElf);

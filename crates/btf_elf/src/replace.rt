@@ -123,7 +123,8 @@ pub fn rewritten(
 ) -> Result<Vec<u8>, AllocError>
     requires header { header.now.section_headers + header_len * index + 40 ≤ length bytes.now }
     requires end { offset + length given.now < 2 ^ 64 }
-    ensures { IfOk result (λ file. file.items ≡ rewritten header.now bytes.now index offset given.now) }
+    ensures { IfOk result (λ file.
+        file.items ≡ rewritten header.now bytes.now index offset given.now) }
 {
     let offset = offset as usize;
     let mut file = copy_up_to(alloc, bytes, offset + given.len())?;

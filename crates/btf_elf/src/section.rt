@@ -14,8 +14,8 @@ pub fn has_bytes(section: &SectionHeader) -> bool
     section.kind != SectionHeader::NULL && section.kind != SectionHeader::NOBITS
 }
 
-/// The bytes of a section in the file; none of a section of type `SHT_NULL` or `SHT_NOBITS`. What is past the end is left
-/// out.
+/// The bytes of a section in the file; none of a section of type `SHT_NULL` or `SHT_NOBITS`. What is past the end is
+/// left out.
 #[tactic(auto, unfolding(btf_elf_model::specs::Section::contents))]
 pub fn contents<'a>(bytes: &'a [u8], section: &SectionHeader) -> &'a [u8]
     ensures { result.now ≡ contents bytes.now section.now }

@@ -127,7 +127,8 @@ pub fn read_names<'a>(
 ) -> Result<&'a [u8], ParseError>
     ensures error { HasError result (name_error (names_of header.now bytes.now sections.now)
         sections.now) }
-    ensures ok { IfOk result (λ names. names_of header.now bytes.now sections.now ≡ Some names.now) }
+    ensures ok { IfOk result (λ names.
+        names_of header.now bytes.now sections.now ≡ Some names.now) }
 {
     let index = names_index(header, sections);
     match string_table(bytes, sections, index) {

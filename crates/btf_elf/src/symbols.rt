@@ -45,7 +45,7 @@ fn find_table(sections: &[SectionHeader]) -> Option<&SectionHeader>
 }
 
 /// The symbols of a symbol table, or `BadSymbolTable`.
-#[tactic(auto, unfolding(btf_elf_model::specs::Symbols::is_malformed, btf_elf_model::specs::Symbols::symbol_entries, btf_elf_model::specs::Symbols::symbol_names_of))]
+#[tactic(auto, unfolding(btf_elf_model::specs::Symbols::is_malformed))]
 fn read_table<'a>(
     bytes: &'a [u8],
     sections: &[SectionHeader],
@@ -66,7 +66,7 @@ fn read_table<'a>(
 }
 
 /// The symbols of the first symbol table, or `BadSymbolTable`; no symbols where there is none.
-#[tactic(auto, unfolding(btf_elf_model::specs::Object::symbol_table_error, btf_elf_model::specs::Symbols::symbol_entries, btf_elf_model::specs::Symbols::symbol_names_of))]
+#[tactic(auto, unfolding(btf_elf_model::specs::Object::symbol_table_error))]
 pub fn read_symbols<'a>(
     bytes: &'a [u8],
     sections: &[SectionHeader],

@@ -49,7 +49,8 @@ fn entries_at(bytes: &[u8], offset: u64) -> Option<&[[u8; 64]]>
     ensures { MatchOption result
         (length bytes.now < offset)
         (λ t. (offset ≤ length bytes.now)
-        × (t.now ≡ first_chunks header_len ((length bytes.now - offset) / 64) (drop offset bytes.now))
+        × (t.now ≡ first_chunks header_len ((length bytes.now - offset) / 64)
+        (drop offset bytes.now))
         × (length t.now ≡ (length bytes.now - offset) / 64)) }
 {
     let rest = bytes.get(offset as usize..)?;
@@ -58,7 +59,7 @@ fn entries_at(bytes: &[u8], offset: u64) -> Option<&[[u8; 64]]>
 }
 
 /// The table of section headers, or `SectionTableOutOfRange`.
-#[tactic(auto, unfolding(btf_elf_model::specs::Object::table_error, btf_elf_model::specs::Section::section_count, crate::specs::Table::table_of))]
+#[tactic(auto, unfolding(btf_elf_model::specs::Object::table_error, btf_elf_model::specs::Section::section_count))]
 pub fn section_table<'a>(bytes: &'a [u8], header: &FileHeader) -> Result<&'a [[u8; 64]], ParseError>
     ensures error { HasError result (table_error header.now bytes.now) }
     ensures ok { IfOk result (λ t. (t.now ≡ table_of header.now bytes.now)

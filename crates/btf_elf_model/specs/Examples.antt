@@ -15,6 +15,7 @@ names : List ℕ
 names = 0 ∷ 0x61 ∷ 0x62 ∷ 0 ∷ []
 
 names_in_a_table :
-    (name_at names 0 ≡ []) × (name_at names 1 ≡ 0x61 ∷ 0x62 ∷ []) × (name_at names 2 ≡ 0x62 ∷ []) × (name_at names 3 ≡ [])
+    (name_at names 0 ≡ []) × (name_at names 1 ≡ 0x61 ∷ 0x62 ∷ []) × (name_at names 2 ≡ 0x62 ∷ [])
+    × (name_at names 3 ≡ [])
 unfolding names name_at
 names_in_a_table = (refl, refl, refl, refl)

@@ -1,6 +1,6 @@
 -- Objects: which bytes are one, and the first error of those that are none.
--- Source: ELF gABI, chapter 4, "Object Files". The order of the errors is a choice of this project. Sections may overlap
--- one another, and nothing is asked of types, addresses, alignments, program headers and relocations.
+-- Source: ELF gABI, chapter 4, "Object Files". The order of the errors is a choice of this project. Sections may
+-- overlap one another, and nothing is asked of types, addresses, alignments, program headers and relocations.
 use Rattle.std.specs.Prelude.{◌≡◌, ℕ, ◌==◌, ◌||◌, ◌&&◌, not, nat_eq, nat_lt, Bool, List, [], ◌∷◌, length, map, position, if◌then◌else◌, Option, Some, None, is_none, option_map, unwrap_or}
 use Rattle.std.specs.List.{starts_with}
 use Rattle.std.specs.Option.{option_and_then}

@@ -16,7 +16,8 @@ is_replaceable index s = nat_lt 0 index && has_bytes s && not (s.kind == sht_str
 -- The section has a byte among so many from an offset on.
 unfoldable pub shares_bytes : ℕ → ℕ → SectionHeader → Bool
 shares_bytes offset len s =
-    has_bytes s && nat_lt 0 len && nat_lt 0 s.size && nat_lt offset (s.offset + s.size) && nat_lt s.offset (offset + len)
+    has_bytes s && nat_lt 0 len && nat_lt 0 s.size
+    && nat_lt offset (s.offset + s.size) && nat_lt s.offset (offset + len)
 
 -- So many bytes fit in the place of a section: it has no fewer, and no other section has one of them.
 unfoldable pub fits : List SectionHeader → ℕ → SectionHeader → ℕ → Bool

@@ -1,6 +1,6 @@
 -- Symbols.
--- Source: ELF gABI, chapter 4, "Symbol Table": an object has one section of type SHT_SYMTAB at most, whose sh_link is the
--- index of its string table. Where there are more, the first counts: a choice of this project.
+-- Source: ELF gABI, chapter 4, "Symbol Table": an object has one section of type SHT_SYMTAB at most, whose sh_link is
+-- the index of its string table. Where there are more, the first counts: a choice of this project.
 use Rattle.std.specs.Prelude.{ℕ, ◌/◌, ◌%◌, ◌==◌, ◌||◌, not, List, [], length, map, find, slice_index, Option, Some, None, is_none, unwrap_or, Bool}
 use Rattle.std.specs.Simd.{first_chunks}
 use Rattle.btf_model.specs.Blob.{word_at}
@@ -41,7 +41,7 @@ is_malformed bytes sections s =
     || is_none (string_table bytes sections s.link)
 
 -- the bytes of each symbol of a symbol table; none without one
-unfoldable pub symbol_entries : List ℕ → Option SectionHeader → List (List ℕ)
+abbrev pub symbol_entries : List ℕ → Option SectionHeader → List (List ℕ)
 symbol_entries bytes None = []
 symbol_entries bytes (Some s) = let entries = contents bytes s in
     first_chunks symbol_len (length entries / symbol_len) entries
@@ -51,6 +51,6 @@ abbrev pub symbols_of : Endianness → List ℕ → Option SectionHeader → Lis
 symbols_of order bytes table = map (symbol order) (symbol_entries bytes table)
 
 -- the string table of a symbol table; an empty one without one
-unfoldable pub symbol_names_of : List ℕ → List SectionHeader → Option SectionHeader → List ℕ
+abbrev pub symbol_names_of : List ℕ → List SectionHeader → Option SectionHeader → List ℕ
 symbol_names_of bytes sections None = []
 symbol_names_of bytes sections (Some s) = unwrap_or (string_table bytes sections s.link) []

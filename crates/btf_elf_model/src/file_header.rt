@@ -2,8 +2,8 @@
 
 use btf_model::Endianness;
 
-/// The header of a 64-bit object file (ELF gABI, "ELF Header", `Elf64_Ehdr`): the first 64 bytes of the file, without the
-/// magic bytes, the class and the padding.
+/// The header of a 64-bit object file (ELF gABI, "ELF Header", `Elf64_Ehdr`): the first 64 bytes of the file, without
+/// the magic bytes, the class and the padding.
 #[derive(Clone, Copy, Debug, PartialEq, Eq)]
 pub struct FileHeader {
     /// `EI_DATA`: the byte order of all words in the file.

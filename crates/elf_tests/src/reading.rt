@@ -5,8 +5,8 @@ use btf_elf::{Endianness, Object};
 use std::alloc::Global;
 use std::test::Fail;
 
-/// The sections as `readelf -SW` lists them, with types and flags as numbers: name, type, offset, size, size of an entry,
-/// flags, link, info and alignment.
+/// The sections as `readelf -SW` lists them, with types and flags as numbers: name, type, offset, size, size of an
+/// entry, flags, link, info and alignment.
 const SECTIONS: &str = "
 - 0 0 0 0 0 0 0 0
 .strtab 3 162 63 0 0 0 0 1
