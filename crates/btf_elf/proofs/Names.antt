@@ -1,7 +1,7 @@
 -- Whether a name is another, by as many bytes as the other has and one.
-use Rattle.std.proofs.Common.{◌≡◌, ◌∙◌, ℕ, zero, suc, ◌+◌, Bool, true, false, cond, List, [], ◌∷◌, length, take, drop, refl, sym, ap, arith}
+use Rattle.std.proofs.Common.{◌≡◌, ◌∙◌, ℕ, suc, ◌+◌, Bool, true, false, cond, List, [], ◌∷◌, length, take, drop, refl, sym, ap, arith}
 use Rattle.std.specs.Prelude.{not, min, nat_eq, ◌&&◌}
-use Rattle.std.specs.List.{before_first, position_or_len, prefix_len}
+use Rattle.std.specs.List.{before_first, position_or_len}
 use Rattle.std.specs.Str.{bytes_eq}
 use Rattle.std.proofs.lemmas.List.{take_min}
 use Rattle.btf_elf_model.specs.Section.{is_zero, name_at}

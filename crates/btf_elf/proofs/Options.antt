@@ -1,5 +1,5 @@
 -- What is said of options.
-use Rattle.std.proofs.Common.{◌≡◌, Bool, true, false, Option, None, Some}
+use Rattle.std.proofs.Common.{◌≡◌, true, Option, None, Some}
 use Rattle.std.specs.Prelude.{MatchOption, is_some}
 use Rattle.std.specs.Option.{SomeIff}
 

@@ -1,32 +1,26 @@
 -- An object in which the bytes of a section were replaced is an object, with what else it had.
-use Rattle.std.proofs.Common.{◌≡◌, ◌≢◌, ◌∙◌, ◌⊎◌, ℕ, zero, suc, ◌+◌, ◌-◌, ◌*◌, ◌^◌, ◌<◌, ◌≤◌, Bool, true, false, cond, List, [], ◌∷◌, ◌++◌, length, take, drop, get_or, map, Option, None, Some, refl, sym, ap, subst, arith, inl, inr, ⊎_elim}
-use Rattle.std.specs.Prelude.{◌==◌, ◌%◌, ◌/◌, ◌&&◌, ◌||◌, not, max, replicate, slice_get, slice_set, option_map, position, find, if◌then◌else◌, unwrap_or, is_none}
-use Rattle.std.specs.Int.{w64}
+use Rattle.std.proofs.Common.{◌≡◌, ◌≢◌, ◌∙◌, ℕ, zero, suc, ◌+◌, ◌-◌, ◌*◌, ◌^◌, ◌<◌, ◌≤◌, Bool, true, false, List, [], ◌∷◌, length, get_or, map, Option, None, Some, refl, sym, ap, subst, arith, ⊎_elim}
+use Rattle.std.specs.Prelude.{◌==◌, ◌%◌, ◌/◌, ◌&&◌, ◌||◌, not, max, slice_get, slice_set, option_map, position, find, if◌then◌else◌, unwrap_or, is_none}
 use Rattle.std.specs.Option.{option_and_then}
 use Rattle.std.specs.Simd.{first_chunks}
 use Rattle.std.proofs.lemmas.Bool.{and_left, cond-false, cases_lt, cases_eq, both_ways}
 use Rattle.std.proofs.lemmas.List.{length-set, get_or-set_other, get_or-set_same, get_or_default}
 use Rattle.std.proofs.lemmas.List.Recursion.{found_set_other}
 use Rattle.std.proofs.lemmas.Option.{slice_get_past, slice_get-get_or, slice_get_within, get_or_from_slice_get}
-use Rattle.btf_model.specs.Word.{bytes_of}
-use Rattle.btf_model.specs.Blob.{slice}
-use Rattle.btf_elf_model.specs.Header.{header_len, front, file_header}
-use Rattle.btf_elf_model.specs.Section.{section_count, table_end, sections_of, has_bytes, contents, is_past_end, is_over_headers, is_string_table, is_name, strings_in, string_table, link_of_first, names_index, sht_strtab, sht_symtab}
+use Rattle.btf_elf_model.specs.Header.{header_len, file_header}
+use Rattle.btf_elf_model.specs.Section.{table_end, sections_of, has_bytes, contents, is_past_end, is_over_headers, is_string_table, is_name, strings_in, string_table, link_of_first, names_index, sht_strtab, sht_symtab}
 use Rattle.btf_elf_model.specs.Symbols.{symbol, symbol_len, is_symbol_table, symbol_table, is_malformed, symbol_entries, symbols_of, symbol_names_of}
-use Rattle.btf_elf_model.specs.Object.{Object, IsObject, object_of, section_bytes, parse_error, first_error, identification_error, table_error, name_error, symbol_table_error, symbol_error, when}
-use Rattle.btf_elf_model.specs.Replaced.{ReplacesSection, is_replaceable, place, place_in_header, moved, Apart}
+use Rattle.btf_elf_model.specs.Object.{Object, IsObject, names_of, object_of, parse_error, identification_error, table_error, name_error, symbol_table_error, symbol_error, when}
+use Rattle.btf_elf_model.specs.Replaced.{ReplacesSection, is_replaceable, place, moved}
 use Rattle.btf_elf_model.specs.declared.file_header.FileHeader.{FileHeader}
 use Rattle.btf_elf_model.specs.declared.section_header.SectionHeader.{SectionHeader}
-use Rattle.btf_elf_model.specs.declared.symbol.Symbol.{Symbol}
-use Rattle.btf_elf_model.specs.declared.error.ParseError.{ParseError}
 use Rattle.btf_elf_model.specs.declared.error.ParseError.TheVariants.{BadNameTable, BadSectionName, BadSymbolTable}
-use Rattle.btf_elf.specs.Table.{names_of}
 use Rattle.btf_elf.specs.Writing.{rewritten, HasReplaced}
-use Rattle.btf_elf.proofs.Parsing.{NoneComes, none_comes, errors_of, by_parts}
-use Rattle.btf_elf.proofs.Placing.{none_passes, position-none, past_not, not_past, over_not}
+use Rattle.btf_elf_model.proofs.Errors.{none_comes, all_none, map_none, no_errors, errors_of, by_parts}
+use Rattle.btf_elf_model.proofs.Tests.{none_passes, position-none, past_not, not_past, over_not, SectionsFit, table_fits, fits_table, fit_sections}
 use Rattle.btf_elf.proofs.Entries.{found_at, slice_get-set_other, slice_get-set_same}
 use Rattle.btf_elf.proofs.Rewritten as written
-use Rattle.btf_elf.proofs.Rewritten.{IsWritten, SectionsFit, all_none, map_none, when_none, no_errors, fits_table, fit_sections}
+use Rattle.btf_elf.proofs.Rewritten.{IsWritten}
 
 link-set : (xs : List SectionHeader) (i : ℕ) (v : SectionHeader) → 0 < i → link_of_first (slice_set xs i v) ≡ link_of_first xs
 link-set [] i v lt = refl
@@ -265,6 +259,6 @@ header_within o index s valid is =
     let lt = slice_get_within o.sections index s is in
     let sections : length o.sections ≡ length (sections_of o.bytes) = ap (λ (x : Object). length x.sections) valid.object in
     let count = written.length-sections o.bytes in
-    let fits = written.table_fits h o.bytes (no_errors o.bytes valid.no_error).1.1.0 (omega (arith, lt, sections, count)) in
+    let fits = table_fits h o.bytes (no_errors o.bytes valid.no_error).1.1.0 (omega (arith, lt, sections, count)) in
     let place : o.header.section_headers ≡ h.section_headers = ap (λ (x : Object). x.header.section_headers) valid.object in
     omega (arith, lt, sections, count, fits.within, place)

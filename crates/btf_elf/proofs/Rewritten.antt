@@ -1,24 +1,22 @@
 -- The bytes of an object in which the bytes of a section were replaced: what they keep, and their headers.
-use Rattle.std.proofs.Common.{◌≡◌, ◌≢◌, ◌∙◌, ◌⊎◌, ℕ, zero, suc, ◌+◌, ◌-◌, ◌*◌, ◌^◌, ◌<◌, ◌≤◌, Bool, true, false, cond, List, [], ◌∷◌, ◌++◌, length, take, drop, get_or, map, Option, None, Some, refl, sym, ap, arith, inl, inr, ⊎_elim}
-use Rattle.std.specs.Prelude.{nat_lt, ◌==◌, ◌&&◌, ◌||◌, not, max, replicate, slice_get, slice_set, slice_index, option_map, position, if◌then◌else◌}
+use Rattle.std.proofs.Common.{◌≡◌, ◌≢◌, ◌∙◌, ◌⊎◌, ℕ, ◌+◌, ◌*◌, ◌^◌, ◌<◌, ◌≤◌, true, false, List, [], ◌++◌, length, get_or, None, sym, ap, arith, inl, inr, ⊎_elim}
+use Rattle.std.specs.Prelude.{nat_lt, ◌==◌, ◌&&◌, not, max, replicate, slice_set, if◌then◌else◌}
 use Rattle.std.specs.Int.{w64}
-use Rattle.std.proofs.lemmas.Bool.{and_parts, and_cases, and_right, or_parts, or_from, eq-eqb, eqb-true, not-false, ltb-false, le-ltb, cases_Bool, cond-true, cond-false, cond_both, cases_lt, cases_eq, ne_eqb, not-true, both_ways, ltb-true, true≢false}
+use Rattle.std.proofs.lemmas.Bool.{and_parts, cases_Bool, cond-true, cond-false, cond_both, cases_lt, cases_eq, not-true, ltb-true}
 use Rattle.std.proofs.lemmas.List.{ext_get_or, length-set, get_or-set_other, get_or-set_same, length-append, length-replicate, take_all}
-use Rattle.btf_model.specs.Word.{bytes_of, number_of, half_of, word_of}
+use Rattle.btf_model.specs.Word.{bytes_of, number_of, word_of}
 use Rattle.btf_model.specs.Blob.{slice, word_at}
-use Rattle.btf_model.specs.declared.endianness.Endianness.{Endianness}
 use Rattle.btf_elf_model.specs.Header.{header_len, front, file_header, header_in, order_of, xword_at}
-use Rattle.btf_elf_model.specs.Section.{section_header, headers_of, section_count, size_of_first, table_end, sections_of, has_bytes, contents, is_past_end, is_over_headers, sht_strtab, sht_symtab}
-use Rattle.btf_elf_model.specs.Object.{Object, object_of, parse_error, first_error, table_error, section_error, when}
+use Rattle.btf_elf_model.specs.Section.{section_header, headers_of, section_count, table_end, sections_of, has_bytes, contents, is_over_headers, sht_strtab, sht_symtab}
+use Rattle.btf_elf_model.specs.Object.{object_of, parse_error}
 use Rattle.btf_elf_model.specs.Replaced.{is_replaceable, place, fits, alignment_of, aligned, moved, place_in_header, Apart}
 use Rattle.btf_elf_model.specs.declared.file_header.FileHeader.{FileHeader}
 use Rattle.btf_elf_model.specs.declared.section_header.SectionHeader.{SectionHeader}
-use Rattle.btf_elf_model.specs.declared.error.ParseError.{ParseError}
-use Rattle.btf_elf_model.specs.declared.error.ParseError.TheVariants.{SectionTableOutOfRange, SectionOutOfRange, SectionOverHeaders}
 use Rattle.btf_elf.specs.Writing.{put}
-use Rattle.btf_elf.proofs.Parsing.{NoneComes, errors_of}
+use Rattle.btf_elf_model.proofs.Errors.{no_errors}
+use Rattle.btf_elf_model.proofs.Tests.{not_past, IsClear, not_over, TableFits, table_fits, SectionsFit, sections_fit}
 use Rattle.btf_elf.proofs.Writes.{slice-put, slice-put_same, slice-append, slice-slice, length-put}
-use Rattle.btf_elf.proofs.Placing.{none_passes, position-none, not_past, IsClear, not_over, fits_apart, aligned_above}
+use Rattle.btf_elf.proofs.Placing.{fits_apart, aligned_above}
 use Rattle.btf_elf.proofs.Entries.{length-xword, number_of-bytes_of, slice-first, slice-second, length-headers, header_at}
 
 -- These are new bytes of an object, in which the bytes of the section of an index were replaced.
@@ -34,79 +32,6 @@ pub record IsWritten (bytes : List ℕ) (index : ℕ) (s : SectionHeader) (given
   pub new_is : new ≡ put (place_in_header (object_of bytes) index)
       (bytes_of w64 (file_header bytes).order (place (object_of bytes) index s (length given)) ++ bytes_of w64 (file_header bytes).order (length given))
       (put (place (object_of bytes) index s (length given)) given (bytes ++ replicate spare 0))
-
--- ---- what the lack of errors says
-
-pub all_none : (errors : List (Option ParseError)) → first_error errors ≡ None → NoneComes errors
-all_none [] none = tt
-all_none (None ∷ more) none = (refl, all_none more none)
-all_none (Some e ∷ more) none = cc
-
-pub no_errors : (bytes : List ℕ) → parse_error bytes ≡ None → NoneComes (errors_of bytes (file_header bytes) (sections_of bytes))
-unfolding parse_error
-no_errors bytes none = all_none (errors_of bytes (file_header bytes) (sections_of bytes)) none
-
--- where the table of section headers is
-pub record TableFits (h : FileHeader) (bytes : List ℕ) : Type 0 where
-  pub behind : header_len ≤ h.section_headers
-  pub within : table_end h bytes ≤ length bytes
-
-pub when_none : (b : Bool) (e : ParseError) → when b e ≡ None → b ≡ false
-when_none true e is = cc
-when_none false e is = refl
-
-has_table : (h : FileHeader) (bytes : List ℕ) → 0 < section_count h bytes → h.section_headers ≢ 0
-unfolding section_count
-has_table h bytes some none_is =
-    let none : section_count h bytes ≡ 0 = cond-true (h.section_headers == 0) 0 _ (eq-eqb h.section_headers 0 none_is) in
-    omega (arith, some, none)
-
-pub table_fits : (h : FileHeader) (bytes : List ℕ) → table_error h bytes ≡ None → 0 < section_count h bytes → TableFits h bytes
-unfolding table_error
-table_fits h bytes none some =
-    let test = when_none (not (h.section_headers == 0) && (nat_lt h.section_headers header_len || nat_lt (length bytes) (table_end h bytes))) SectionTableOutOfRange none in
-    ⊎_elim
-    (λ e. absurd (eqb-false-of h.section_headers (has_table h bytes some) (not-false (h.section_headers == 0) e)))
-    (λ e. let parts = or_parts (nat_lt h.section_headers header_len) (nat_lt (length bytes) (table_end h bytes)) e in
-    record { behind = ltb-false h.section_headers header_len parts.0; within = ltb-false (length bytes) (table_end h bytes) parts.1 })
-    (and_cases (not (h.section_headers == 0)) (nat_lt h.section_headers header_len || nat_lt (length bytes) (table_end h bytes)) test)
-  where
-    eqb-false-of : (n : ℕ) → n ≢ 0 → (n == 0) ≡ true → ⊥
-    eqb-false-of n ne is = ne (eqb-true n 0 is)
-
-pub fits_table : (h : FileHeader) (bytes : List ℕ) → TableFits h bytes → table_error h bytes ≡ None
-unfolding table_error
-fits_table h bytes f =
-    let inside : (nat_lt h.section_headers header_len || nat_lt (length bytes) (table_end h bytes)) ≡ false =
-    or_from (nat_lt h.section_headers header_len) (nat_lt (length bytes) (table_end h bytes)) (le-ltb h.section_headers header_len f.behind) (le-ltb (length bytes) (table_end h bytes) f.within) in
-    ap (λ (b : Bool). when b SectionTableOutOfRange) (and_right (not (h.section_headers == 0)) _ inside)
-
--- what is asked of each section
-pub record SectionsFit (h : FileHeader) (bytes : List ℕ) (sections : List SectionHeader) : Type 0 where
-  pub within : (k : ℕ) (d : SectionHeader) → k < length sections → is_past_end (length bytes) (get_or sections k d) ≡ false
-  pub clear : (k : ℕ) (d : SectionHeader) → k < length sections → is_over_headers h.section_headers (table_end h bytes) (get_or sections k d) ≡ false
-
-pub map_none : {X Y : Type 0} (f : X → Y) (o : Option X) → option_map f o ≡ None → o ≡ None
-map_none f None is = refl
-map_none f (Some x) is = cc
-
-pub sections_fit : (h : FileHeader) (bytes : List ℕ) (sections : List SectionHeader) → section_error h bytes sections ≡ None → SectionsFit h bytes sections
-unfolding section_error
-sections_fit h bytes sections none =
-    let errors = all_none (option_map SectionOutOfRange (position (is_past_end (length bytes)) sections)
-    ∷ option_map SectionOverHeaders (position (is_over_headers h.section_headers (table_end h bytes)) sections) ∷ []) none in
-    record {
-      within = λ k d lt. none_passes (is_past_end (length bytes)) sections d (map_none SectionOutOfRange _ errors.0) k lt;
-      clear = λ k d lt. none_passes (is_over_headers h.section_headers (table_end h bytes)) sections d (map_none SectionOverHeaders _ errors.1.0) k lt;
-    }
-
-pub fit_sections : (h : FileHeader) (bytes : List ℕ) (sections : List SectionHeader) (d : SectionHeader) → SectionsFit h bytes sections → section_error h bytes sections ≡ None
-unfolding section_error
-fit_sections h bytes sections d f =
-    ap (λ (o : Option ℕ). first_error (option_map SectionOutOfRange o ∷ option_map SectionOverHeaders (position (is_over_headers h.section_headers (table_end h bytes)) sections) ∷ []))
-    (position-none (is_past_end (length bytes)) sections d (λ k lt. f.within k d lt))
-    ∙ ap (λ (o : Option ℕ). first_error (option_map SectionOverHeaders o ∷ []))
-    (position-none (is_over_headers h.section_headers (table_end h bytes)) sections d (λ k lt. f.clear k d lt))
 
 pub length-sections : (bytes : List ℕ) → length (sections_of bytes) ≡ section_count (file_header bytes) bytes
 unfolding sections_of

@@ -1,10 +1,10 @@
 -- The table of section headers.
-use Rattle.std.proofs.Common.{◌≡◌, ◌≢◌, ◌⊎◌, ◌∙◌, ℕ, zero, suc, ◌+◌, ◌-◌, ◌*◌, ◌/◌, ◌<◌, ◌≤◌, Bool, false, List, ◌∷◌, length, take, drop, get_or, refl, sym, ap, arith, inl, inr, ⊎_elim}
-use Rattle.std.specs.Prelude.{if◌then◌else◌, max}
+use Rattle.std.proofs.Common.{◌≡◌, ◌≢◌, ◌∙◌, ℕ, zero, suc, ◌-◌, ◌/◌, ◌<◌, ◌≤◌, Bool, List, ◌∷◌, length, take, drop, get_or, refl, sym, ap, arith, inr, ⊎_elim}
+use Rattle.std.specs.Prelude.{if◌then◌else◌}
 use Rattle.std.specs.Simd.{first_chunks}
 use Rattle.std.proofs.lemmas.Bool.{ne_eqb}
 use Rattle.btf_elf_model.specs.Header.{header_len}
-use Rattle.btf_elf_model.specs.Section.{section_header, section_count, table_end}
+use Rattle.btf_elf_model.specs.Section.{section_count}
 use Rattle.btf_elf_model.specs.declared.file_header.FileHeader.{FileHeader}
 use Rattle.btf_elf.specs.Table.{table_of, count_by_first, IsTableOutside}
 

@@ -1,9 +1,8 @@
 -- The table of section headers.
-use Rattle.std.specs.Prelude.{ℕ, ◌⊎◌, ◌<◌, ◌==◌, List, Option, length, drop, if◌then◌else◌}
+use Rattle.std.specs.Prelude.{ℕ, ◌⊎◌, ◌<◌, ◌==◌, List, length, drop, if◌then◌else◌}
 use Rattle.std.specs.Simd.{first_chunks}
 use Rattle.btf_elf_model.specs.Header.{header_len}
-use Rattle.btf_elf_model.specs.Section.{section_header, section_count, table_end, string_table, names_index}
-use Rattle.btf_elf_model.specs.declared.section_header.SectionHeader.{SectionHeader}
+use Rattle.btf_elf_model.specs.Section.{section_header, section_count, table_end}
 use Rattle.btf_elf_model.specs.declared.file_header.FileHeader.{FileHeader}
 
 -- the bytes of each section header
@@ -18,7 +17,3 @@ count_by_first h first =
 -- The table begins in the file header, or ends past the end.
 abbrev pub IsTableOutside : FileHeader → List ℕ → Type 0
 IsTableOutside h bytes = (h.section_headers < header_len) ⊎ (length bytes < table_end h bytes)
-
--- the string table with the names of sections
-abbrev pub names_of : FileHeader → List ℕ → List SectionHeader → Option (List ℕ)
-names_of h bytes sections = string_table bytes sections (names_index h sections)

@@ -1,5 +1,5 @@
 -- Bytes that are written over others, and the bytes of a section that are replaced.
-use Rattle.std.specs.Prelude.{◌≡◌, ℕ, ◌+◌, ◌-◌, ◌*◌, List, ◌++◌, length, take, drop, max, replicate, slice_get, if◌then◌else◌, Option, Some, None, Result, Ok, Err}
+use Rattle.std.specs.Prelude.{◌≡◌, ℕ, ◌+◌, ◌-◌, ◌*◌, List, ◌++◌, length, take, drop, max, replicate, slice_get, if◌then◌else◌, Option, Some, None}
 use Rattle.std.specs.Int.{w64}
 use Rattle.btf_model.specs.Word.{bytes_of}
 use Rattle.btf_elf_model.specs.Header.{header_len}

@@ -5,9 +5,8 @@ ghost use Rattle.std.specs.List.{before_first};
 ghost use Rattle.std.specs.Option.{option_copied};
 ghost use Rattle.std.specs.Str.{bytes_eq};
 ghost use Rattle.btf_elf_model.specs.Section.{is_zero, is_string_table, is_name, name_at, string_table, names_index};
-ghost use Rattle.btf_elf_model.specs.Object.{name_error};
+ghost use Rattle.btf_elf_model.specs.Object.{names_of, name_error};
 ghost use Rattle.btf_elf.specs.Results.{HasError};
-ghost use Rattle.btf_elf.specs.Table.{names_of};
 
 use crate::section::{contents, tail};
 use btf_elf_model::{FileHeader, ParseError, SectionHeader};

@@ -1,12 +1,12 @@
 -- Objects: which bytes are one, and the first error of those that are none.
 -- Source: ELF gABI, chapter 4, "Object Files". The order of the errors is a choice of this project. Sections may
 -- overlap one another, and nothing is asked of types, addresses, alignments, program headers and relocations.
-use Rattle.std.specs.Prelude.{◌≡◌, ℕ, ◌==◌, ◌||◌, ◌&&◌, not, nat_eq, nat_lt, Bool, List, [], ◌∷◌, length, map, position, if◌then◌else◌, Option, Some, None, is_none, option_map, unwrap_or}
+use Rattle.std.specs.Prelude.{◌≡◌, ℕ, ◌==◌, ◌||◌, ◌&&◌, not, nat_eq, nat_lt, Bool, List, [], ◌∷◌, length, position, if◌then◌else◌, Option, Some, None, is_none, option_map, unwrap_or}
 use Rattle.std.specs.List.{starts_with}
 use Rattle.std.specs.Option.{option_and_then}
 use Rattle.btf_elf_model.specs.Header.{magic, header_len, class_of, encoding_of, identification_version, front, file_header}
-use Rattle.btf_elf_model.specs.Section.{section_count, table_end, sections_of, contents, is_past_end, is_over_headers, is_name, name_at, string_table, names_index}
-use Rattle.btf_elf_model.specs.Symbols.{is_symbol_table, symbol_table, is_malformed, symbols_of, symbol_names_of}
+use Rattle.btf_elf_model.specs.Section.{table_end, sections_of, contents, is_past_end, is_over_headers, is_name, name_at, string_table, names_index}
+use Rattle.btf_elf_model.specs.Symbols.{symbol_table, is_malformed, symbols_of, symbol_names_of}
 use Rattle.btf_elf_model.specs.declared.file_header.FileHeader.{FileHeader}
 use Rattle.btf_elf_model.specs.declared.section_header.SectionHeader.{SectionHeader}
 use Rattle.btf_elf_model.specs.declared.symbol.Symbol.{Symbol}
@@ -27,9 +27,13 @@ object_of bytes = record { header = file_header bytes; sections = sections_of by
 abbrev pub section_bytes : Object → SectionHeader → List ℕ
 section_bytes o s = contents o.bytes s
 
--- the string table with the names of sections; none where e_shstrndx names none
+-- the string table that e_shstrndx names; none where it names none
+abbrev pub names_of : FileHeader → List ℕ → List SectionHeader → Option (List ℕ)
+names_of h bytes sections = string_table bytes sections (names_index h sections)
+
+-- the string table with the names of sections
 abbrev pub name_table : Object → Option (List ℕ)
-name_table o = string_table o.bytes o.sections (names_index o.header o.sections)
+name_table o = names_of o.header o.bytes o.sections
 
 -- the name of a section
 abbrev pub section_name : Object → SectionHeader → List ℕ

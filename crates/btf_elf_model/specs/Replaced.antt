@@ -1,6 +1,6 @@
 -- An object with other bytes in one section: what changes, and what stays.
 -- Source: a choice of this project. The ELF gABI asks that sections don't overlap, and asks nothing of file offsets.
-use Rattle.std.specs.Prelude.{◌≡◌, ◌≢◌, ◌⊎◌, ℕ, ◌+◌, ◌-◌, ◌*◌, ◌%◌, ◌<◌, ◌≤◌, ◌==◌, ◌||◌, ◌&&◌, not, nat_lt, nat_le, max, min, Bool, List, length, remove, slice_get, slice_set, if◌then◌else◌, Option, Some, None}
+use Rattle.std.specs.Prelude.{◌≡◌, ◌≢◌, ◌⊎◌, ℕ, ◌+◌, ◌-◌, ◌*◌, ◌%◌, ◌<◌, ◌≤◌, ◌==◌, ◌&&◌, not, nat_lt, nat_le, max, min, Bool, List, length, remove, slice_get, slice_set, if◌then◌else◌, Some}
 use Rattle.std.specs.List.{list_any}
 use Rattle.btf_model.specs.Blob.{slice}
 use Rattle.btf_elf_model.specs.Header.{header_len}

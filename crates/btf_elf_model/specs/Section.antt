@@ -1,6 +1,6 @@
 -- Section headers, the contents of sections, and string tables.
 -- Source: ELF gABI, chapter 4, "Sections", "Special Sections", "String Table"; "ELF Header" for e_shnum and e_shstrndx.
-use Rattle.std.specs.Prelude.{ℕ, ◌+◌, ◌-◌, ◌*◌, ◌==◌, ◌||◌, ◌&&◌, not, nat_lt, nat_le, max, Bool, List, [], ◌∷◌, length, take, drop, map, slice_get, slice_index, if◌then◌else◌, Option, Some, None}
+use Rattle.std.specs.Prelude.{ℕ, ◌+◌, ◌-◌, ◌*◌, ◌==◌, ◌||◌, ◌&&◌, not, nat_lt, max, Bool, List, [], ◌∷◌, length, drop, map, slice_get, slice_index, if◌then◌else◌, Option, Some, None}
 use Rattle.std.specs.List.{before_first}
 use Rattle.std.specs.Option.{option_and_then}
 use Rattle.std.specs.Simd.{first_chunks}

@@ -4,7 +4,7 @@
 //! ELF gABI, chapter 4 "Object Files", for everything but the machine, and the BPF psABI for that.
 #![tactic(auto)]
 
-ghost use Rattle.btf_elf_model.specs.Laws.{ObjectIsDetermined};
+ghost use Rattle.btf_elf_model.specs.Laws.{ObjectIsDetermined, ObjectIsSound};
 
 mod error;
 mod file_header;
@@ -19,4 +19,9 @@ pub use symbol::Symbol;
 /// Bytes represent one object, or are refused with one error, and never both.
 pub fn object_is_determined()
     ensures { ObjectIsDetermined }
+{}
+
+/// In an object each section is in the file, apart from the headers, and each name ends.
+pub fn object_is_sound()
+    ensures { ObjectIsSound }
 {}

@@ -1,4 +1,4 @@
-use Rattle.std.proofs.Common.{◌≡◌, ◌∙◌, ℕ, ◌+◌, List, length, take, ap}
+use Rattle.std.proofs.Common.{◌∙◌, ℕ, ◌+◌, List, length, take, ap}
 use Rattle.std.specs.Prelude.{min}
 use Rattle.std.specs.List.{before_first}
 use Rattle.std.specs.Str.{bytes_eq}

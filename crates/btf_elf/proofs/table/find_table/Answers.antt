@@ -1,6 +1,4 @@
-use Rattle.std.proofs.Common.{◌≡◌, ◌⊎◌, ◌∙◌, ◌+◌, ◌<◌, ◌≤◌, ◌≢◌, ℕ, List, length, ap, arith, take, ⊎_elim}
-use Rattle.std.specs.Prelude.{slice_range}
-use Rattle.std.specs.Borrow.{Bor}
+use Rattle.std.proofs.Common.{◌≡◌, ◌∙◌, ℕ, length, ap, arith, take, ⊎_elim}
 use Rattle.btf_elf_model.specs.Section.{section_count}
 use Rattle.btf_elf.specs.Table.{table_of, IsTableOutside}
 use Rattle.btf_elf.proofs.Options.{match_more}

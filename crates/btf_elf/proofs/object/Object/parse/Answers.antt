@@ -1,10 +1,9 @@
-use Rattle.std.proofs.Common.{◌≡◌, ◌∙◌, List, Some, refl, sym, ap, subst, inl, inr}
+use Rattle.std.proofs.Common.{◌≡◌, ◌∙◌, List, Some, refl, subst, inl, inr}
 use Rattle.btf_elf_model.specs.Header.{file_header}
 use Rattle.btf_elf_model.specs.Section.{sections_of}
 use Rattle.btf_elf_model.specs.Symbols.{symbol_table}
-use Rattle.btf_elf_model.specs.Object.{IsObject}
+use Rattle.btf_elf_model.specs.Object.{names_of}
 use Rattle.btf_elf_model.specs.declared.section_header.SectionHeader.{SectionHeader}
-use Rattle.btf_elf.specs.Table.{names_of}
 use Rattle.btf_elf.specs.SymbolTable.{IsTable}
 use Rattle.btf_elf.proofs.Parsing.{refused, parsed, sections_are, symbols_checked}
 use Rattle.btf_elf.proofs.object.Object.parse.Goals as goal

@@ -1,4 +1,4 @@
-use Rattle.std.proofs.Common.{◌≡◌, ◌∙◌, ◌+◌, ◌^◌, ◌<◌, ◌≤◌, ◌*◌, ℕ, List, length, sym, ap, subst, arith}
+use Rattle.std.proofs.Common.{◌≡◌, ◌∙◌, ◌+◌, ◌^◌, ◌<◌, ◌≤◌, ◌*◌, ℕ, length, sym, ap, subst, arith}
 use Rattle.btf_elf_model.specs.Object as model
 use Rattle.btf_elf_model.specs.Header.{header_len}
 use Rattle.btf_elf_model.specs.Replaced.{place}
