@@ -1,6 +1,6 @@
 //! Objects.
 
-ghost use Rattle.std.specs.Prelude.{◌≡◌, ◌⊎◌, ◌<◌, true, Some, IsSome, IfOk, IfErr, IsErrAnd, slice_get, position, MatchResult, length};
+ghost use Rattle.std.specs.Prelude.{◌≡◌, ◌⊎◌, ◌<◌, true, Some, IsSome, IfSome, IfOk, IfErr, IsErrAnd, slice_get, position, MatchResult, length};
 ghost use Rattle.std.specs.Option.{option_copied};
 ghost use Rattle.std.specs.Str.{bytes_eq};
 ghost use Rattle.btf_elf_model.specs.Object as model;
@@ -21,7 +21,7 @@ use std::marker::Model;
 
 /// A 64-bit ELF object file of either byte order and any machine. It borrows the bytes of the file, and has room of its
 /// own for the section headers alone.
-#[derive(Drop)]
+#[derive(Debug, Drop)]
 pub struct Object<'a> {
     bytes: &'a [u8],
     header: FileHeader,
@@ -107,8 +107,9 @@ impl<'a> Object<'a> {
 
     /// The index of the first section of a name.
     pub fn section_by_name(&self, name: &[u8]) -> Option<usize>
-        ensures { result ≡ position (λ s. bytes_eq (model.section_name self.now s) name.now)
+        ensures first { result ≡ position (λ s. bytes_eq (model.section_name self.now s) name.now)
             self.now.sections }
+        ensures within { IfSome result (λ index. index < length self.now.sections) }
     {
         let names = self.names;
         self.sections
@@ -153,7 +154,7 @@ impl<'a> Object<'a> {
         Ok(*section)
     }
 
-    /// Where so many bytes of a section are put: in its place if they fit there, else at the end of the file, aligned.
+    /// Where `len` bytes of a section are put: in its place if they fit there, else at the end of the file, aligned.
     #[tactic(auto, unfolding(btf_elf_model::specs::Replaced::place))]
     fn place(&self, index: usize, section: &SectionHeader, len: u64) -> u64
         requires { index < length self.now.sections }

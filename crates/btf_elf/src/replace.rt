@@ -27,7 +27,7 @@ pub fn is_replaceable(index: usize, section: &SectionHeader) -> bool
         && section.kind != SectionHeader::SYMTAB
 }
 
-/// Whether a section has a byte among so many from an offset on.
+/// Whether a section has one of the `len` bytes from an offset on.
 #[tactic(auto, unfolding(btf_elf_model::specs::Replaced::shares_bytes))]
 fn shares_bytes(section: &SectionHeader, offset: u64, len: u64) -> bool
     ensures { result ≡ shares_bytes offset len section.now }
@@ -41,14 +41,14 @@ fn shares_bytes(section: &SectionHeader, offset: u64, len: u64) -> bool
     has_bytes(section) && len > 0 && size > 0 && is_shared
 }
 
-/// Whether a section of a list has a byte among so many from an offset on.
+/// Whether a section of a list has one of the `len` bytes from an offset on.
 fn any_shares(sections: &[SectionHeader], offset: u64, len: u64) -> bool
     ensures { result ≡ list_any (shares_bytes offset len) sections.now }
 {
     sections.iter().any(|s| shares_bytes(s, offset, len))
 }
 
-/// Whether so many bytes fit in the place of a section.
+/// Whether `len` bytes fit in the place of a section.
 #[tactic(auto, unfolding(btf_elf_model::specs::Replaced::fits))]
 pub fn fits(sections: &[SectionHeader], index: usize, section: &SectionHeader, len: u64) -> bool
     requires { index < length sections.now }

@@ -15,7 +15,7 @@ use btf_elf_model::{ParseError, SectionHeader, Symbol};
 use btf_model::Endianness;
 
 /// The bytes of the symbols, and the string table of their names.
-#[derive(Clone, Copy)]
+#[derive(Clone, Copy, Debug)]
 pub struct SymbolTable<'a> {
     pub entries: &'a [[u8; 24]],
     pub names: &'a [u8],

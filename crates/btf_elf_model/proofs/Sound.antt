@@ -23,7 +23,7 @@ use Rattle.btf_elf_model.proofs.Tests.{none_passes, not_past, not_over, Sections
 fit : (bytes : List ℕ) (o : Object) → IsObject bytes o → SectionsFit o.header bytes o.sections
 fit bytes o is =
     subst (λ (x : Object). SectionsFit x.header bytes x.sections) (sym is.object)
-        (sections_fit (file_header bytes) bytes (sections_of bytes) (no_errors bytes is.no_error).1.1.1.0)
+    (sections_fit (file_header bytes) bytes (sections_of bytes) (no_errors bytes is.no_error).1.1.1.0)
 
 pub within : (bytes : List ℕ) (o : Object) (index : ℕ) (s : SectionHeader) → IsObject bytes o → slice_get o.sections index ≡ Some s → has_bytes s ≡ true
     → s.offset + s.size ≤ length bytes
@@ -54,7 +54,7 @@ name_ends strings offset lt last =
     let len : length rest ≡ length strings - offset = length-drop offset strings in
     let split : offset + (length rest - 1) ≡ length strings - 1 = omega (arith, len, lt) in
     let zero_last : is_zero (get_or rest (length rest - 1) 0) ≡ true =
-        eq-eqb (get_or rest (length rest - 1) 0) 0 (get_or-drop offset strings (length rest - 1) 0 ∙ ap (λ (n : ℕ). get_or strings n 0) split ∙ last) in
+    eq-eqb (get_or rest (length rest - 1) 0) 0 (get_or-drop offset strings (length rest - 1) 0 ∙ ap (λ (n : ℕ). get_or strings n 0) split ∙ last) in
     let first = position_or_len is_zero rest in
     let before : first ≤ length rest - 1 = first_not_behind is_zero rest (length rest - 1) 0 zero_last in
     let inside : first < length rest = omega (arith, before, len, lt) in
@@ -73,18 +73,18 @@ ends : (strings : List ℕ) (offset : ℕ) → is_string_table strings ≡ true 
 unfolding is_string_table
 ends strings offset table name =
     ⊎_elim
-        (λ none.
-            let empty : length strings ≡ 0 = eqb-true (length strings) 0 none in
-            inl (empty_is strings empty, ⊎_elim (λ zero_is. eqb-true offset 0 zero_is) (λ lt. absurd (omega (arith, ltb-true offset (length strings) lt, empty))) (or_cases (offset == 0) (nat_lt offset (length strings)) name)))
-        (λ both.
-            let parts = and_parts (is_zero (slice_index strings 0)) (is_zero (slice_index strings (length strings - 1))) both in
-            ⊎_elim
-                (λ empty. inl (empty, ⊎_elim (λ zero_is. eqb-true offset 0 zero_is) (λ lt. absurd (omega (arith, ltb-true offset (length strings) lt, ap length empty))) (or_cases (offset == 0) (nat_lt offset (length strings)) name)))
-                (λ some. inr (name_ends strings offset
-                    (⊎_elim (λ zero_is. omega (arith, some, eqb-true offset 0 zero_is)) (λ lt. ltb-true offset (length strings) lt) (or_cases (offset == 0) (nat_lt offset (length strings)) name))
-                    (eqb-true (slice_index strings (length strings - 1)) 0 parts.1)))
-                (none_or_some strings))
-        (or_cases (length strings == 0) (is_zero (slice_index strings 0) && is_zero (slice_index strings (length strings - 1))) table)
+    (λ none.
+    let empty : length strings ≡ 0 = eqb-true (length strings) 0 none in
+    inl (empty_is strings empty, ⊎_elim (λ zero_is. eqb-true offset 0 zero_is) (λ lt. absurd (omega (arith, ltb-true offset (length strings) lt, empty))) (or_cases (offset == 0) (nat_lt offset (length strings)) name)))
+    (λ both.
+    let parts = and_parts (is_zero (slice_index strings 0)) (is_zero (slice_index strings (length strings - 1))) both in
+    ⊎_elim
+    (λ empty. inl (empty, ⊎_elim (λ zero_is. eqb-true offset 0 zero_is) (λ lt. absurd (omega (arith, ltb-true offset (length strings) lt, ap length empty))) (or_cases (offset == 0) (nat_lt offset (length strings)) name)))
+    (λ some. inr (name_ends strings offset
+    (⊎_elim (λ zero_is. omega (arith, some, eqb-true offset 0 zero_is)) (λ lt. ltb-true offset (length strings) lt) (or_cases (offset == 0) (nat_lt offset (length strings)) name))
+    (eqb-true (slice_index strings (length strings - 1)) 0 parts.1)))
+    (none_or_some strings))
+    (or_cases (length strings == 0) (is_zero (slice_index strings 0) && is_zero (slice_index strings (length strings - 1))) table)
   where
     none_or_some : (xs : List ℕ) → (xs ≡ []) ⊎ (0 < length xs)
     none_or_some [] = inl refl
@@ -94,8 +94,8 @@ ends strings offset table name =
 in_section : (bytes : List ℕ) (s : SectionHeader) (strings : List ℕ) → strings_in bytes s ≡ Some strings → is_string_table strings ≡ true
 in_section bytes s strings =
     cond_both ((s.kind == 3) && is_string_table (contents bytes s)) (Some (contents bytes s)) None (λ o. o ≡ Some strings → is_string_table strings ≡ true)
-        (λ test is. let same : contents bytes s ≡ strings = cc in sym (ap is_string_table same) ∙ (and_parts (s.kind == 3) (is_string_table (contents bytes s)) test).1)
-        (λ _ is. cc)
+    (λ test is. let same : contents bytes s ≡ strings = cc in sym (ap is_string_table same) ∙ (and_parts (s.kind == 3) (is_string_table (contents bytes s)) test).1)
+    (λ _ is. cc)
 
 found_table : (bytes : List ℕ) (o : Option SectionHeader) (strings : List ℕ) → option_and_then (strings_in bytes) o ≡ Some strings → is_string_table strings ≡ true
 found_table bytes None strings is = cc
@@ -105,8 +105,8 @@ is_table : (bytes : List ℕ) (sections : List SectionHeader) (index : ℕ) (str
 unfolding string_table is_string_table
 is_table bytes sections index strings =
     cond_both (index == 0) (Some []) (option_and_then (strings_in bytes) (slice_get sections index)) (λ o. o ≡ Some strings → is_string_table strings ≡ true)
-        (λ _ is. let same : [] ≡ strings = cc in ap is_string_table (sym same))
-        (λ _ is. found_table bytes (slice_get sections index) strings is)
+    (λ _ is. let same : [] ≡ strings = cc in ap is_string_table (sym same))
+    (λ _ is. found_table bytes (slice_get sections index) strings is)
 
 -- the names of the sections
 names_end : (names : Option (List ℕ)) (sections : List SectionHeader) → name_error names sections ≡ None → ((strings : List ℕ) → names ≡ Some strings → is_string_table strings ≡ true)
@@ -122,9 +122,9 @@ names_end (Some strings) sections none table index s at =
 pub section_names_end : (bytes : List ℕ) (o : Object) (index : ℕ) (s : SectionHeader) → IsObject bytes o → slice_get o.sections index ≡ Some s → Ends (unwrap_or (name_table o) []) s.name
 section_names_end bytes o index s is at =
     names_end (name_table o) o.sections
-        (ap (λ (x : Object). name_error (name_table x) x.sections) is.object ∙ (no_errors bytes is.no_error).1.1.1.1.0)
-        (λ strings found. is_table o.bytes o.sections _ strings found)
-        index s at
+    (ap (λ (x : Object). name_error (name_table x) x.sections) is.object ∙ (no_errors bytes is.no_error).1.1.1.1.0)
+    (λ strings found. is_table o.bytes o.sections _ strings found)
+    index s at
 
 -- the names of the symbols
 symbols_end : (names : List ℕ) (all : List Symbol) → symbol_error names all ≡ None → is_string_table names ≡ true → (index : ℕ) (s : Symbol) → slice_get all index ≡ Some s → Ends names s.name
@@ -153,7 +153,7 @@ unfolding symbol_table_error
 symbol_names_end bytes o index s is at =
     let old = no_errors bytes is.no_error in
     symbols_end (symbol_names o) (symbols o)
-        (ap (λ (x : Object). symbol_error (symbol_names x) (symbols x)) is.object ∙ old.1.1.1.1.1.1.0)
-        (symbol_strings o.bytes o.sections (symbol_table o.sections)
-            (ap (λ (x : Object). option_and_then (λ t. when (is_malformed x.bytes x.sections t) BadSymbolTable) (symbol_table x.sections)) is.object ∙ old.1.1.1.1.1.0))
-        index s at
+    (ap (λ (x : Object). symbol_error (symbol_names x) (symbols x)) is.object ∙ old.1.1.1.1.1.1.0)
+    (symbol_strings o.bytes o.sections (symbol_table o.sections)
+    (ap (λ (x : Object). option_and_then (λ t. when (is_malformed x.bytes x.sections t) BadSymbolTable) (symbol_table x.sections)) is.object ∙ old.1.1.1.1.1.0))
+    index s at

@@ -77,7 +77,7 @@ unfoldable pub header_error : FileHeader → Option ParseError
 header_error h = first_error (
     when (not (h.version == 1)) UnsupportedVersion
     ∷ when (not (h.header_size == 64) || (not (h.section_headers == 0) && not (h.section_header_size == 64)))
-        BadHeaderSize
+    BadHeaderSize
     ∷ [])
 
 -- The table of section headers begins in the file header, or ends past the end.
@@ -114,14 +114,14 @@ symbol_error names symbols = option_map BadSymbolName (position (λ s. not (is_n
 unfoldable pub parse_error : List ℕ → Option ParseError
 parse_error bytes = let o = object_of bytes in
     first_error (
-        identification_error (front bytes)
-        ∷ header_error o.header
-        ∷ table_error o.header bytes
-        ∷ section_error o.header bytes o.sections
-        ∷ name_error (name_table o) o.sections
-        ∷ symbol_table_error bytes o.sections
-        ∷ symbol_error (symbol_names o) (symbols o)
-        ∷ [])
+    identification_error (front bytes)
+    ∷ header_error o.header
+    ∷ table_error o.header bytes
+    ∷ section_error o.header bytes o.sections
+    ∷ name_error (name_table o) o.sections
+    ∷ symbol_table_error bytes o.sections
+    ∷ symbol_error (symbol_names o) (symbols o)
+    ∷ [])
 
 -- The bytes are this object: they have no error, and the object is what they say.
 pub record IsObject (bytes : List ℕ) (o : Object) : Type 0 where

@@ -13,13 +13,13 @@ use Rattle.btf_elf_model.specs.declared.section_header.SectionHeader.{SectionHea
 unfoldable pub is_replaceable : ℕ → SectionHeader → Bool
 is_replaceable index s = nat_lt 0 index && has_bytes s && not (s.kind == sht_strtab) && not (s.kind == sht_symtab)
 
--- The section has a byte among so many from an offset on.
+-- The section has one of the len bytes from an offset on.
 unfoldable pub shares_bytes : ℕ → ℕ → SectionHeader → Bool
 shares_bytes offset len s =
     has_bytes s && nat_lt 0 len && nat_lt 0 s.size
     && nat_lt offset (s.offset + s.size) && nat_lt s.offset (offset + len)
 
--- So many bytes fit in the place of a section: it has no fewer, and no other section has one of them.
+-- len bytes fit in the place of a section: it has no fewer, and no other section has one of them.
 unfoldable pub fits : List SectionHeader → ℕ → SectionHeader → ℕ → Bool
 fits sections index s len =
     nat_le len s.size && not (list_any (shares_bytes s.offset len) (remove sections index))
@@ -32,7 +32,7 @@ alignment_of s = min (max 1 s.alignment) 4096
 abbrev pub aligned : ℕ → ℕ → ℕ
 aligned n alignment = n + (if n % alignment == 0 then 0 else (alignment - n % alignment))
 
--- Where so many bytes of a section are put: in its place if they fit there, else at the end of the file, aligned.
+-- Where len bytes of a section are put: in its place if they fit there, else at the end of the file, aligned.
 unfoldable pub place : Object → ℕ → SectionHeader → ℕ → ℕ
 place o index s len =
     if fits o.sections index s len then s.offset else aligned (length o.bytes) (alignment_of s)
@@ -45,7 +45,7 @@ moved offset size s = record s { offset = offset; size = size }
 abbrev pub place_in_header : Object → ℕ → ℕ
 place_in_header o index = o.header.section_headers + header_len * index + 24
 
--- The range of so many bytes from an offset on shares no byte with another range.
+-- The len bytes from an offset on share no byte with another range.
 abbrev pub Apart : ℕ → ℕ → ℕ → ℕ → Type 0
 Apart at len other size = 0 < len → 0 < size → (at + len ≤ other) ⊎ (other + size ≤ at)
 

@@ -219,7 +219,7 @@ fn malformed_symbols_are_refused(rt: HostRuntime) -> Result<(), Fail> {
     Ok(())
 }
 
-/// The error of an object that is cut to so many bytes: the section header table is at its end.
+/// The error of an object that is cut to `len` bytes: the section header table is at its end.
 fn error_of_cut(len: usize) -> ParseError {
     if len < 64 {
         ParseError::NotElf

@@ -13,7 +13,7 @@ fn has_section(object: &Object<'_>, index: usize, bytes: &[u8], offset: u64) -> 
     }
 }
 
-/// Whether the new file has so many bytes, and in the section of an index these, at this offset, and the sections and
+/// Whether the new file has `len` bytes, and in the section of an index these, at this offset, and the sections and
 /// symbols that the old one had.
 fn is_replaced(
     alloc: Global,
