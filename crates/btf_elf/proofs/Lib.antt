@@ -1,0 +1,9 @@
+pub mod Options
+pub mod Tables
+pub mod Parsing
+pub mod Names
+pub mod Writes
+pub mod Placing
+pub mod Entries
+pub mod Rewritten
+pub mod Replacing

@@ -1,0 +1,5 @@
+pub mod Results
+pub mod Table
+pub mod SymbolTable
+pub mod Whole
+pub mod Writing

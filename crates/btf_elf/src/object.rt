@@ -1,0 +1,197 @@
+//! Objects.
+
+ghost use Rattle.std.specs.Prelude.{◌≡◌, ◌⊎◌, ◌<◌, true, Some, IsSome, IfSome, IfOk, IfErr, IsErrAnd, slice_get, position, MatchResult, length};
+ghost use Rattle.std.specs.Option.{option_copied};
+ghost use Rattle.std.specs.Str.{bytes_eq};
+ghost use Rattle.btf_elf_model.specs.Object as model;
+ghost use Rattle.btf_elf_model.specs.Replaced.{is_replaceable, place};
+ghost use Rattle.btf_elf.specs.Results.{IsReason};
+ghost use Rattle.btf_elf.specs.Writing.{replace_error, HasReplaced};
+
+use crate::error::{ObjectError, ReplaceError};
+use crate::header::{check_header, read_header};
+use crate::replace::{aligned_end, fits, is_replaceable, rewritten};
+use crate::section::{check_sections, contents};
+use crate::strings::{has_name, name_at, read_names};
+use crate::symbols::{SymbolTable, check_symbols, read_symbols, symbol};
+use crate::table::{read_sections, section_table, table_end};
+use btf_elf_model::{FileHeader, ParseError, SectionHeader, Symbol};
+use std::alloc::Global;
+use std::marker::Model;
+
+/// A 64-bit ELF object file of either byte order and any machine. It borrows the bytes of the file, and has room of its
+/// own for the section headers alone.
+#[derive(Debug, Drop)]
+pub struct Object<'a> {
+    bytes: &'a [u8],
+    header: FileHeader,
+    sections: Vec<SectionHeader>,
+    names: &'a [u8],
+    symbols: SymbolTable<'a>,
+}
+
+impl<'a> Model for Object<'a> {
+    ghost use Rattle.btf_elf_model.specs.Object as model;
+
+    ghost Value = { model.Object };
+
+    ghost use Rattle.btf_elf.specs.Whole.{as_object, IsWhole};
+
+    ghost view = { as_object };
+
+    ghost invariant = { IsWhole };
+}
+
+impl<'a> Object<'a> {
+    /// The object that the bytes of a file are.
+    ///
+    /// `Parse` with the first error of the bytes, in the order of `ParseError`, or `OutOfMemory`.
+    pub fn parse(alloc: Global, bytes: &'a [u8]) -> Result<Object<'a>, ObjectError>
+        ensures { MatchResult result (model.IsObject bytes.now) (IsReason bytes.now) }
+    {
+        let header = read_header(bytes)?;
+        check_header(&header)?;
+        let table = section_table(bytes, &header)?;
+        let sections = read_sections(alloc, table, header.order)?;
+        let headers = sections.as_slice();
+        check_sections(bytes, &header, table_end(&header, table), headers)?;
+        let names = read_names(bytes, &header, headers)?;
+        let symbols = read_symbols(bytes, headers)?;
+        check_symbols(&symbols, header.order)?;
+        Ok(Object {
+            bytes,
+            header,
+            sections,
+            names,
+            symbols,
+        })
+    }
+
+    /// The bytes of the file.
+    pub fn bytes(&self) -> &'a [u8]
+        ensures value { result.now ≡ self.now.bytes }
+        ensures object { model.IsObject result.now self.now }
+    {
+        self.bytes
+    }
+
+    /// The words of the file header.
+    pub fn header(&self) -> &FileHeader
+        ensures { result.now ≡ self.now.header }
+    {
+        &self.header
+    }
+
+    /// The headers of all sections, by their indices. Section 0 has no bytes in a file as the gABI has it, but this is
+    /// not checked.
+    pub fn sections(&self) -> &[SectionHeader]
+        ensures { result.now ≡ self.now.sections }
+    {
+        self.sections.as_slice()
+    }
+
+    /// The bytes of a section in the file; none of a section of type `SHT_NULL` or `SHT_NOBITS`.
+    pub fn section_bytes(&self, section: &SectionHeader) -> &'a [u8]
+        ensures { result.now ≡ model.section_bytes self.now section.now }
+    {
+        contents(self.bytes, section)
+    }
+
+    /// The name of a section: bytes without a zero byte, which need be no UTF-8. Empty where the file has no table of
+    /// section names.
+    pub fn section_name(&self, section: &SectionHeader) -> &'a [u8]
+        ensures { result.now ≡ model.section_name self.now section.now }
+    {
+        name_at(self.names, section.name)
+    }
+
+    /// The index of the first section of a name.
+    pub fn section_by_name(&self, name: &[u8]) -> Option<usize>
+        ensures first { result ≡ position (λ s. bytes_eq (model.section_name self.now s) name.now)
+            self.now.sections }
+        ensures within { IfSome result (λ index. index < length self.now.sections) }
+    {
+        let names = self.names;
+        self.sections
+            .iter()
+            .position(|s| has_name(names, s.name, name))
+    }
+
+    /// How many symbols there are.
+    pub fn symbol_count(&self) -> usize
+        ensures { result ≡ length (model.symbols self.now) }
+    {
+        self.symbols.entries.len()
+    }
+
+    /// The symbol of an index; None where there are fewer symbols.
+    pub fn symbol(&self, index: usize) -> Option<Symbol>
+        ensures { result ≡ slice_get (model.symbols self.now) index }
+    {
+        let entry = self.symbols.entries.get(index)?;
+        Some(symbol(entry, self.header.order))
+    }
+
+    /// The name of a symbol: bytes without a zero byte, which need be no UTF-8.
+    pub fn symbol_name(&self, symbol: &Symbol) -> &'a [u8]
+        ensures { result.now ≡ model.symbol_name self.now symbol.now }
+    {
+        name_at(self.symbols.names, symbol.name)
+    }
+
+    /// The header of a section whose bytes can be replaced.
+    fn replaceable(&self, index: usize) -> Result<SectionHeader, ReplaceError>
+        ensures { MatchResult result
+            (λ s. (slice_get self.now.sections index ≡ Some s) × (is_replaceable index s ≡ true))
+            (λ e. replace_error self.now index ≡ Some e) }
+    {
+        let Some(section) = self.sections.get(index) else {
+            return Err(ReplaceError::NoSuchSection { index });
+        };
+        if !is_replaceable(index, section) {
+            return Err(ReplaceError::NotReplaceable { index });
+        }
+        Ok(*section)
+    }
+
+    /// Where `len` bytes of a section are put: in its place if they fit there, else at the end of the file, aligned.
+    #[tactic(auto, unfolding(btf_elf_model::specs::Replaced::place))]
+    fn place(&self, index: usize, section: &SectionHeader, len: u64) -> u64
+        requires { index < length self.now.sections }
+        ensures { result ≡ place self.now index section.now len }
+    {
+        if fits(self.sections.as_slice(), index, section, len) {
+            section.offset
+        } else {
+            aligned_end(self.bytes.len(), section)
+        }
+    }
+
+    /// The file with other bytes in a section: in its place where they are no more than the section has and no other
+    /// section shares them, else at the end of the file, at a multiple of `sh_addralign`, but of 4096 at most. Of the
+    /// header of the section `sh_offset` and `sh_size` change, and nothing else does: the new file is an object, in
+    /// which the section has these bytes, and each other section, the symbols and all names are as they were. Bytes
+    /// that no section has any more stay in the file.
+    ///
+    /// `NoSuchSection`, `NotReplaceable` and `OutOfMemory`, in this order.
+    pub fn with_section(
+        &self,
+        alloc: Global,
+        index: usize,
+        given: &[u8],
+    ) -> Result<Vec<u8>, ReplaceError>
+        ensures ok { IfOk result (λ file. HasReplaced self.now index given.now file.items) }
+        ensures refused { IsSome (replace_error self.now index)
+            → IsErrAnd result (λ e. replace_error self.now index ≡ Some e) }
+        ensures only { IfErr result (λ e. (replace_error self.now index ≡ Some e)
+            ⊎ (e ≡ ReplaceError.OutOfMemory)) }
+    {
+        let section = self.replaceable(index)?;
+        let offset = self.place(index, &section, given.len() as u64);
+        if offset.checked_add(given.len() as u64).is_none() {
+            return Err(ReplaceError::OutOfMemory);
+        }
+        let file = rewritten(alloc, &self.header, self.bytes, index, offset, given)?;
+        Ok(file)
+    }
+}

@@ -1,0 +1,4 @@
+pub mod Determined
+pub mod Errors
+pub mod Tests
+pub mod Sound

@@ -1,0 +1,27 @@
+//! What an ELF object file is, which errors refuse bytes that are none, and the laws of both.
+//!
+//! The definitions are in `specs/`. Each law is the contract of a function here that does nothing. The sources are the
+//! ELF gABI, chapter 4 "Object Files", for everything but the machine, and the BPF psABI for that.
+#![tactic(auto)]
+
+ghost use Rattle.btf_elf_model.specs.Laws.{ObjectIsDetermined, ObjectIsSound};
+
+mod error;
+mod file_header;
+mod section_header;
+mod symbol;
+
+pub use error::ParseError;
+pub use file_header::FileHeader;
+pub use section_header::SectionHeader;
+pub use symbol::Symbol;
+
+/// Bytes represent one object, or are refused with one error, and never both.
+pub fn object_is_determined()
+    ensures { ObjectIsDetermined }
+{}
+
+/// In an object each section is in the file, apart from the headers, and each name ends.
+pub fn object_is_sound()
+    ensures { ObjectIsSound }
+{}
