@@ -1,10 +1,15 @@
 # Each target is a command that could be typed instead. NAME is a crate, as in `make check NAME=btf_ext`.
 NAME ?= btf_words
-FILE ?= /sys/kernel/btf/vmlinux
+# The table of the running kernel, or one of this repository.
+FILE ?= $(firstword $(wildcard /sys/kernel/btf/vmlinux) crates/btf_examples/data/kernel.btf)
 PREFIX ?= $(HOME)/.local
 TESTS = record_tests table_tests ext_tests kernel_tests program_tests
 
-.PHONY: build check mutants test gate bench install
+.PHONY: list build check mutants test gate bench install
+
+# Lists the types of a table.
+list:
+	./btftool little types < $(FILE)
 
 # Proves and builds btftool where it is older than its sources.
 build:
