@@ -6,6 +6,7 @@
 //! it returns a `Result`, so an allocation failure is an error like any other.
 #![tactic(auto)]
 
+mod calls;
 mod compatible;
 mod lasting;
 mod layout;
