@@ -1,5 +1,9 @@
 //! Why an object is not rewritten.
 
+ghost use Rattle.std.specs.Prelude.{◌≡◌};
+ghost use Rattle.btf_object.specs.Errors.{of_object, of_table, of_section};
+ghost use Rattle.btf_object.specs.declared.error.SanitizeError.TheVariants.{OutOfMemory};
+
 use btf_elf::{ObjectError, ReplaceError};
 use btf_words::BtfError;
 use std::alloc::AllocError;
@@ -31,12 +35,16 @@ pub enum SanitizeError {
 }
 
 impl From<AllocError> for SanitizeError {
+    ghost from_gives = { λ _ f. f ≡ OutOfMemory };
+
     fn from(_error: AllocError) -> SanitizeError {
         SanitizeError::OutOfMemory
     }
 }
 
 impl From<ObjectError> for SanitizeError {
+    ghost from_gives = { λ e f. f ≡ of_object e };
+
     fn from(error: ObjectError) -> SanitizeError {
         match error {
             ObjectError::OutOfMemory => SanitizeError::OutOfMemory,
@@ -46,6 +54,8 @@ impl From<ObjectError> for SanitizeError {
 }
 
 impl From<BtfError> for SanitizeError {
+    ghost from_gives = { λ e f. f ≡ of_table e };
+
     fn from(error: BtfError) -> SanitizeError {
         match error {
             BtfError::OutOfMemory => SanitizeError::OutOfMemory,
@@ -55,6 +65,8 @@ impl From<BtfError> for SanitizeError {
 }
 
 impl From<ReplaceError> for SanitizeError {
+    ghost from_gives = { λ e f. f ≡ of_section e };
+
     fn from(error: ReplaceError) -> SanitizeError {
         match error {
             ReplaceError::OutOfMemory => SanitizeError::OutOfMemory,

@@ -1,10 +1,17 @@
 //! The features of a kernel's BTF.
 
-use crate::version::Version;
+ghost use Rattle.std.specs.Prelude.{◌≡◌, ◌||◌, false, IfSome, IfNone};
+ghost use Rattle.btf_rewrite_model.specs.Feature.{same_feature};
+ghost use Rattle.btf_rewrite_model.specs.declared.feature.BtfFeature.{BtfFeature};
+ghost use Rattle.btf_object_model.specs.Kernel.{IsVersion, has_by_version};
+ghost use Rattle.btf_object_model.specs.declared.version.Version.{Version};
+ghost use Rattle.btf_object.specs.Kernel.{has};
+
+use crate::version::{has, read_version};
 use btf_rewrite_model::BtfFeature;
 
 /// The features that a kernel has.
-#[derive(Clone, Copy, Debug, Default, PartialEq, Eq)]
+#[derive(Clone, Copy, Debug, PartialEq, Eq)]
 pub struct Kernel {
     func: bool,
     func_global: bool,
@@ -18,12 +25,25 @@ pub struct Kernel {
 
 impl Kernel {
     /// A kernel that has none of the eight features.
-    pub fn new() -> Kernel {
-        Kernel::default()
+    pub fn new() -> Kernel
+        ensures { (f : BtfFeature) → has result f ≡ false }
+    {
+        Kernel {
+            func: false,
+            func_global: false,
+            data_sec: false,
+            data_sec_zero: false,
+            float: false,
+            decl_tag: false,
+            type_tag: false,
+            enum64: false,
+        }
     }
 
     /// The same kernel with one more feature.
-    pub fn with(self, feature: BtfFeature) -> Kernel {
+    pub fn with(self, feature: BtfFeature) -> Kernel
+        ensures { (f : BtfFeature) → has result f ≡ (same_feature feature f || has self f) }
+    {
         let mut kernel = self;
         match feature {
             BtfFeature::Func => kernel.func = true,
@@ -39,7 +59,9 @@ impl Kernel {
     }
 
     /// Whether the kernel has a feature.
-    pub fn has(&self, feature: BtfFeature) -> bool {
+    pub fn has(&self, feature: BtfFeature) -> bool
+        ensures { result ≡ has self.now feature }
+    {
         match feature {
             BtfFeature::Func => self.func,
             BtfFeature::FuncGlobal => self.func_global,
@@ -58,17 +80,21 @@ impl Kernel {
     ///
     /// It has the features that Linux of that version has. A distribution's kernel may have more than its version
     /// says, since features are backported.
-    pub fn of_version(text: &str) -> Option<Kernel> {
-        let version = Version::read(text)?;
+    pub fn of_version(text: &str) -> Option<Kernel>
+        ensures some { IfSome result (λ kernel. (v : Version) × IsVersion text.now v
+            × ((f : BtfFeature) → has kernel f ≡ has_by_version v f)) }
+        ensures none { IfNone result ((v : Version) → IsVersion text.now v → ⊥) }
+    {
+        let version = read_version(text)?;
         Some(Kernel {
-            func: version.has(BtfFeature::Func),
-            func_global: version.has(BtfFeature::FuncGlobal),
-            data_sec: version.has(BtfFeature::DataSec),
-            data_sec_zero: version.has(BtfFeature::DataSecZero),
-            float: version.has(BtfFeature::Float),
-            decl_tag: version.has(BtfFeature::DeclTag),
-            type_tag: version.has(BtfFeature::TypeTag),
-            enum64: version.has(BtfFeature::Enum64),
+            func: has(version, BtfFeature::Func),
+            func_global: has(version, BtfFeature::FuncGlobal),
+            data_sec: has(version, BtfFeature::DataSec),
+            data_sec_zero: has(version, BtfFeature::DataSecZero),
+            float: has(version, BtfFeature::Float),
+            decl_tag: has(version, BtfFeature::DeclTag),
+            type_tag: has(version, BtfFeature::TypeTag),
+            enum64: has(version, BtfFeature::Enum64),
         })
     }
 }

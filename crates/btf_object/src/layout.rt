@@ -1,5 +1,10 @@
 //! What the rewrite of a table needs to know of an object.
 
+ghost use Rattle.std.specs.Prelude.{◌≡◌, true, false, List, ℕ, IfOk, IfSome, IfNone};
+ghost use Rattle.btf_rules.specs.Layout.{layout_of, sizes_of, offsets_of};
+ghost use Rattle.btf_object_model.specs.Layout as model;
+ghost use Rattle.btf_object.specs.Names.{IsReadSymbol, IsLeftOut};
+
 use btf_elf::{Object, Symbol};
 use btf_words::SectionIndex;
 use std::alloc::{AllocError, Global};
@@ -7,6 +12,12 @@ use std::collections::HashMap;
 use std::str;
 
 /// What the rewrite of a table needs of an object: the sizes of its sections, and the offsets of its symbols.
+///
+/// A name that is not UTF-8, or has 512 bytes or more, is left out, since no table that a kernel takes has it. The
+/// symbols are those that aya takes: all that are not local, and local ones of type `STT_OBJECT`; undefined ones are
+/// among them, with the value 0. libbpf takes those of type `STT_OBJECT` alone that are global or weak. It also gives
+/// `.kconfig` a size, which no section of an object has: the rewrite of a table with such a DATASEC is refused for
+/// `UnknownSectionSize` here.
 #[derive(Drop)]
 pub struct ObjectLayout {
     /// The index and `sh_size` of the last section of each name.
@@ -15,52 +26,85 @@ pub struct ObjectLayout {
     pub symbols: HashMap<String, u64>,
 }
 
-/// Whether the offset of a symbol is one that a rewrite reads.
-fn is_wanted(symbol: &Symbol) -> bool {
+impl ObjectLayout {
+    /// The layout of an object. `AllocError` is the only error.
+    pub fn read(alloc: Global, object: &Object<'_>) -> Result<ObjectLayout, AllocError>
+        ensures { IfOk result (λ l. layout_of l.sections l.symbols ≡ model.layout_of object.now) }
+    {
+        let sections = read_sections(alloc, object)?;
+        let symbols = read_symbols(alloc, object)?;
+        Ok(ObjectLayout { sections, symbols })
+    }
+}
+
+/// A name is shorter than this in bytes, or no kernel takes it (`KSYM_NAME_LEN`).
+const NAME_LIMIT: usize = 512;
+
+/// `STB_LOCAL`: the binding of a symbol that no other object sees.
+const STB_LOCAL: u8 = 0;
+
+/// `STT_OBJECT`: the type of a symbol of a variable.
+const STT_OBJECT: u8 = 1;
+
+/// The text of a name, where a rewrite may ask for it.
+fn askable(name: &[u8]) -> Option<&str>
+    ensures some { IfSome result (λ text. (text.now ≡ name.now)
+        × (model.is_askable name.now ≡ true)) }
+    ensures none { IfNone result (model.is_askable name.now ≡ false) }
+{
+    if name.len() >= NAME_LIMIT {
+        return None;
+    }
+    str::from_utf8(name).ok()
+}
+
+/// Whether the offset of a symbol is read.
+fn is_read(symbol: &Symbol) -> bool
+    ensures { result ≡ model.is_read symbol.now }
+{
     symbol.binding != STB_LOCAL || symbol.kind == STT_OBJECT
 }
 
-const STB_LOCAL: u8 = 0;
-
-const STT_OBJECT: u8 = 1;
-
-impl ObjectLayout {
-    /// The layout of an object. `AllocError` is the only error.
-    pub fn read(alloc: Global, object: &Object<'_>) -> Result<ObjectLayout, AllocError> {
-        Ok(ObjectLayout {
-            sections: read_sections(alloc, object)?,
-            symbols: read_symbols(alloc, object)?,
-        })
+/// The name and the value of the symbol of an index, where they are read.
+fn read_symbol<'a>(object: &Object<'a>, index: usize) -> Option<(&'a str, u64)>
+    ensures some { IfSome result (λ named. IsReadSymbol object.now index named.0.now named.1) }
+    ensures none { IfNone result (IsLeftOut object.now index) }
+{
+    let symbol = object.symbol(index)?;
+    if !is_read(&symbol) {
+        return None;
     }
+    let name = askable(object.symbol_name(&symbol))?;
+    Some((name, symbol.value))
 }
 
 /// The index and the size of the last section of each name.
 fn read_sections(
     alloc: Global,
     object: &Object<'_>,
-) -> Result<HashMap<String, (SectionIndex, u64)>, AllocError> {
-    let mut sections = HashMap::new(alloc);
+) -> Result<HashMap<String, (SectionIndex, u64)>, AllocError>
+    ensures { IfOk result (λ map. (name : List ℕ)
+        → sizes_of map name ≡ model.size_of object.now name) }
+{
+    let mut map = HashMap::new(alloc);
     for (index, section) in object.sections().iter().enumerate() {
-        if let Ok(name) = str::from_utf8(object.section_name(section)) {
-            sections.insert(name.to_string(alloc)?, (SectionIndex(index), section.size))?;
+        if let Some(name) = askable(object.section_name(section)) {
+            map.insert(name.to_string(alloc)?, (SectionIndex(index), section.size))?;
         }
     }
-    Ok(sections)
+    Ok(map)
 }
 
-/// The offset of the last symbol of each name.
-fn read_symbols(alloc: Global, object: &Object<'_>) -> Result<HashMap<String, u64>, AllocError> {
-    let mut symbols = HashMap::new(alloc);
+/// The value of the last symbol of each name.
+fn read_symbols(alloc: Global, object: &Object<'_>) -> Result<HashMap<String, u64>, AllocError>
+    ensures { IfOk result (λ map. (name : List ℕ)
+        → offsets_of map name ≡ model.offset_of object.now name) }
+{
+    let mut map = HashMap::new(alloc);
     for index in 0..object.symbol_count() {
-        let Some(symbol) = object.symbol(index) else {
-            continue;
-        };
-        if !is_wanted(&symbol) {
-            continue;
-        }
-        if let Ok(name) = str::from_utf8(object.symbol_name(&symbol)) {
-            symbols.insert(name.to_string(alloc)?, symbol.value)?;
+        if let Some((name, value)) = read_symbol(object, index) {
+            map.insert(name.to_string(alloc)?, value)?;
         }
     }
-    Ok(symbols)
+    Ok(map)
 }

@@ -1,44 +1,71 @@
 //! Objects that are rewritten for a kernel.
 
+ghost use Rattle.std.specs.Prelude.{◌≡◌, ℕ, Option, None, IfOk, IfErr};
+ghost use Rattle.std.specs.Option.{option_map};
+ghost use Rattle.btf_elf_model.specs.Object as elf;
+ghost use Rattle.btf_elf_model.specs.declared.section_header.SectionHeader.{SectionHeader};
+ghost use Rattle.btf_object_model.specs.Laws.{KeepsExt};
+ghost use Rattle.btf_object_model.specs.Sanitized.{HasSection, IsSanitized, ext_name};
+ghost use Rattle.btf_object.specs.Errors.{target_of, IsCause};
+
 use crate::error::SanitizeError;
 use crate::kernel::Kernel;
-use crate::layout::ObjectLayout;
 use crate::table::rewritten;
 use arrayvec::ArrayVec;
 use btf_elf::Object;
 use btf_rewrite_model::{FeatureAnswer, FillPolicy};
 use std::alloc::Global;
 
-/// The object with its table rewritten for a kernel, and which features that has asked for, as `sanitize_object_with`
-/// without a placeholder.
+/// The object with its table rewritten for a kernel, and which features the rewrite asked for. It is
+/// `sanitize_object_with` without a placeholder, with the same errors.
 pub fn sanitize_object(
     alloc: Global,
     bytes: &[u8],
     kernel: &Kernel,
     policy: FillPolicy,
-) -> Result<(Vec<u8>, ArrayVec<FeatureAnswer, 8>), SanitizeError> {
+) -> Result<(Vec<u8>, ArrayVec<FeatureAnswer, 8>), SanitizeError>
+    ensures sanitized { IfOk result (λ r. IsSanitized bytes.now
+        (target_of kernel.now policy None) r.0.items r.1.items) }
+    ensures ext { IfOk result (λ r. (o : elf.Object) (index : ℕ) (s : SectionHeader)
+        → HasSection bytes.now ext_name o index s
+        → (new : elf.Object) × KeepsExt bytes.now r.0.items o new index s) }
+    ensures refused { IfErr result (IsCause bytes.now (target_of kernel.now policy None)) }
+{
     sanitize_object_with(alloc, bytes, kernel, policy, None)
 }
 
-/// The object with its table rewritten for a kernel: the bytes of the section `.BTF`, the first of that name, are those
-/// of the rewritten table, and nothing else changes. With it, the features that the rewrite asked for, and whether the
-/// kernel has them.
+/// The object with its table rewritten for a kernel: the section `.BTF`, the first of that name, has the bytes of the
+/// rewritten table, and no other section changes. With it, the features that the rewrite asked for, and whether the
+/// kernel has them. The words of the table have the object's byte order. `placeholder` is the name of the variable that
+/// takes the place of functions in `.ksyms`; it is looked for only where the table has a DATASEC of that name.
+///
+/// The first cause is reported: `Object`, `NoTable`, `Table` with the errors of `Btf::parse`, of `ksyms_of` and of
+/// `Btf::fixup_and_sanitize_with`, and `Section`. Or `OutOfMemory`.
 pub fn sanitize_object_with(
     alloc: Global,
     bytes: &[u8],
     kernel: &Kernel,
     policy: FillPolicy,
     placeholder: Option<&str>,
-) -> Result<(Vec<u8>, ArrayVec<FeatureAnswer, 8>), SanitizeError> {
+) -> Result<(Vec<u8>, ArrayVec<FeatureAnswer, 8>), SanitizeError>
+    // The new file is the old object with the written form of the rewritten table in its section `.BTF`.
+    ensures sanitized { IfOk result (λ r. IsSanitized bytes.now
+        (target_of kernel.now policy (option_map (λ name. name.now) placeholder.entry))
+        r.0.items r.1.items) }
+    // Its section `.BTF.ext` says under the new table what it said under the old.
+    ensures ext { IfOk result (λ r. (o : elf.Object) (index : ℕ) (s : SectionHeader)
+        → HasSection bytes.now ext_name o index s
+        → (new : elf.Object) × KeepsExt bytes.now r.0.items o new index s) }
+    // It is refused for the first cause.
+    ensures refused { IfErr result (IsCause bytes.now
+        (target_of kernel.now policy (option_map (λ name. name.now) placeholder.entry))) }
+{
     let object = Object::parse(alloc, bytes)?;
-    let index = object
-        .section_by_name(b".BTF")
-        .ok_or(SanitizeError::NoTable)?;
-    let section = &object.sections()[index];
-    let layout = ObjectLayout::read(alloc, &object)?;
-    let table = object.section_bytes(section);
-    let order = object.header().order;
-    let (written, answers) = rewritten(alloc, table, order, &layout, kernel, policy, placeholder)?;
+    let Some(index) = object.section_by_name(b".BTF") else {
+        return Err(SanitizeError::NoTable);
+    };
+    let table = object.section_bytes(&object.sections()[index]);
+    let (written, answers) = rewritten(alloc, &object, table, kernel, policy, placeholder)?;
     let file = object.with_section(alloc, index, &written)?;
     Ok((file, answers))
 }

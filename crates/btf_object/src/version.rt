@@ -1,20 +1,21 @@
 //! Versions of Linux.
 
+ghost use Rattle.std.specs.Prelude.{◌≡◌, ◌↔◌, ℕ, ◌≤◌, length, IsTrue, IfSome, IfNone};
+ghost use Rattle.btf_object_model.specs.Kernel as model;
+ghost use Rattle.btf_object_model.specs.Kernel.{IsNumber, IsVersion, EndsVersion};
+ghost use Rattle.btf_object_model.specs.declared.version.Version.{Version};
+
+use btf_object_model::Version;
 use btf_rewrite_model::BtfFeature;
 
-/// The first two numbers of a version of Linux.
-#[derive(Clone, Copy, Debug, PartialEq, Eq)]
-pub struct Version {
-    pub major: u32,
-    pub minor: u32,
-}
-
-/// The first version that has a feature: the one in which its commit was released.
-fn first_with(feature: BtfFeature) -> Version {
+/// The first release with a feature. The commits are named at the definition.
+fn first_with(feature: BtfFeature) -> Version
+    ensures { result ≡ model.first_with feature }
+{
     let (major, minor) = match feature {
         BtfFeature::Func => (5, 0),
-        BtfFeature::DataSec => (5, 2),
         BtfFeature::FuncGlobal => (5, 6),
+        BtfFeature::DataSec => (5, 2),
         BtfFeature::DataSecZero => (5, 12),
         BtfFeature::Float => (5, 13),
         BtfFeature::DeclTag => (5, 16),
@@ -24,8 +25,20 @@ fn first_with(feature: BtfFeature) -> Version {
     Version { major, minor }
 }
 
+/// Whether Linux of a version has a feature.
+pub fn has(version: Version, feature: BtfFeature) -> bool
+    ensures { result ≡ model.has_by_version version feature }
+{
+    let first = first_with(feature);
+    first.major < version.major
+        || (first.major == version.major && first.minor <= version.minor)
+}
+
 /// The number of a text of decimal digits.
-fn number(text: &str) -> Option<u32> {
+fn read_number(text: &str) -> Option<u32>
+    ensures some { IfSome result (IsNumber text.now) }
+    ensures none { IfNone result ((n : ℕ) → IsNumber text.now n → ⊥) }
+{
     // A sign is no digit, and `parse` would take it.
     if text.starts_with('+') {
         return None;
@@ -33,40 +46,33 @@ fn number(text: &str) -> Option<u32> {
     text.parse().ok()
 }
 
-/// How many bytes of a text come before the first that is no decimal digit.
-fn digits_len(text: &str) -> usize {
-    match text
-        .as_bytes()
-        .iter()
-        .position(|byte| !byte.is_ascii_digit())
-    {
-        Some(len) => len,
-        None => text.len(),
-    }
-}
-
 /// Whether a text may follow the numbers of a version.
-fn ends_version(rest: &str) -> bool {
+fn ends_version(rest: &str) -> bool
+    ensures { IsTrue result ↔ EndsVersion rest.now }
+{
     rest.is_empty() || rest.starts_with('.') || rest.starts_with('-') || rest.starts_with('+')
 }
 
-impl Version {
-    /// The version that a text begins with: two numbers with a dot between them.
-    pub fn read(text: &str) -> Option<Version> {
-        let (major, rest) = text.split_once('.')?;
-        let (minor, rest) = rest.split_at(digits_len(rest));
-        if !ends_version(rest) {
-            return None;
-        }
-        Some(Version {
-            major: number(major)?,
-            minor: number(minor)?,
-        })
+/// The version that a text begins with: two numbers with a dot between them.
+pub fn read_version(text: &str) -> Option<Version>
+    ensures some { IfSome result (IsVersion text.now) }
+    ensures none { IfNone result ((v : Version) → IsVersion text.now v → ⊥) }
+{
+    let (major, rest) = text.split_once('.')?;
+    let (minor, rest) = rest.split_at(digits_len(rest));
+    if !ends_version(rest) {
+        return None;
     }
+    let major = read_number(major)?;
+    let minor = read_number(minor)?;
+    Some(Version { major, minor })
+}
 
-    /// Whether Linux of this version has a feature.
-    pub fn has(&self, feature: BtfFeature) -> bool {
-        let first = first_with(feature);
-        first.major < self.major || (first.major == self.major && first.minor <= self.minor)
+/// How many bytes of a text come before the first that is no decimal digit.
+fn digits_len(text: &str) -> usize {
+    let is_other = |byte: &u8| !byte.is_ascii_digit();
+    match text.as_bytes().iter().position(is_other) {
+        Some(len) => len,
+        None => text.len(),
     }
 }

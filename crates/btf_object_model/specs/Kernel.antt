@@ -5,6 +5,7 @@ use Rattle.std.specs.Str.Parse.{IsNumeral, digits_value}
 use Rattle.btf_rewrite_model.specs.declared.feature.BtfFeature.{BtfFeature}
 use Rattle.btf_rewrite_model.specs.declared.feature.BtfFeature.TheVariants.{Func, FuncGlobal, DataSec, DataSecZero, Float, DeclTag, TypeTag, Enum64}
 use Rattle.btf_rewrite_model.specs.declared.feature.FeatureAnswer.{FeatureAnswer}
+use Rattle.btf_object_model.specs.declared.version.Version.{Version}
 
 -- the eight features, by their numbers
 abbrev pub all_features : List BtfFeature
@@ -15,11 +16,6 @@ abbrev pub answers_of : (BtfFeature → Bool) → List FeatureAnswer
 answers_of has = map (λ f. record { feature = f; granted = has f }) all_features
 
 -- ---- versions
-
--- a version of Linux: its first two numbers
-pub record Version : Type 0 where
-  pub major : ℕ
-  pub minor : ℕ
 
 -- the version 5.0 and the like
 abbrev pub version : ℕ → ℕ → Version

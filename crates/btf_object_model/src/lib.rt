@@ -6,6 +6,10 @@
 
 ghost use Rattle.btf_object_model.specs.Laws.{TextsStay, ExtStays, SanitizedKeepsExt};
 
+mod version;
+
+pub use version::Version;
+
 /// A text that can be read in a table is read at the same offset of the rewritten one.
 pub fn texts_stay()
     ensures { TextsStay }

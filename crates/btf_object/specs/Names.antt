@@ -1,0 +1,20 @@
+-- What is read of a symbol.
+use Rattle.std.specs.Prelude.{◌≡◌, ◌⊎◌, ℕ, List, true, false, slice_get, Some}
+use Rattle.btf_elf_model.specs.Object.{Object, symbols, symbol_name}
+use Rattle.btf_elf_model.specs.declared.symbol.Symbol.{Symbol}
+use Rattle.btf_object_model.specs.Layout.{is_askable, is_read}
+
+-- The symbol of an index is read: it has this name, for which a rewrite may ask, and this value.
+pub record IsReadSymbol (o : Object) (index : ℕ) (name : List ℕ) (value : ℕ) : Type 0 where
+  pub symbol : Symbol
+  pub here : slice_get (symbols o) index ≡ Some symbol
+  pub wanted : is_read symbol ≡ true
+  pub named : name ≡ symbol_name o symbol
+  pub askable : is_askable name ≡ true
+  pub value_is : value ≡ symbol.value
+
+-- The symbol of an index, if there is one, is not read, or no rewrite asks for its name.
+abbrev pub IsLeftOut : Object → ℕ → Type 0
+IsLeftOut o index =
+    (s : Symbol) → slice_get (symbols o) index ≡ Some s
+    → (is_read s ≡ false) ⊎ (is_askable (symbol_name o s) ≡ false)
