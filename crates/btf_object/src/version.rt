@@ -1,8 +1,10 @@
 //! Versions of Linux.
 
-ghost use Rattle.std.specs.Prelude.{◌≡◌, ◌↔◌, ℕ, ◌≤◌, length, IsTrue, IfSome, IfNone};
+ghost use Rattle.std.specs.Prelude.{◌≡◌, ℕ, position, IfSome, IfNone};
+ghost use Rattle.std.specs.List.{position_or_len};
 ghost use Rattle.btf_object_model.specs.Kernel as model;
-ghost use Rattle.btf_object_model.specs.Kernel.{IsNumber, IsVersion, EndsVersion};
+ghost use Rattle.btf_object_model.specs.Kernel.{IsNumber, IsVersion};
+ghost use Rattle.btf_object.specs.Kernel.{is_other};
 ghost use Rattle.btf_object_model.specs.declared.version.Version.{Version};
 
 use btf_object_model::Version;
@@ -48,9 +50,29 @@ fn read_number(text: &str) -> Option<u32>
 
 /// Whether a text may follow the numbers of a version.
 fn ends_version(rest: &str) -> bool
-    ensures { IsTrue result ↔ EndsVersion rest.now }
+    ensures { result ≡ model.ends_version rest.now }
 {
-    rest.is_empty() || rest.starts_with('.') || rest.starts_with('-') || rest.starts_with('+')
+    match rest.as_bytes().first() {
+        Some(byte) => matches!(byte, b'.' | b'-' | b'+'),
+        None => true,
+    }
+}
+
+/// Where the first byte is that is no decimal digit.
+fn first_other(bytes: &[u8]) -> Option<usize>
+    ensures { result ≡ position is_other bytes.now }
+{
+    bytes.iter().position(|byte| !byte.is_ascii_digit())
+}
+
+/// How many bytes of a text come before the first that is no decimal digit.
+fn digits_len(text: &str) -> usize
+    ensures { result ≡ position_or_len is_other text.now }
+{
+    match first_other(text.as_bytes()) {
+        Some(len) => len,
+        None => text.len(),
+    }
 }
 
 /// The version that a text begins with: two numbers with a dot between them.
@@ -66,13 +88,4 @@ pub fn read_version(text: &str) -> Option<Version>
     let major = read_number(major)?;
     let minor = read_number(minor)?;
     Some(Version { major, minor })
-}
-
-/// How many bytes of a text come before the first that is no decimal digit.
-fn digits_len(text: &str) -> usize {
-    let is_other = |byte: &u8| !byte.is_ascii_digit();
-    match text.as_bytes().iter().position(is_other) {
-        Some(len) => len,
-        None => text.len(),
-    }
 }

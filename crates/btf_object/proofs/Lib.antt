@@ -1,0 +1,4 @@
+pub mod Named
+pub mod Versions
+pub mod Kernels
+pub mod Rewrites
