@@ -2,3 +2,4 @@ pub mod Named
 pub mod Versions
 pub mod Kernels
 pub mod Rewrites
+pub mod Objects

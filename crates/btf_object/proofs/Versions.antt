@@ -7,7 +7,8 @@ use Rattle.std.specs.Int.{IsInRange}
 use Rattle.std.specs.List.{position_or_len}
 use Rattle.std.specs.Str.{IsUtf8, IsCharBoundary}
 use Rattle.std.proofs.lemmas.Bool.{false≢true, and_parts, leb-true, le-leb, ltb-false}
-use Rattle.std.proofs.lemmas.List.{length-append, get_or_append_left, get_or-append-add, take-append, drop-append}
+use Rattle.std.proofs.lemmas.List.{length-append, get_or_append_left, get_or-append-add}
+use Rattle.std.proofs.Math.Seq.{take-append_seam, drop-append_seam}
 use Rattle.std.proofs.lemmas.List.Sums.{position_or_len_is, fails_before_first, prefix_len-le-length}
 use Rattle.std.proofs.lemmas.Option.{none-some, same_Some}
 use Rattle.std.proofs.lemmas.Str.{IsCharBoundary-start, IsCharBoundary-after_ascii}
@@ -102,12 +103,8 @@ module _ (text : List ℕ) (v : Version) (is : IsVersion text v) where
       ap is_other (ap (λ (n : ℕ). get_or tail n 0) none ∙ get_or-append-add is.1 is.2 0 0) ∙ end_is_other is.2 is.6 some)
 
   -- so a tail is cut into the second number and what follows
-  pub minor_is : (rest : List ℕ) (n : ℕ) → rest ≡ tail → n ≡ position_or_len is_other rest → take n rest ≡ is.1
-  minor_is rest n same len =
-      let n_is : n ≡ length is.1 = len ∙ ap (position_or_len is_other) same ∙ minor_len in
-      ap (take n) same ∙ ap (λ (m : ℕ). take m tail) n_is ∙ take-append is.1 is.2
+  pub minor_is : (rest : List ℕ) → rest ≡ tail → take (position_or_len is_other rest) rest ≡ is.1
+  minor_is rest same = ap (λ (t : List ℕ). take (position_or_len is_other t) t) same ∙ ap (λ (n : ℕ). take n tail) minor_len ∙ take-append_seam is.1 is.2
 
-  pub end_is : (rest : List ℕ) (n : ℕ) → rest ≡ tail → n ≡ position_or_len is_other rest → drop n rest ≡ is.2
-  end_is rest n same len =
-      let n_is : n ≡ length is.1 = len ∙ ap (position_or_len is_other) same ∙ minor_len in
-      ap (drop n) same ∙ ap (λ (m : ℕ). drop m tail) n_is ∙ drop-append is.1 is.2
+  pub end_is : (rest : List ℕ) → rest ≡ tail → drop (position_or_len is_other rest) rest ≡ is.2
+  end_is rest same = ap (λ (t : List ℕ). drop (position_or_len is_other t) t) same ∙ ap (λ (n : ℕ). drop n tail) minor_len ∙ drop-append_seam is.1 is.2

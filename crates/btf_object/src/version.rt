@@ -1,6 +1,6 @@
 //! Versions of Linux.
 
-ghost use Rattle.std.specs.Prelude.{◌≡◌, ℕ, position, IfSome, IfNone};
+ghost use Rattle.std.specs.Prelude.{◌≡◌, ℕ, take, drop, position, IfSome, IfNone};
 ghost use Rattle.std.specs.List.{position_or_len};
 ghost use Rattle.btf_object_model.specs.Kernel as model;
 ghost use Rattle.btf_object_model.specs.Kernel.{IsNumber, IsVersion};
@@ -75,13 +75,21 @@ fn digits_len(text: &str) -> usize
     }
 }
 
+/// The decimal digits that a text begins with, and what follows them.
+fn split_digits(text: &str) -> (&str, &str)
+    ensures front { result.0.now ≡ take (position_or_len is_other text.now) text.now }
+    ensures back { result.1.now ≡ drop (position_or_len is_other text.now) text.now }
+{
+    text.split_at(digits_len(text))
+}
+
 /// The version that a text begins with: two numbers with a dot between them.
 pub fn read_version(text: &str) -> Option<Version>
     ensures some { IfSome result (IsVersion text.now) }
     ensures none { IfNone result ((v : Version) → IsVersion text.now v → ⊥) }
 {
     let (major, rest) = text.split_once('.')?;
-    let (minor, rest) = rest.split_at(digits_len(rest));
+    let (minor, rest) = split_digits(rest);
     if !ends_version(rest) {
         return None;
     }

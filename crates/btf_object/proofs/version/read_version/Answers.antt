@@ -1,21 +1,16 @@
-use Rattle.std.proofs.Common.{◌≡◌, ◌++◌, ◌∷◌, List, ℕ, Option, None, Some, take, drop, true, sym, ap, subst, ◌∙◌, arith}
-use Rattle.std.proofs.lemmas.Bool.{false≢true}
-use Rattle.std.proofs.lemmas.Str.Pattern.{split_parts}
-use Rattle.btf_object_model.specs.Kernel.{IsVersion, IsNumber, ends_version}
-use Rattle.btf_object_model.specs.declared.version.Version.{Version}
-use Rattle.btf_object.proofs.Versions.{digits_end, splits, minor_is, end_is}
+use Rattle.std.proofs.Common.{List, ℕ, Option, None, Some, true, sym, ap, subst, ◌∙◌}
+use Rattle.std.proofs.lemmas.Bool.{true≢false}
+use Rattle.btf_object_model.specs.Kernel.{IsNumber, ends_version}
+use Rattle.btf_object.proofs.Versions.{splits, minor_is, end_is}
 use Rattle.btf_object.proofs.version.read_version.Goals as goal
 
 pub returns-in_err-major-clause-none : goal.returns-in_err-major-clause-none
 returns-in_err-major-clause-none c = rw c.from_residual.ensures (λ v is. splits c.args.text.now v is None c.in_err-major.ensures.cases)
 
-pub split_at-requires : goal.split_at-requires
-split_at-requires c = ?
-
 pub returns-then-not-ends_version-clause-none : goal.returns-then-not-ends_version-clause-none
 returns-then-not-ends_version-clause-none c = λ v is.
     let parts = splits c.args.text.now v is (Some (c.in_ok-major.major, c.in_ok-major.rest)) c.in_ok-major.ensures.cases in
-    let rest = end_is c.args.text.now v is c.in_ok-major.rest.now c.digits_len.result parts.1 c.digits_len.ensures in
+    let rest = c.split_digits.ensures.back ∙ end_is c.args.text.now v is c.in_ok-major.rest.now parts.1 in
     ?
 
 pub returns-in_err-major-2-clause-none : goal.returns-in_err-major-2-clause-none
@@ -30,5 +25,5 @@ returns-in_err-minor-clause-none c =
     rw c.from_residual-in_err-minor.ensures
     (λ v is.
     let parts = splits c.args.text.now v is (Some (c.in_ok-major.major, c.in_ok-major.rest)) c.in_ok-major.ensures.cases in
-    let minor = minor_is c.args.text.now v is c.in_ok-major.rest.now c.digits_len.result parts.1 c.digits_len.ensures in
-    c.in_err-minor.ensures.none v.minor (subst (λ (text : List ℕ). IsNumber text v.minor) (sym (c.split_at.ensures.front ∙ minor)) is.5))
+    let minor = c.split_digits.ensures.front ∙ minor_is c.args.text.now v is c.in_ok-major.rest.now parts.1 in
+    c.in_err-minor.ensures.none v.minor (subst (λ (text : List ℕ). IsNumber text v.minor) (sym minor) is.5))
