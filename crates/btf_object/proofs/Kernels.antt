@@ -8,7 +8,6 @@ use Rattle.btf_rewrite_model.specs.declared.feature.BtfFeature.TheVariants as fe
 use Rattle.btf_rewrite_model.specs.declared.feature.FeatureAnswer.{FeatureAnswer}
 use Rattle.btf_rewrite_model.specs.Feature.{grants, same_feature, number}
 use Rattle.btf_rewrite_model.specs.Passing.{features_of}
-use Rattle.btf_rewrite_model.specs.RewriteLaws.{IsAmong}
 use Rattle.btf_rewrite_model.proofs.Kernels.{AgreeWith}
 use Rattle.btf_rules.specs.Features.{Called}
 use Rattle.btf_object_model.specs.Kernel.{answers_of}

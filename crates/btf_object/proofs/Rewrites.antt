@@ -1,5 +1,5 @@
 -- The rewrite of a section's table, under the answers to what was asked, is the one for the kernel.
-use Rattle.std.proofs.Common.{◌≡◌, ℕ, List, Option, None, Some, Result, Ok, Err, sym, ap, subst, ◌∙◌, inl, inr}
+use Rattle.std.proofs.Common.{◌≡◌, ℕ, List, Option, None, Some, Result, Ok, Err, sym, ap, subst, ◌∙◌, inr}
 use Rattle.std.specs.Prelude.{IfErr, IfSome, IsErrAnd}
 use Rattle.std.proofs.lemmas.Result.{err_from_is_err_and}
 use Rattle.btf_model.specs.Blob.{IsTable, canon}
@@ -21,7 +21,7 @@ use Rattle.btf_words.specs.declared.error.BtfError.{BtfError}
 use Rattle.btf_object.proofs.Kernels.{AreOfKernel, kernel_agrees}
 
 module _ (o : Object) (bytes : List ℕ) (target : Target) (old : Table) (ids : Option KsymsIds) (layout : Layout) (answers : List FeatureAnswer) (same : layout ≡ model.layout_of o) (are : AreOfKernel target.has answers) (table : IsTable o.header.order bytes old)
-  (ksyms : FindsKsyms old target.placeholder (Ok ids)) where
+    (ksyms : FindsKsyms old target.placeholder (Ok ids)) where
   pub rewrites_so : (new : Table) → Rewritten target.policy old ids layout answers new → features_asked answers ≡ Asked (pass_of target.policy old ids layout answers) → IsTable o.header.order (canon new) (strip new)
       → RewritesTable o bytes target old new answers
   rewrites_so new is asked written =

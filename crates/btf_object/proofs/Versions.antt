@@ -14,10 +14,9 @@ use Rattle.std.proofs.lemmas.Option.{none-some, same_Some}
 use Rattle.std.proofs.lemmas.Str.{IsCharBoundary-start, IsCharBoundary-after_ascii}
 use Rattle.std.proofs.lemmas.Str.Parse.{digit_at}
 use Rattle.std.proofs.lemmas.Str.Pattern.{IsSplitOnceResult, split_after}
-use Rattle.btf_object_model.specs.Kernel.{IsVersion, IsNumber, ends_version}
+use Rattle.btf_object_model.specs.Kernel.{IsVersion, ends_version}
 use Rattle.btf_object_model.specs.declared.version.Version.{Version}
 use Rattle.btf_object.specs.Kernel.{is_other}
-
 
 -- a digit is no other byte
 digit_passes : (byte : ℕ) → IsInRange 48 57 byte → is_other byte ≡ false

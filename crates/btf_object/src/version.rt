@@ -32,8 +32,7 @@ pub fn has(version: Version, feature: BtfFeature) -> bool
     ensures { result ≡ model.has_by_version version feature }
 {
     let first = first_with(feature);
-    first.major < version.major
-        || (first.major == version.major && first.minor <= version.minor)
+    first.major < version.major || (first.major == version.major && first.minor <= version.minor)
 }
 
 /// The number of a text of decimal digits.

@@ -1,4 +1,4 @@
-use Rattle.std.proofs.Common.{◌≡◌, ℕ, List, ap, subst, rules, ◌∙◌, inl, inr}
+use Rattle.std.proofs.Common.{◌≡◌, ℕ, List, ap, subst, rules, inl, inr}
 use Rattle.btf_model.specs.Blob.{IsTable, canon}
 use Rattle.btf_model.specs.Refusal.{Refusal}
 use Rattle.btf_model.specs.Table.{Table, strip}
@@ -46,9 +46,11 @@ returns-clause-made c =
     let bytes_are : c.in_ok-to_bytes.field-0.items ≡ canon new = same_ok {E = Refusal} c.in_ok-to_bytes.field-0.items (canon new) c.in_ok-to_bytes.ensures.written in
     let written : IsTable c.args.object.now.header.order (canon new) (strip new) =
     subst (λ (bytes : List ℕ). IsTable c.args.object.now.header.order bytes (strip new)) bytes_are
-    (written_again c.args.object.now.header.order c.args.table.now c.in_ok-to_bytes.field-0.items c.in_ok-btf.btf new c.in_ok-ids.ids (under c.args.policy layout) answers (parsed at.In_ok-btf) c.in_ok-answers.ensures.rewrites.0 c.in_ok-to_bytes.ensures.parses_back) in
-    (c.in_ok-btf.btf, new,
-    rw c.in_ok-answers.ensures.answers
-    (rewrites_so c.args.object.now c.args.table.now _ c.in_ok-btf.btf c.in_ok-ids.ids layout answers c.in_ok-layout.ensures (of_kernel at.After-fixup_and_sanitize_with) (parsed at.In_ok-btf) c.in_ok-ids.ensures new
-    c.in_ok-answers.ensures.rewrites.0 c.in_ok-answers.ensures.rewrites.1 written),
-    bytes_are)
+    (written_again c.args.object.now.header.order c.args.table.now c.in_ok-to_bytes.field-0.items c.in_ok-btf.btf new c.in_ok-ids.ids (under c.args.policy layout) answers (parsed at.In_ok-btf) c.in_ok-answers.ensures.rewrites.0 c.in_ok-to_bytes.ensures.parses_back) in (
+      c.in_ok-btf.btf,
+      new,
+      rw c.in_ok-answers.ensures.answers
+          (rewrites_so c.args.object.now c.args.table.now _ c.in_ok-btf.btf c.in_ok-ids.ids layout answers c.in_ok-layout.ensures (of_kernel at.After-fixup_and_sanitize_with) (parsed at.In_ok-btf) c.in_ok-ids.ensures new
+          c.in_ok-answers.ensures.rewrites.0 c.in_ok-answers.ensures.rewrites.1 written),
+      bytes_are,
+    )

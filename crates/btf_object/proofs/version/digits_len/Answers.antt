@@ -1,4 +1,4 @@
-use Rattle.std.proofs.Common.{◌≡◌, ℕ, List, Option, None, ap, sym, ◌∙◌}
+use Rattle.std.proofs.Common.{◌≡◌, ℕ, List, None, ap, sym, ◌∙◌}
 use Rattle.std.specs.Prelude.{position, length}
 use Rattle.std.specs.List.{position_or_len}
 use Rattle.btf_object.specs.Kernel.{is_other}
