@@ -3,6 +3,7 @@
 use crate::sample::{big, little};
 use btf_elf::Object;
 use btf_object::ObjectLayout;
+use btf_words::SectionIndex;
 use std::alloc::Global;
 use std::test::Fail;
 
@@ -105,6 +106,14 @@ fn offset_of(layout: &ObjectLayout, name: &str) -> Option<u64> {
     layout.symbols.get(name).copied()
 }
 
+/// Whether the section of a name has this index.
+fn has_index(layout: &ObjectLayout, name: &str, index: usize) -> bool {
+    match layout.sections.get(name) {
+        Some(found) => found.0 == SectionIndex(index),
+        None => false,
+    }
+}
+
 fn has_rows(layout: &ObjectLayout) -> bool {
     SECTIONS
         .iter()
@@ -112,6 +121,8 @@ fn has_rows(layout: &ObjectLayout) -> bool {
         && SYMBOLS
             .iter()
             .all(|row| offset_of(layout, row.name) == row.number)
+        && has_index(layout, ".data", 8)
+        && has_index(layout, ".BTF.ext", 15)
 }
 
 /// Whether an object has the sizes and offsets of the rows.

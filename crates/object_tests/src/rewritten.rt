@@ -14,7 +14,7 @@ static VERSIONS: [&str; 5] = ["4.18", "5.2", "5.8", "5.13", "6.0"];
 /// The kinds of some ids of the table, by version, in the order of `VERSIONS`.
 struct Kinds {
     id: u32,
-    kinds: [BtfKind; 5],
+    kinds: &'static [BtfKind],
 }
 
 /// By the rule of each kind, from the listing in data/program.bpfel.raw.
@@ -22,7 +22,7 @@ static KINDS: [Kinds; 7] = [
     // FUNC_PROTO and FUNC, from 5.0 on
     Kinds {
         id: 13,
-        kinds: [
+        kinds: &[
             BtfKind::Enum,
             BtfKind::FuncProto,
             BtfKind::FuncProto,
@@ -32,7 +32,7 @@ static KINDS: [Kinds; 7] = [
     },
     Kinds {
         id: 14,
-        kinds: [
+        kinds: &[
             BtfKind::Typedef,
             BtfKind::Func,
             BtfKind::Func,
@@ -43,7 +43,7 @@ static KINDS: [Kinds; 7] = [
     // DECL_TAG, from 5.16 on
     Kinds {
         id: 15,
-        kinds: [
+        kinds: &[
             BtfKind::Int,
             BtfKind::Int,
             BtfKind::Int,
@@ -54,7 +54,7 @@ static KINDS: [Kinds; 7] = [
     // FLOAT, from 5.13 on
     Kinds {
         id: 18,
-        kinds: [
+        kinds: &[
             BtfKind::Struct,
             BtfKind::Struct,
             BtfKind::Struct,
@@ -65,7 +65,7 @@ static KINDS: [Kinds; 7] = [
     // TYPE_TAG, from 5.17 on
     Kinds {
         id: 19,
-        kinds: [
+        kinds: &[
             BtfKind::Const,
             BtfKind::Const,
             BtfKind::Const,
@@ -76,7 +76,7 @@ static KINDS: [Kinds; 7] = [
     // VAR and DATASEC, from 5.2 on
     Kinds {
         id: 29,
-        kinds: [
+        kinds: &[
             BtfKind::Int,
             BtfKind::Var,
             BtfKind::Var,
@@ -86,7 +86,7 @@ static KINDS: [Kinds; 7] = [
     },
     Kinds {
         id: 41,
-        kinds: [
+        kinds: &[
             BtfKind::Struct,
             BtfKind::DataSec,
             BtfKind::DataSec,
