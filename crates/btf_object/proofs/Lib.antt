@@ -1,3 +1,4 @@
+pub mod Short
 pub mod Named
 pub mod Versions
 pub mod Kernels

@@ -1,16 +1,13 @@
 -- Maps of names, name by name.
-use Rattle.std.proofs.Common.{◌≡◌, ℕ, suc, ◌+◌, ◌<◌, ◌≤◌, Bool, true, false, ◌&&◌, List, [], ◌∷◌, ◌++◌, length, take, map, cond, get_or, Option, None, Some, refl, sym, ap, ◌∙◌, arith, inl, inr}
-use Rattle.std.specs.Prelude.{if◌then◌else◌, option_map, nat_lt, slice_get}
+use Rattle.std.proofs.Common.{◌≡◌, ℕ, suc, ◌+◌, ◌<◌, Bool, true, false, List, [], ◌∷◌, ◌++◌, length, take, map, cond, get_or, Option, None, Some, refl, sym, ap, ◌∙◌, arith, inl, inr}
+use Rattle.std.specs.Prelude.{if◌then◌else◌, option_map, slice_get}
 use Rattle.std.specs.List.{filter, last_or}
-use Rattle.std.specs.Str.{bytes_eq, is_utf8, IsUtf8}
+use Rattle.std.specs.Str.{bytes_eq}
 use Rattle.std.proofs.Math.Path.{fun_ext}
 use Rattle.std.proofs.Math.Seq.{take-suc}
-use Rattle.std.proofs.Math.Bool.{and-false}
-use Rattle.std.proofs.lemmas.Bool.{lt-ltb, le-ltb}
 use Rattle.std.proofs.lemmas.List.{append-nil}
 use Rattle.std.proofs.lemmas.List.Elements.{filter-append}
 use Rattle.std.proofs.lemmas.Slice.Eq.{bytes_eq-Decides}
-use Rattle.std.proofs.lemmas.Str.{IsUtf8-from_is_utf8, is_utf8-from_IsUtf8}
 use Rattle.std.proofs.lemmas.Option.{slice_get_within, slice_get-get_or, get_or_from_slice_get}
 use Rattle.btf_elf_model.specs.Object.{Object, section_name, symbols, symbol_name}
 use Rattle.btf_elf_model.specs.declared.section_header.SectionHeader.{SectionHeader}
@@ -19,19 +16,6 @@ use Rattle.btf_object.specs.Names.{IsReadSection, IsSectionLeftOut, IsReadSymbol
 use Rattle.btf_object_model.specs.Layout.{is_askable, last_named, is_read}
 use Rattle.btf_rewrite_model.specs.Pass.{Layout}
 use Rattle.btf_words.specs.declared.section_index.SectionIndex.{SectionIndex}
-
--- ---- names that a rewrite may ask for
-
-pub askable_is : (name : List ℕ) → IsUtf8 name → length name < 512 → is_askable name ≡ true
-askable_is name utf8 short = ap (λ (b : Bool). b && nat_lt (length name) 512) (is_utf8-from_IsUtf8 name utf8) ∙ lt-ltb (length name) 512 short
-
-pub not_utf8 : (name : List ℕ) → ¬ (IsUtf8 name) → is_askable name ≡ false
-not_utf8 name none =
-    let no : is_utf8 name ≡ false = elim (is_utf8 name) as (λ (b : Bool). is_utf8 name ≡ b → b ≡ false) [ true ↦ λ is. absurd (none (IsUtf8-from_is_utf8 name is)) | false ↦ λ is. refl ] refl in
-    ap (λ (b : Bool). b && nat_lt (length name) 512) no
-
-pub too_long : (name : List ℕ) → 512 ≤ length name → is_askable name ≡ false
-too_long name long = ap (λ (b : Bool). is_utf8 name && b) (le-ltb (length name) 512 long) ∙ and-false (is_utf8 name)
 
 -- ---- the last of a name
 

@@ -1,5 +1,6 @@
 -- What is read of a section and of a symbol, and the section of the table.
-use Rattle.std.specs.Prelude.{◌≡◌, ◌⊎◌, ℕ, List, true, false, slice_get, Some}
+use Rattle.std.specs.Prelude.{◌≡◌, ◌⊎◌, ℕ, ◌==◌, List, [], true, false, if◌then◌else◌, slice_get, Option, Some, None}
+use Rattle.std.specs.Option.{option_map_or}
 use Rattle.btf_elf_model.specs.Object.{Object, section_name, section_bytes, symbols, symbol_name}
 use Rattle.btf_elf_model.specs.declared.section_header.SectionHeader.{SectionHeader}
 use Rattle.btf_elf_model.specs.declared.symbol.Symbol.{Symbol}
@@ -40,3 +41,12 @@ pub record IsTableSection (o : Object) (index : ℕ) (bytes : List ℕ) : Type 0
   pub first : index_of o table_name ≡ Some index
   pub here : slice_get o.sections index ≡ Some section
   pub bytes_are : bytes ≡ section_bytes o section
+
+-- the bytes of the section of an index, without a look at its type; none for index 0
+abbrev pub strings_at : Object → ℕ → List ℕ
+strings_at o index = if index == 0 then [] else option_map_or (section_bytes o) (slice_get o.sections index) []
+
+-- sh_link of a symbol table: the index of its string table
+abbrev pub table_link : Option SectionHeader → ℕ
+table_link None = 0
+table_link (Some s) = s.link

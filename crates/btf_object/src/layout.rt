@@ -1,15 +1,16 @@
 //! What the rewrite of a table needs to know of an object.
 
-ghost use Rattle.std.specs.Prelude.{◌≡◌, true, false, List, ℕ, IfOk, IfSome, IfNone};
+ghost use Rattle.std.specs.Prelude.{◌≡◌, List, [], ℕ, unwrap_or, IfOk, IfSome, IfNone};
+ghost use Rattle.btf_elf_model.specs.Object as elf;
 ghost use Rattle.btf_rules.specs.Layout.{layout_of, sizes_of, offsets_of};
 ghost use Rattle.btf_object_model.specs.Layout as model;
 ghost use Rattle.btf_object.specs.Names.{IsReadSection, IsSectionLeftOut, IsReadSymbol, IsSymbolLeftOut};
 
+use crate::names::{askable, section_names, symbol_names};
 use btf_elf::{Object, Symbol};
 use btf_words::SectionIndex;
 use std::alloc::{AllocError, Global};
 use std::collections::HashMap;
-use std::str;
 
 /// What the rewrite of a table needs of an object: the sizes of its sections, and the offsets of its symbols.
 ///
@@ -37,30 +38,11 @@ impl ObjectLayout {
     }
 }
 
-/// A name is shorter than this in bytes, or no kernel takes it (`KSYM_NAME_LEN`).
-const NAME_LIMIT: usize = 512;
-
 /// `STB_LOCAL`: the binding of a symbol that no other object sees.
 const STB_LOCAL: u8 = 0;
 
 /// `STT_OBJECT`: the type of a symbol of a variable.
 const STT_OBJECT: u8 = 1;
-
-/// The text of a name, where a rewrite may ask for it.
-#[tactic(auto, using(crate::proofs::Named::askable_is, crate::proofs::Named::not_utf8, crate::proofs::Named::too_long))]
-fn askable(name: &[u8]) -> Option<&str>
-    ensures some { IfSome result (λ text. (text.now ≡ name.now)
-        × (model.is_askable name.now ≡ true)) }
-    ensures none { IfNone result (model.is_askable name.now ≡ false) }
-{
-    if name.len() >= NAME_LIMIT {
-        return None;
-    }
-    match str::from_utf8(name) {
-        Ok(text) => Some(text),
-        Err(_) => None,
-    }
-}
 
 /// Whether the offset of a symbol is read.
 fn is_read(symbol: &Symbol) -> bool
@@ -69,8 +51,9 @@ fn is_read(symbol: &Symbol) -> bool
     symbol.binding != STB_LOCAL || symbol.kind == STT_OBJECT
 }
 
-/// The name and the value of the symbol of an index, where they are read.
-fn read_symbol<'a>(object: &Object<'a>, index: usize) -> Option<(&'a str, u64)>
+/// The name and the value of the symbol of an index, where they are read. `names` is the string table of the symbols.
+fn read_symbol<'a>(object: &Object<'a>, names: &'a [u8], index: usize) -> Option<(&'a str, u64)>
+    requires { names.now ≡ elf.symbol_names object.now }
     ensures some { IfSome result (λ named. IsReadSymbol object.now index named.0.now named.1) }
     ensures none { IfNone result (IsSymbolLeftOut object.now index) }
 {
@@ -78,17 +61,19 @@ fn read_symbol<'a>(object: &Object<'a>, index: usize) -> Option<(&'a str, u64)>
     if !is_read(&symbol) {
         return None;
     }
-    let name = askable(object.symbol_name(&symbol))?;
+    let name = askable(names, symbol.name)?;
     Some((name, symbol.value))
 }
 
-/// The name and the size of the section of an index, where a rewrite may ask for the name.
-fn read_section<'a>(object: &Object<'a>, index: usize) -> Option<(&'a str, u64)>
+/// The name and the size of the section of an index, where a rewrite may ask for the name. `names` is the string table
+/// of the sections.
+fn read_section<'a>(object: &Object<'a>, names: &'a [u8], index: usize) -> Option<(&'a str, u64)>
+    requires { names.now ≡ unwrap_or (elf.name_table object.now) [] }
     ensures some { IfSome result (λ named. IsReadSection object.now index named.0.now named.1) }
     ensures none { IfNone result (IsSectionLeftOut object.now index) }
 {
     let section = object.sections().get(index)?;
-    let name = askable(object.section_name(section))?;
+    let name = askable(names, section.name)?;
     Some((name, section.size))
 }
 
@@ -100,9 +85,10 @@ fn read_sections(
     ensures { IfOk result (λ map. (name : List ℕ)
         → sizes_of map name ≡ model.size_of object.now name) }
 {
+    let names = section_names(object);
     let mut map = HashMap::new(alloc);
     for index in 0..object.sections().len() {
-        if let Some((name, size)) = read_section(object, index) {
+        if let Some((name, size)) = read_section(object, names, index) {
             map.insert(name.to_string(alloc)?, (SectionIndex(index), size))?;
         }
     }
@@ -114,9 +100,10 @@ fn read_symbols(alloc: Global, object: &Object<'_>) -> Result<HashMap<String, u6
     ensures { IfOk result (λ map. (name : List ℕ)
         → offsets_of map name ≡ model.offset_of object.now name) }
 {
+    let names = symbol_names(object);
     let mut map = HashMap::new(alloc);
     for index in 0..object.symbol_count() {
-        if let Some((name, value)) = read_symbol(object, index) {
+        if let Some((name, value)) = read_symbol(object, names, index) {
             map.insert(name.to_string(alloc)?, value)?;
         }
     }

@@ -8,6 +8,7 @@ mod error;
 mod kernel;
 mod ksyms;
 mod layout;
+mod names;
 mod sanitize;
 mod table;
 mod version;
