@@ -8,6 +8,7 @@
 mod above;
 mod comparison;
 mod ext;
+mod object;
 mod probe;
 mod records;
 mod report;
@@ -62,6 +63,9 @@ fn done(work: &str, probe: &Probe, blob: &[u8], report: &mut Report) -> Result<(
         "parse_func_sizes" => ext::least_sizes("func", probe, blob, report),
         "parse_line_sizes" => ext::least_sizes("line", probe, blob, report),
         "parse_core_sizes" => ext::least_sizes("core", probe, blob, report),
+        "parse_object" | "with_section" | "sanitize_object" => {
+            object::done(work, probe, blob, report)
+        }
         _ if work.starts_with("rewrite_bytes") => rewrite::bytes(work, probe, blob, report),
         _ if work.starts_with("rewrite") => rewrite::whole(work, probe, blob, report),
         _ => ext::done(work, probe, blob, report),

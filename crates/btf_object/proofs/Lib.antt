@@ -1,0 +1,6 @@
+pub mod Short
+pub mod Named
+pub mod Versions
+pub mod Kernels
+pub mod Rewrites
+pub mod Objects

@@ -1,0 +1,172 @@
+//! Calls on an object file, which is made around a table.
+
+use crate::probe::Probe;
+use crate::report::Report;
+use btf_elf::{Object, ObjectError, ReplaceError, SectionHeader};
+use btf_object::{FillPolicy, Kernel, SanitizeError, sanitize_object};
+use btf_plain::{BtfError, Endianness};
+use btf_samples::spelled::push_words;
+use std::alloc::{AllocError, Global};
+use std::test::Fail;
+
+/// The names of the sections and of the symbols, and their length.
+const NAMES_LEN: u32 = 45;
+
+const NAMES: &[u8] = b"\0.BTF\0.names\0.symbols\0.data/foo\0foo\0_license\0";
+
+/// A section: the words of its header that are not 0.
+#[derive(Clone, Copy)]
+struct Section {
+    name: u32,
+    kind: u32,
+    offset: u32,
+    size: u32,
+    link: u32,
+    entry_size: u32,
+}
+
+/// Writes a number of 64 bits that has no more than 32.
+fn push_long(bytes: &mut Vec<u8>, value: u32, order: Endianness) -> Result<(), AllocError> {
+    let words = match order {
+        Endianness::Little => [value, 0],
+        Endianness::Big => [0, value],
+    };
+    push_words(bytes, &words, order)
+}
+
+fn push_halves(bytes: &mut Vec<u8>, halves: &[u16], order: Endianness) -> Result<(), AllocError> {
+    for half in halves {
+        bytes.extend_from_slice(&order.write_u16(*half))?;
+    }
+    Ok(())
+}
+
+/// Writes the header of a relocatable object of BPF, with five section headers from an offset on.
+fn push_header(bytes: &mut Vec<u8>, sections: u32, order: Endianness) -> Result<(), AllocError> {
+    let data = match order {
+        Endianness::Little => 1,
+        Endianness::Big => 2,
+    };
+    bytes.extend_from_slice(b"\x7fELF\x02")?;
+    bytes.extend_from_slice(&[data, 1, 0, 0, 0, 0, 0, 0, 0, 0, 0])?;
+    push_halves(bytes, &[1, 247], order)?;
+    push_words(bytes, &[1, 0, 0, 0, 0], order)?;
+    push_long(bytes, sections, order)?;
+    push_words(bytes, &[0], order)?;
+    push_halves(bytes, &[64, 0, 0, 64, 5, 2], order)
+}
+
+fn push_section(
+    bytes: &mut Vec<u8>,
+    section: &Section,
+    order: Endianness,
+) -> Result<(), AllocError> {
+    push_words(bytes, &[section.name, section.kind, 0, 0, 0, 0], order)?;
+    push_long(bytes, section.offset, order)?;
+    push_long(bytes, section.size, order)?;
+    push_words(bytes, &[section.link, 0, 0, 0], order)?;
+    push_long(bytes, section.entry_size, order)
+}
+
+/// Writes a global variable of section 4.
+fn push_symbol(
+    bytes: &mut Vec<u8>,
+    name: u32,
+    value: u32,
+    order: Endianness,
+) -> Result<(), AllocError> {
+    push_words(bytes, &[name], order)?;
+    bytes.extend_from_slice(&[0x11, 0])?;
+    push_halves(bytes, &[4], order)?;
+    push_long(bytes, value, order)?;
+    push_long(bytes, 4, order)
+}
+
+/// The sections of an object whose table has this length.
+fn sections(len: u32) -> [Section; 5] {
+    let none = |name: u32, kind: u32, size: u32| Section {
+        name,
+        kind,
+        offset: 0,
+        size,
+        link: 0,
+        entry_size: 0,
+    };
+    let names = len.wrapping_add(64);
+    [
+        none(0, SectionHeader::NULL, 0),
+        Section {
+            offset: 64,
+            ..none(1, SectionHeader::PROGBITS, len)
+        },
+        Section {
+            offset: names,
+            ..none(6, SectionHeader::STRTAB, NAMES_LEN)
+        },
+        Section {
+            offset: names.wrapping_add(NAMES_LEN),
+            link: 2,
+            entry_size: 24,
+            ..none(13, SectionHeader::SYMTAB, 48)
+        },
+        none(22, SectionHeader::NOBITS, 32),
+    ]
+}
+
+/// An object with a table, a section `.data/foo` of 32 bytes, and the symbols `foo` and `_license`.
+fn object_of(alloc: Global, table: &[u8], order: Endianness) -> Result<Vec<u8>, Fail> {
+    let len = u32::try_from(table.len())?;
+    let mut bytes = Vec::new(alloc);
+    push_header(&mut bytes, len.wrapping_add(64 + NAMES_LEN + 48), order)?;
+    bytes.extend_from_slice(table)?;
+    bytes.extend_from_slice(NAMES)?;
+    push_symbol(&mut bytes, 32, 8, order)?;
+    push_symbol(&mut bytes, 36, 0, order)?;
+    for section in &sections(len) {
+        push_section(&mut bytes, section, order)?;
+    }
+    Ok(bytes)
+}
+
+/// How many symbols a file has.
+fn symbols(alloc: Global, file: &[u8]) -> Result<u64, BtfError> {
+    match Object::parse(alloc, file) {
+        Ok(object) => Ok(object.symbol_count() as u64),
+        Err(ObjectError::OutOfMemory) => Err(BtfError::OutOfMemory),
+        Err(_) => Err(BtfError::InvalidHeader),
+    }
+}
+
+/// A file with its own bytes in the place of its table.
+fn replaced(alloc: Global, object: &Object<'_>) -> Result<Vec<u8>, BtfError> {
+    match object.with_section(alloc, 1, object.bytes()) {
+        Ok(file) => Ok(file),
+        Err(ReplaceError::OutOfMemory) => Err(BtfError::OutOfMemory),
+        Err(_) => Err(BtfError::InvalidHeader),
+    }
+}
+
+/// A file that is rewritten for a kernel.
+fn sanitized(alloc: Global, file: &[u8], kernel: &Kernel) -> Result<Vec<u8>, BtfError> {
+    match sanitize_object(alloc, file, kernel, FillPolicy::KeepSized) {
+        Ok((file, _)) => Ok(file),
+        Err(SanitizeError::OutOfMemory) => Err(BtfError::OutOfMemory),
+        Err(_) => Err(BtfError::InvalidHeader),
+    }
+}
+
+/// Makes a call on an object around the table.
+pub fn done(work: &str, probe: &Probe, blob: &[u8], report: &mut Report) -> Result<(), Fail> {
+    let (alloc, file) = (probe.alloc, object_of(probe.alloc, blob, probe.order)?);
+    match work {
+        "parse_object" => probe.twice(&file, report, || symbols(alloc, &file)),
+        "with_section" => {
+            let object = Object::parse(alloc, &file)?;
+            probe.twice(&file, report, || replaced(alloc, &object))
+        }
+        _ => {
+            let kernel = Kernel::of_version("5.4").ok_or("this is no version")?;
+            probe.twice(&file, report, || sanitized(alloc, &file, &kernel))
+        }
+    }
+}
