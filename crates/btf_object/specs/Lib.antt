@@ -1,0 +1,4 @@
+pub mod Kernel
+pub mod Names
+pub mod Ksyms
+pub mod Errors

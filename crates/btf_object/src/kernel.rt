@@ -1,0 +1,100 @@
+//! The features of a kernel's BTF.
+
+ghost use Rattle.std.specs.Prelude.{◌≡◌, ◌||◌, false, IfSome, IfNone};
+ghost use Rattle.btf_rewrite_model.specs.Feature.{same_feature};
+ghost use Rattle.btf_rewrite_model.specs.declared.feature.BtfFeature.{BtfFeature};
+ghost use Rattle.btf_object_model.specs.Kernel.{IsVersion, has_by_version};
+ghost use Rattle.btf_object_model.specs.declared.version.Version.{Version};
+ghost use Rattle.btf_object.specs.Kernel.{has};
+
+use crate::version::{has, read_version};
+use btf_rewrite_model::BtfFeature;
+
+/// The features that a kernel has.
+#[derive(Clone, Copy, Debug, PartialEq, Eq)]
+pub struct Kernel {
+    func: bool,
+    func_global: bool,
+    data_sec: bool,
+    data_sec_zero: bool,
+    float: bool,
+    decl_tag: bool,
+    type_tag: bool,
+    enum64: bool,
+}
+
+impl Kernel {
+    /// A kernel that has none of the eight features.
+    pub fn new() -> Kernel
+        ensures { (f : BtfFeature) → has result f ≡ false }
+    {
+        Kernel {
+            func: false,
+            func_global: false,
+            data_sec: false,
+            data_sec_zero: false,
+            float: false,
+            decl_tag: false,
+            type_tag: false,
+            enum64: false,
+        }
+    }
+
+    /// The same kernel with one more feature.
+    pub fn with(self, feature: BtfFeature) -> Kernel
+        ensures { (f : BtfFeature) → has result f ≡ (same_feature feature f || has self f) }
+    {
+        let mut kernel = self;
+        match feature {
+            BtfFeature::Func => kernel.func = true,
+            BtfFeature::FuncGlobal => kernel.func_global = true,
+            BtfFeature::DataSec => kernel.data_sec = true,
+            BtfFeature::DataSecZero => kernel.data_sec_zero = true,
+            BtfFeature::Float => kernel.float = true,
+            BtfFeature::DeclTag => kernel.decl_tag = true,
+            BtfFeature::TypeTag => kernel.type_tag = true,
+            BtfFeature::Enum64 => kernel.enum64 = true,
+        }
+        kernel
+    }
+
+    /// Whether the kernel has a feature.
+    pub fn has(&self, feature: BtfFeature) -> bool
+        ensures { result ≡ has self.now feature }
+    {
+        match feature {
+            BtfFeature::Func => self.func,
+            BtfFeature::FuncGlobal => self.func_global,
+            BtfFeature::DataSec => self.data_sec,
+            BtfFeature::DataSecZero => self.data_sec_zero,
+            BtfFeature::Float => self.float,
+            BtfFeature::DeclTag => self.decl_tag,
+            BtfFeature::TypeTag => self.type_tag,
+            BtfFeature::Enum64 => self.enum64,
+        }
+    }
+
+    /// The kernel of a version: the first two numbers of `5.4`, or of what `uname -r` prints, as `5.15.0-91-generic`
+    /// or `6.1.0-rc3+`. What follows them is empty, or begins with `.`, `-` or `+`, and is not read. None where the
+    /// text is no version.
+    ///
+    /// It has the features that Linux of that version has. A distribution's kernel may have more than its version
+    /// says, since features are backported.
+    pub fn of_version(text: &str) -> Option<Kernel>
+        ensures some { IfSome result (λ kernel. (v : Version) × IsVersion text.now v
+            × ((f : BtfFeature) → has kernel f ≡ has_by_version v f)) }
+        ensures none { IfNone result ((v : Version) → IsVersion text.now v → ⊥) }
+    {
+        let version = read_version(text)?;
+        Some(Kernel {
+            func: has(version, BtfFeature::Func),
+            func_global: has(version, BtfFeature::FuncGlobal),
+            data_sec: has(version, BtfFeature::DataSec),
+            data_sec_zero: has(version, BtfFeature::DataSecZero),
+            float: has(version, BtfFeature::Float),
+            decl_tag: has(version, BtfFeature::DeclTag),
+            type_tag: has(version, BtfFeature::TypeTag),
+            enum64: has(version, BtfFeature::Enum64),
+        })
+    }
+}

@@ -1,0 +1,81 @@
+//! Objects that are rewritten for a kernel.
+
+ghost use Rattle.std.specs.Prelude.{◌≡◌, ℕ, Option, None, IfOk, IfErr, IfSome, IfNone};
+ghost use Rattle.std.specs.Option.{option_map};
+ghost use Rattle.btf_elf_model.specs.Object as elf;
+ghost use Rattle.btf_elf_model.specs.declared.section_header.SectionHeader.{SectionHeader};
+ghost use Rattle.btf_object_model.specs.Laws.{KeepsExt};
+ghost use Rattle.btf_object_model.specs.Sanitized.{HasSection, IsSanitized, index_of, table_name, ext_name};
+ghost use Rattle.btf_object.specs.Names.{IsTableSection};
+ghost use Rattle.btf_object.specs.Errors.{target_of, IsCause};
+
+use crate::error::SanitizeError;
+use crate::kernel::Kernel;
+use crate::table::rewritten;
+use arrayvec::ArrayVec;
+use btf_elf::Object;
+use btf_rewrite_model::{FeatureAnswer, FillPolicy};
+use std::alloc::Global;
+
+/// The index and the bytes of the first section that is named `.BTF`.
+fn table_section<'a>(object: &Object<'a>) -> Option<(usize, &'a [u8])>
+    ensures some { IfSome result (λ found. IsTableSection object.now found.0 found.1.now) }
+    ensures none { IfNone result (index_of object.now table_name ≡ None) }
+{
+    let index = object.section_by_name(b".BTF")?;
+    let section = object.sections().get(index)?;
+    Some((index, object.section_bytes(section)))
+}
+
+/// The object with its table rewritten for a kernel, and which features the rewrite asked for. It is
+/// `sanitize_object_with` without a placeholder, with the same errors.
+pub fn sanitize_object(
+    alloc: Global,
+    bytes: &[u8],
+    kernel: &Kernel,
+    policy: FillPolicy,
+) -> Result<(Vec<u8>, ArrayVec<FeatureAnswer, 8>), SanitizeError>
+    ensures sanitized { IfOk result (λ r. IsSanitized bytes.now
+        (target_of kernel.now policy None) r.0.items r.1.items) }
+    ensures ext { IfOk result (λ r. (o : elf.Object) (index : ℕ) (s : SectionHeader)
+        → HasSection bytes.now ext_name o index s
+        → (new : elf.Object) × KeepsExt bytes.now r.0.items o new index s) }
+    ensures refused { IfErr result (IsCause bytes.now (target_of kernel.now policy None)) }
+{
+    sanitize_object_with(alloc, bytes, kernel, policy, None)
+}
+
+/// The object with its table rewritten for a kernel: the section `.BTF`, the first of that name, has the bytes of the
+/// rewritten table, and no other section changes. With it, the features that the rewrite asked for, and whether the
+/// kernel has them. The words of the table have the object's byte order. `placeholder` is the name of the variable that
+/// takes the place of functions in `.ksyms`; it is looked for only where the table has a DATASEC of that name.
+///
+/// The first cause is reported: `Object`, `NoTable`, `Table` with the errors of `Btf::parse`, of `ksyms_of` and of
+/// `Btf::fixup_and_sanitize_with`, and `Section`. Or `OutOfMemory`.
+pub fn sanitize_object_with(
+    alloc: Global,
+    bytes: &[u8],
+    kernel: &Kernel,
+    policy: FillPolicy,
+    placeholder: Option<&str>,
+) -> Result<(Vec<u8>, ArrayVec<FeatureAnswer, 8>), SanitizeError>
+    // The new file is the old object with the written form of the rewritten table in its section `.BTF`.
+    ensures sanitized { IfOk result (λ r. IsSanitized bytes.now
+        (target_of kernel.now policy (option_map (λ name. name.now) placeholder.entry))
+        r.0.items r.1.items) }
+    // Its section `.BTF.ext` says under the new table what it said under the old.
+    ensures ext { IfOk result (λ r. (o : elf.Object) (index : ℕ) (s : SectionHeader)
+        → HasSection bytes.now ext_name o index s
+        → (new : elf.Object) × KeepsExt bytes.now r.0.items o new index s) }
+    // It is refused for the first cause.
+    ensures refused { IfErr result (IsCause bytes.now
+        (target_of kernel.now policy (option_map (λ name. name.now) placeholder.entry))) }
+{
+    let object = Object::parse(alloc, bytes)?;
+    let Some((index, table)) = table_section(&object) else {
+        return Err(SanitizeError::NoTable);
+    };
+    let (written, answers) = rewritten(alloc, &object, table, kernel, policy, placeholder)?;
+    let file = object.with_section(alloc, index, &written)?;
+    Ok((file, answers))
+}

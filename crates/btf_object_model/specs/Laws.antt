@@ -1,0 +1,54 @@
+-- The laws of the definitions. Each is the contract of a public function of this crate.
+use Rattle.std.specs.Prelude.{◌≡◌, ◌≢◌, ℕ, List, Option, Ok, Err}
+use Rattle.btf_model.specs.declared.endianness.Endianness.{Endianness}
+use Rattle.btf_model.specs.Ext.{Ext, IsExt}
+use Rattle.btf_model.specs.Refusal.{Refusal, InvalidStringOffset}
+use Rattle.btf_model.specs.Table.{Table}
+use Rattle.btf_model.specs.Text.{text_at}
+use Rattle.btf_model.specs.Blob.{IsTable}
+use Rattle.btf_elf_model.specs.Object.{Object, section_bytes}
+use Rattle.btf_elf_model.specs.declared.section_header.SectionHeader.{SectionHeader}
+use Rattle.btf_rewrite_model.specs.Pass.{Layout}
+use Rattle.btf_rewrite_model.specs.Rewritten.{Rewritten}
+use Rattle.btf_rewrite_model.specs.declared.feature.FeatureAnswer.{FeatureAnswer}
+use Rattle.btf_rewrite_model.specs.declared.feature.FillPolicy.{FillPolicy}
+use Rattle.btf_rewrite_model.specs.declared.ksyms_ids.KsymsIds.{KsymsIds}
+use Rattle.btf_object_model.specs.Sanitized.{Target, HasSection, IsSanitized, table_name, ext_name}
+
+-- A text that can be read at an offset of a table's strings is read there in the rewritten one.
+abbrev pub TextsStay : Type 0
+TextsStay =
+    (policy : FillPolicy) (old new : Table) (ids : Option KsymsIds) (layout : Layout) (answers : List FeatureAnswer)
+    → Rewritten policy old ids layout answers new
+    → (offset : ℕ) (text : List ℕ) → text_at old.strings offset ≡ Ok text → text_at new.strings offset ≡ Ok text
+
+-- What the bytes of `.BTF.ext` say under one table they say under another: each result, and each refusal but for a name
+-- that cannot be read. Such a name may be one that the rewrite appends.
+pub record SaysTheSame (order : Endianness) (bytes : List ℕ) (old new : Table) : Type 0 where
+  pub ok : (ext : Ext) → IsExt order bytes old.strings (Ok ext) → IsExt order bytes new.strings (Ok ext)
+  pub err : (refusal : Refusal) → ((offset : ℕ) → refusal ≢ InvalidStringOffset offset)
+      → IsExt order bytes old.strings (Err refusal) → IsExt order bytes new.strings (Err refusal)
+
+-- A rewrite changes nothing of what `.BTF.ext` says.
+abbrev pub ExtStays : Type 0
+ExtStays =
+    (policy : FillPolicy) (old new : Table) (ids : Option KsymsIds) (layout : Layout) (answers : List FeatureAnswer)
+    → Rewritten policy old ids layout answers new
+    → (order : Endianness) (bytes : List ℕ) → SaysTheSame order bytes old new
+
+-- An object that was rewritten, and what its `.BTF.ext` says: it has the section where the old object has it, with the
+-- same bytes, and these say under the table in the new `.BTF` what they said under that in the old.
+pub record KeepsExt (bytes file : List ℕ) (o new : Object) (index : ℕ) (s : SectionHeader) : Type 0 where
+  pub section : HasSection file ext_name new index s
+  pub same_bytes : section_bytes new s ≡ section_bytes o s
+  pub says : (old_table new_table : Table) (at at' : ℕ) (t t' : SectionHeader)
+      → HasSection bytes table_name o at t → IsTable o.header.order (section_bytes o t) old_table
+      → HasSection file table_name new at' t' → IsTable o.header.order (section_bytes new t') new_table
+      → SaysTheSame o.header.order (section_bytes o s) old_table new_table
+
+-- The object that is written keeps the function, line and relocation records of the old one.
+abbrev pub SanitizedKeepsExt : Type 0
+SanitizedKeepsExt =
+    (bytes file : List ℕ) (target : Target) (answers : List FeatureAnswer) → IsSanitized bytes target file answers
+    → (o : Object) (index : ℕ) (s : SectionHeader) → HasSection bytes ext_name o index s
+    → (new : Object) × KeepsExt bytes file o new index s

@@ -1,0 +1,6 @@
+pub mod Layout
+pub mod Ksyms
+pub mod Kernel
+pub mod Sanitized
+pub mod Laws
+pub mod Examples
