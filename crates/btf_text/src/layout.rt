@@ -1,5 +1,8 @@
 //! The layout of a structure or a union, as `pahole -F btf -C NAME FILE` of pahole 1.24 writes it.
 
+ghost use Rattle.std.specs.Prelude.{◌≡◌, true, IfOk};
+ghost use Rattle.btf_text.specs.Layout.{is_composite_at};
+
 mod column;
 mod declarator;
 mod group;
@@ -29,7 +32,19 @@ use std::fmt::Write;
 ///
 /// The errors of `Btf::id_by_type_name_kind`, in this order of kinds, and those of `Btf::resolve_type` for the TYPEDEF.
 /// `UnexpectedBtfType` where the TYPEDEF leads to a type of another kind.
-pub fn find_layout(table: &Btf, name: &str) -> Result<u32, BtfError> {
+pub fn find_layout(table: &Btf, name: &str) -> Result<u32, BtfError>
+    ensures { IfOk result (λ id. is_composite_at table.now id ≡ true) }
+{
+    let type_id = find_named(table, name)?;
+    if table.type_by_id(type_id)?.is_composite() {
+        Ok(type_id)
+    } else {
+        Err(BtfError::UnexpectedBtfType { type_id })
+    }
+}
+
+/// The id of the first STRUCT of a name, else of the first UNION, else what the first TYPEDEF resolves to.
+fn find_named(table: &Btf, name: &str) -> Result<u32, BtfError> {
     for kind in [BtfKind::Struct, BtfKind::Union] {
         match table.id_by_type_name_kind(name, kind) {
             Err(BtfError::UnknownBtfTypeName { type_name: _text }) => {}
@@ -37,12 +52,7 @@ pub fn find_layout(table: &Btf, name: &str) -> Result<u32, BtfError> {
         }
     }
     let typedef = table.id_by_type_name_kind(name, BtfKind::Typedef)?;
-    let type_id = table.resolve_type(typedef)?;
-    if table.type_by_id(type_id)?.is_composite() {
-        Ok(type_id)
-    } else {
-        Err(BtfError::UnexpectedBtfType { type_id })
-    }
+    table.resolve_type(typedef)
 }
 
 /// Writes the members of the STRUCT or UNION of an id, with offsets and sizes in bytes, bit-fields with the place of

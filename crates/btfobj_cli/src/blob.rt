@@ -22,11 +22,16 @@ pub enum Blob<'a> {
 }
 
 impl<'a> Blob<'a> {
+    ghost use Rattle.std.specs.Prelude.{◌≡◌, true, IfOk};
+    ghost use Rattle.btfobj_cli.specs.Blob.{BeginsObject, is_object};
+
     /// The file of these bytes: an object where they begin with ELF's magic number, and a table where they begin with
     /// BTF's (`BTF_MAGIC`, 0xeb9f) in either order.
     ///
     /// `UnknownFormat` where they begin otherwise, and `Object` with the error of `Object::parse`. `OutOfMemory`.
-    pub fn read(alloc: Global, bytes: &'a [u8]) -> Result<Blob<'a>, Fault> {
+    pub fn read(alloc: Global, bytes: &'a [u8]) -> Result<Blob<'a>, Fault>
+        ensures { IfOk result (λ blob. BeginsObject bytes.now → is_object blob ≡ true) }
+    {
         match bytes {
             [0x7f, b'E', b'L', b'F', ..] => Ok(Blob::Object(Object::parse(alloc, bytes)?)),
             [0x9f, 0xeb, ..] => Ok(Blob::Table(bytes, Endianness::Little)),

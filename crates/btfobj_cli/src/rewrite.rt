@@ -1,5 +1,11 @@
 //! Files that are rewritten for a kernel.
 
+ghost use Rattle.std.specs.Prelude.{IfOk};
+ghost use Rattle.std.specs.Option.{option_map};
+ghost use Rattle.btf_object_model.specs.Sanitized.{IsSanitized};
+ghost use Rattle.btf_object.specs.Errors.{target_of};
+ghost use Rattle.btfobj_cli.specs.Blob.{BeginsObject};
+
 use crate::blob::Blob;
 use crate::fault::Fault;
 use arrayvec::ArrayVec;
@@ -31,7 +37,12 @@ pub fn sanitize(
     alloc: Global,
     bytes: &[u8],
     rewrite: &Rewrite<'_>,
-) -> Result<(Vec<u8>, ArrayVec<FeatureAnswer, 8>), Fault> {
+) -> Result<(Vec<u8>, ArrayVec<FeatureAnswer, 8>), Fault>
+    // The new file of an object is the old one with the written form of the rewritten table in its section `.BTF`.
+    ensures { IfOk result (λ r. BeginsObject bytes.now → IsSanitized bytes.now
+        (target_of rewrite.now.kernel rewrite.now.policy
+        (option_map (λ name. name.now) rewrite.now.placeholder)) r.0.items r.1.items) }
+{
     match Blob::read(alloc, bytes)? {
         Blob::Object(_object) => Ok(sanitize_object_with(
             alloc,

@@ -123,8 +123,7 @@ fn write_words<W: Write>(out: &mut W, btf_type: &BtfType) -> fmt::Result {
 /// Writes a line for each item of a type.
 fn write_list<W: Write>(out: &mut W, table: &Btf, btf_type: &BtfType) -> Result<(), TextError> {
     match btf_type {
-        BtfType::Struct(t) => write_members(out, table, t.info(), t.members()),
-        BtfType::Union(t) => write_members(out, table, t.info(), t.members()),
+        BtfType::Struct(_) | BtfType::Union(_) => write_members(out, table, btf_type),
         BtfType::Enum(t) => write_variants(out, table, t.is_signed(), t.variants()),
         BtfType::Enum64(t) => write_variants64(out, table, t.is_signed(), t.variants()),
         BtfType::FuncProto(t) => write_params(out, table, t.params()),

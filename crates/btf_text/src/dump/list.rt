@@ -3,30 +3,24 @@
 use crate::dump::line::kind_name;
 use crate::error::TextError;
 use crate::word::write_quoted;
-use btf_items::{BtfEnum, BtfEnum64, BtfMember, BtfParam, DataSecEntry};
+use btf_items::{BtfEnum, BtfEnum64, BtfParam, DataSecEntry};
+use btf_records::BtfType;
 use btf_table::Btf;
 use std::fmt::Write;
 
-/// The bit at which a member begins, and the number of its bits where it is a bit-field, else 0. The kind flag of the
-/// info word says that the high 8 bits of the offset are that number.
-fn member_bits(info: u32, offset: u32) -> (u32, u32) {
-    if info >> 31 == 1 {
-        (offset & 0xff_ffff, offset >> 24)
-    } else {
-        (offset, 0)
-    }
-}
-
-/// Writes a line for each member.
+/// Writes a line for each member of a STRUCT or a UNION; none for the other kinds.
 pub fn write_members<W: Write>(
     out: &mut W,
     table: &Btf,
-    info: u32,
-    members: &[BtfMember],
+    btf_type: &BtfType,
 ) -> Result<(), TextError> {
+    let Some(members) = btf_type.members() else {
+        return Ok(());
+    };
     for member in members {
         let target = member.btf_type;
-        let (offset, bits) = member_bits(info, member.offset);
+        let offset = btf_type.member_bit_offset(member).unwrap_or(0);
+        let bits = btf_type.member_bit_field_size(member).unwrap_or(0);
         out.write_str("\n\t")?;
         write_quoted(out, table, member.name_offset)?;
         write!(out, " type_id={target} bits_offset={offset}")?;

@@ -8,12 +8,12 @@ use btf_words::BtfError;
 /// A structure or a union.
 #[derive(Clone, Copy)]
 pub struct Group<'a> {
+    /// The type, which is a STRUCT or a UNION.
+    btf_type: &'a BtfType,
     /// Whether it is a union, whose members share their place.
     pub is_union: bool,
     /// The size in bytes.
     pub size: u32,
-    /// Whether offsets of members have the number of bits of a bit-field in their high 8 bits.
-    has_bit_fields: bool,
     /// The members.
     pub members: &'a [BtfMember],
 }
@@ -22,13 +22,13 @@ pub struct Group<'a> {
 #[derive(Clone, Copy)]
 pub struct Place {
     /// The byte at which the member begins; of a bit-field, at which the integer that has its bits begins.
-    pub byte: u32,
+    pub byte: u64,
     /// The bit at which the member begins.
-    pub bit: u32,
+    pub bit: u64,
     /// The number of bits of a bit-field; 0 of another member.
-    pub bits: u32,
+    pub bits: u64,
     /// The size of the member's type in bytes.
-    pub size: u32,
+    pub size: u64,
     /// Whether an array without elements is one of any length there: the member is the last one, and not the first.
     pub is_flexible: bool,
 }
@@ -38,15 +38,15 @@ impl<'a> Group<'a> {
     pub fn of(btf_type: &'a BtfType) -> Option<Group<'a>> {
         match btf_type {
             BtfType::Struct(t) => Some(Group {
+                btf_type,
                 is_union: false,
                 size: t.size(),
-                has_bit_fields: t.info() >> 31 == 1,
                 members: t.members(),
             }),
             BtfType::Union(t) => Some(Group {
+                btf_type,
                 is_union: true,
                 size: t.size(),
-                has_bit_fields: t.info() >> 31 == 1,
                 members: t.members(),
             }),
             _ => None,
@@ -61,19 +61,16 @@ impl<'a> Group<'a> {
     /// Where the member of this index is. The integer of a bit-field begins at a multiple of its own size. The errors are
     /// those of `Btf::type_size`.
     pub fn place(&self, table: &Btf, index: usize, member: &BtfMember) -> Result<Place, BtfError> {
-        let size = table.type_size(member.btf_type)?;
-        let size = u32::try_from(size).unwrap_or(u32::MAX);
-        let (bit, bits) = if self.has_bit_fields {
-            (member.offset & 0xff_ffff, member.offset >> 24)
+        let size = table.type_size(member.btf_type)? as u64;
+        let bit = self.btf_type.member_bit_offset(member).unwrap_or(0) as u64;
+        let bits = self.btf_type.member_bit_field_size(member).unwrap_or(0) as u64;
+        let past = if bits > 0 && size > 0 {
+            bit / 8 % size
         } else {
-            (member.offset, 0)
+            0
         };
-        let mut byte = bit / 8;
-        if bits > 0 && size > 0 {
-            byte = byte / size * size;
-        }
         Ok(Place {
-            byte,
+            byte: bit / 8 - past,
             bit,
             bits,
             size,

@@ -37,7 +37,7 @@ impl Pass {
 
     /// Goes over a member, and returns the hole in front of it. A member that begins before the last one ends has none.
     pub fn step(&mut self, place: &Place) -> Hole {
-        let start = u64::from(place.bit);
+        let start = place.bit;
         let mut hole = Hole { bytes: 0, bits: 0 };
         if self.in_bit_field {
             let end = start.min(self.integer_end);
@@ -46,15 +46,15 @@ impl Pass {
         }
         if place.bits == 0 {
             hole.bytes = (start / 8).saturating_sub(self.seen / 8);
-            self.leave_bit_fields(start.saturating_add(u64::from(place.size) * 8));
+            self.leave_bit_fields(start.saturating_add(place.size.saturating_mul(8)));
         } else {
-            let aligned = u64::from(place.byte) * 8;
+            let aligned = place.byte.saturating_mul(8);
             if self.seen < aligned && aligned <= start {
-                hole.bytes = u64::from(place.byte).saturating_sub(self.seen / 8);
+                hole.bytes = place.byte.saturating_sub(self.seen / 8);
                 self.seen = aligned;
             }
             hole.bits = hole.bits.saturating_add(start.saturating_sub(self.seen));
-            self.enter_bit_field(place, start.saturating_add(u64::from(place.bits)));
+            self.enter_bit_field(place, start.saturating_add(place.bits));
         }
         hole
     }
@@ -70,12 +70,12 @@ impl Pass {
     /// The last member is a bit-field that ends at this bit. Its integer is a new one where it ends after the last one,
     /// or is larger.
     fn enter_bit_field(&mut self, place: &Place, end: u64) {
-        let size = u64::from(place.size) * 8;
+        let size = place.size.saturating_mul(8);
         self.seen = end;
         self.in_bit_field = true;
         if end > self.integer_end || size > self.integer_size {
             self.integer_size = size;
-            self.integer_end = (u64::from(place.byte) * 8).saturating_add(size);
+            self.integer_end = place.byte.saturating_mul(8).saturating_add(size);
             if end > self.integer_end {
                 self.integer_end = self.integer_end.saturating_add(size);
             }

@@ -101,9 +101,9 @@ fn add_bits(line: &mut String, place: &Place) -> Result<(), TextError> {
 /// Adds the remark that says the offset and the size of a member, in a structure that begins at the byte `base` of the
 /// outermost one.
 fn add_offset(line: &mut String, place: &Place, base: u64) -> Result<(), TextError> {
-    let (size, byte) = (place.size, base.saturating_add(u64::from(place.byte)));
+    let (size, byte) = (place.size, base.saturating_add(place.byte));
     if place.bits > 0 {
-        let bit = u64::from(place.bit).saturating_sub(u64::from(place.byte) * 8);
+        let bit = place.bit.saturating_sub(place.byte.saturating_mul(8));
         write!(line, "/* {byte:5}:{bit:2} {size:2} */")?;
     } else {
         write!(line, "/* {byte:5} {size:5} */")?;

@@ -54,7 +54,7 @@ impl<'a> Level<'a> {
         let depth = self.depth.checked_sub(1)?;
         Some(Level {
             group,
-            base: self.base.saturating_add(u64::from(place.byte)),
+            base: self.base.saturating_add(place.byte),
             indent: self.indent.saturating_add(1),
             columns: Columns::of(self.is_in_union, self.indent),
             is_in_union: self.is_in_union,

@@ -12,7 +12,7 @@ use std::fmt::Write;
 pub struct Progress {
     pass: Pass,
     /// The byte at which the last member begins.
-    last: Option<u32>,
+    last: Option<u64>,
     /// What no member of the last member's own type has at its end, in bytes.
     padding: u64,
     /// The sizes of the members that are no bit-fields, in bytes.
@@ -66,7 +66,7 @@ impl Progress {
             page.out.write_str("\n")?;
         }
         if self.last.is_some_and(|last| last != place.byte) {
-            let byte = level.base.saturating_add(u64::from(place.byte));
+            let byte = level.base.saturating_add(place.byte);
             page.write_boundary(byte, level.indent)?;
         }
         self.last = Some(place.byte);
@@ -77,9 +77,9 @@ impl Progress {
     /// Adds a member, and the hole in front of it.
     fn add(&mut self, place: &Place, hole: &Hole) {
         if place.bits > 0 {
-            self.bits = self.bits.saturating_add(u64::from(place.bits));
+            self.bits = self.bits.saturating_add(place.bits);
         } else {
-            self.bytes = self.bytes.saturating_add(u64::from(place.size));
+            self.bytes = self.bytes.saturating_add(place.size);
         }
         if hole.bytes > 0 {
             self.holes = self.holes.saturating_add(1);
