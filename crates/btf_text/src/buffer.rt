@@ -1,0 +1,56 @@
+//! A buffer of fixed size in front of a writer of bytes.
+
+use arrayvec::ArrayString;
+use std::fmt;
+use std::io::Write;
+
+/// The number of bytes that the buffer holds at most.
+const CAPACITY: usize = 32768;
+
+/// A writer of text, which passes what it takes to a writer of bytes in large pieces. No memory is allocated.
+#[derive(Drop)]
+pub struct TextBuffer<'a, W> {
+    out: &'a mut W,
+    pending: ArrayString<CAPACITY>,
+}
+
+impl<'a, W: Write> TextBuffer<'a, W> {
+    /// An empty buffer in front of a writer.
+    pub fn new(out: &'a mut W) -> TextBuffer<'a, W> {
+        TextBuffer {
+            out,
+            pending: ArrayString::new(),
+        }
+    }
+
+    /// Adds a text. The buffer is written out first where it has no room for the text, and a text that is longer than
+    /// the buffer goes straight to the writer.
+    fn put(&mut self, text: &str) -> fmt::Result {
+        if self.pending.try_push_str(text).is_ok() {
+            return Ok(());
+        }
+        self.flush()?;
+        if self.pending.try_push_str(text).is_ok() {
+            return Ok(());
+        }
+        write_text(&mut *self.out, text)
+    }
+
+    /// Writes the buffer out. What is still in it when it is dropped is lost.
+    pub fn flush(&mut self) -> fmt::Result {
+        write_text(&mut *self.out, self.pending.as_str())?;
+        self.pending.clear();
+        Ok(())
+    }
+}
+
+/// Writes the whole text to a writer.
+fn write_text<W: Write>(out: &mut W, text: &str) -> fmt::Result {
+    out.write_all(text.as_bytes()).map_err(|_| fmt::Error)
+}
+
+impl<W: Write> fmt::Write for TextBuffer<'_, W> {
+    fn write_str(&mut self, text: &str) -> fmt::Result {
+        self.put(text)
+    }
+}

@@ -1,0 +1,80 @@
+//! Structures and unions, and where their members are.
+
+use btf_items::BtfMember;
+use btf_records::BtfType;
+use btf_table::Btf;
+use btf_words::BtfError;
+
+/// A structure or a union.
+#[derive(Clone, Copy)]
+pub struct Group<'a> {
+    /// The type, which is a STRUCT or a UNION.
+    btf_type: &'a BtfType,
+    /// Whether it is a union, whose members share their place.
+    pub is_union: bool,
+    /// The size in bytes.
+    pub size: u32,
+    /// The members.
+    pub members: &'a [BtfMember],
+}
+
+/// Where a member is in its structure.
+#[derive(Clone, Copy)]
+pub struct Place {
+    /// The byte at which the member begins; of a bit-field, at which the integer that has its bits begins.
+    pub byte: u64,
+    /// The bit at which the member begins.
+    pub bit: u64,
+    /// The number of bits of a bit-field; 0 of another member.
+    pub bits: u64,
+    /// The size of the member's type in bytes.
+    pub size: u64,
+    /// Whether an array without elements is one of any length there: the member is the last one, and not the first.
+    pub is_flexible: bool,
+}
+
+impl<'a> Group<'a> {
+    /// The structure or union that a type is; None of other kinds.
+    pub fn of(btf_type: &'a BtfType) -> Option<Group<'a>> {
+        match btf_type {
+            BtfType::Struct(t) => Some(Group {
+                btf_type,
+                is_union: false,
+                size: t.size(),
+                members: t.members(),
+            }),
+            BtfType::Union(t) => Some(Group {
+                btf_type,
+                is_union: true,
+                size: t.size(),
+                members: t.members(),
+            }),
+            _ => None,
+        }
+    }
+
+    /// The number of bits.
+    pub fn bits(&self) -> u64 {
+        u64::from(self.size) * 8
+    }
+
+    /// Where the member of this index is. The integer of a bit-field begins at a multiple of its own size. The errors are
+    /// those of `Btf::type_size`.
+    pub fn place(&self, table: &Btf, index: usize, member: &BtfMember) -> Result<Place, BtfError> {
+        let size = table.type_size(member.btf_type)? as u64;
+        let bit = self.btf_type.member_bit_offset(member).unwrap_or(0) as u64;
+        let bits = self.btf_type.member_bit_field_size(member).unwrap_or(0) as u64;
+        let past = if bits > 0 && size > 0 {
+            bit / 8 % size
+        } else {
+            0
+        };
+        Ok(Place {
+            byte: bit / 8 - past,
+            bit,
+            bits,
+            size,
+            is_flexible: bit > 0 && index.saturating_add(1) == self.members.len(),
+        })
+    }
+}

@@ -1,0 +1,147 @@
+//! The lines of a single member.
+
+use crate::error::TextError;
+use crate::layout::declarator::Declarator;
+use crate::layout::group::Place;
+use crate::layout::members::Level;
+use crate::layout::page::Page;
+use crate::layout::type_text::{PROTOTYPE_LIMIT, add_base, add_declared, add_stars};
+use crate::word::text_at;
+use btf_items::BtfMember;
+use btf_records::{BtfType, Enum};
+use btf_table::{Btf, BtfStr};
+use std::fmt::Write;
+
+/// The name of a member; empty where none can be read.
+pub fn member_name<'a>(table: &'a Btf, member: &BtfMember) -> Result<BtfStr<'a>, TextError> {
+    match text_at(table, member.name_offset)? {
+        Some(name) => Ok(name),
+        None => Ok(BtfStr::Borrowed("")),
+    }
+}
+
+/// Whether a type has no name.
+pub fn is_nameless(table: &Btf, btf_type: &BtfType) -> Result<bool, TextError> {
+    match text_at(table, btf_type.name_offset())? {
+        Some(name) => Ok(name.as_str().is_empty()),
+        None => Ok(true),
+    }
+}
+
+/// Writes the line of a member.
+pub fn write_plain<W: Write>(
+    page: &mut Page<'_, W>,
+    level: &Level<'_>,
+    declarator: &Declarator<'_>,
+    name: &str,
+    place: &Place,
+) -> Result<(), TextError> {
+    let columns = level.columns;
+    add_base(&mut page.line, page.table, declarator)?;
+    columns.pad_type(&mut page.line)?;
+    page.line.push_str(" ")?;
+    add_declared(
+        &mut page.line,
+        page.table,
+        &declarator.steps,
+        name,
+        place.is_flexible,
+        PROTOTYPE_LIMIT,
+    )?;
+    add_bits(&mut page.line, place)?;
+    columns.pad_name(&mut page.line)?;
+    add_offset(&mut page.line, place, level.base)?;
+    page.end_line()?;
+    Ok(())
+}
+
+/// Writes what follows the lines of a member's type: the name, and where the member is.
+pub fn write_closing<W: Write>(
+    page: &mut Page<'_, W>,
+    level: &Level<'_>,
+    declarator: &Declarator<'_>,
+    name: &str,
+    place: &Place,
+) -> Result<(), TextError> {
+    let line = &mut page.line;
+    if !name.is_empty() {
+        line.push_str(" ")?;
+    }
+    add_stars(line, declarator)?;
+    add_declared(
+        line,
+        page.table,
+        &declarator.steps,
+        name,
+        place.is_flexible,
+        PROTOTYPE_LIMIT,
+    )?;
+    let len = line.len();
+    add_bits(line, place)?;
+    if declarator.steps.is_empty() {
+        level.columns.pad_closing(line, len)?;
+    } else {
+        line.push_str(" ")?;
+    }
+    add_offset(line, place, level.base)?;
+    page.end_line()?;
+    Ok(())
+}
+
+/// Adds the number of bits of a bit-field, and the end of a declaration.
+fn add_bits(line: &mut String, place: &Place) -> Result<(), TextError> {
+    let bits = place.bits;
+    if bits > 0 {
+        write!(line, ":{bits}")?;
+    }
+    line.push_str(";")?;
+    Ok(())
+}
+
+/// Adds the remark that says the offset and the size of a member, in a structure that begins at the byte `base` of the
+/// outermost one.
+fn add_offset(line: &mut String, place: &Place, base: u64) -> Result<(), TextError> {
+    let (size, byte) = (place.size, base.saturating_add(place.byte));
+    if place.bits > 0 {
+        let bit = place.bit.saturating_sub(place.byte.saturating_mul(8));
+        write!(line, "/* {byte:5}:{bit:2} {size:2} */")?;
+    } else {
+        write!(line, "/* {byte:5} {size:5} */")?;
+    }
+    Ok(())
+}
+
+/// Writes the lines of the variants of an enumeration, with their names in a column, and the parenthesis after them.
+pub fn write_variants<W: Write>(
+    page: &mut Page<'_, W>,
+    indent: usize,
+    enumeration: &Enum,
+) -> Result<(), TextError> {
+    let width = longest_name(page.table, enumeration)?;
+    for variant in enumeration.variants() {
+        page.indent(indent.saturating_add(1))?;
+        if let Some(name) = text_at(page.table, variant.name_offset)? {
+            page.line.push_str(name.as_str())?;
+        }
+        for _ in page.line.len()..width {
+            page.line.push_str(" ")?;
+        }
+        let value = variant.value.cast_signed();
+        write!(page.line, " = {value},")?;
+        page.end_line()?;
+    }
+    page.indent(indent)?;
+    page.out.write_str("}")?;
+    Ok(())
+}
+
+/// The length of the longest name of a variant in bytes.
+fn longest_name(table: &Btf, enumeration: &Enum) -> Result<usize, TextError> {
+    let mut longest = 0;
+    for variant in enumeration.variants() {
+        if let Some(name) = text_at(table, variant.name_offset)? {
+            longest = name.as_str().len().max(longest);
+        }
+    }
+    Ok(longest)
+}

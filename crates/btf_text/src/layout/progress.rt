@@ -1,0 +1,152 @@
+//! How far the members of a structure are written.
+
+use crate::error::TextError;
+use crate::layout::group::Place;
+use crate::layout::hole::{Hole, Pass};
+use crate::layout::members::Level;
+use crate::layout::page::{Page, plural};
+use std::fmt::Write;
+
+/// How far the members of a structure are written, and what they add up to.
+#[derive(Clone, Copy)]
+pub struct Progress {
+    pass: Pass,
+    /// The byte at which the last member begins.
+    last: Option<u64>,
+    /// What no member of the last member's own type has at its end, in bytes.
+    padding: u64,
+    /// The sizes of the members that are no bit-fields, in bytes.
+    pub bytes: u64,
+    /// The sizes of the bit-fields, in bits.
+    pub bits: u64,
+    /// How many holes of bytes there are.
+    pub holes: u32,
+    /// How many bytes they have.
+    pub hole_bytes: u64,
+    /// How many holes of bits there are.
+    pub bit_holes: u32,
+    /// How many bits they have.
+    pub hole_bits: u64,
+    /// How many members have a type with bytes at its end that no member has.
+    pub paddings: u32,
+    /// How many such bytes there are.
+    pub padding_bytes: u64,
+    /// What no member has at the end of the structure.
+    pub end: Hole,
+}
+
+impl Progress {
+    /// Nothing is written of a structure that has this many bits.
+    pub fn new(bits: u64) -> Progress {
+        Progress {
+            pass: Pass::new(bits),
+            last: None,
+            padding: 0,
+            bytes: 0,
+            bits: 0,
+            holes: 0,
+            hole_bytes: 0,
+            bit_holes: 0,
+            hole_bits: 0,
+            paddings: 0,
+            padding_bytes: 0,
+            end: Hole { bytes: 0, bits: 0 },
+        }
+    }
+
+    /// Writes the remarks between the last member and the next one, which is at this place.
+    pub fn step<W: Write>(
+        &mut self,
+        page: &mut Page<'_, W>,
+        level: &Level<'_>,
+        place: &Place,
+    ) -> Result<(), TextError> {
+        let hole = self.pass.step(place);
+        if write_remarks(page, level.indent, self.padding, &hole)? {
+            page.out.write_str("\n")?;
+        }
+        if self.last.is_some_and(|last| last != place.byte) {
+            let byte = level.base.saturating_add(place.byte);
+            page.write_boundary(byte, level.indent)?;
+        }
+        self.last = Some(place.byte);
+        self.add(place, &hole);
+        Ok(())
+    }
+
+    /// Adds a member, and the hole in front of it.
+    fn add(&mut self, place: &Place, hole: &Hole) {
+        if place.bits > 0 {
+            self.bits = self.bits.saturating_add(place.bits);
+        } else {
+            self.bytes = self.bytes.saturating_add(place.size);
+        }
+        if hole.bytes > 0 {
+            self.holes = self.holes.saturating_add(1);
+            self.hole_bytes = self.hole_bytes.saturating_add(hole.bytes);
+        }
+        if hole.bits > 0 {
+            self.bit_holes = self.bit_holes.saturating_add(1);
+            self.hole_bits = self.hole_bits.saturating_add(hole.bits);
+        }
+    }
+
+    /// The type of the member that comes now has this many bytes at its end that none of its own members has.
+    pub fn set_padding(&mut self, padding: u64) {
+        self.padding = padding;
+        if padding > 0 {
+            self.paddings = self.paddings.saturating_add(1);
+            self.padding_bytes = self.padding_bytes.saturating_add(padding);
+        }
+    }
+
+    /// Writes the remarks after the last member.
+    pub fn end<W: Write>(
+        &mut self,
+        page: &mut Page<'_, W>,
+        level: &Level<'_>,
+    ) -> Result<(), TextError> {
+        self.end = self.pass.padding(level.group.bits());
+        write_remarks(
+            page,
+            level.indent,
+            self.padding,
+            &Hole { bytes: 0, bits: 0 },
+        )?;
+        Ok(())
+    }
+}
+
+/// Writes the remarks after a member: the bytes at the end of its type, and the hole after it. Returns whether there
+/// are any.
+fn write_remarks<W: Write>(
+    page: &mut Page<'_, W>,
+    indent: usize,
+    padding: u64,
+    hole: &Hole,
+) -> Result<bool, TextError> {
+    let (bits, bytes) = (hole.bits, hole.bytes);
+    if padding == 0 && bits == 0 && bytes == 0 {
+        return Ok(false);
+    }
+    page.out.write_str("\n")?;
+    if padding > 0 {
+        let end = plural(padding);
+        page.indent(indent)?;
+        writeln!(
+            page.out,
+            "/* XXX last struct has {padding} byte{end} of padding */"
+        )?;
+    }
+    if bits > 0 {
+        let end = plural(bits);
+        page.indent(indent)?;
+        writeln!(page.out, "/* XXX {bits} bit{end} hole, try to pack */")?;
+    }
+    if bytes > 0 {
+        let end = plural(bytes);
+        page.indent(indent)?;
+        writeln!(page.out, "/* XXX {bytes} byte{end} hole, try to pack */")?;
+    }
+    Ok(true)
+}

@@ -1,0 +1,54 @@
+//! `btfobj`: reads ELF objects and BTF tables, and writes what they say or what an old kernel takes.
+#![tactic(auto)]
+
+mod files;
+mod run;
+
+use crate::run::carry_out;
+use btfobj_cli::read_request;
+use clap::Error;
+use std::alloc::{AllocError, Global};
+use std::process::ExitCode;
+use std::{env, io};
+
+/// The words of the command line, the program's name among them.
+fn read_words(rt: &HostRuntime) -> io::Result<Vec<String>> {
+    let mut words = Vec::new(rt.alloc());
+    for word in env::args(rt)? {
+        words.push(word)?;
+    }
+    Ok(words)
+}
+
+/// The words as texts that are lent.
+fn lend(alloc: Global, words: &[String]) -> Result<Vec<&str>, AllocError> {
+    let mut lent = Vec::with_capacity(alloc, words.len())?;
+    for word in words {
+        lent.push(word.as_str())?;
+    }
+    Ok(lent)
+}
+
+/// Prints an error of the command line, or the help or the version that it asks for, and returns the status.
+fn print_error(rt: &HostRuntime, error: &Error) -> ExitCode {
+    let status = if error.use_stderr() { 2 } else { 0 };
+    match error.print(rt) {
+        Ok(()) => ExitCode::from(status),
+        Err(_e) => ExitCode::FAILURE,
+    }
+}
+
+fn main(rt: HostRuntime) -> ExitCode {
+    let Ok(words) = read_words(&rt) else {
+        let _ = eprintln!(rt; "btfobj: cannot read the command line");
+        return ExitCode::from(2);
+    };
+    let Ok(words) = lend(rt.alloc(), &words) else {
+        let _ = eprintln!(rt; "btfobj: out of memory");
+        return ExitCode::FAILURE;
+    };
+    match read_request(rt.alloc(), &words) {
+        Ok(request) => carry_out(&rt, &request),
+        Err(error) => print_error(&rt, &error),
+    }
+}

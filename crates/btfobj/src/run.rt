@@ -1,0 +1,145 @@
+//! What the program does for a request.
+
+use crate::files::{read_file, write_file};
+use btf_table::Btf;
+use btfobj_cli::{Blob, Fault, Request, Rewrite, check, compat, dump, ext, layout, sanitize};
+use std::process::ExitCode;
+use std::{fmt, io};
+
+/// Why a request fails: the file, and what is wrong with it.
+#[derive(Drop)]
+struct Failure<'a> {
+    file: &'a str,
+    cause: Cause,
+}
+
+/// What is wrong with a file.
+#[derive(Drop)]
+enum Cause {
+    /// It cannot be read or written.
+    Io(io::Error),
+    /// The command refuses it.
+    Fault(Fault),
+}
+
+impl fmt::Display for Failure<'_> {
+    fn fmt<W: fmt::Write>(&self, f: &mut fmt::Formatter<W>) -> fmt::Result {
+        let file = self.file;
+        match &self.cause {
+            Cause::Io(e) => write!(f, "btfobj: {file}: {e}"),
+            Cause::Fault(e) => write!(f, "btfobj: {file}: {e}"),
+        }
+    }
+}
+
+/// Does what a request asks for, and returns the status: 0; 1 for a file that is refused, or a check that says no.
+pub fn carry_out(rt: &HostRuntime, request: &Request<'_>) -> ExitCode {
+    match answer(rt, request) {
+        Ok(true) => ExitCode::SUCCESS,
+        Ok(false) => ExitCode::FAILURE,
+        Err(failure) => {
+            // There is nothing to be done where standard error fails.
+            let _ = eprintln!(rt; "{failure}");
+            ExitCode::FAILURE
+        }
+    }
+}
+
+/// Does what a request asks for. False where a check says no.
+fn answer<'a>(rt: &HostRuntime, request: &Request<'a>) -> Result<bool, Failure<'a>> {
+    match request {
+        Request::Dump { file, selection } => {
+            let bytes = read(rt, file)?;
+            let done = dump(rt.alloc(), &bytes, selection, &mut rt.stdout());
+            blame(file, done)?;
+        }
+        Request::Layout { file, name } => {
+            let bytes = read(rt, file)?;
+            let done = layout(rt.alloc(), &bytes, name, &mut rt.stdout());
+            blame(file, done)?;
+        }
+        Request::Ext { file } => {
+            let bytes = read(rt, file)?;
+            let done = ext(rt.alloc(), &bytes, &mut rt.stdout());
+            blame(file, done)?;
+        }
+        Request::Check { file, rewrite } => {
+            let bytes = read(rt, file)?;
+            let changes = check(rt.alloc(), &bytes, rewrite, &mut rt.stdout());
+            return Ok(!blame(file, changes)?);
+        }
+        Request::Sanitize {
+            file,
+            output,
+            rewrite,
+        } => write_sanitized(rt, file, output, rewrite)?,
+        Request::Compat {
+            local,
+            target,
+            names,
+        } => return are_compatible(rt, local, target, names),
+    }
+    Ok(true)
+}
+
+/// The bytes of a file.
+fn read<'a>(rt: &HostRuntime, file: &'a str) -> Result<Vec<u8>, Failure<'a>> {
+    match read_file(rt, file) {
+        Ok(bytes) => Ok(bytes),
+        Err(e) => Err(Failure {
+            file,
+            cause: Cause::Io(e),
+        }),
+    }
+}
+
+/// The same outcome, where a fault is one of this file.
+fn blame<'a, T>(file: &'a str, outcome: Result<T, Fault>) -> Result<T, Failure<'a>> {
+    match outcome {
+        Ok(value) => Ok(value),
+        Err(e) => Err(Failure {
+            file,
+            cause: Cause::Fault(e),
+        }),
+    }
+}
+
+/// Writes a file that is rewritten.
+fn write_sanitized<'a>(
+    rt: &HostRuntime,
+    file: &'a str,
+    output: &'a str,
+    rewrite: &Rewrite<'_>,
+) -> Result<(), Failure<'a>> {
+    let bytes = read(rt, file)?;
+    let (written, _) = blame(file, sanitize(rt.alloc(), &bytes, rewrite))?;
+    match write_file(rt, output, &written) {
+        Ok(()) => Ok(()),
+        Err(e) => Err(Failure {
+            file: output,
+            cause: Cause::Io(e),
+        }),
+    }
+}
+
+/// The table of a file.
+fn read_table<'a>(rt: &HostRuntime, file: &'a str) -> Result<Btf, Failure<'a>> {
+    let bytes = read(rt, file)?;
+    let blob = blame(file, Blob::read(rt.alloc(), &bytes))?;
+    blame(file, blob.table(rt.alloc()))
+}
+
+/// Whether the types of these names are compatible in the tables of two files.
+fn are_compatible<'a>(
+    rt: &HostRuntime,
+    local: &'a str,
+    target: &'a str,
+    names: &[&str],
+) -> Result<bool, Failure<'a>> {
+    let local_table = read_table(rt, local)?;
+    let target_table = read_table(rt, target)?;
+    blame(
+        local,
+        compat(&local_table, &target_table, names, &mut rt.stdout()),
+    )
+}

@@ -1,0 +1,75 @@
+//! Files that hold a table: objects, and tables alone.
+
+use crate::fault::Fault;
+use btf_elf::Object;
+use btf_model::Endianness;
+use btf_table::Btf;
+use std::alloc::Global;
+
+/// The name of the section that has the table of an object.
+const TABLE_SECTION: &str = ".BTF";
+
+/// The name of the section that says which instructions the table's functions, lines and relocations are about.
+const EXT_SECTION: &str = ".BTF.ext";
+
+/// A file that holds a table.
+#[derive(Drop)]
+pub enum Blob<'a> {
+    /// An ELF object.
+    Object(Object<'a>),
+    /// The bytes of a table alone, in this order.
+    Table(&'a [u8], Endianness),
+}
+
+impl<'a> Blob<'a> {
+    ghost use Rattle.std.specs.Prelude.{◌≡◌, true, IfOk};
+    ghost use Rattle.btfobj_cli.specs.Blob.{BeginsObject, is_object};
+
+    /// The file of these bytes: an object where they begin with ELF's magic number, and a table where they begin with
+    /// BTF's (`BTF_MAGIC`, 0xeb9f) in either order.
+    ///
+    /// `UnknownFormat` where they begin otherwise, and `Object` with the error of `Object::parse`. `OutOfMemory`.
+    pub fn read(alloc: Global, bytes: &'a [u8]) -> Result<Blob<'a>, Fault>
+        ensures { IfOk result (λ blob. BeginsObject bytes.now → is_object blob ≡ true) }
+    {
+        match bytes {
+            [0x7f, b'E', b'L', b'F', ..] => Ok(Blob::Object(Object::parse(alloc, bytes)?)),
+            [0x9f, 0xeb, ..] => Ok(Blob::Table(bytes, Endianness::Little)),
+            [0xeb, 0x9f, ..] => Ok(Blob::Table(bytes, Endianness::Big)),
+            _ => Err(Fault::UnknownFormat),
+        }
+    }
+
+    /// The order of the words.
+    pub fn endianness(&self) -> Endianness {
+        match self {
+            Blob::Object(object) => object.header().order,
+            Blob::Table(_, order) => *order,
+        }
+    }
+
+    /// The table. `NoSection` where an object has none, and `Table` with the error of `Btf::parse`. `OutOfMemory`.
+    pub fn table(&self, alloc: Global) -> Result<Btf, Fault> {
+        let bytes = match self {
+            Blob::Object(object) => section(object, TABLE_SECTION)?,
+            Blob::Table(bytes, _) => *bytes,
+        };
+        Ok(Btf::parse(alloc, bytes, self.endianness())?)
+    }
+
+    /// The bytes of `.BTF.ext`. `NoSection` where an object has none, and `NoExt` for a table alone.
+    pub fn ext(&self) -> Result<&'a [u8], Fault> {
+        match self {
+            Blob::Object(object) => section(object, EXT_SECTION),
+            Blob::Table(_, _) => Err(Fault::NoExt),
+        }
+    }
+}
+
+/// The bytes of the first section of a name, or `NoSection`.
+fn section<'a>(object: &Object<'a>, name: &'static str) -> Result<&'a [u8], Fault> {
+    match object.section_by_name(name.as_bytes()) {
+        Some(index) => Ok(object.section_bytes(&object.sections()[index])),
+        None => Err(Fault::NoSection(name)),
+    }
+}

@@ -1,0 +1,138 @@
+//! What a rewrite would change.
+
+use crate::blob::Blob;
+use crate::fault::Fault;
+use crate::rewrite::{Rewrite, sanitize};
+use btf_model::Endianness;
+use btf_records::BtfType;
+use btf_rewrite_model::{BtfFeature, FeatureAnswer};
+use btf_table::Btf;
+use btf_text::{TextBuffer, write_type_line};
+use std::alloc::Global;
+use std::{fmt, io};
+
+/// Writes which features a file's table needs, and which of them the kernel lacks; and a line for each type that a
+/// rewrite for the kernel changes or adds. Returns whether there is such a type. The errors are those of `sanitize` and
+/// of `Blob::table`, and `Write`.
+pub fn check<W: io::Write>(
+    alloc: Global,
+    bytes: &[u8],
+    rewrite: &Rewrite<'_>,
+    out: &mut W,
+) -> Result<bool, Fault> {
+    let old = Blob::read(alloc, bytes)?.table(alloc)?;
+    let (written, answers) = sanitize(alloc, bytes, rewrite)?;
+    let new = Blob::read(alloc, &written)?.table(alloc)?;
+    let mut text = TextBuffer::new(out);
+    write_features(answers.as_slice(), &mut text)?;
+    let changes = write_changes(alloc, &old, &new, &mut text)?;
+    text.flush()?;
+    Ok(changes)
+}
+
+/// Writes a line for each feature.
+fn write_features<W: fmt::Write>(answers: &[FeatureAnswer], out: &mut W) -> fmt::Result {
+    for answer in answers {
+        let feature = feature_name(answer.feature);
+        if answer.granted {
+            writeln!(out, "{feature}: needed")?;
+        } else {
+            writeln!(out, "{feature}: needed, and the kernel lacks it")?;
+        }
+    }
+    Ok(())
+}
+
+/// The name of a feature on a command line.
+pub fn feature_name(feature: BtfFeature) -> &'static str {
+    match feature {
+        BtfFeature::Func => "Func",
+        BtfFeature::FuncGlobal => "FuncGlobal",
+        BtfFeature::DataSec => "DataSec",
+        BtfFeature::DataSecZero => "DataSecZero",
+        BtfFeature::Float => "Float",
+        BtfFeature::DeclTag => "DeclTag",
+        BtfFeature::TypeTag => "TypeTag",
+        BtfFeature::Enum64 => "Enum64",
+    }
+}
+
+/// Writes a line for each type of the new table that the old one doesn't have, and returns whether there is one.
+fn write_changes<W: fmt::Write>(
+    alloc: Global,
+    old: &Btf,
+    new: &Btf,
+    out: &mut W,
+) -> Result<bool, Fault> {
+    let mut spelled = Spelled::new(alloc);
+    let mut changes = false;
+    let mut types = old.types();
+    for (id, new_type) in new.types().enumerate() {
+        let old_type = types.next();
+        if spelled.are_equal(old_type, new_type)? {
+            continue;
+        }
+        write!(out, "[{id}] ")?;
+        match old_type {
+            Some(old_type) => write_change(alloc, (old, old_type), (new, new_type), out)?,
+            None => write_addition(new, new_type, out)?,
+        }
+        changes = true;
+    }
+    Ok(changes)
+}
+
+/// Writes what a type becomes.
+fn write_change<W: fmt::Write>(
+    alloc: Global,
+    old: (&Btf, &BtfType),
+    new: (&Btf, &BtfType),
+    out: &mut W,
+) -> Result<(), Fault> {
+    let (mut before, mut after) = (String::new(alloc), String::new(alloc));
+    write_type_line(old.0, old.1, &mut before)?;
+    write_type_line(new.0, new.1, &mut after)?;
+    let (before, after) = (before.as_str(), after.as_str());
+    if before == after {
+        writeln!(out, "{before} changes in its list")?;
+    } else {
+        writeln!(out, "{before} becomes {after}")?;
+    }
+    Ok(())
+}
+
+/// Writes that a type is added.
+fn write_addition<W: fmt::Write>(new: &Btf, btf_type: &BtfType, out: &mut W) -> Result<(), Fault> {
+    write_type_line(new, btf_type, out)?;
+    out.write_str(" is added\n")?;
+    Ok(())
+}
+
+/// The bytes of an old type and of a new one, in buffers that are used again.
+#[derive(Drop)]
+struct Spelled {
+    old: Vec<u8>,
+    new: Vec<u8>,
+}
+
+impl Spelled {
+    /// Empty buffers.
+    fn new(alloc: Global) -> Spelled {
+        Spelled {
+            old: Vec::new(alloc),
+            new: Vec::new(alloc),
+        }
+    }
+
+    /// Whether there is an old type, and the new one has the same words.
+    fn are_equal(&mut self, old: Option<&BtfType>, new: &BtfType) -> Result<bool, Fault> {
+        let Some(old) = old else {
+            return Ok(false);
+        };
+        self.old.clear();
+        self.new.clear();
+        old.append_to(&mut self.old, Endianness::Little)?;
+        new.append_to(&mut self.new, Endianness::Little)?;
+        Ok(self.old.as_slice() == self.new.as_slice())
+    }
+}

@@ -1,0 +1,207 @@
+//! The commands and arguments of `btfobj`, and the help for them.
+
+use clap::{Arg, ArgAction, ArgGroup, Command};
+use std::alloc::{AllocError, Global};
+
+/// The version of the program.
+const VERSION: &str = "0.1.0";
+
+/// The kinds that `dump --kind` takes.
+static KINDS: [&str; 19] = [
+    "INT",
+    "PTR",
+    "ARRAY",
+    "STRUCT",
+    "UNION",
+    "ENUM",
+    "FWD",
+    "TYPEDEF",
+    "VOLATILE",
+    "CONST",
+    "RESTRICT",
+    "FUNC",
+    "FUNC_PROTO",
+    "VAR",
+    "DATASEC",
+    "FLOAT",
+    "DECL_TAG",
+    "TYPE_TAG",
+    "ENUM64",
+];
+
+/// The features that `--has` takes.
+static FEATURES: [&str; 8] = [
+    "Func",
+    "FuncGlobal",
+    "DataSec",
+    "DataSecZero",
+    "Float",
+    "DeclTag",
+    "TypeTag",
+    "Enum64",
+];
+
+/// The whole command line.
+pub fn command<'a>(alloc: Global) -> Result<Command<'a>, AllocError> {
+    Command::new(alloc, "btfobj")
+        .version(VERSION)
+        .about("Reads and rewrites the BTF of ELF objects, and BTF tables alone")
+        .subcommand_required(true)
+        .arg_required_else_help(true)
+        .after_help(
+            "FILE is an ELF object or a BTF table of either byte order; - is standard input.\n\
+             Exit status: 0, 1 where a file is refused or a check says no, 2 for the command line.",
+        )
+        .subcommand(dump(alloc)?)?
+        .subcommand(layout(alloc)?)?
+        .subcommand(ext(alloc)?)?
+        .subcommand(check(alloc)?)?
+        .subcommand(sanitize(alloc)?)?
+        .subcommand(compat(alloc)?)
+}
+
+/// A file to be read.
+fn file<'a>(alloc: Global, id: &'a str, name: &'a str, help: &'a str) -> Arg<'a> {
+    Arg::new(alloc, id)
+        .value_name(name)
+        .required(true)
+        .help(help)
+}
+
+/// The command `dump`.
+fn dump<'a>(alloc: Global) -> Result<Command<'a>, AllocError> {
+    let ids = Arg::new(alloc, "ids")
+        .long("ids")
+        .value_name("A..B")
+        .help("Only ids from A on and below B; either may be left out");
+    let name = Arg::new(alloc, "name")
+        .long("name")
+        .value_name("TEXT")
+        .help("Only types of this name");
+    let kind = Arg::new(alloc, "kind")
+        .long("kind")
+        .value_name("KIND")
+        .value_parser(KINDS.as_slice())
+        .ignore_case(true)
+        .help("Only types of this kind");
+    Command::new(alloc, "dump")
+        .about("Writes every type, as bpftool btf dump file FILE format raw does")
+        .after_help("Example: btfobj dump /sys/kernel/btf/vmlinux --name task_struct --kind struct")
+        .arg(file(alloc, "file", "FILE", "The object or table"))?
+        .arg(ids)?
+        .arg(name)?
+        .arg(kind)
+}
+
+/// The command `layout`.
+fn layout<'a>(alloc: Global) -> Result<Command<'a>, AllocError> {
+    Command::new(alloc, "layout")
+        .about(
+            "Writes the members of a structure or a union with their offsets, sizes and holes, as pahole does",
+        )
+        .after_help("Example: btfobj layout /sys/kernel/btf/vmlinux sk_buff")
+        .arg(file(alloc, "file", "FILE", "The object or table"))?
+        .arg(file(
+            alloc,
+            "name",
+            "NAME",
+            "The structure, the union, or the typedef of one",
+        ))
+}
+
+/// The command `ext`.
+fn ext<'a>(alloc: Global) -> Result<Command<'a>, AllocError> {
+    Command::new(alloc, "ext")
+        .about(
+            "Writes the functions, lines and relocations of .BTF.ext, by sections of the program",
+        )
+        .after_help("Example: btfobj ext prog.o")
+        .arg(file(alloc, "file", "FILE", "The object"))
+}
+
+/// The command `check`.
+fn check<'a>(alloc: Global) -> Result<Command<'a>, AllocError> {
+    let command = Command::new(alloc, "check")
+        .about(
+            "Writes what the table needs of a kernel, and which types a rewrite for the kernel changes",
+        )
+        .after_help(
+            "Example: btfobj check prog.o --kernel 5.4\n\
+             Exit status: 0 where a rewrite changes no type, else 1.",
+        )
+        .arg(file(alloc, "file", "FILE", "The object or table"))?;
+    with_kernel(alloc, command)
+}
+
+/// The command `sanitize`.
+fn sanitize<'a>(alloc: Global) -> Result<Command<'a>, AllocError> {
+    let output = Arg::new(alloc, "output")
+        .short('o')
+        .long("output")
+        .value_name("OUT")
+        .required(true)
+        .help("The new file; - is standard output");
+    let command = Command::new(alloc, "sanitize")
+        .about("Rewrites the table for a kernel, as aya does when it loads the object")
+        .after_help(
+            "Examples: btfobj sanitize prog.o -o prog.5.4.o --kernel 5.4\n          \
+             btfobj sanitize prog.o -o prog.old.o --has Func,DataSec --fill-sized",
+        )
+        .arg(file(alloc, "file", "FILE", "The object or table"))?
+        .arg(output)?;
+    with_kernel(alloc, command)
+}
+
+/// The arguments that say for which kernel a table is rewritten.
+fn with_kernel<'a>(alloc: Global, command: Command<'a>) -> Result<Command<'a>, AllocError> {
+    let kernel = Arg::new(alloc, "kernel")
+        .long("kernel")
+        .value_name("VERSION")
+        .help("The features of this version of Linux, as 5.4 or what uname -r prints");
+    let has = Arg::new(alloc, "has")
+        .long("has")
+        .value_name("FEATURE")
+        .value_delimiter(',')
+        .value_parser(FEATURES.as_slice())
+        .help("These features, with commas between them");
+    let fill_sized = Arg::new(alloc, "fill-sized")
+        .long("fill-sized")
+        .action(ArgAction::SetTrue)
+        .help(
+            "Give a DATASEC that has a size and no entries one, where the kernel takes none without",
+        );
+    let placeholder = Arg::new(alloc, "placeholder")
+        .long("placeholder")
+        .value_name("NAME")
+        .help("The variable that takes the place of functions in .ksyms");
+    let group = ArgGroup::new(alloc, "features")
+        .arg("kernel")?
+        .arg("has")?
+        .required(true);
+    command
+        .arg(kernel)?
+        .arg(has)?
+        .arg(fill_sized)?
+        .arg(placeholder)?
+        .group(group)
+}
+
+/// The command `compat`.
+fn compat<'a>(alloc: Global) -> Result<Command<'a>, AllocError> {
+    let names = Arg::new(alloc, "names")
+        .value_name("NAME")
+        .required(true)
+        .num_args(1..)
+        .help("The types");
+    Command::new(alloc, "compat")
+        .about(
+            "Says whether types of these names are compatible in two tables, as a relocation of the first asks",
+        )
+        .after_help(
+            "Example: btfobj compat prog.o /sys/kernel/btf/vmlinux task_struct\n\
+             Exit status: 0 where all are compatible, else 1.",
+        )
+        .arg(file(alloc, "local", "FILE", "The program's object or table"))?
+        .arg(file(alloc, "target", "TARGET", "The kernel's object or table"))?
+        .arg(names)
+}

@@ -1,0 +1,100 @@
+//! Why a command fails.
+
+use btf_elf::ObjectError;
+use btf_object::SanitizeError;
+use btf_text::TextError;
+use btf_words::BtfError;
+use std::alloc::{AllocError, AllocFailed};
+use std::fmt;
+use thiserror::Error;
+
+/// Why a command fails on a file.
+#[derive(Debug, Drop, Error)]
+pub enum Fault {
+    /// The file begins as neither an object nor a table does.
+    #[error("neither an ELF object nor a BTF table")]
+    UnknownFormat,
+
+    /// The file is no object that can be read.
+    #[error("{0}")]
+    Object(ObjectError),
+
+    /// The object has no section of this name.
+    #[error("the object has no section {0}")]
+    NoSection(&'static str),
+
+    /// The file is a table, which has no `.BTF.ext` beside it.
+    #[error("a BTF table has no section .BTF.ext")]
+    NoExt,
+
+    /// The table, or the section `.BTF.ext`, is refused.
+    #[error("{0}")]
+    Table(BtfError),
+
+    /// The object is not rewritten.
+    #[error("{0}")]
+    Rewrite(SanitizeError),
+
+    /// Standard output fails.
+    #[error("cannot write standard output")]
+    Write,
+
+    /// An allocation failed.
+    #[error("out of memory")]
+    OutOfMemory,
+}
+
+impl From<BtfError> for Fault {
+    fn from(e: BtfError) -> Fault {
+        match e {
+            BtfError::OutOfMemory => Fault::OutOfMemory,
+            e => Fault::Table(e),
+        }
+    }
+}
+
+impl From<ObjectError> for Fault {
+    fn from(e: ObjectError) -> Fault {
+        match e {
+            ObjectError::OutOfMemory => Fault::OutOfMemory,
+            e => Fault::Object(e),
+        }
+    }
+}
+
+impl From<SanitizeError> for Fault {
+    fn from(e: SanitizeError) -> Fault {
+        match e {
+            SanitizeError::OutOfMemory => Fault::OutOfMemory,
+            e => Fault::Rewrite(e),
+        }
+    }
+}
+
+impl From<TextError> for Fault {
+    fn from(e: TextError) -> Fault {
+        match e {
+            TextError::Write => Fault::Write,
+            TextError::Table(e) => Fault::Table(e),
+            TextError::OutOfMemory => Fault::OutOfMemory,
+        }
+    }
+}
+
+impl From<fmt::Error> for Fault {
+    fn from(_e: fmt::Error) -> Fault {
+        Fault::Write
+    }
+}
+
+impl From<AllocError> for Fault {
+    fn from(_e: AllocError) -> Fault {
+        Fault::OutOfMemory
+    }
+}
+
+impl<T: Drop> From<AllocFailed<T>> for Fault {
+    fn from(_e: AllocFailed<T>) -> Fault {
+        Fault::OutOfMemory
+    }
+}

@@ -1,0 +1,19 @@
+//! What the program `btfobj` does, over bytes and writers: its command line, and an answer for each command.
+#![tactic(auto)]
+
+mod blob;
+mod changes;
+mod command;
+mod compatibility;
+mod fault;
+mod report;
+mod request;
+mod rewrite;
+
+pub use blob::Blob;
+pub use changes::check;
+pub use compatibility::compat;
+pub use fault::Fault;
+pub use report::{dump, ext, layout};
+pub use request::{Request, read_request};
+pub use rewrite::{Rewrite, sanitize};

@@ -1,0 +1,201 @@
+//! What a command line asks for.
+
+use crate::command::command;
+use crate::rewrite::Rewrite;
+use btf_object::Kernel;
+use btf_rewrite_model::{BtfFeature, FillPolicy};
+use btf_text::Selection;
+use btf_words::BtfKind;
+use clap::error::ErrorKind;
+use clap::{ArgMatches, Command, Error};
+use std::alloc::Global;
+
+/// What a command line asks for. A file `-` is standard input, and an output `-` is standard output.
+#[derive(Debug, Drop)]
+pub enum Request<'a> {
+    /// The types of a file's table.
+    Dump {
+        file: &'a str,
+        selection: Selection<'a>,
+    },
+    /// The layout of a structure or a union.
+    Layout {
+        file: &'a str,
+        name: &'a str,
+    },
+    /// What `.BTF.ext` says.
+    Ext {
+        file: &'a str,
+    },
+    /// What a rewrite would change.
+    Check {
+        file: &'a str,
+        rewrite: Rewrite<'a>,
+    },
+    /// A file that is rewritten, and the name of the new file.
+    Sanitize {
+        file: &'a str,
+        output: &'a str,
+        rewrite: Rewrite<'a>,
+    },
+    /// Whether types of these names are compatible in two tables.
+    Compat {
+        local: &'a str,
+        target: &'a str,
+        names: Vec<&'a str>,
+    },
+}
+
+/// What the words of a command line ask for, the program's name among them; or what is to be printed instead: what is
+/// wrong with them, help, or the version.
+pub fn read_request<'a>(alloc: Global, words: &'a [&'a str]) -> Result<Request<'a>, Error> {
+    let mut command = command(alloc)?;
+    let matches = command.try_get_matches_from_mut(words)?;
+    let (name, matches) = match matches.subcommand() {
+        Some(found) => found,
+        None => return Err(refusal(&mut command, "a command is missing")),
+    };
+    let file = text(matches, "file");
+    match name {
+        "dump" => Ok(Request::Dump {
+            file,
+            selection: read_selection(&mut command, matches)?,
+        }),
+        "layout" => Ok(Request::Layout {
+            file,
+            name: text(matches, "name"),
+        }),
+        "ext" => Ok(Request::Ext { file }),
+        "check" => Ok(Request::Check {
+            file,
+            rewrite: read_rewrite(&mut command, matches)?,
+        }),
+        "sanitize" => Ok(Request::Sanitize {
+            file,
+            output: text(matches, "output"),
+            rewrite: read_rewrite(&mut command, matches)?,
+        }),
+        _ => Ok(Request::Compat {
+            local: text(matches, "local"),
+            target: text(matches, "target"),
+            names: Vec::from_slice(alloc, matches.get_strs("names").unwrap_or(&[]))?,
+        }),
+    }
+}
+
+/// The value of an argument; empty where it was not given, which a required one never is.
+fn text<'a>(matches: &ArgMatches<'a>, id: &str) -> &'a str {
+    matches.get_str(id).unwrap_or("")
+}
+
+/// An error of the command line with this message.
+fn refusal(command: &mut Command<'_>, message: &str) -> Error {
+    match command.error(ErrorKind::ValueValidation, message) {
+        Ok(error) => error,
+        Err(error) => Error::from(error),
+    }
+}
+
+/// Which types are to be written.
+fn read_selection<'a>(
+    command: &mut Command<'_>,
+    matches: &ArgMatches<'a>,
+) -> Result<Selection<'a>, Error> {
+    let mut selection = Selection {
+        from: None,
+        to: None,
+        name: matches.get_str("name"),
+        kind: matches.get_str("kind").and_then(kind_of_name),
+    };
+    let Some(ids) = matches.get_str("ids") else {
+        return Ok(selection);
+    };
+    match read_range(ids) {
+        Some((from, to)) => {
+            selection.from = from;
+            selection.to = to;
+            Ok(selection)
+        }
+        None => Err(refusal(
+            command,
+            "the value of --ids is no range A..B of two numbers",
+        )),
+    }
+}
+
+/// The ends of a range `A..B`, either of which may be left out.
+fn read_range(text: &str) -> Option<(Option<u32>, Option<u32>)> {
+    let (from, to) = text.split_once("..")?;
+    Some((read_end(from)?, read_end(to)?))
+}
+
+/// The end of a range, which may be left out; None where it is no number of 32 bits.
+fn read_end(text: &str) -> Option<Option<u32>> {
+    if text.is_empty() {
+        return Some(None);
+    }
+    match text.parse::<u32>() {
+        Ok(end) => Some(Some(end)),
+        Err(_) => None,
+    }
+}
+
+/// The kind of a name, in any case.
+fn kind_of_name(name: &str) -> Option<BtfKind> {
+    (1..20)
+        .filter_map(|number| BtfKind::try_from(number).ok())
+        .find(|kind| btf_text::kind_name(*kind).eq_ignore_ascii_case(name))
+}
+
+/// For what a table is to be rewritten.
+fn read_rewrite<'a>(
+    command: &mut Command<'_>,
+    matches: &ArgMatches<'a>,
+) -> Result<Rewrite<'a>, Error> {
+    let policy = if matches.get_flag("fill-sized") {
+        FillPolicy::FillSized
+    } else {
+        FillPolicy::KeepSized
+    };
+    let kernel = match matches.get_str("kernel") {
+        Some(version) => Kernel::of_version(version),
+        None => Some(kernel_with(matches.get_strs("has").unwrap_or(&[]))),
+    };
+    match kernel {
+        Some(kernel) => Ok(Rewrite {
+            kernel,
+            policy,
+            placeholder: matches.get_str("placeholder"),
+        }),
+        None => Err(refusal(
+            command,
+            "the value of --kernel is no version such as 5.4 or 5.15.0-91-generic",
+        )),
+    }
+}
+
+/// A kernel that has the features of these names.
+fn kernel_with(names: &[&str]) -> Kernel {
+    let mut kernel = Kernel::new();
+    for name in names {
+        if let Some(feature) = feature_of_name(name) {
+            kernel = kernel.with(feature);
+        }
+    }
+    kernel
+}
+
+/// The feature of a name.
+fn feature_of_name(name: &str) -> Option<BtfFeature> {
+    match name {
+        "Func" => Some(BtfFeature::Func),
+        "FuncGlobal" => Some(BtfFeature::FuncGlobal),
+        "DataSec" => Some(BtfFeature::DataSec),
+        "DataSecZero" => Some(BtfFeature::DataSecZero),
+        "Float" => Some(BtfFeature::Float),
+        "DeclTag" => Some(BtfFeature::DeclTag),
+        "TypeTag" => Some(BtfFeature::TypeTag),
+        "Enum64" => Some(BtfFeature::Enum64),
+        _ => None,
+    }
+}

@@ -1,0 +1,109 @@
+//! Command lines, and what they ask for.
+
+use btfobj_cli::{Request, read_request};
+
+/// Words of a command line, and what they ask for: a command, `text` for help or the version on standard output, or
+/// `usage` for an error.
+static ROWS: [(&[&str], &str); 28] = [
+    (&["btfobj", "dump", "a.o"], "dump"),
+    (&["btfobj", "dump", "-", "--ids", "3..9"], "dump"),
+    (
+        &[
+            "btfobj",
+            "dump",
+            "-",
+            "--ids",
+            "..9",
+            "--kind",
+            "func_proto",
+            "--name",
+            "x",
+        ],
+        "dump",
+    ),
+    (&["btfobj", "dump", "-", "--ids", "3"], "usage"),
+    (&["btfobj", "dump", "-", "--ids", "3..4294967296"], "usage"),
+    (&["btfobj", "dump", "-", "--ids", "a..b"], "usage"),
+    (&["btfobj", "dump", "-", "--kind", "POINTER"], "usage"),
+    (&["btfobj", "dump"], "usage"),
+    (&["btfobj", "dump", "a.o", "b.o"], "usage"),
+    (&["btfobj", "layout", "a.o", "node"], "layout"),
+    (&["btfobj", "layout", "a.o"], "usage"),
+    (&["btfobj", "ext", "a.o"], "ext"),
+    (&["btfobj", "check", "a.o", "--kernel", "5.4"], "check"),
+    (
+        &["btfobj", "check", "a.o", "--kernel", "5.15.0-91-generic"],
+        "check",
+    ),
+    (&["btfobj", "check", "a.o", "--kernel", "new"], "usage"),
+    (&["btfobj", "check", "a.o"], "usage"),
+    (
+        &["btfobj", "check", "a.o", "--kernel", "5.4", "--has", "Func"],
+        "usage",
+    ),
+    (
+        &[
+            "btfobj",
+            "sanitize",
+            "a.o",
+            "-o",
+            "b.o",
+            "--has",
+            "Func,DataSec",
+            "--fill-sized",
+        ],
+        "sanitize",
+    ),
+    (
+        &[
+            "btfobj",
+            "sanitize",
+            "a.o",
+            "-o",
+            "b.o",
+            "--kernel",
+            "6.0",
+            "--placeholder",
+            "x",
+        ],
+        "sanitize",
+    ),
+    (&["btfobj", "sanitize", "a.o", "--kernel", "6.0"], "usage"),
+    (
+        &["btfobj", "sanitize", "a.o", "-o", "b.o", "--has", "Bpf"],
+        "usage",
+    ),
+    (&["btfobj", "compat", "a.o", "b.o", "x", "y"], "compat"),
+    (&["btfobj", "compat", "a.o", "b.o"], "usage"),
+    (&["btfobj", "copy"], "usage"),
+    (&["btfobj"], "usage"),
+    (&["btfobj", "--help"], "text"),
+    (&["btfobj", "sanitize", "--help"], "text"),
+    (&["btfobj", "--version"], "text"),
+];
+
+/// What a command line asks for.
+fn outcome(rt: &HostRuntime, words: &'static [&'static str]) -> &'static str {
+    match read_request(rt.alloc(), words) {
+        Ok(Request::Dump { .. }) => "dump",
+        Ok(Request::Layout { .. }) => "layout",
+        Ok(Request::Ext { .. }) => "ext",
+        Ok(Request::Check { .. }) => "check",
+        Ok(Request::Sanitize { .. }) => "sanitize",
+        Ok(Request::Compat { .. }) => "compat",
+        Err(error) if error.use_stderr() => "usage",
+        Err(_error) => "text",
+    }
+}
+
+/// Reports each command line that asks for something else.
+pub fn try_command_lines(rt: &HostRuntime) -> anyhow::Result<()> {
+    for (index, (words, asked)) in ROWS.iter().enumerate() {
+        let found = outcome(rt, words);
+        if found != *asked {
+            println!(rt; "command line {index}: {found}")?;
+        }
+    }
+    println!(rt; "command lines: tried")?;
+    Ok(())
+}

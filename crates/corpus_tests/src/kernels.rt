@@ -1,0 +1,72 @@
+//! Objects that are rewritten for kernels.
+
+use btf_elf::Object;
+use btf_object::Kernel;
+use btf_rewrite_model::FillPolicy;
+use btfobj_cli::{Blob, Rewrite, sanitize};
+
+/// The versions for which each object is rewritten. Between each and the next one kernels gained features.
+const VERSIONS: [&str; 5] = ["4.18", "5.2", "5.8", "5.13", "6.0"];
+
+/// Rewrites an object for each version, and once more. Reports where a rewrite is refused, where the second one changes
+/// something, and where another section than `.BTF` has changed.
+pub fn try_kernels(rt: &HostRuntime, sample: &str, object: &[u8]) -> anyhow::Result<()> {
+    for version in VERSIONS {
+        let Some(kernel) = Kernel::of_version(version) else {
+            println!(rt; "{version} is no version")?;
+            continue;
+        };
+        let rewrite = Rewrite {
+            kernel,
+            policy: FillPolicy::FillSized,
+            placeholder: None,
+        };
+        match try_rewrite(rt, object, &rewrite) {
+            Ok(None) => {}
+            Ok(Some(what)) => println!(rt; "{sample} for {version}: {what}")?,
+            Err(e) => println!(rt; "{sample} for {version}: {e}")?,
+        }
+    }
+    Ok(())
+}
+
+/// What is wrong with an object that is rewritten.
+fn try_rewrite(
+    rt: &HostRuntime,
+    object: &[u8],
+    rewrite: &Rewrite<'_>,
+) -> anyhow::Result<Option<&'static str>> {
+    let alloc = rt.alloc();
+    let (written, _) = sanitize(alloc, object, rewrite)?;
+    let _table = Blob::read(alloc, &written)?.table(alloc)?;
+    let (again, _) = sanitize(alloc, &written, rewrite)?;
+    if again.as_slice() != written.as_slice() {
+        return Ok(Some("a second rewrite changes it"));
+    }
+    let (old, new) = (
+        Object::parse(alloc, object)?,
+        Object::parse(alloc, &written)?,
+    );
+    if !has_other_sections(&old, &new) {
+        return Ok(Some("another section has changed"));
+    }
+    Ok(None)
+}
+
+/// Whether an object has the sections of another one, with their names and bytes, but for the bytes of `.BTF`.
+fn has_other_sections(old: &Object<'_>, new: &Object<'_>) -> bool {
+    if old.sections().len() != new.sections().len() {
+        return false;
+    }
+    for (before, after) in old.sections().iter().zip(new.sections()) {
+        let name = old.section_name(before);
+        if new.section_name(after) != name {
+            return false;
+        }
+        let is_table = name == b".BTF".as_slice();
+        if !is_table && old.section_bytes(before) != new.section_bytes(after) {
+            return false;
+        }
+    }
+    true
+}

@@ -1,0 +1,46 @@
+//! Compares what the commands of `btfobj` write of a corpus of objects with what other tools wrote, rewrites each object
+//! for five kernels, and tries malformed copies of two. The objects and the outputs of the other tools are in `data/`,
+//! with the script that made them. It writes a line for each difference, and one for each object.
+#![tactic(auto)]
+
+mod command_lines;
+mod difference;
+mod kernels;
+mod malformed;
+mod outputs;
+mod samples;
+
+use crate::command_lines::try_command_lines;
+use crate::kernels::try_kernels;
+use crate::malformed::try_malformed;
+use crate::outputs::{compare_dump, compare_layouts, compare_sections};
+use crate::samples::SAMPLES;
+use std::fs;
+
+/// The bytes of a file of the corpus.
+fn read(rt: &HostRuntime, sample: &str, tool: &str) -> anyhow::Result<Vec<u8>> {
+    let name = format!(in rt.alloc(); "{sample}.o{tool}")?;
+    Ok(fs::read(rt, name.as_str())?)
+}
+
+/// Tries an object of the corpus.
+fn try_sample(rt: &HostRuntime, sample: &'static str) -> anyhow::Result<()> {
+    let object = read(rt, sample, "")?;
+    compare_dump(rt, sample, &object, &read(rt, sample, ".bpftool")?)?;
+    compare_layouts(rt, sample, &object, &read(rt, sample, ".pahole")?)?;
+    compare_sections(rt, sample, &object, &read(rt, sample, ".readelf")?)?;
+    try_kernels(rt, sample, &object)?;
+    println!(rt; "{sample}: tried")?;
+    Ok(())
+}
+
+fn main(rt: HostRuntime) -> anyhow::Result<()> {
+    try_command_lines(&rt)?;
+    for sample in SAMPLES {
+        try_sample(&rt, sample)?;
+    }
+    for sample in ["clang14.bpfel.prog", "clang14.bpfeb.prog"] {
+        try_malformed(&rt, sample, &read(&rt, sample, "")?)?;
+    }
+    Ok(())
+}

@@ -1,0 +1,80 @@
+//! What the commands write, beside the outputs of other tools.
+
+use crate::difference::first_difference;
+use btf_elf::Object;
+use btf_text::Selection;
+use btfobj_cli::{Fault, dump, layout};
+use std::fmt::Write;
+
+/// The structures and unions whose layouts are compared, in the order in which `pahole` was asked for them.
+const NAMES: [&str; 6] = [
+    "everything",
+    "bits",
+    "node",
+    "number",
+    "event",
+    "task_struct",
+];
+
+/// Reports the first line in which two texts differ.
+fn report(
+    rt: &HostRuntime,
+    sample: &str,
+    tool: &str,
+    ours: &[u8],
+    theirs: &[u8],
+) -> anyhow::Result<()> {
+    if let Some(line) = first_difference(ours, theirs) {
+        println!(rt; "{sample}: line {line} is not that of {tool}")?;
+    }
+    Ok(())
+}
+
+/// Compares the dump of an object with that of `bpftool`.
+pub fn compare_dump(
+    rt: &HostRuntime,
+    sample: &str,
+    object: &[u8],
+    theirs: &[u8],
+) -> anyhow::Result<()> {
+    let mut ours = Vec::new(rt.alloc());
+    dump(rt.alloc(), object, &Selection::default(), &mut ours)?;
+    report(rt, sample, "bpftool", &ours, theirs)
+}
+
+/// Compares the layouts of an object's structures and unions with those of `pahole`.
+pub fn compare_layouts(
+    rt: &HostRuntime,
+    sample: &str,
+    object: &[u8],
+    theirs: &[u8],
+) -> anyhow::Result<()> {
+    let mut ours = Vec::new(rt.alloc());
+    for name in NAMES {
+        match layout(rt.alloc(), object, name, &mut ours) {
+            // The other source has the structures of this name.
+            Ok(()) | Err(Fault::Table(_)) => {}
+            Err(e) => return Err(e.into()),
+        }
+    }
+    report(rt, sample, "pahole", &ours, theirs)
+}
+
+/// Compares the sections of an object with those that `llvm-readelf` lists.
+pub fn compare_sections(
+    rt: &HostRuntime,
+    sample: &str,
+    object: &[u8],
+    theirs: &[u8],
+) -> anyhow::Result<()> {
+    let object = Object::parse(rt.alloc(), object)?;
+    let mut ours = String::new(rt.alloc());
+    for section in object.sections() {
+        let (offset, size) = (section.offset, section.size);
+        let name = str::from_utf8(object.section_name(section)).unwrap_or("");
+        if !name.is_empty() {
+            writeln!(ours, "{name} {offset:06x} {size:06x}")?;
+        }
+    }
+    report(rt, sample, "llvm-readelf", ours.as_bytes(), theirs)
+}
