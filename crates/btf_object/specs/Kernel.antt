@@ -1,5 +1,6 @@
 -- The features of a kernel, as the code has them.
-use Rattle.std.specs.Prelude.{Bool, List, Option}
+use Rattle.std.specs.Prelude.{ℕ, Bool, not}
+use Rattle.std.specs.Char.{is_ascii_digit}
 use Rattle.btf_rewrite_model.specs.declared.feature.BtfFeature.{BtfFeature}
 use Rattle.btf_rewrite_model.specs.declared.feature.BtfFeature.TheVariants.{Func, FuncGlobal, DataSec, DataSecZero, Float, DeclTag, TypeTag, Enum64}
 use Rattle.btf_object.specs.declared.kernel.Kernel.{Kernel}
@@ -14,3 +15,7 @@ has k Float = k.float
 has k DeclTag = k.decl_tag
 has k TypeTag = k.type_tag
 has k Enum64 = k.enum64
+
+-- a byte that is no decimal digit
+abbrev pub is_other : ℕ → Bool
+is_other byte = not (is_ascii_digit byte)

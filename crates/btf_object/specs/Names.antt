@@ -1,8 +1,23 @@
--- What is read of a symbol.
+-- What is read of a section and of a symbol, and the section of the table.
 use Rattle.std.specs.Prelude.{◌≡◌, ◌⊎◌, ℕ, List, true, false, slice_get, Some}
-use Rattle.btf_elf_model.specs.Object.{Object, symbols, symbol_name}
+use Rattle.btf_elf_model.specs.Object.{Object, section_name, section_bytes, symbols, symbol_name}
+use Rattle.btf_elf_model.specs.declared.section_header.SectionHeader.{SectionHeader}
 use Rattle.btf_elf_model.specs.declared.symbol.Symbol.{Symbol}
 use Rattle.btf_object_model.specs.Layout.{is_askable, is_read}
+use Rattle.btf_object_model.specs.Sanitized.{index_of, table_name}
+
+-- The section of an index has this name, for which a rewrite may ask, and this size.
+pub record IsReadSection (o : Object) (index : ℕ) (name : List ℕ) (size : ℕ) : Type 0 where
+  pub section : SectionHeader
+  pub here : slice_get o.sections index ≡ Some section
+  pub named : name ≡ section_name o section
+  pub askable : is_askable name ≡ true
+  pub size_is : size ≡ section.size
+
+-- The section of an index, if there is one, has a name for which no rewrite asks.
+abbrev pub IsSectionLeftOut : Object → ℕ → Type 0
+IsSectionLeftOut o index =
+    (s : SectionHeader) → slice_get o.sections index ≡ Some s → is_askable (section_name o s) ≡ false
 
 -- The symbol of an index is read: it has this name, for which a rewrite may ask, and this value.
 pub record IsReadSymbol (o : Object) (index : ℕ) (name : List ℕ) (value : ℕ) : Type 0 where
@@ -14,7 +29,14 @@ pub record IsReadSymbol (o : Object) (index : ℕ) (name : List ℕ) (value : �
   pub value_is : value ≡ symbol.value
 
 -- The symbol of an index, if there is one, is not read, or no rewrite asks for its name.
-abbrev pub IsLeftOut : Object → ℕ → Type 0
-IsLeftOut o index =
+abbrev pub IsSymbolLeftOut : Object → ℕ → Type 0
+IsSymbolLeftOut o index =
     (s : Symbol) → slice_get (symbols o) index ≡ Some s
     → (is_read s ≡ false) ⊎ (is_askable (symbol_name o s) ≡ false)
+
+-- The first section that is named `.BTF` has this index and these bytes.
+pub record IsTableSection (o : Object) (index : ℕ) (bytes : List ℕ) : Type 0 where
+  pub section : SectionHeader
+  pub first : index_of o table_name ≡ Some index
+  pub here : slice_get o.sections index ≡ Some section
+  pub bytes_are : bytes ≡ section_bytes o section

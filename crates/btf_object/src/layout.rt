@@ -3,7 +3,7 @@
 ghost use Rattle.std.specs.Prelude.{◌≡◌, true, false, List, ℕ, IfOk, IfSome, IfNone};
 ghost use Rattle.btf_rules.specs.Layout.{layout_of, sizes_of, offsets_of};
 ghost use Rattle.btf_object_model.specs.Layout as model;
-ghost use Rattle.btf_object.specs.Names.{IsReadSymbol, IsLeftOut};
+ghost use Rattle.btf_object.specs.Names.{IsReadSection, IsSectionLeftOut, IsReadSymbol, IsSymbolLeftOut};
 
 use btf_elf::{Object, Symbol};
 use btf_words::SectionIndex;
@@ -47,6 +47,7 @@ const STB_LOCAL: u8 = 0;
 const STT_OBJECT: u8 = 1;
 
 /// The text of a name, where a rewrite may ask for it.
+#[tactic(auto, using(crate::proofs::Named::askable_is, crate::proofs::Named::not_utf8, crate::proofs::Named::too_long))]
 fn askable(name: &[u8]) -> Option<&str>
     ensures some { IfSome result (λ text. (text.now ≡ name.now)
         × (model.is_askable name.now ≡ true)) }
@@ -55,7 +56,10 @@ fn askable(name: &[u8]) -> Option<&str>
     if name.len() >= NAME_LIMIT {
         return None;
     }
-    str::from_utf8(name).ok()
+    match str::from_utf8(name) {
+        Ok(text) => Some(text),
+        Err(_) => None,
+    }
 }
 
 /// Whether the offset of a symbol is read.
@@ -68,7 +72,7 @@ fn is_read(symbol: &Symbol) -> bool
 /// The name and the value of the symbol of an index, where they are read.
 fn read_symbol<'a>(object: &Object<'a>, index: usize) -> Option<(&'a str, u64)>
     ensures some { IfSome result (λ named. IsReadSymbol object.now index named.0.now named.1) }
-    ensures none { IfNone result (IsLeftOut object.now index) }
+    ensures none { IfNone result (IsSymbolLeftOut object.now index) }
 {
     let symbol = object.symbol(index)?;
     if !is_read(&symbol) {
@@ -76,6 +80,16 @@ fn read_symbol<'a>(object: &Object<'a>, index: usize) -> Option<(&'a str, u64)>
     }
     let name = askable(object.symbol_name(&symbol))?;
     Some((name, symbol.value))
+}
+
+/// The name and the size of the section of an index, where a rewrite may ask for the name.
+fn read_section<'a>(object: &Object<'a>, index: usize) -> Option<(&'a str, u64)>
+    ensures some { IfSome result (λ named. IsReadSection object.now index named.0.now named.1) }
+    ensures none { IfNone result (IsSectionLeftOut object.now index) }
+{
+    let section = object.sections().get(index)?;
+    let name = askable(object.section_name(section))?;
+    Some((name, section.size))
 }
 
 /// The index and the size of the last section of each name.
@@ -87,9 +101,9 @@ fn read_sections(
         → sizes_of map name ≡ model.size_of object.now name) }
 {
     let mut map = HashMap::new(alloc);
-    for (index, section) in object.sections().iter().enumerate() {
-        if let Some(name) = askable(object.section_name(section)) {
-            map.insert(name.to_string(alloc)?, (SectionIndex(index), section.size))?;
+    for index in 0..object.sections().len() {
+        if let Some((name, size)) = read_section(object, index) {
+            map.insert(name.to_string(alloc)?, (SectionIndex(index), size))?;
         }
     }
     Ok(map)

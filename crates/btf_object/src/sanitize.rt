@@ -1,11 +1,12 @@
 //! Objects that are rewritten for a kernel.
 
-ghost use Rattle.std.specs.Prelude.{◌≡◌, ℕ, Option, None, IfOk, IfErr};
+ghost use Rattle.std.specs.Prelude.{◌≡◌, ℕ, Option, None, IfOk, IfErr, IfSome, IfNone};
 ghost use Rattle.std.specs.Option.{option_map};
 ghost use Rattle.btf_elf_model.specs.Object as elf;
 ghost use Rattle.btf_elf_model.specs.declared.section_header.SectionHeader.{SectionHeader};
 ghost use Rattle.btf_object_model.specs.Laws.{KeepsExt};
-ghost use Rattle.btf_object_model.specs.Sanitized.{HasSection, IsSanitized, ext_name};
+ghost use Rattle.btf_object_model.specs.Sanitized.{HasSection, IsSanitized, index_of, table_name, ext_name};
+ghost use Rattle.btf_object.specs.Names.{IsTableSection};
 ghost use Rattle.btf_object.specs.Errors.{target_of, IsCause};
 
 use crate::error::SanitizeError;
@@ -15,6 +16,16 @@ use arrayvec::ArrayVec;
 use btf_elf::Object;
 use btf_rewrite_model::{FeatureAnswer, FillPolicy};
 use std::alloc::Global;
+
+/// The index and the bytes of the first section that is named `.BTF`.
+fn table_section<'a>(object: &Object<'a>) -> Option<(usize, &'a [u8])>
+    ensures some { IfSome result (λ found. IsTableSection object.now found.0 found.1.now) }
+    ensures none { IfNone result (index_of object.now table_name ≡ None) }
+{
+    let index = object.section_by_name(b".BTF")?;
+    let section = object.sections().get(index)?;
+    Some((index, object.section_bytes(section)))
+}
 
 /// The object with its table rewritten for a kernel, and which features the rewrite asked for. It is
 /// `sanitize_object_with` without a placeholder, with the same errors.
@@ -61,10 +72,9 @@ pub fn sanitize_object_with(
         (target_of kernel.now policy (option_map (λ name. name.now) placeholder.entry))) }
 {
     let object = Object::parse(alloc, bytes)?;
-    let Some(index) = object.section_by_name(b".BTF") else {
+    let Some((index, table)) = table_section(&object) else {
         return Err(SanitizeError::NoTable);
     };
-    let table = object.section_bytes(&object.sections()[index]);
     let (written, answers) = rewritten(alloc, &object, table, kernel, policy, placeholder)?;
     let file = object.with_section(alloc, index, &written)?;
     Ok((file, answers))

@@ -1,8 +1,10 @@
 //! Versions of Linux.
 
-ghost use Rattle.std.specs.Prelude.{◌≡◌, ◌↔◌, ℕ, ◌≤◌, length, IsTrue, IfSome, IfNone};
+ghost use Rattle.std.specs.Prelude.{◌≡◌, ℕ, take, drop, position, IfSome, IfNone};
+ghost use Rattle.std.specs.List.{position_or_len};
 ghost use Rattle.btf_object_model.specs.Kernel as model;
-ghost use Rattle.btf_object_model.specs.Kernel.{IsNumber, IsVersion, EndsVersion};
+ghost use Rattle.btf_object_model.specs.Kernel.{IsNumber, IsVersion};
+ghost use Rattle.btf_object.specs.Kernel.{is_other};
 ghost use Rattle.btf_object_model.specs.declared.version.Version.{Version};
 
 use btf_object_model::Version;
@@ -30,8 +32,7 @@ pub fn has(version: Version, feature: BtfFeature) -> bool
     ensures { result ≡ model.has_by_version version feature }
 {
     let first = first_with(feature);
-    first.major < version.major
-        || (first.major == version.major && first.minor <= version.minor)
+    first.major < version.major || (first.major == version.major && first.minor <= version.minor)
 }
 
 /// The number of a text of decimal digits.
@@ -48,9 +49,37 @@ fn read_number(text: &str) -> Option<u32>
 
 /// Whether a text may follow the numbers of a version.
 fn ends_version(rest: &str) -> bool
-    ensures { IsTrue result ↔ EndsVersion rest.now }
+    ensures { result ≡ model.ends_version rest.now }
 {
-    rest.is_empty() || rest.starts_with('.') || rest.starts_with('-') || rest.starts_with('+')
+    match rest.as_bytes().first() {
+        Some(byte) => matches!(byte, b'.' | b'-' | b'+'),
+        None => true,
+    }
+}
+
+/// Where the first byte is that is no decimal digit.
+fn first_other(bytes: &[u8]) -> Option<usize>
+    ensures { result ≡ position is_other bytes.now }
+{
+    bytes.iter().position(|byte| !byte.is_ascii_digit())
+}
+
+/// How many bytes of a text come before the first that is no decimal digit.
+fn digits_len(text: &str) -> usize
+    ensures { result ≡ position_or_len is_other text.now }
+{
+    match first_other(text.as_bytes()) {
+        Some(len) => len,
+        None => text.len(),
+    }
+}
+
+/// The decimal digits that a text begins with, and what follows them.
+fn split_digits(text: &str) -> (&str, &str)
+    ensures front { result.0.now ≡ take (position_or_len is_other text.now) text.now }
+    ensures back { result.1.now ≡ drop (position_or_len is_other text.now) text.now }
+{
+    text.split_at(digits_len(text))
 }
 
 /// The version that a text begins with: two numbers with a dot between them.
@@ -59,20 +88,11 @@ pub fn read_version(text: &str) -> Option<Version>
     ensures none { IfNone result ((v : Version) → IsVersion text.now v → ⊥) }
 {
     let (major, rest) = text.split_once('.')?;
-    let (minor, rest) = rest.split_at(digits_len(rest));
+    let (minor, rest) = split_digits(rest);
     if !ends_version(rest) {
         return None;
     }
     let major = read_number(major)?;
     let minor = read_number(minor)?;
     Some(Version { major, minor })
-}
-
-/// How many bytes of a text come before the first that is no decimal digit.
-fn digits_len(text: &str) -> usize {
-    let is_other = |byte: &u8| !byte.is_ascii_digit();
-    match text.as_bytes().iter().position(is_other) {
-        Some(len) => len,
-        None => text.len(),
-    }
 }

@@ -1,6 +1,6 @@
 -- The features of a kernel, and the version of Linux in which each came.
 -- Source: the commit of Linux that each feature came with, and the release that first has it.
-use Rattle.std.specs.Prelude.{◌≡◌, ◌⊎◌, ℕ, ◌<◌, ◌^◌, ◌==◌, ◌&&◌, ◌||◌, nat_lt, nat_le, Bool, List, [], ◌∷◌, ◌++◌, map, codes}
+use Rattle.std.specs.Prelude.{◌≡◌, ℕ, ◌<◌, ◌^◌, ◌==◌, ◌&&◌, ◌||◌, nat_lt, nat_le, Bool, true, List, [], ◌∷◌, ◌++◌, map, codes}
 use Rattle.std.specs.Str.Parse.{IsNumeral, digits_value}
 use Rattle.btf_rewrite_model.specs.declared.feature.BtfFeature.{BtfFeature}
 use Rattle.btf_rewrite_model.specs.declared.feature.BtfFeature.TheVariants.{Func, FuncGlobal, DataSec, DataSecZero, Float, DeclTag, TypeTag, Enum64}
@@ -47,13 +47,12 @@ abbrev pub IsNumber : List ℕ → ℕ → Type 0
 IsNumber text n = IsNumeral 10 text × (digits_value 10 text ≡ n) × (n < 2 ^ 32)
 
 -- What may follow the numbers of a version: nothing, or a text that begins with `.`, `-` or `+`.
-abbrev pub EndsVersion : List ℕ → Type 0
-EndsVersion rest =
-    (rest ≡ [])
-    ⊎ ((more : List ℕ) × ((rest ≡ codes "." ++ more) ⊎ (rest ≡ codes "-" ++ more) ⊎ (rest ≡ codes "+" ++ more)))
+abbrev pub ends_version : List ℕ → Bool
+ends_version [] = true
+ends_version (byte ∷ rest) = (byte == 46) || (byte == 45) || (byte == 43)
 
 -- A text is a version: two numbers with a dot between them, as in `5.4`, and what `uname -r` prints after them.
 abbrev pub IsVersion : List ℕ → Version → Type 0
 IsVersion text v =
     (major minor rest : List ℕ) × (text ≡ major ++ codes "." ++ minor ++ rest)
-    × IsNumber major v.major × IsNumber minor v.minor × EndsVersion rest
+    × IsNumber major v.major × IsNumber minor v.minor × (ends_version rest ≡ true)

@@ -1,0 +1,5 @@
+pub mod Named
+pub mod Versions
+pub mod Kernels
+pub mod Rewrites
+pub mod Objects

@@ -1,0 +1,164 @@
+-- Maps of names, name by name.
+use Rattle.std.proofs.Common.{◌≡◌, ℕ, suc, ◌+◌, ◌<◌, ◌≤◌, Bool, true, false, ◌&&◌, List, [], ◌∷◌, ◌++◌, length, take, map, cond, get_or, Option, None, Some, refl, sym, ap, ◌∙◌, arith, inl, inr}
+use Rattle.std.specs.Prelude.{if◌then◌else◌, option_map, nat_lt, slice_get}
+use Rattle.std.specs.List.{filter, last_or}
+use Rattle.std.specs.Str.{bytes_eq, is_utf8, IsUtf8}
+use Rattle.std.proofs.Math.Path.{fun_ext}
+use Rattle.std.proofs.Math.Seq.{take-suc}
+use Rattle.std.proofs.Math.Bool.{and-false}
+use Rattle.std.proofs.lemmas.Bool.{lt-ltb, le-ltb}
+use Rattle.std.proofs.lemmas.List.{append-nil}
+use Rattle.std.proofs.lemmas.List.Elements.{filter-append}
+use Rattle.std.proofs.lemmas.Slice.Eq.{bytes_eq-Decides}
+use Rattle.std.proofs.lemmas.Str.{IsUtf8-from_is_utf8, is_utf8-from_IsUtf8}
+use Rattle.std.proofs.lemmas.Option.{slice_get_within, slice_get-get_or, get_or_from_slice_get}
+use Rattle.btf_elf_model.specs.Object.{Object, section_name, symbols, symbol_name}
+use Rattle.btf_elf_model.specs.declared.section_header.SectionHeader.{SectionHeader}
+use Rattle.btf_elf_model.specs.declared.symbol.Symbol.{Symbol}
+use Rattle.btf_object.specs.Names.{IsReadSection, IsSectionLeftOut, IsReadSymbol, IsSymbolLeftOut}
+use Rattle.btf_object_model.specs.Layout.{is_askable, last_named, is_read}
+use Rattle.btf_rewrite_model.specs.Pass.{Layout}
+use Rattle.btf_words.specs.declared.section_index.SectionIndex.{SectionIndex}
+
+-- ---- names that a rewrite may ask for
+
+pub askable_is : (name : List ℕ) → IsUtf8 name → length name < 512 → is_askable name ≡ true
+askable_is name utf8 short = ap (λ (b : Bool). b && nat_lt (length name) 512) (is_utf8-from_IsUtf8 name utf8) ∙ lt-ltb (length name) 512 short
+
+pub not_utf8 : (name : List ℕ) → ¬ (IsUtf8 name) → is_askable name ≡ false
+not_utf8 name none =
+    let no : is_utf8 name ≡ false = elim (is_utf8 name) as (λ (b : Bool). is_utf8 name ≡ b → b ≡ false) [ true ↦ λ is. absurd (none (IsUtf8-from_is_utf8 name is)) | false ↦ λ is. refl ] refl in
+    ap (λ (b : Bool). b && nat_lt (length name) 512) no
+
+pub too_long : (name : List ℕ) → 512 ≤ length name → is_askable name ≡ false
+too_long name long = ap (λ (b : Bool). is_utf8 name && b) (le-ltb (length name) 512 long) ∙ and-false (is_utf8 name)
+
+-- ---- the last of a name
+
+last_push : {A : Type 0} (o : Option A) (xs : List A) (y : A) → last_or o (xs ++ y ∷ []) ≡ Some y
+last_push o [] y = refl
+last_push o (x ∷ xs) y = last_push (Some x) xs y
+
+map_push : {A B : Type 0} (f : A → B) (xs : List A) (y : A) → map f (xs ++ y ∷ []) ≡ map f xs ++ f y ∷ []
+map_push f [] y = refl
+map_push f (x ∷ xs) y = ap (λ ys. f x ∷ ys) (map_push f xs y)
+
+-- the last number of these that pass a test, with one more
+last_more : {T : Type 0} (p : T → Bool) (number : T → ℕ) (xs : List T) (x : T) → last_or None (map number (filter p (xs ++ x ∷ []))) ≡ (if p x then Some (number x) else last_or None (map number (filter p xs)))
+last_more p number xs x =
+    ap (λ ys. last_or None (map number ys)) (filter-append p xs (x ∷ []))
+    ∙ elim (p x) as (λ (b : Bool). last_or None (map number (filter p xs ++ cond b (x ∷ []) [])) ≡ (if b then Some (number x) else last_or None (map number (filter p xs)))) [
+      | true ↦ ap (last_or None) (map_push number (filter p xs) x) ∙ last_push None (map number (filter p xs)) (number x)
+      | false ↦ ap (λ ys. last_or None (map number ys)) (append-nil (filter p xs))
+    ]
+
+module _ {T : Type 0} (name_of : T → List ℕ) (number : T → ℕ) where
+  -- one more that has a name for which a rewrite may ask
+  pub named_push : (xs : List T) (x : T) (name : List ℕ) → is_askable (name_of x) ≡ true → last_named name_of number (xs ++ x ∷ []) name ≡ (if bytes_eq (name_of x) name then Some (number x) else last_named name_of number xs name)
+  named_push xs x name askable =
+      let rest : Option ℕ = last_or None (map number (filter (λ t. bytes_eq (name_of t) name) xs)) in
+      ap (λ (o : Option ℕ). if is_askable name then o else None) (last_more (λ t. bytes_eq (name_of t) name) number xs x)
+      ∙ elim (bytes_eq (name_of x) name) as (λ (b : Bool). bytes_eq (name_of x) name ≡ b → (if is_askable name then (if b then Some (number x) else rest) else None) ≡ (if b then Some (number x) else (if is_askable name then rest else None))) [
+        | true ↦ λ same. ap (λ (b : Bool). if b then Some (number x) else None) (ap is_askable (sym ((bytes_eq-Decides (name_of x) name).0 same)) ∙ askable)
+        | false ↦ λ other. refl
+      ] refl
+
+  -- one more that has another name
+  pub named_pass : (xs : List T) (x : T) (name : List ℕ) → is_askable (name_of x) ≡ false → last_named name_of number (xs ++ x ∷ []) name ≡ last_named name_of number xs name
+  named_pass xs x name left =
+      let rest : Option ℕ = last_or None (map number (filter (λ t. bytes_eq (name_of t) name) xs)) in
+      ap (λ (o : Option ℕ). if is_askable name then o else None) (last_more (λ t. bytes_eq (name_of t) name) number xs x)
+      ∙ elim (bytes_eq (name_of x) name) as (λ (b : Bool). bytes_eq (name_of x) name ≡ b → (if is_askable name then (if b then Some (number x) else rest) else None) ≡ (if is_askable name then rest else None)) [
+        | true ↦ λ same. let no : is_askable name ≡ false = ap is_askable (sym ((bytes_eq-Decides (name_of x) name).0 same)) ∙ left in ap (λ (b : Bool). if b then Some (number x) else None) no ∙ sym (ap (λ (b : Bool). if b then rest else None) no)
+        | false ↦ λ other. refl
+      ] refl
+
+  pub none_named : (name : List ℕ) → last_named name_of number [] name ≡ None
+  none_named name = elim (is_askable name) as (λ (b : Bool). (if b then (last_or {A = ℕ} None []) else None) ≡ None) [ true ↦ refl | false ↦ refl ]
+
+-- the items up to one
+pub take_next : {T : Type 0} (xs : List T) (i : ℕ) (d : T) → i < length xs → take (i + 1) xs ≡ take i xs ++ get_or xs i d ∷ []
+take_next xs i d lt = let next : i + 1 ≡ suc i = omega arith in ap (λ (n : ℕ). take n xs) next ∙ take-suc xs i d lt
+
+-- ---- what a map has where a name is put into it
+
+pub section_kept : (b : Bool) (section : SectionIndex × ℕ) (old : Option (SectionIndex × ℕ)) (rest : Option ℕ) → option_map (λ (s : SectionIndex × ℕ). s.1) old ≡ rest
+    → option_map (λ (s : SectionIndex × ℕ). s.1) (cond b (Some section) old) ≡ (if b then Some section.1 else rest)
+section_kept true section old rest is = refl
+section_kept false section old rest is = is
+
+pub symbol_kept : (b : Bool) (offset : ℕ) (old rest : Option ℕ) → old ≡ rest → cond b (Some offset) old ≡ (if b then Some offset else rest)
+symbol_kept true offset old rest is = refl
+symbol_kept false offset old rest is = is
+
+-- the maps are a layout if they say the same of each name
+pub layouts_alike : (layout other : Layout) → ((name : List ℕ) → layout.sections name ≡ other.sections name) → ((name : List ℕ) → layout.symbols name ≡ other.symbols name) → layout ≡ other
+layouts_alike layout other sizes offsets =
+    ap (λ (f : List ℕ → Option ℕ). record { sections = f; symbols = layout.symbols }) (fun_ext sizes)
+    ∙ ap (λ (f : List ℕ → Option ℕ). record { sections = other.sections; symbols = f }) (fun_ext offsets)
+
+-- ---- sections
+
+no_section : SectionHeader
+no_section = record { name = 0; kind = 0; flags = 0; address = 0; offset = 0; size = 0; link = 0; info = 0; alignment = 0; entry_size = 0 }
+
+section_next : (all : List SectionHeader) (i : ℕ) (s : SectionHeader) → slice_get all i ≡ Some s → take (i + 1) all ≡ take i all ++ s ∷ []
+section_next all i s here = take_next all i s (slice_get_within all i s here) ∙ ap (λ (t : SectionHeader). take i all ++ t ∷ []) (get_or_from_slice_get all i s s here)
+
+-- a section whose size is read
+pub section_push : (o : Object) (i : ℕ) (text : List ℕ) (size : ℕ) (name : List ℕ) → IsReadSection o i text size
+    → last_named (section_name o) (λ (t : SectionHeader). t.size) (take (i + 1) o.sections) name ≡ (if bytes_eq text name then Some size else last_named (section_name o) (λ (t : SectionHeader). t.size) (take i o.sections) name)
+section_push o i text size name r =
+    let before : List SectionHeader = take i o.sections in
+    let number = λ (t : SectionHeader). t.size in
+    ap (λ ts. last_named (section_name o) number ts name) (section_next o.sections i r.section r.here)
+    ∙ named_push (section_name o) number before r.section name (ap is_askable (sym r.named) ∙ r.askable)
+    ∙ ap (λ (t : List ℕ). if bytes_eq t name then Some r.section.size else last_named (section_name o) number before name) (sym r.named)
+    ∙ ap (λ (n : ℕ). if bytes_eq text name then Some n else last_named (section_name o) number before name) (sym r.size_is)
+
+-- a section that is left out
+pub section_pass : (o : Object) (i : ℕ) (name : List ℕ) → i < length o.sections → IsSectionLeftOut o i
+    → last_named (section_name o) (λ (t : SectionHeader). t.size) (take (i + 1) o.sections) name ≡ last_named (section_name o) (λ (t : SectionHeader). t.size) (take i o.sections) name
+section_pass o i name lt out =
+    let s : SectionHeader = get_or o.sections i no_section in
+    let here : slice_get o.sections i ≡ Some s = slice_get-get_or o.sections i no_section lt in
+    ap (λ ts. last_named (section_name o) (λ (t : SectionHeader). t.size) ts name) (section_next o.sections i s here) ∙ named_pass (section_name o) (λ (t : SectionHeader). t.size) (take i o.sections) s name (out s here)
+
+-- ---- symbols
+
+no_symbol : Symbol
+no_symbol = record { name = 0; binding = 0; kind = 0; other = 0; section = 0; value = 0; size = 0 }
+
+-- those that are read, with one more
+read_next : (all : List Symbol) (i : ℕ) (s : Symbol) → slice_get all i ≡ Some s → filter is_read (take (i + 1) all) ≡ filter is_read (take i all) ++ cond (is_read s) (s ∷ []) []
+read_next all i s here =
+    let lt : i < length all = slice_get_within all i s here in
+    ap (filter is_read) (take_next all i s lt) ∙ filter-append is_read (take i all) (get_or all i s ∷ [])
+    ∙ ap (λ (t : Symbol). filter is_read (take i all) ++ cond (is_read t) (t ∷ []) []) (get_or_from_slice_get all i s s here)
+
+-- a symbol that is read
+pub symbol_push : (o : Object) (i : ℕ) (text : List ℕ) (value : ℕ) (name : List ℕ) → IsReadSymbol o i text value
+    → last_named (symbol_name o) (λ (t : Symbol). t.value) (filter is_read (take (i + 1) (symbols o))) name
+    ≡ (if bytes_eq text name then Some value else last_named (symbol_name o) (λ (t : Symbol). t.value) (filter is_read (take i (symbols o))) name)
+symbol_push o i text value name r =
+    let before : List Symbol = filter is_read (take i (symbols o)) in
+    let number = λ (t : Symbol). t.value in
+    ap (λ ts. last_named (symbol_name o) number ts name) (read_next (symbols o) i r.symbol r.here ∙ ap (λ (b : Bool). before ++ cond b (r.symbol ∷ []) []) r.wanted)
+    ∙ named_push (symbol_name o) number before r.symbol name (ap is_askable (sym r.named) ∙ r.askable)
+    ∙ ap (λ (t : List ℕ). if bytes_eq t name then Some r.symbol.value else last_named (symbol_name o) number before name) (sym r.named)
+    ∙ ap (λ (n : ℕ). if bytes_eq text name then Some n else last_named (symbol_name o) number before name) (sym r.value_is)
+
+-- a symbol that is left out
+pub symbol_pass : (o : Object) (i : ℕ) (name : List ℕ) → i < length (symbols o) → IsSymbolLeftOut o i
+    → last_named (symbol_name o) (λ (t : Symbol). t.value) (filter is_read (take (i + 1) (symbols o))) name ≡ last_named (symbol_name o) (λ (t : Symbol). t.value) (filter is_read (take i (symbols o))) name
+symbol_pass o i name lt out =
+    let before : List Symbol = filter is_read (take i (symbols o)) in
+    let number = λ (t : Symbol). t.value in
+    let s : Symbol = get_or (symbols o) i no_symbol in
+    let here : slice_get (symbols o) i ≡ Some s = slice_get-get_or (symbols o) i no_symbol lt in
+    ap (λ ts. last_named (symbol_name o) number ts name) (read_next (symbols o) i s here)
+    ∙ elim (out s here) [
+      | inl unread ↦ ap (λ (b : Bool). last_named (symbol_name o) number (before ++ cond b (s ∷ []) []) name) unread ∙ ap (λ ts. last_named (symbol_name o) number ts name) (append-nil before)
+      | inr left ↦ elim (is_read s) as (λ (b : Bool). last_named (symbol_name o) number (before ++ cond b (s ∷ []) []) name ≡ last_named (symbol_name o) number before name)
+          [ true ↦ named_pass (symbol_name o) number before s name left | false ↦ ap (λ ts. last_named (symbol_name o) number ts name) (append-nil before) ]
+    ]

@@ -1,0 +1,65 @@
+-- An object that is rewritten, and why one is not.
+use Rattle.std.proofs.Common.{◌≡◌, ◌⊎◌, ℕ, List, Some, Result, Err, refl, sym, ap, subst, ◌∙◌, inl, inr}
+use Rattle.std.specs.Prelude.{IfErr, IfSome, IsErrAnd}
+use Rattle.std.proofs.lemmas.Option.{same_Some}
+use Rattle.std.proofs.lemmas.Result.{err_from_is_err_and}
+use Rattle.btf_model.specs.Blob.{canon}
+use Rattle.btf_model.specs.Table.{Table}
+use Rattle.btf_elf.specs.Writing.{replace_error, HasReplaced}
+use Rattle.btf_elf.specs.declared.error.ReplaceError.{ReplaceError}
+use Rattle.btf_elf.specs.declared.error.ReplaceError.TheVariants as replace
+use Rattle.btf_elf_model.specs.Object.{Object, IsObject, section_bytes}
+use Rattle.btf_elf_model.specs.Replaced.{ReplacesSection}
+use Rattle.btf_elf_model.specs.declared.section_header.SectionHeader.{SectionHeader}
+use Rattle.btf_rewrite_model.specs.declared.feature.FeatureAnswer.{FeatureAnswer}
+use Rattle.btf_object_model.specs.Sanitized.{Target, HasSection, RewritesTable, RefusesTable, IsSanitized, table_name}
+use Rattle.btf_words.specs.Error.{refusal_of}
+use Rattle.btf_words.specs.declared.error.BtfError.{BtfError}
+use Rattle.btf_words.specs.declared.error.BtfError.TheVariants as table
+use Rattle.btf_object.specs.Errors.{of_table, of_section, IsCause}
+use Rattle.btf_object.specs.Names.{IsTableSection}
+use Rattle.btf_object.specs.declared.error.SanitizeError.{SanitizeError}
+
+-- what is known of an error that becomes another
+pub becomes : {T : Type 0} (P : SanitizeError → Type 0) (e : SanitizeError) (r : Result T SanitizeError) → P e → IsErrAnd r (λ y. y ≡ e) → IfErr r P
+becomes {T} P e r known err =
+    let q = err_from_is_err_and r err in
+    subst (λ (x : Result T SanitizeError). IfErr x P) (sym (q.1 ∙ ap (λ (x : SanitizeError). Err x) q.2)) known
+
+module _ (bytes : List ℕ) (target : Target) (o : Object) (index : ℕ) (t : List ℕ) (object : IsObject bytes o) (f : IsTableSection o index t) where
+  has_section : HasSection bytes table_name o index f.section
+  has_section = record { object = object; first = f.first; header = f.here }
+
+  -- the table of the section is refused
+  pub table_cause : (e : BtfError) → IfSome (refusal_of e) (RefusesTable o t target) → IsCause bytes target (of_table e)
+  table_cause e refused =
+      let here : IfSome (refusal_of e) (RefusesTable o (section_bytes o f.section) target) = subst (λ (b : List ℕ). IfSome (refusal_of e) (RefusesTable o b target)) f.bytes_are refused in
+      elim e as (λ (x : BtfError). IfSome (refusal_of x) (RefusesTable o (section_bytes o f.section) target) → IsCause bytes target (of_table x))
+      [ table.OutOfMemory ↦ λ _. tt | _ ↦ λ is. (o, index, f.section, has_section, (_, refl, is)) ] here
+
+  -- the section cannot be replaced
+  pub section_cause : (old new : Table) (answers : List FeatureAnswer) (e : ReplaceError) → RewritesTable o t target old new answers → (replace_error o index ≡ Some e) ⊎ (e ≡ replace.OutOfMemory) → IsCause bytes target (of_section e)
+  section_cause old new answers e rewrites (inr is) = subst (λ (x : ReplaceError). IsCause bytes target (of_section x)) (sym is) tt
+  section_cause old new answers e rewrites (inl is) =
+      let here : RewritesTable o (section_bytes o f.section) target old new answers = subst (λ (b : List ℕ). RewritesTable o b target old new answers) f.bytes_are rewrites in
+      elim e as (λ (x : ReplaceError). replace_error o index ≡ Some x → IsCause bytes target (of_section x))
+      [ replace.OutOfMemory ↦ λ _. tt | _ ↦ λ same. (o, index, f.section, has_section, (old, new, answers, here, same)) ] is
+
+  -- the rewritten table is in its section
+  pub sanitized : (given file : List ℕ) (answers : List FeatureAnswer) → (old new : Table) × RewritesTable o t target old new answers × (given ≡ canon new) → HasReplaced o index given file → IsSanitized bytes target file answers
+  sanitized given file answers m replaced =
+      let here : RewritesTable o (section_bytes o f.section) target m.0 m.1 answers = subst (λ (b : List ℕ). RewritesTable o b target m.0 m.1 answers) f.bytes_are m.2 in
+      let same : replaced.0 ≡ f.section = same_Some replaced.0 f.section (sym replaced.1 ∙ f.here) in
+      let new_object : Object = replaced.2.0 in
+      let in_place : ReplacesSection o index f.section (canon m.1) new_object =
+      subst (λ (s : SectionHeader). ReplacesSection o index s (canon m.1) new_object) same (subst (λ (b : List ℕ). ReplacesSection o index replaced.0 b new_object) m.3 replaced.2.2) in
+      record {
+        object = o;
+        index = index;
+        header = f.section;
+        section = has_section;
+        old = m.0;
+        new = m.1;
+        table = here;
+        replaced = (new_object, replaced.2.1, in_place);
+      }
