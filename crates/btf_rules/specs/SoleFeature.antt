@@ -1,7 +1,7 @@
 -- The feature that a type asks for, where it asks for one at most.
 use Rattle.std.specs.Prelude.{◌≡◌, if◌then◌else◌, Bool, true, false, Option, Some, None}
 use Rattle.btf_model.specs.Record as kinds
-use Rattle.btf_model.specs.Record.{Kind, Record}
+use Rattle.btf_model.specs.Record.{Kind, Record, kind_of}
 use Rattle.btf_rewrite_model.specs.declared.feature.BtfFeature.TheVariants as features
 use Rattle.btf_rewrite_model.specs.Feature.{is_signed}
 use Rattle.btf_rewrite_model.specs.declared.feature.BtfFeature.{BtfFeature}
@@ -17,6 +17,10 @@ sole_feature (Some kinds.FuncProto) r = Some features.Func
 sole_feature (Some kinds.Enum64) r = Some features.Enum64
 sole_feature (Some kinds.Enum) r = if is_signed r then Some features.Enum64 else None
 sole_feature k r = None
+
+-- the feature that a record asks for
+abbrev pub feature_of : Record → Option BtfFeature
+feature_of r = sole_feature (kind_of r.info) r
 
 -- a kind that asks for one feature at most
 abbrev pub asks_one : Option Kind → Bool

@@ -10,8 +10,7 @@ ghost use Rattle.btf_rewrite_model.specs.Rule.{becomes_by};
 ghost use Rattle.btf_rewrite_model.specs.Passing.{is_quiet};
 ghost use Rattle.btf_records.specs.BtfType.{record_of, fallback_of, type_kind};
 ghost use Rattle.btf_rules.specs.InPlace.{denied, denied_type};
-ghost use Rattle.btf_rules.specs.SoleFeature.{IsGranted};
-ghost use Rattle.btf_rules.specs.SoleFeature as sole;
+ghost use Rattle.btf_rules.specs.SoleFeature.{feature_of, IsGranted};
 
 use btf_plain::{BtfKind, Const, Int, IntEncoding, Typedef};
 use btf_records::{BtfType, Struct};
@@ -21,8 +20,7 @@ use std::alloc::Global;
 /// The feature that a type asks for, where it asks for one alone: all but FUNC and DATASEC. None where it asks for
 /// none.
 pub fn sole_feature(btf_type: &BtfType) -> Option<BtfFeature>
-    ensures { result ≡ sole.sole_feature
-        (kind_of (record_of btf_type.now).info) (record_of btf_type.now) }
+    ensures { result ≡ feature_of (record_of btf_type.now) }
 {
     match btf_type.kind() {
         BtfKind::Var => Some(BtfFeature::DataSec),
@@ -70,8 +68,8 @@ pub fn denied_name_offset(btf_type: &BtfType) -> u32
 /// a feature which is not granted. Not for a FUNC, whose rule asks for more.
 pub fn changes_in_place(btf_type: &BtfType, granted: bool) -> bool
     ensures words { (p : Pass) (lower : List Record) (id : ℕ)
-        → IsGranted p (sole.sole_feature (kind_of (record_of btf_type.now).info)
-        (record_of btf_type.now)) granted → is_quiet (kind_of (record_of btf_type.now).info) ≡ true
+        → IsGranted p (feature_of (record_of btf_type.now)) granted
+        → is_quiet (kind_of (record_of btf_type.now).info) ≡ true
         → record_of (if result then denied_type btf_type.now else btf_type.now)
         ≡ becomes_by p lower id (kind_of (record_of btf_type.now).info) (record_of btf_type.now) }
     ensures len { length (record_of (if result then denied_type btf_type.now

@@ -13,6 +13,8 @@ use Rattle.btf_rewrite_model.specs.Fault.{fault}
 use Rattle.btf_rewrite_model.specs.Rewritten.{ended, AreRuled, rewritten}
 use Rattle.btf_rewrite_model.specs.Passing.{AreAnswersTo, IsAt, HasMade}
 use Rattle.btf_rewrite_model.specs.Passing.{MadeBelow}
+use Rattle.btf_words.specs.Error.{MeetsOrNoMemory}
+use Rattle.btf_words.specs.declared.error.BtfError.{BtfError}
 use Rattle.btf_records.specs.BtfType.{record_of, fallback_of}
 use Rattle.btf_records.specs.declared.btf_type.BtfType.{BtfType}
 use Rattle.btf_table.specs.Btf.{IsType}
@@ -112,6 +114,15 @@ pub record IsRuled (p : Pass) (id : ℕ) (old : BtfType) (before after : Made) (
 abbrev pub Rules : Pass → ℕ → BtfType → Made → Made → Result BtfType Refusal → Type 0
 Rules p id old before after (Ok new) = IsRuled p id old before after new
 Rules p id old before after (Err refusal) = fault p id ≡ Some refusal
+
+-- Wherever a pass over this table comes to this type, on a kernel of which this holds, the rule of its id returns this
+-- result, whose value stands for a type.
+abbrev pub FollowsRule : {T : Type 0} → Table → BtfType → (Pass → Type 0) → Made → Made → (T → BtfType)
+    → Result T BtfError → Type 0
+FollowsRule t b OnKernel before after type_for result =
+    (given : Given) (answers : List FeatureAnswer) (id : ℕ) → IsType t id b
+    → IsHere (pass_on t given answers) id before → OnKernel (pass_on t given answers)
+    → MeetsOrNoMemory type_for result (Rules (pass_on t given answers) id b before after)
 
 -- The answers are those that a pass had, and those to these features of an id.
 pub record HasAsked (p : Pass) (id : ℕ) (some : List BtfFeature) (answers : List FeatureAnswer) : Type 0 where

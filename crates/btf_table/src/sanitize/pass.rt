@@ -11,10 +11,9 @@ ghost use Rattle.btf_records.specs.BtfType.{record_of};
 ghost use Rattle.btf_table.specs.Adding.{HasRoom};
 ghost use Rattle.btf_rules.specs.Features.{Called, IsFurther};
 ghost use Rattle.btf_rules.specs.Layout.{layout_of};
-ghost use Rattle.btf_rules.specs.SoleFeature as step;
 ghost use Rattle.btf_table.specs.Btf.{IsType};
 ghost use Rattle.btf_table.specs.PassStep.{Given, pass_on, under, Comes, AsksUpTo, Steps, Passes, BeginsAsked, made_of};
-ghost use Rattle.btf_rules.specs.SoleFeature.{asks_one, IsGranted};
+ghost use Rattle.btf_rules.specs.SoleFeature.{asks_one, feature_of, IsGranted};
 ghost use Rattle.btf_table.specs.ReadNames.{AreRead};
 
 use crate::sanitize::data_sec::rewrite_section;
@@ -48,9 +47,7 @@ fn has_sole_feature<F: FnMut(BtfFeature) -> bool>(
     ensures granted { (t : Table) (given : Given) (id : ℕ)
         → AreAnswersTo (asks_below (pass_on t given resolver.old.1) id)
         resolver.old.1
-        → IsGranted (pass_on t given resolver.new.1)
-        (step.sole_feature (kind_of (record_of btf_type.now).info) (record_of btf_type.now))
-        result }
+        → IsGranted (pass_on t given resolver.new.1) (feature_of (record_of btf_type.now)) result }
 {
     match sole_feature(btf_type) {
         Some(feature) => resolver.is_supported(feature),

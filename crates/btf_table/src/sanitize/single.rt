@@ -1,21 +1,14 @@
 //! The rules of types that ask for one feature at most.
 
-ghost use Rattle.std.specs.Prelude.{◌≡◌, ℕ, List, None, Some, Ok, Option, true};
+ghost use Rattle.std.specs.Prelude.{◌≡◌, true, false};
 ghost use Rattle.std.specs.Option.{unwrap_or};
 ghost use Rattle.btf_model.specs.Record.{kind_of};
-ghost use Rattle.btf_words.specs.Error.{MeetsOrNoMemory};
 ghost use Rattle.btf_records.specs.BtfType.{record_of};
 ghost use Rattle.btf_table.specs.Adding.{HasRoom};
-ghost use Rattle.btf_rules.specs.SoleFeature as step;
-ghost use Rattle.btf_table.specs.PassStep.{Given, IsHere, Rules, made_of};
-ghost use Rattle.btf_rules.specs.SoleFeature.{IsGranted};
-ghost use Rattle.btf_table.specs.Btf.{IsType};
+ghost use Rattle.btf_table.specs.PassStep.{FollowsRule, made_of};
+ghost use Rattle.btf_rules.specs.SoleFeature.{asks_one, feature_of, IsGranted};
 ghost use Rattle.btf_rewrite_model.specs.declared.feature.BtfFeature.TheVariants as features;
-ghost use Rattle.btf_rewrite_model.specs.Feature.{grants};
-ghost use Rattle.btf_rewrite_model.specs.declared.feature.FeatureAnswer.{FeatureAnswer};
-ghost use Rattle.std.specs.Prelude.{false};
-ghost use Rattle.btf_table.specs.PassStep.{pass_on};
-ghost use Rattle.btf_rules.specs.SoleFeature.{asks_one};
+ghost use Rattle.btf_rewrite_model.specs.Pass.{has};
 
 use crate::sanitize::func_proto::{has_unnamed, with_param_names};
 use crate::sanitize::made::Made;
@@ -35,13 +28,9 @@ fn rewrite_proto(
     granted: bool,
 ) -> Result<Option<BtfType>, BtfError>
     requires { HasRoom btf.now made.old.changes }
-    ensures { (given : Given) (answers : List FeatureAnswer) (id : ℕ)
-        → IsType btf.now id (BtfType.FuncProto proto.now)
-        → IsHere (pass_on btf.now given answers) id made.old
-        → grants answers features.Func ≡ granted
-        → MeetsOrNoMemory (λ new. unwrap_or new (BtfType.FuncProto proto.now)) result
-        (Rules (pass_on btf.now given answers) id (BtfType.FuncProto proto.now) made.old
-        made.new) }
+    ensures { FollowsRule btf.now (BtfType.FuncProto proto.now)
+        (λ p. has p features.Func ≡ granted) made.old made.new
+        (λ new. unwrap_or new (BtfType.FuncProto proto.now)) result }
 {
     if !granted {
         return Ok(Some(BtfType::Enum(as_enum(btf.allocator(), proto)?)));
@@ -58,13 +47,8 @@ fn rewrite_proto(
 #[inline(never)]
 fn rewrite_enum64(made: &mut Made, btf: &Btf, enum64: &Enum64) -> Result<BtfType, BtfError>
     requires { HasRoom btf.now made.old.changes }
-    ensures { (given : Given) (answers : List FeatureAnswer) (id : ℕ)
-        → IsType btf.now id (BtfType.Enum64 enum64.now)
-        → IsHere (pass_on btf.now given answers) id made.old
-        → grants answers features.Enum64 ≡ false
-        → MeetsOrNoMemory (λ new. new) result
-        (Rules (pass_on btf.now given answers) id (BtfType.Enum64 enum64.now) made.old
-        made.new) }
+    ensures { FollowsRule btf.now (BtfType.Enum64 enum64.now)
+        (λ p. has p features.Enum64 ≡ false) made.old made.new (λ new. new) result }
 {
     let member_type = made.member_type(btf)?;
     Ok(BtfType::Union(as_union(btf.allocator(), enum64, member_type)?))
@@ -80,14 +64,10 @@ pub fn rewrite_by(
     granted: bool,
 ) -> Result<Outcome, BtfError>
     requires { HasRoom btf.now made.old.changes }
-    ensures { (given : Given) (answers : List FeatureAnswer) (id : ℕ) → IsType btf.now id btf_type.now
-        → IsHere (pass_on btf.now given answers) id made.old
-        → asks_one (kind_of (record_of btf_type.now).info) ≡ true
-        → IsGranted (pass_on btf.now given answers)
-        (step.sole_feature (kind_of (record_of btf_type.now).info) (record_of btf_type.now))
-        granted
-        → MeetsOrNoMemory (λ o. made_of o btf_type.now) result
-        (Rules (pass_on btf.now given answers) id btf_type.now made.old made.new) }
+    ensures { asks_one (kind_of (record_of btf_type.now).info) ≡ true
+        → FollowsRule btf.now btf_type.now
+        (λ p. IsGranted p (feature_of (record_of btf_type.now)) granted) made.old made.new
+        (λ outcome. made_of outcome btf_type.now) result }
 {
     match btf_type {
         BtfType::FuncProto(proto) => placed(rewrite_proto(made, btf, proto, granted)),

@@ -32,4 +32,4 @@ returns-in_default-clause-steps g c = λ given id is comes. let policy = ap (λ 
     with_fact (λ o. made_of o c.args.btf_type.now) c.rewrite_by.result (AsksUpTo (pass_on c.args.btf.now given c.args.resolver.now.1) id c.has_sole_feature-granted.new.resolver.1 [])
     (Rules (pass_on c.args.btf.now given c.has_sole_feature-granted.new.resolver.1) id c.args.btf_type.now c.args.made.now c.rewrite_by.new.made)
     (c.has_sole_feature-granted.ensures.asks c.args.btf.now given id there (one g s id there) below)
-    (c.rewrite_by.ensures given c.has_sole_feature-granted.new.resolver.1 id there here (one g s id there) (c.has_sole_feature-granted.ensures.granted c.args.btf.now given id below))
+    (c.rewrite_by.ensures (one g s id there) given c.has_sole_feature-granted.new.resolver.1 id there here (c.has_sole_feature-granted.ensures.granted c.args.btf.now given id below))

@@ -13,21 +13,21 @@ use Rattle.btf_table.proofs.PassRules.{quiet_outcome, enum64_stays}
 use Rattle.btf_table.proofs.sanitize.single.rewrite_by.Goals as goal
 
 pub returns-in_default : goal.returns-in_default
-returns-in_default c = λ given answers id there here one granted.
+returns-in_default c = λ one given answers id there here granted.
     let p : Pass = pass_on c.args.btf.now given answers in
     let b : BtfType = c.args.btf_type.now in
     subst (λ (changes : Bool). IsRuled p id b c.args.made.now c.args.made.now (if changes then denied_type b else b)) c.if-changes_in_place.true
     (quiet_outcome p id b c.args.made.now c.changes_in_place.result there here one there.kind_is c.in_default.not-FuncProto c.in_default.not-Enum64 (c.changes_in_place.ensures.words p (ruled_below p id) id granted) c.changes_in_place.ensures.len c.changes_in_place.ensures.fallback)
 
 pub returns-in_default-2 : goal.returns-in_default-2
-returns-in_default-2 c = λ given answers id there here one granted.
+returns-in_default-2 c = λ one given answers id there here granted.
     let p : Pass = pass_on c.args.btf.now given answers in
     let b : BtfType = c.args.btf_type.now in
     subst (λ (changes : Bool). IsRuled p id b c.args.made.now c.args.made.now (if changes then denied_type b else b)) c.if-changes_in_place.false
     (quiet_outcome p id b c.args.made.now c.changes_in_place.result there here one there.kind_is c.in_default.not-FuncProto c.in_default.not-Enum64 (c.changes_in_place.ensures.words p (ruled_below p id) id granted) c.changes_in_place.ensures.len c.changes_in_place.ensures.fallback)
 
 pub returns-in-Enum64-2 : goal.returns-in-Enum64-2
-returns-in-Enum64-2 c = λ given answers id there here one granted.
+returns-in-Enum64-2 c = λ one given answers id there here granted.
     let p : Pass = pass_on c.args.btf.now given answers in
     let b : BtfType = c.args.btf_type.now in
     let kind : kind_of (record_of b).info ≡ Some kinds.Enum64 = there.kind_is ∙ ap (λ (t : BtfType). Some (type_kind t)) c.in-Enum64-2.is in
