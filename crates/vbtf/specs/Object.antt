@@ -1,5 +1,5 @@
 -- An object that is rewritten for a kernel, as C asks for it.
-use Rattle.std.specs.Prelude.{◌≡◌, ◌⊎◌, ℕ, List, [], Option, Some, None, if◌then◌else◌, is_empty}
+use Rattle.std.specs.Prelude.{◌≡◌, ◌⊎◌, ℕ, List, [], Option, Some, None, if◌then◌else◌, length, ◌==◌}
 use Rattle.btf_elf_model.specs.declared.error.ParseError.{ParseError}
 use Rattle.btf_elf_model.specs.declared.error.ParseError.TheVariants as parse
 use Rattle.btf_elf.specs.declared.error.ObjectError.TheVariants as elf
@@ -19,7 +19,7 @@ use Rattle.vbtf.specs.declared.kernel.Kernel.{Kernel}
 
 -- a name, or none where it is empty
 abbrev pub name_or_none : List ℕ → Option (List ℕ)
-name_or_none name = if is_empty name then None else Some name
+name_or_none name = if length name == 0 then None else Some name
 
 -- what an object is rewritten for, by the kernel and the name of a placeholder
 abbrev pub target_chosen : Kernel → List ℕ → Target
