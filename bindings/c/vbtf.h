@@ -48,7 +48,10 @@ enum vbtf_status {
 	VBTF_NO_ROOM = 100,              /* the buffer is too short; nothing was written to it */
 	VBTF_CLOSED = 101,               /* the table, or its .BTF.ext, is not open */
 	VBTF_BAD_ARGUMENT = 102,         /* an argument has no meaning, or what is to be opened is open already */
-	VBTF_NO_ITEM = 103               /* the type has no item of the index, or no variant of the name */
+	VBTF_NO_ITEM = 103,              /* the type has no item of the index, or no variant of the name */
+	VBTF_NOT_AN_OBJECT = 104,        /* the bytes are no ELF object that is read here; error.id says why */
+	VBTF_NO_TABLE = 105,             /* the object has no section .BTF */
+	VBTF_NOT_REPLACEABLE = 106       /* the bytes of the section .BTF cannot be replaced */
 };
 
 /* An error of the library. Fields that the error does not have are 0. */
@@ -282,6 +285,10 @@ uint32_t vbtf_raw_rewrite(struct vbtf_table *table, const uint8_t *section_names
                           size_t symbol_names_len, const struct vbtf_named *symbols, size_t symbol_count,
                           const struct vbtf_kernel *kernel, struct vbtf_asked *asked, struct vbtf_error *error);
 
+uint32_t vbtf_raw_sanitize_object(const uint8_t *object, size_t len, const struct vbtf_kernel *kernel,
+                                  const uint8_t *placeholder, size_t placeholder_len, uint8_t *out, size_t room,
+                                  uint64_t *needed, struct vbtf_asked *asked, struct vbtf_error *error);
+
 uint32_t vbtf_raw_open_ext(struct vbtf_table *table, const uint8_t *data, size_t len, uint32_t order, uint64_t seed,
                            struct vbtf_error *error);
 void vbtf_close_ext(struct vbtf_table *table);
@@ -322,7 +329,8 @@ static inline const uint8_t *vbtf_bytes_or_none(const void *bytes)
 static inline const char *vbtf_error_text(uint32_t status, const struct vbtf_error *error, char *out, size_t room)
 {
 	static const char *const texts[] = {
-		"buffer too short", "not open", "invalid argument", "no such item",
+		"buffer too short", "not open", "invalid argument", "no such item", "not an ELF object that is read here",
+		"the object has no section .BTF", "the bytes of the section .BTF cannot be replaced",
 	};
 	uint8_t written[1024];
 	const char *text = "unknown error";
@@ -676,6 +684,28 @@ static inline uint32_t vbtf_rewrite(struct vbtf_table *table, const struct vbtf_
 	                        sizes->entries ? sizes->entries : &nothing, sizes->count,
 	                        vbtf_bytes_or_none(offsets->names), offsets->names_len,
 	                        offsets->entries ? offsets->entries : &nothing, offsets->count, kernel, asked, error);
+}
+
+/*
+ * Writes an ELF object, with the table in its section .BTF rewritten for a kernel, to a buffer, its length in bytes to
+ * `needed`, and reports what was asked. The sizes of sections, the offsets of symbols and the ids of .ksyms come from
+ * the object; `placeholder` is the name of the variable that replaces functions of .ksyms, or empty where there is none. Every
+ * other section has the same bytes.
+ *
+ * VBTF_NO_ROOM where the buffer has less room: then only `needed` and `asked` are written. The first cause of failure:
+ * VBTF_NOT_AN_OBJECT, where error.id is the number of the reason in docs/OBJECTS.md, from 1 on, and error.offset the
+ * index of the section or symbol that it names; VBTF_NO_TABLE; those of vbtf_parse and vbtf_rewrite, and
+ * VBTF_UNKNOWN_TYPE_NAME of the placeholder; VBTF_NOT_REPLACEABLE. VBTF_BAD_ARGUMENT where the placeholder is not UTF-8.
+ */
+static inline uint32_t vbtf_sanitize_object(const void *object, size_t len, const struct vbtf_kernel *kernel,
+                                            const char *placeholder, size_t placeholder_len, void *out,
+                                            size_t room, uint64_t *needed, struct vbtf_asked *asked,
+                                            struct vbtf_error *error)
+{
+	uint8_t none = 0;
+	return vbtf_raw_sanitize_object(vbtf_bytes_or_none(object), len, kernel, vbtf_bytes_or_none(placeholder),
+	                                placeholder_len, out ? (uint8_t *)out : &none, out ? room : 0, needed, asked,
+	                                error);
 }
 
 /* ---- build */

@@ -1,6 +1,7 @@
 -- The features of a kernel, as the code has them.
-use Rattle.std.specs.Prelude.{ℕ, Bool, not}
+use Rattle.std.specs.Prelude.{ℕ, ◌/◌, ◌%◌, ◌^◌, ◌==◌, Bool, not}
 use Rattle.std.specs.Char.{is_ascii_digit}
+use Rattle.btf_rewrite_model.specs.Feature.{number}
 use Rattle.btf_rewrite_model.specs.declared.feature.BtfFeature.{BtfFeature}
 use Rattle.btf_rewrite_model.specs.declared.feature.BtfFeature.TheVariants.{Func, FuncGlobal, DataSec, DataSecZero, Float, DeclTag, TypeTag, Enum64}
 use Rattle.btf_object.specs.declared.kernel.Kernel.{Kernel}
@@ -15,6 +16,10 @@ has k Float = k.float
 has k DeclTag = k.decl_tag
 has k TypeTag = k.type_tag
 has k Enum64 = k.enum64
+
+-- The bit of a feature is set.
+abbrev pub has_bit : ℕ → BtfFeature → Bool
+has_bit bits f = bits / 2 ^ number f % 2 == 1
 
 -- a byte that is no decimal digit
 abbrev pub is_other : ℕ → Bool

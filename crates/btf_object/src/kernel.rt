@@ -5,7 +5,7 @@ ghost use Rattle.btf_rewrite_model.specs.Feature.{same_feature};
 ghost use Rattle.btf_rewrite_model.specs.declared.feature.BtfFeature.{BtfFeature};
 ghost use Rattle.btf_object_model.specs.Kernel.{IsVersion, has_by_version};
 ghost use Rattle.btf_object_model.specs.declared.version.Version.{Version};
-ghost use Rattle.btf_object.specs.Kernel.{has};
+ghost use Rattle.btf_object.specs.Kernel.{has, has_bit};
 
 use crate::version::{has, read_version};
 use btf_rewrite_model::BtfFeature;
@@ -21,6 +21,13 @@ pub struct Kernel {
     decl_tag: bool,
     type_tag: bool,
     enum64: bool,
+}
+
+/// Whether the bit of a feature is set.
+fn is_set(bits: u32, feature: BtfFeature) -> bool
+    ensures { result ≡ has_bit bits feature }
+{
+    (bits >> (feature as u32)) % 2 == 1
 }
 
 impl Kernel {
@@ -56,6 +63,23 @@ impl Kernel {
             BtfFeature::Enum64 => kernel.enum64 = true,
         }
         kernel
+    }
+
+    /// The kernel whose features have their bits set, each at its number: Func at bit 0, and so on. Other bits are not
+    /// looked at.
+    pub fn of_bits(bits: u32) -> Kernel
+        ensures { (f : BtfFeature) → has result f ≡ has_bit bits f }
+    {
+        Kernel {
+            func: is_set(bits, BtfFeature::Func),
+            func_global: is_set(bits, BtfFeature::FuncGlobal),
+            data_sec: is_set(bits, BtfFeature::DataSec),
+            data_sec_zero: is_set(bits, BtfFeature::DataSecZero),
+            float: is_set(bits, BtfFeature::Float),
+            decl_tag: is_set(bits, BtfFeature::DeclTag),
+            type_tag: is_set(bits, BtfFeature::TypeTag),
+            enum64: is_set(bits, BtfFeature::Enum64),
+        }
     }
 
     /// Whether the kernel has a feature.

@@ -11,3 +11,4 @@ pub mod Layouts
 pub mod Groups
 pub mod SectionNames
 pub mod ExtOpening
+pub mod Objects

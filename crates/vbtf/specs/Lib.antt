@@ -8,3 +8,4 @@ pub mod Items
 pub mod Adding
 pub mod Ext
 pub mod ExtRead
+pub mod Object

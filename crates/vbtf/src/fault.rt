@@ -62,6 +62,16 @@ fn write(fault: &mut Fault, number: u32, id: u32, offset: u64, len: u64, section
     number
 }
 
+/// Writes a status that is no error of `btf`, with a number and an offset.
+pub(crate) fn report_number(fault: &mut Fault, number: u32, id: u32, offset: u64) -> u32
+    ensures status { result ≡ number }
+    ensures number { fault.new.number ≡ number }
+    ensures id { fault.new.id ≡ id }
+    ensures offset { fault.new.offset ≡ offset }
+{
+    write(fault, number, id, offset, 0, 0)
+}
+
 /// How many bytes of a name a fault has room for.
 fn name_len(name: &[u8]) -> usize
     ensures { result ≡ min name_room (length name.now) }

@@ -15,7 +15,7 @@
 //! Each exported function restates the clauses of the call that it makes. It returns a status: 0 for an answer; 1 to 20
 //! for an error of `btf`, by its place in `BtfError`; 100 for a buffer that is too small; 101 for a handle whose state
 //! is not the one that the call needs; 102 for an argument that has no meaning; 103 for an item or a variant that the
-//! type does not have. For 1 to 20 the fault says more.
+//! type does not have; 104 to 106 for an object that is not rewritten. For 1 to 20 and 104 the fault says more.
 #![tactic(auto)]
 
 mod add;
@@ -29,6 +29,7 @@ mod item_words;
 mod items;
 mod kernel;
 mod loan;
+mod object;
 mod open;
 mod opened;
 mod orders;

@@ -1,0 +1,78 @@
+-- An object that is rewritten for a kernel, as C asks for it.
+use Rattle.std.specs.Prelude.{◌≡◌, ◌⊎◌, ℕ, List, [], Option, Some, None, if◌then◌else◌, length, ◌==◌}
+use Rattle.btf_elf_model.specs.declared.error.ParseError.{ParseError}
+use Rattle.btf_elf_model.specs.declared.error.ParseError.TheVariants as parse
+use Rattle.btf_elf.specs.declared.error.ObjectError.TheVariants as elf
+use Rattle.btf_elf.specs.declared.error.ReplaceError.{ReplaceError}
+use Rattle.btf_elf.specs.declared.error.ReplaceError.TheVariants as replace
+use Rattle.btf_object_model.specs.Sanitized.{Target, IsSanitized}
+use Rattle.btf_object.specs.Errors.{IsCause}
+use Rattle.btf_object.specs.declared.error.SanitizeError.{SanitizeError}
+use Rattle.btf_object.specs.declared.error.SanitizeError.TheVariants.{Object, NoTable, Table, Section, OutOfMemory}
+use Rattle.btf_rewrite_model.specs.declared.feature.FeatureAnswer.{FeatureAnswer}
+use Rattle.btf_words.specs.Error.{refusal_of}
+use Rattle.vbtf.specs.Kernel.{has_bit, policy_chosen, ListsAnswers}
+use Rattle.vbtf.specs.Status.{Fills, ReportsError, no_memory}
+use Rattle.vbtf.specs.declared.fault.Fault.{Fault}
+use Rattle.vbtf.specs.declared.kernel.Asked.{Asked}
+use Rattle.vbtf.specs.declared.kernel.Kernel.{Kernel}
+
+-- a name, or none where it is empty
+abbrev pub name_or_none : List ℕ → Option (List ℕ)
+name_or_none name = if length name == 0 then None else Some name
+
+-- what an object is rewritten for, by the kernel and the name of a placeholder
+abbrev pub target_chosen : Kernel → List ℕ → Target
+target_chosen kernel placeholder = record {
+  has = has_bit kernel.features;
+  policy = policy_chosen kernel;
+  placeholder = name_or_none placeholder;
+}
+
+-- The place of an error of bytes that are no object, from 1 on.
+abbrev pub place_of : ParseError → ℕ
+place_of parse.NotElf = 1
+place_of (parse.UnsupportedClass class) = 2
+place_of (parse.UnsupportedEncoding encoding) = 3
+place_of parse.UnsupportedVersion = 4
+place_of parse.BadHeaderSize = 5
+place_of parse.SectionTableOutOfRange = 6
+place_of (parse.SectionOutOfRange index) = 7
+place_of (parse.SectionOverHeaders index) = 8
+place_of parse.BadNameTable = 9
+place_of (parse.BadSectionName index) = 10
+place_of parse.BadSymbolTable = 11
+place_of (parse.BadSymbolName index) = 12
+
+-- The class, the encoding, or the index of the section or symbol, that the error names; 0 where it names none.
+abbrev pub detail_of : ParseError → ℕ
+detail_of (parse.UnsupportedClass class) = class
+detail_of (parse.UnsupportedEncoding encoding) = encoding
+detail_of (parse.SectionOutOfRange index) = index
+detail_of (parse.SectionOverHeaders index) = index
+detail_of (parse.BadSectionName index) = index
+detail_of (parse.BadSymbolName index) = index
+detail_of e = 0
+
+-- The status of a failed allocation.
+abbrev pub ReportsNoMemory : ℕ → Fault → Type 0
+ReportsNoMemory status fault = (status ≡ no_memory) × (fault.number ≡ no_memory)
+
+-- The status and the fault report the cause.
+abbrev pub ReportsCause : ℕ → Fault → SanitizeError → Type 0
+ReportsCause status fault (Object (elf.Parse e)) =
+    (status ≡ 104) × (fault.number ≡ 104) × (fault.id ≡ place_of e) × (fault.offset ≡ detail_of e)
+ReportsCause status fault (Object elf.OutOfMemory) = ReportsNoMemory status fault
+ReportsCause status fault NoTable = (status ≡ 105) × (fault.number ≡ 105)
+ReportsCause status fault (Table e) = ReportsError status fault (refusal_of e)
+ReportsCause status fault (Section replace.OutOfMemory) = ReportsNoMemory status fault
+ReportsCause status fault (Section e) = (status ≡ 106) × (fault.number ≡ 106)
+ReportsCause status fault OutOfMemory = ReportsNoMemory status fault
+
+-- How a call ends that rewrites an object: with the rewritten one in the buffer, if there is room, and what was asked;
+-- or with the first cause, and the buffer is unchanged.
+abbrev pub EndsSanitizing : ℕ → List ℕ → Target → List ℕ → List ℕ → ℕ → Asked → Fault → Type 0
+EndsSanitizing status object target old new needed asked fault =
+    ((file : List ℕ) × (answers : List FeatureAnswer) × IsSanitized object target file answers
+    × ListsAnswers asked answers × Fills file old new needed status)
+    ⊎ ((new ≡ old) × ((e : SanitizeError) × IsCause object target e × ReportsCause status fault e))

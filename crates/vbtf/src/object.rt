@@ -1,0 +1,131 @@
+//! Objects that are rewritten for a kernel.
+
+ghost use Rattle.std.specs.Prelude.{◌≡◌, Some, None};
+ghost use Rattle.std.specs.Option.{option_map};
+ghost use Rattle.std.specs.Str.{IsUtf8};
+ghost use Rattle.btf_rewrite_model.specs.declared.feature.BtfFeature.{BtfFeature};
+ghost use Rattle.btf_object.specs.Kernel as object;
+ghost use Rattle.vbtf.specs.Kernel.{has_bit};
+ghost use Rattle.vbtf.specs.Object.{name_or_none, target_chosen, place_of, detail_of, ReportsCause, EndsSanitizing};
+
+use crate::fault::{Fault, INVALID_ARGUMENT, OUT_OF_MEMORY, report, report_number};
+use crate::kernel::{Asked, Kernel};
+use crate::write::fill;
+use btf_elf::{ObjectError, ParseError, ReplaceError};
+use btf_object::{SanitizeError, sanitize_object_with};
+use std::alloc::Global;
+use std::str;
+
+/// The bytes are no object.
+const NOT_AN_OBJECT: u32 = 104;
+
+/// The object has no section `.BTF`.
+const NO_TABLE: u32 = 105;
+
+/// The bytes of the section `.BTF` cannot be replaced.
+const NOT_REPLACEABLE: u32 = 106;
+
+/// Writes an object, with the table in its section `.BTF` rewritten for a kernel, to a buffer, its length in bytes to
+/// `needed`, and reports what was asked. `placeholder` is the name of the variable that takes the place of functions in
+/// `.ksyms`; it is empty where there is none. The ids of `kernel` are not read, since the object's table has names.
+///
+/// Status 100 where the buffer has too little room, and stays as it was. 104 where the bytes are no object; `id` is then
+/// the place of the error in `ParseError`, from 1 on, and `offset` what it names. 105 where no section is `.BTF`; 1 to
+/// 19 with the first error of the table or of its rewrite; 106 where the section's bytes cannot be replaced; 20 where an
+/// allocation fails; 102 where the placeholder's name is not UTF-8.
+#[unsafe(no_mangle)]
+pub extern "C" fn vbtf_raw_sanitize_object(
+    alloc: Global,
+    object: &[u8],
+    kernel: &Kernel,
+    placeholder: &[u8],
+    out: &mut [u8],
+    needed: &mut u64,
+    asked: &mut Asked,
+    fault: &mut Fault,
+) -> u32
+    ensures sanitized { IsUtf8 placeholder.now → EndsSanitizing result object.now
+        (target_chosen kernel.now placeholder.now) out.old out.new needed.new asked.new fault.new }
+    ensures unreadable { (IsUtf8 placeholder.now → ⊥)
+        → (result ≡ INVALID_ARGUMENT) × (out.new ≡ out.old) }
+{
+    let Ok(name) = str::from_utf8(placeholder) else {
+        return INVALID_ARGUMENT;
+    };
+    let features = btf_object::Kernel::of_bits(kernel.features);
+    match sanitize_object_with(alloc, object, &features, kernel.policy(), named(name)) {
+        Ok((file, answers)) => {
+            asked.list(&answers);
+            fill(&file, out, needed)
+        }
+        Err(error) => report_cause(error, fault),
+    }
+}
+
+/// A name, or none where it is empty.
+fn named(name: &str) -> Option<&str>
+    ensures { option_map (λ text. text.now) result ≡ name_or_none name.now }
+{
+    if name.is_empty() {
+        return None;
+    }
+    Some(name)
+}
+
+/// Writes why an object is not rewritten, and returns the status.
+fn report_cause(error: SanitizeError, fault: &mut Fault) -> u32
+    ensures { ReportsCause result fault.new error }
+{
+    match error {
+        SanitizeError::Object(ObjectError::Parse(error)) => report_number(
+            fault,
+            NOT_AN_OBJECT,
+            place(&error),
+            detail(&error),
+        ),
+        SanitizeError::NoTable => report_number(fault, NO_TABLE, 0, 0),
+        SanitizeError::Table(error) => report(error, fault),
+        SanitizeError::Section(ReplaceError::NoSuchSection { .. })
+        | SanitizeError::Section(ReplaceError::NotReplaceable { .. }) => {
+            report_number(fault, NOT_REPLACEABLE, 0, 0)
+        }
+        SanitizeError::Object(ObjectError::OutOfMemory)
+        | SanitizeError::Section(ReplaceError::OutOfMemory)
+        | SanitizeError::OutOfMemory => report_number(fault, OUT_OF_MEMORY, 0, 0),
+    }
+}
+
+/// The place of an error of bytes that are no object, from 1 on.
+fn place(error: &ParseError) -> u32
+    ensures { result ≡ place_of error.now }
+{
+    match error {
+        ParseError::NotElf => 1,
+        ParseError::UnsupportedClass { .. } => 2,
+        ParseError::UnsupportedEncoding { .. } => 3,
+        ParseError::UnsupportedVersion => 4,
+        ParseError::BadHeaderSize => 5,
+        ParseError::SectionTableOutOfRange => 6,
+        ParseError::SectionOutOfRange { .. } => 7,
+        ParseError::SectionOverHeaders { .. } => 8,
+        ParseError::BadNameTable => 9,
+        ParseError::BadSectionName { .. } => 10,
+        ParseError::BadSymbolTable => 11,
+        ParseError::BadSymbolName { .. } => 12,
+    }
+}
+
+/// What an error of bytes that are no object names: a class, an encoding, or the index of a section or symbol; else 0.
+fn detail(error: &ParseError) -> u64
+    ensures { result ≡ detail_of error.now }
+{
+    match error {
+        ParseError::UnsupportedClass { class } => *class as u64,
+        ParseError::UnsupportedEncoding { encoding } => *encoding as u64,
+        ParseError::SectionOutOfRange { index }
+        | ParseError::SectionOverHeaders { index }
+        | ParseError::BadSectionName { index }
+        | ParseError::BadSymbolName { index } => *index as u64,
+        _ => 0,
+    }
+}
