@@ -82,17 +82,30 @@ static ROWS: [(&[&str], &str); 28] = [
     (&["btfobj", "--version"], "text"),
 ];
 
+/// The name of a command.
+fn command_name(request: &Request) -> &'static str {
+    match request {
+        Request::Dump { .. } => "dump",
+        Request::Layout { .. } => "layout",
+        Request::Ext { .. } => "ext",
+        Request::Check { .. } => "check",
+        Request::Sanitize { .. } => "sanitize",
+        Request::Compat { .. } => "compat",
+    }
+}
+
 /// What a command line asks for.
 fn outcome(rt: &HostRuntime, words: &'static [&'static str]) -> &'static str {
-    match read_request(rt.alloc(), words) {
-        Ok(Request::Dump { .. }) => "dump",
-        Ok(Request::Layout { .. }) => "layout",
-        Ok(Request::Ext { .. }) => "ext",
-        Ok(Request::Check { .. }) => "check",
-        Ok(Request::Sanitize { .. }) => "sanitize",
-        Ok(Request::Compat { .. }) => "compat",
-        Err(error) if error.use_stderr() => "usage",
-        Err(_error) => "text",
+    let read = read_request(rt.alloc(), words);
+    match &read {
+        Ok(request) => command_name(request),
+        Err(error) => {
+            if error.use_stderr() {
+                "usage"
+            } else {
+                "text"
+            }
+        }
     }
 }
 
