@@ -99,13 +99,7 @@ fn outcome(rt: &HostRuntime, words: &'static [&'static str]) -> &'static str {
     let read = read_request(rt.alloc(), words);
     match &read {
         Ok(request) => command_name(request),
-        Err(error) => {
-            if error.use_stderr() {
-                "usage"
-            } else {
-                "text"
-            }
-        }
+        Err(error) => { if error.use_stderr() { "usage" } else { "text" } }
     }
 }
 
