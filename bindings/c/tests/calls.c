@@ -248,7 +248,10 @@ static const struct {
 	{ VBTF_OK, "no error" },          { VBTF_NO_ROOM, "buffer too short" },
 	{ VBTF_CLOSED, "not open" },      { VBTF_BAD_ARGUMENT, "invalid argument" },
 	{ VBTF_NO_ITEM, "no such item" }, { 21, "unknown error" },
-	{ 99, "unknown error" },          { VBTF_NO_ITEM + 1, "unknown error" },
+	{ 99, "unknown error" },          { VBTF_NOT_REPLACEABLE + 1, "unknown error" },
+	{ VBTF_NOT_AN_OBJECT, "not an ELF object that is read here" },
+	{ VBTF_NO_TABLE, "the object has no section .BTF" },
+	{ VBTF_NOT_REPLACEABLE, "the bytes of the section .BTF cannot be replaced" },
 };
 
 /* A text in a buffer that has room for it, and in shorter ones. */
