@@ -25,8 +25,8 @@ static struct file read_file(const char *path)
 
 static const struct vbtf_kernel none = { 0, 0, 0, 0 }, all = { 0xff, 0, 0, 0 };
 
-/* The object for a kernel, in a buffer of its own; none where the call fails. */
-static struct file sanitized(const struct file *object, const struct vbtf_kernel *kernel)
+/* The object for a kernel; `wanted` features are asked for, one for each that its types need. */
+static struct file sanitized(const struct file *object, const struct vbtf_kernel *kernel, uint32_t wanted)
 {
 	struct file file = { NULL, 0 };
 	struct vbtf_error error;
@@ -38,7 +38,7 @@ static struct file sanitized(const struct file *object, const struct vbtf_kernel
 	file.bytes = malloc(file.len);
 	check(vbtf_sanitize_object(object->bytes, object->len, kernel, NULL, 0, file.bytes, file.len, &needed, &asked,
 	                           &error) == VBTF_OK);
-	check(needed == file.len && asked.count <= 8);
+	check(needed == file.len && asked.count == wanted);
 	for (uint32_t i = 0; i < asked.count; i++)
 		check(asked.granted[i] == (kernel->features >> asked.features[i] & 1));
 	return file;
@@ -47,7 +47,8 @@ static struct file sanitized(const struct file *object, const struct vbtf_kernel
 /* A second rewrite for the same kernel changes nothing, and another kernel gets another table. */
 static void rewritten(const struct file *object)
 {
-	struct file old = sanitized(object, &none), again = sanitized(&old, &none), new = sanitized(object, &all);
+	struct file old = sanitized(object, &none, 5), again = sanitized(&old, &none, 0);
+	struct file new = sanitized(object, &all, 6);
 	check(old.len == again.len && memcmp(old.bytes, again.bytes, old.len) == 0);
 	check(new.len != old.len || memcmp(new.bytes, old.bytes, old.len) != 0);
 	free(old.bytes);
