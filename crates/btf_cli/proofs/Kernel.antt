@@ -14,7 +14,7 @@ use Rattle.btf_rewrite_model.specs.declared.feature.FillPolicy.TheVariants.{Keep
 use Rattle.btf_rewrite_model.specs.RewriteLaws.{IsAmong}
 use Rattle.btf_rewrite_model.proofs.Kernels.{AgreeWith}
 use Rattle.btf_rewrite_model.specs.Passing.{features_of}
-use Rattle.btf_types.specs.Features.{Called}
+use Rattle.btf_rules.specs.Features.{Called}
 use Rattle.btf_cli.specs.Saying.{Saying, Grants, FillsSized, SectionSize, SymbolOffset, KsymsId, PlaceholderId, Says, feature_word, fill_word, texts}
 use Rattle.btf_cli.specs.Sayings.{SayAll, is_grant, kernel_said, is_fill, policy_said}
 use Rattle.btf_cli.specs.Request.{IsSaid, names, policy_named}

@@ -17,7 +17,7 @@ use Rattle.btf_model.proofs.OnePlain.{one_plain}
 use Rattle.btf_model.proofs.Walks.{one_answer, by_one}
 use Rattle.btf_words.specs.Error.{refusal_of}
 use Rattle.btf_words.specs.declared.error.BtfError.{BtfError}
-use Rattle.btf_types.specs.Pairs.{pair}
+use Rattle.btf_compare.specs.Pairs.{pair}
 use Rattle.btf_cli.specs.Saying.{Saying}
 use Rattle.btf_cli.specs.Sayings.{layout_said, kernel_said, policy_said}
 use Rattle.btf_cli.specs.Request.{request_words, request_ids}

@@ -13,7 +13,7 @@ use Rattle.btf_rewrite_model.proofs.Kernels.{AgreeWith, rewritten_alike, refused
 use Rattle.btf_words.specs.Error.{refusal_of}
 use Rattle.btf_words.specs.declared.error.BtfError.{BtfError}
 use Rattle.btf_model.specs.declared.endianness.Endianness.{Endianness}
-use Rattle.btf_types.specs.Rewrites.{features_asked, Refuses, RewritesBytes}
+use Rattle.btf_table.specs.Rewrites.{features_asked, Refuses, RewritesBytes}
 use Rattle.btf_cli.specs.Saying.{Saying}
 use Rattle.btf_cli.specs.Sayings.{layout_said, kernel_said, policy_said, last_said, size_said, offset_said}
 use Rattle.btf_cli.specs.Request.{request_ids, IsSaid}

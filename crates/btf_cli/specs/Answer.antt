@@ -8,7 +8,7 @@ use Rattle.btf_model.specs.Walk.{HasSize}
 use Rattle.btf_model.specs.Fields.{Pair}
 use Rattle.btf_model.specs.Compat.{Plain, firsts}
 use Rattle.btf_rewrite_model.specs.Rewritten.{Rewritten, IsRefused}
-use Rattle.btf_types.specs.Pairs.{pair}
+use Rattle.btf_compare.specs.Pairs.{pair}
 use Rattle.btf_model.specs.declared.endianness.Endianness.{Endianness}
 use Rattle.btf_cli.specs.Saying.{Saying}
 use Rattle.btf_cli.specs.Sayings.{layout_said, kernel_said, policy_said}

@@ -3,8 +3,9 @@
 ghost use Rattle.btf_words.specs.Error.{MeetsOrNoMemory};
 ghost use Rattle.btf_cli.specs.Answer.{Compares};
 
+use btf_compare::types_are_compatible_traced;
 use btf_plain::BtfError;
-use btf_types::{Btf, types_are_compatible_traced};
+use btf_table::Btf;
 use std::alloc::Global;
 
 /// Whether the types of two ids are compatible, and how many pairs were started to find that out.

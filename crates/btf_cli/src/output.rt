@@ -2,7 +2,7 @@
 
 use crate::fault::Fault;
 use crate::listing::write_listing;
-use btf_types::Btf;
+use btf_table::Btf;
 use std::io::Write;
 
 /// What a command writes once nothing but the writing can fail.

@@ -19,7 +19,7 @@ use crate::listing::{comparison_lines, size_line};
 use crate::output::Output;
 use crate::rewrite::rewritten;
 use btf_plain::BtfError;
-use btf_types::Btf;
+use btf_table::Btf;
 use std::alloc::Global;
 use std::io::{ErrorKind, Read, Write};
 

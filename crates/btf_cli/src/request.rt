@@ -3,7 +3,8 @@
 ghost use Rattle.std.specs.Prelude.{◌≡◌, ◌↔◌, None, Some, IsSome, OnSome};
 
 use crate::word::{FILL_SIZED, Word, feature_word};
-use btf_types::{BtfFeature, FillPolicy, KsymsIds};
+use btf_rules::{BtfFeature, FillPolicy};
+use btf_table::KsymsIds;
 
 /// The words of a rewrite, all of which can be read, and the ids of `.ksyms` that they say.
 #[derive(Clone, Copy)]

@@ -2,7 +2,7 @@
 
 ghost use Rattle.std.specs.Prelude.{◌≡◌, ℕ, List, IfOk, IfErr, IfSome, IfNone};
 ghost use Rattle.btf_words.specs.Error.{refusal_of};
-ghost use Rattle.btf_types.specs.Layout.{sizes_of, offsets_of};
+ghost use Rattle.btf_rules.specs.Layout.{sizes_of, offsets_of};
 ghost use Rattle.btf_cli.specs.Answer.{rewriting, IsAnswer, IsDeclined};
 ghost use Rattle.btf_cli.specs.Request.{IsSaid, names};
 ghost use Rattle.btf_cli.specs.Saying.{Saying, SectionSize, SymbolOffset, Says, texts};
@@ -11,7 +11,8 @@ ghost use Rattle.btf_cli.specs.Sayings.{SayAll, last_said, size_said, offset_sai
 use crate::request::Request;
 use crate::word::Word;
 use btf_plain::{BtfError, Endianness, SectionIndex};
-use btf_types::{BtfFeature, BtfFeatureResolver, rewrite_bytes_with};
+use btf_rules::{BtfFeature, BtfFeatureResolver};
+use btf_table::rewrite_bytes_with;
 use std::alloc::{AllocError, Global};
 use std::collections::HashMap;
 

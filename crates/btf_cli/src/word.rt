@@ -5,7 +5,7 @@ ghost use Rattle.btf_rewrite_model.specs.declared.feature.BtfFeature.{BtfFeature
 ghost use Rattle.btf_cli.specs.Saying.{feature_word as word_of, IsNamed};
 
 use crate::number::{read_id, read_number};
-use btf_types::BtfFeature;
+use btf_rules::BtfFeature;
 
 /// The word that has DATASECs filled that have a size.
 pub const FILL_SIZED: &str = "fill-sized";

@@ -1,5 +1,5 @@
 use Rattle.std.proofs.Common.{◌≡◌, ap, rules, ◌∙◌}
-use Rattle.btf_types.specs.Layout.{layout_of}
+use Rattle.btf_rules.specs.Layout.{layout_of}
 use Rattle.btf_cli.proofs.Kernel.{AreNamed, all_named, kernel_agrees, policy_is}
 use Rattle.btf_cli.proofs.Rewritings.{layout_is, IsFor, rewritten_answer, rewritten_declined, told_through}
 use Rattle.btf_cli.proofs.rewrite.rewritten.Goals as goal

@@ -1,5 +1,5 @@
 use Rattle.std.proofs.Common.{◌≡◌, ℕ, List, take}
-use Rattle.btf_types.specs.Layout.{sizes_of}
+use Rattle.btf_rules.specs.Layout.{sizes_of}
 use Rattle.btf_cli.specs.Saying.{Saying, texts}
 use Rattle.btf_cli.specs.Sayings.{SayAll, last_said, size_said}
 use Rattle.btf_cli.proofs.rewrite.sections.Given as goal
