@@ -1,6 +1,7 @@
 #!/bin/sh
 # Makes the objects of this folder, and what other tools say of them. Run once, on Debian 12 for amd64, with clang 13.0.1,
-# 14.0.6, 15.0.6, 16.0.6 and 19.1.7, gcc 12.2.0, gcc-bpf 12.2.0, pahole 1.24, bpftool 7.1.0, and llvm-readelf 14.0.6;
+# 14.0.6, 15.0.6, 16.0.6 and 19.1.7, gcc 12.2.0, gcc-bpf 12.2.0, pahole 1.24, bpftool 7.1.0, llvm-readelf
+# 14.0.6 and llvm-objdump 19.1.7;
 # `versions` has what each says of itself. Of llvm-readelf's lines the name, the offset and the size of each section that
 # has a name are left.
 set -eu
@@ -30,11 +31,14 @@ for object in *.o; do
         pahole -F btf -C "$name" "$object" || true
     done >"$object.pahole" 2>/dev/null
 done
+for object in clang*.bpf*.o; do
+    llvm-objdump-19 -d -l -r --no-show-raw-insn "$object" | awk -f lines.awk | LC_ALL=C sort >"$object.objdump"
+done
 {
     for version in 13 14 15 16 19; do
         clang-$version --version | head -n 1
     done
-    for tool in gcc bpf-gcc pahole bpftool llvm-readelf-14; do
+    for tool in gcc bpf-gcc pahole bpftool llvm-readelf-14 llvm-objdump-19; do
         echo "$tool: $($tool --version | head -n 2 | tr '\n' ' ')"
     done
 } >versions

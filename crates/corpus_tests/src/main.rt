@@ -5,12 +5,14 @@
 
 mod command_lines;
 mod difference;
+mod ext;
 mod kernels;
 mod malformed;
 mod outputs;
 mod samples;
 
 use crate::command_lines::try_command_lines;
+use crate::ext::compare_ext;
 use crate::kernels::try_kernels;
 use crate::malformed::try_malformed;
 use crate::outputs::{compare_dump, compare_layouts, compare_sections};
@@ -29,6 +31,9 @@ fn try_sample(rt: &HostRuntime, sample: &'static str) -> anyhow::Result<()> {
     compare_dump(rt, sample, &object, &read(rt, sample, ".bpftool")?)?;
     compare_layouts(rt, sample, &object, &read(rt, sample, ".pahole")?)?;
     compare_sections(rt, sample, &object, &read(rt, sample, ".readelf")?)?;
+    if sample.contains(".bpf") && !sample.starts_with("gcc") {
+        compare_ext(rt, sample, &object, &read(rt, sample, ".objdump")?)?;
+    }
     try_kernels(rt, sample, &object)?;
     println!(rt; "{sample}: tried")?;
     Ok(())
