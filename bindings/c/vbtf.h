@@ -286,8 +286,8 @@ uint32_t vbtf_raw_rewrite(struct vbtf_table *table, const uint8_t *section_names
                           const struct vbtf_kernel *kernel, struct vbtf_asked *asked, struct vbtf_error *error);
 
 uint32_t vbtf_raw_sanitize_object(const uint8_t *object, size_t len, const struct vbtf_kernel *kernel,
-                                  const uint8_t *placeholder, size_t placeholder_len, uint8_t *out, size_t room,
-                                  uint64_t *needed, struct vbtf_asked *asked, struct vbtf_error *error);
+                                  const uint8_t *placeholder, size_t placeholder_len, uint64_t seed, uint8_t *out,
+                                  size_t room, uint64_t *needed, struct vbtf_asked *asked, struct vbtf_error *error);
 
 uint32_t vbtf_raw_open_ext(struct vbtf_table *table, const uint8_t *data, size_t len, uint32_t order, uint64_t seed,
                            struct vbtf_error *error);
@@ -689,8 +689,9 @@ static inline uint32_t vbtf_rewrite(struct vbtf_table *table, const struct vbtf_
 /*
  * Writes an ELF object, with the table in its section .BTF rewritten for a kernel, to a buffer, its length in bytes to
  * `needed`, and reports what was asked. The sizes of sections, the offsets of symbols and the ids of .ksyms come from
- * the object; `placeholder` is the name of the variable that replaces functions of .ksyms, or empty where there is none. Every
- * other section has the same bytes.
+ * the object; `placeholder` is the name of the variable that replaces functions of .ksyms, or empty where there is
+ * none. Every other section has the same bytes. `seed` is a random number, with which the names of sections and symbols
+ * are hashed: who does not know it cannot choose names that collide.
  *
  * VBTF_NO_ROOM where the buffer has less room: then only `needed` and `asked` are written. The first cause of failure:
  * VBTF_NOT_AN_OBJECT, where error.id is the number of the reason in docs/OBJECTS.md, from 1 on, and error.offset the
@@ -698,14 +699,14 @@ static inline uint32_t vbtf_rewrite(struct vbtf_table *table, const struct vbtf_
  * VBTF_UNKNOWN_TYPE_NAME of the placeholder; VBTF_NOT_REPLACEABLE. VBTF_BAD_ARGUMENT where the placeholder is not UTF-8.
  */
 static inline uint32_t vbtf_sanitize_object(const void *object, size_t len, const struct vbtf_kernel *kernel,
-                                            const char *placeholder, size_t placeholder_len, void *out,
-                                            size_t room, uint64_t *needed, struct vbtf_asked *asked,
+                                            const char *placeholder, size_t placeholder_len, uint64_t seed,
+                                            void *out, size_t room, uint64_t *needed, struct vbtf_asked *asked,
                                             struct vbtf_error *error)
 {
 	uint8_t none = 0;
 	return vbtf_raw_sanitize_object(vbtf_bytes_or_none(object), len, kernel, vbtf_bytes_or_none(placeholder),
-	                                placeholder_len, out ? (uint8_t *)out : &none, out ? room : 0, needed, asked,
-	                                error);
+	                                placeholder_len, seed, out ? (uint8_t *)out : &none, out ? room : 0, needed,
+	                                asked, error);
 }
 
 /* ---- build */

@@ -32,11 +32,11 @@ static struct file sanitized(const struct file *object, const struct vbtf_kernel
 	struct vbtf_error error;
 	struct vbtf_asked asked;
 	uint64_t needed = 0;
-	check(vbtf_sanitize_object(object->bytes, object->len, kernel, NULL, 0, NULL, 0, &needed, &asked, &error)
+	check(vbtf_sanitize_object(object->bytes, object->len, kernel, NULL, 0, 7, NULL, 0, &needed, &asked, &error)
 	      == VBTF_NO_ROOM);
 	file.len = (size_t)needed;
 	file.bytes = malloc(file.len);
-	check(vbtf_sanitize_object(object->bytes, object->len, kernel, NULL, 0, file.bytes, file.len, &needed, &asked,
+	check(vbtf_sanitize_object(object->bytes, object->len, kernel, NULL, 0, 7, file.bytes, file.len, &needed, &asked,
 	                           &error) == VBTF_OK);
 	check(needed == file.len && asked.count == wanted);
 	for (uint32_t i = 0; i < asked.count; i++)
@@ -65,17 +65,17 @@ static void refused(const struct file *object)
 	uint8_t out[64];
 	uint8_t *bytes = malloc(object->len);
 	memcpy(bytes, object->bytes, object->len);
-	check(vbtf_sanitize_object(NULL, 0, &none, NULL, 0, out, sizeof out, &needed, &asked, &error) == VBTF_NOT_AN_OBJECT);
+	check(vbtf_sanitize_object(NULL, 0, &none, NULL, 0, 7, out, sizeof out, &needed, &asked, &error) == VBTF_NOT_AN_OBJECT);
 	check(error.number == VBTF_NOT_AN_OBJECT && error.id == 1);
-	check(vbtf_sanitize_object(bytes, object->len - 1, &none, NULL, 0, out, sizeof out, &needed, &asked, &error)
+	check(vbtf_sanitize_object(bytes, object->len - 1, &none, NULL, 0, 7, out, sizeof out, &needed, &asked, &error)
 	      == VBTF_NOT_AN_OBJECT);
 	check(error.id == 6);
-	check(vbtf_sanitize_object(bytes, object->len, &none, "\xff", 1, out, sizeof out, &needed, &asked, &error)
+	check(vbtf_sanitize_object(bytes, object->len, &none, "\xff", 1, 7, out, sizeof out, &needed, &asked, &error)
 	      == VBTF_BAD_ARGUMENT);
 	for (size_t i = 0; i + 5 <= object->len; i++)
 		if (memcmp(bytes + i, ".BTF", 5) == 0)
 			bytes[i] = '_';
-	check(vbtf_sanitize_object(bytes, object->len, &none, NULL, 0, out, sizeof out, &needed, &asked, &error)
+	check(vbtf_sanitize_object(bytes, object->len, &none, NULL, 0, 7, out, sizeof out, &needed, &asked, &error)
 	      == VBTF_NO_TABLE);
 	free(bytes);
 }

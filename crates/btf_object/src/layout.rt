@@ -11,6 +11,7 @@ use btf_elf::{Object, Symbol};
 use btf_words::SectionIndex;
 use std::alloc::{AllocError, Global};
 use std::collections::HashMap;
+use std::hash::{BuildHasher, BuildHasherDefault, FoldHasher};
 
 /// What the rewrite of a table needs of an object: the sizes of its sections, and the offsets of its symbols.
 ///
@@ -19,21 +20,30 @@ use std::collections::HashMap;
 /// among them, with the value 0. libbpf takes those of type `STT_OBJECT` alone that are global or weak. It also gives
 /// `.kconfig` a size, which no section of an object has: the rewrite of a table with such a DATASEC is refused for
 /// `UnknownSectionSize` here.
+///
+/// Names are hashed by an `H`. The default has a fixed seed, so an attacker can choose names that collide, and n of them
+/// take time in proportion to n squared: for an untrusted object, pass a hasher with random keys, as `RandomState`.
 #[derive(Drop)]
-pub struct ObjectLayout {
+pub struct ObjectLayout<H: BuildHasher = BuildHasherDefault<FoldHasher>> {
     /// The index and `sh_size` of the last section of each name.
-    pub sections: HashMap<String, (SectionIndex, u64)>,
+    pub sections: HashMap<String, (SectionIndex, u64), H>,
     /// `st_value` of the last symbol of each name.
-    pub symbols: HashMap<String, u64>,
+    pub symbols: HashMap<String, u64, H>,
 }
 
-impl ObjectLayout {
-    /// The layout of an object. `AllocError` is the only error.
-    pub fn read(alloc: Global, object: &Object<'_>) -> Result<ObjectLayout, AllocError>
+impl<H: BuildHasher> ObjectLayout<H> {
+    /// The layout of an object, in maps whose hashers are this one and a clone of it. `AllocError` is the only error.
+    pub fn read(
+        alloc: Global,
+        object: &Object<'_>,
+        hash_builder: H,
+    ) -> Result<ObjectLayout<H>, AllocError>
+    where
+        H: Clone + Drop,
         ensures { IfOk result (λ l. layout_of l.sections l.symbols ≡ model.layout_of object.now) }
     {
-        let sections = read_sections(alloc, object)?;
-        let symbols = read_symbols(alloc, object)?;
+        let sections = read_sections(alloc, object, hash_builder.clone()?)?;
+        let symbols = read_symbols(alloc, object, hash_builder)?;
         Ok(ObjectLayout { sections, symbols })
     }
 }
@@ -77,16 +87,17 @@ fn read_section<'a>(object: &Object<'a>, names: &'a [u8], index: usize) -> Optio
     Some((name, section.size))
 }
 
-/// The index and the size of the last section of each name.
-fn read_sections(
+/// The index and the size of the last section of each name, in a map with this hasher.
+fn read_sections<H: BuildHasher + Drop>(
     alloc: Global,
     object: &Object<'_>,
-) -> Result<HashMap<String, (SectionIndex, u64)>, AllocError>
+    hash_builder: H,
+) -> Result<HashMap<String, (SectionIndex, u64), H>, AllocError>
     ensures { IfOk result (λ map. (name : List ℕ)
         → sizes_of map name ≡ model.size_of object.now name) }
 {
     let names = section_names(object);
-    let mut map = HashMap::new(alloc);
+    let mut map = HashMap::with_hasher(alloc, hash_builder);
     for index in 0..object.sections().len() {
         if let Some((name, size)) = read_section(object, names, index) {
             map.insert(name.to_string(alloc)?, (SectionIndex(index), size))?;
@@ -95,13 +106,17 @@ fn read_sections(
     Ok(map)
 }
 
-/// The value of the last symbol of each name.
-fn read_symbols(alloc: Global, object: &Object<'_>) -> Result<HashMap<String, u64>, AllocError>
+/// The value of the last symbol of each name, in a map with this hasher.
+fn read_symbols<H: BuildHasher + Drop>(
+    alloc: Global,
+    object: &Object<'_>,
+    hash_builder: H,
+) -> Result<HashMap<String, u64, H>, AllocError>
     ensures { IfOk result (λ map. (name : List ℕ)
         → offsets_of map name ≡ model.offset_of object.now name) }
 {
     let names = symbol_names(object);
-    let mut map = HashMap::new(alloc);
+    let mut map = HashMap::with_hasher(alloc, hash_builder);
     for index in 0..object.symbol_count() {
         if let Some((name, value)) = read_symbol(object, names, index) {
             map.insert(name.to_string(alloc)?, value)?;

@@ -16,6 +16,7 @@ use arrayvec::ArrayVec;
 use btf_elf::Object;
 use btf_rewrite_model::{FeatureAnswer, FillPolicy};
 use std::alloc::Global;
+use std::hash::{BuildHasher, BuildHasherDefault, FoldHasher};
 
 /// The index and the bytes of the first section that is named `.BTF`.
 fn table_section<'a>(object: &Object<'a>) -> Option<(usize, &'a [u8])>
@@ -28,7 +29,7 @@ fn table_section<'a>(object: &Object<'a>) -> Option<(usize, &'a [u8])>
 }
 
 /// The object with its table rewritten for a kernel, and which features the rewrite asked for. It is
-/// `sanitize_object_with` without a placeholder, with the same errors.
+/// `sanitize_object_with` without a placeholder, with the same errors, and with the default hasher.
 pub fn sanitize_object(
     alloc: Global,
     bytes: &[u8],
@@ -42,7 +43,8 @@ pub fn sanitize_object(
         → (new : elf.Object) × KeepsExt bytes.now r.0.items o new index s) }
     ensures refused { IfErr result (IsCause bytes.now (target_of kernel.now policy None)) }
 {
-    sanitize_object_with(alloc, bytes, kernel, policy, None)
+    let hash_builder: BuildHasherDefault<FoldHasher> = BuildHasherDefault::new();
+    sanitize_object_with(alloc, bytes, kernel, policy, None, hash_builder)
 }
 
 /// The object with its table rewritten for a kernel: the section `.BTF`, the first of that name, has the bytes of the
@@ -50,14 +52,18 @@ pub fn sanitize_object(
 /// kernel has them. The words of the table have the object's byte order. `placeholder` is the name of the variable that
 /// takes the place of functions in `.ksyms`; it is looked for only where the table has a DATASEC of that name.
 ///
+/// `hash_builder` hashes the names of the object's sections and symbols. The default has a fixed seed: for an untrusted
+/// object, pass one with random keys, as `RandomState`, since n names that collide take time in proportion to n squared.
+///
 /// The first cause is reported: `Object`, `NoTable`, `Table` with the errors of `Btf::parse`, of `ksyms_of` and of
 /// `Btf::fixup_and_sanitize_with`, and `Section`. Or `OutOfMemory`.
-pub fn sanitize_object_with(
+pub fn sanitize_object_with<H: BuildHasher + Clone + Drop>(
     alloc: Global,
     bytes: &[u8],
     kernel: &Kernel,
     policy: FillPolicy,
     placeholder: Option<&str>,
+    hash_builder: H,
 ) -> Result<(Vec<u8>, ArrayVec<FeatureAnswer, 8>), SanitizeError>
     // The new file is the old object with the written form of the rewritten table in its section `.BTF`.
     ensures sanitized { IfOk result (λ r. IsSanitized bytes.now
@@ -75,7 +81,15 @@ pub fn sanitize_object_with(
     let Some((index, table)) = table_section(&object) else {
         return Err(SanitizeError::NoTable);
     };
-    let (written, answers) = rewritten(alloc, &object, table, kernel, policy, placeholder)?;
+    let (written, answers) = rewritten(
+        alloc,
+        &object,
+        table,
+        kernel,
+        policy,
+        placeholder,
+        hash_builder,
+    )?;
     let file = object.with_section(alloc, index, &written)?;
     Ok((file, answers))
 }

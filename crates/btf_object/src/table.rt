@@ -19,16 +19,18 @@ use btf_rules::BtfFeatureResolver;
 use btf_table::Btf;
 use btf_words::BtfError;
 use std::alloc::Global;
+use std::hash::BuildHasher;
 
 /// The bytes of a section of an object as a table that is rewritten for a kernel, in the object's order, with what the
-/// kernel was asked.
-pub fn rewritten(
+/// kernel was asked. `hash_builder` hashes the names of the object.
+pub fn rewritten<H: BuildHasher + Clone + Drop>(
     alloc: Global,
     object: &Object<'_>,
     table: &[u8],
     kernel: &Kernel,
     policy: FillPolicy,
     placeholder: Option<&str>,
+    hash_builder: H,
 ) -> Result<(Vec<u8>, ArrayVec<FeatureAnswer, 8>), BtfError>
     ensures made { IfOk result (λ r. (old new : Table) × RewritesTable object.now table.now
         (target_of kernel.now policy (option_map (λ name. name.now) placeholder.entry)) old new
@@ -36,7 +38,7 @@ pub fn rewritten(
     ensures refused { IfErr result (λ e. IfSome (refusal_of e) (RefusesTable object.now table.now
         (target_of kernel.now policy (option_map (λ name. name.now) placeholder.entry)))) }
 {
-    let layout = ObjectLayout::read(alloc, object)?;
+    let layout = ObjectLayout::read(alloc, object, hash_builder)?;
     let mut btf = Btf::parse(alloc, table, object.header().order)?;
     let ids = ksyms_of(&btf, placeholder)?;
     let has = |feature: BtfFeature| -> bool

@@ -14,6 +14,7 @@ use btf_plain::{BtfError, SectionIndex};
 use btf_records::{BtfType, DataSec};
 use std::alloc::{AllocError, Global};
 use std::collections::HashMap;
+use std::hash::BuildHasher;
 
 /// The name that a DATASEC of this name gets: as a DATASEC, where the kernel takes one, with `.` for each `/`, which
 /// kernels refuse there; or else as a STRUCT, with `_` for each `.`, which is in no C name.
@@ -52,7 +53,10 @@ fn to_word(number: u64) -> Option<u32>
 }
 
 /// The size of the section of this name, where it is known and has at most 32 bits.
-fn known_size(sections: &HashMap<String, (SectionIndex, u64)>, name: &str) -> Option<u32>
+fn known_size<G: BuildHasher>(
+    sections: &HashMap<String, (SectionIndex, u64), G>,
+    name: &str,
+) -> Option<u32>
     ensures { result ≡ in_a_word (sizes_of sections.now name.now) }
 {
     let (_, size) = sections.get(name)?;
@@ -61,9 +65,9 @@ fn known_size(sections: &HashMap<String, (SectionIndex, u64)>, name: &str) -> Op
 
 /// The size of the section of this name; `UnknownSectionSize` of the name where it isn't known or has more than 32
 /// bits.
-pub fn section_size(
+pub fn section_size<G: BuildHasher>(
     alloc: Global,
-    sections: &HashMap<String, (SectionIndex, u64)>,
+    sections: &HashMap<String, (SectionIndex, u64), G>,
     name: &str,
 ) -> Result<u32, BtfError>
     ensures { IsOrNoMemory (λ n. n) result
@@ -79,7 +83,7 @@ pub fn section_size(
 }
 
 /// The offset of the symbol of this name, where it is known and has at most 32 bits.
-pub fn known_offset(symbols: &HashMap<String, u64>, name: &str) -> Option<u32>
+pub fn known_offset<H: BuildHasher>(symbols: &HashMap<String, u64, H>, name: &str) -> Option<u32>
     ensures { result ≡ in_a_word (offsets_of symbols.now name.now) }
 {
     to_word(*symbols.get(name)?)

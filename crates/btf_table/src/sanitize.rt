@@ -34,6 +34,7 @@ use btf_rewrite_model::KsymsIds;
 use btf_rules::{BtfFeature, BtfFeatureResolver, FeatureAnswer, FillPolicy, copied_answers};
 use std::alloc::Global;
 use std::collections::HashMap;
+use std::hash::BuildHasher;
 
 impl Btf {
     /// Makes ordinary variables of the kernel's symbols: what the entries of the DATASEC of this id, `.ksyms`, stand
@@ -69,10 +70,10 @@ impl Btf {
     }
 
     /// The pass of a rewrite, without the step of `.ksyms`. An error leaves the table as it was.
-    fn sanitize<F: FnMut(BtfFeature) -> bool>(
+    fn sanitize<F: FnMut(BtfFeature) -> bool, G: BuildHasher, H: BuildHasher>(
         &mut self,
-        sections: &HashMap<String, (SectionIndex, u64)>,
-        symbols: &HashMap<String, u64>,
+        sections: &HashMap<String, (SectionIndex, u64), G>,
+        symbols: &HashMap<String, u64, H>,
         policy: FillPolicy,
         resolver: &mut BtfFeatureResolver<F>,
     ) -> Result<ArrayVec<FeatureAnswer, 8>, BtfError>
@@ -152,10 +153,10 @@ impl Btf {
     /// none without entries, the DATASEC keeps its size, and its one entry is the variable that DATASECs of size 0
     /// without entries get: `InvalidStringOffset` and `InvalidTypeInfo` where strings or types have no room for that
     /// variable, and `InvalidTypeInfo` where types have none for the entry. `sections` is not asked for its size.
-    pub fn fixup_and_sanitize_with<F: FnMut(BtfFeature) -> bool>(
+    pub fn fixup_and_sanitize_with<F: FnMut(BtfFeature) -> bool, G: BuildHasher, H: BuildHasher>(
         &mut self,
-        sections: &HashMap<String, (SectionIndex, u64)>,
-        symbols: &HashMap<String, u64>,
+        sections: &HashMap<String, (SectionIndex, u64), G>,
+        symbols: &HashMap<String, u64, H>,
         ksyms: Option<KsymsIds>,
         policy: FillPolicy,
         resolver: &mut BtfFeatureResolver<F>,
@@ -247,12 +248,12 @@ pub fn rewrite_bytes<F: FnMut(BtfFeature) -> bool>(
 
 /// The bytes of a table that is parsed, rewritten by `fixup_and_sanitize_with`, and written in its own order, with what
 /// the predicate was asked. The errors are those of `Btf::parse` and of `fixup_and_sanitize_with`.
-pub fn rewrite_bytes_with<F: FnMut(BtfFeature) -> bool>(
+pub fn rewrite_bytes_with<F: FnMut(BtfFeature) -> bool, G: BuildHasher, H: BuildHasher>(
     alloc: Global,
     data: &[u8],
     endianness: Endianness,
-    sections: &HashMap<String, (SectionIndex, u64)>,
-    symbols: &HashMap<String, u64>,
+    sections: &HashMap<String, (SectionIndex, u64), G>,
+    symbols: &HashMap<String, u64, H>,
     ksyms: Option<KsymsIds>,
     policy: FillPolicy,
     resolver: &mut BtfFeatureResolver<F>,

@@ -3,6 +3,7 @@
 use crate::files::{read_file, write_file};
 use btf_table::Btf;
 use btfobj_cli::{Blob, Fault, Request, Rewrite, check, compat, dump, ext, layout, sanitize};
+use std::hash::RandomState;
 use std::process::ExitCode;
 use std::{fmt, io};
 
@@ -65,7 +66,8 @@ fn answer<'a>(rt: &HostRuntime, request: &Request<'a>) -> Result<bool, Failure<'
         }
         Request::Check { file, rewrite } => {
             let bytes = read(rt, file)?;
-            let changes = check(rt.alloc(), &bytes, rewrite, &mut rt.stdout());
+            let keys = hasher(rt, file)?;
+            let changes = check(rt.alloc(), &bytes, rewrite, keys, &mut rt.stdout());
             return Ok(!blame(file, changes)?);
         }
         Request::Sanitize {
@@ -93,6 +95,17 @@ fn read<'a>(rt: &HostRuntime, file: &'a str) -> Result<Vec<u8>, Failure<'a>> {
     }
 }
 
+/// A hasher with random keys, so that an object cannot choose names that collide.
+fn hasher<'a>(rt: &HostRuntime, file: &'a str) -> Result<RandomState, Failure<'a>> {
+    match RandomState::new(rt) {
+        Ok(keys) => Ok(keys),
+        Err(e) => Err(Failure {
+            file,
+            cause: Cause::Io(e),
+        }),
+    }
+}
+
 /// The same outcome, where a fault is one of this file.
 fn blame<'a, T>(file: &'a str, outcome: Result<T, Fault>) -> Result<T, Failure<'a>> {
     match outcome {
@@ -112,7 +125,8 @@ fn write_sanitized<'a>(
     rewrite: &Rewrite<'_>,
 ) -> Result<(), Failure<'a>> {
     let bytes = read(rt, file)?;
-    let (written, _) = blame(file, sanitize(rt.alloc(), &bytes, rewrite))?;
+    let keys = hasher(rt, file)?;
+    let (written, _) = blame(file, sanitize(rt.alloc(), &bytes, rewrite, keys))?;
     match write_file(rt, output, &written) {
         Ok(()) => Ok(()),
         Err(e) => Err(Failure {

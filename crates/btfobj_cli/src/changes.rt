@@ -9,19 +9,21 @@ use btf_rewrite_model::{BtfFeature, FeatureAnswer};
 use btf_table::Btf;
 use btf_text::{TextBuffer, write_type_line};
 use std::alloc::Global;
+use std::hash::BuildHasher;
 use std::{fmt, io};
 
 /// Writes which features a file's table needs, and which of them the kernel lacks; and a line for each type that a
 /// rewrite for the kernel changes or adds. Returns whether there is such a type. The errors are those of `sanitize` and
 /// of `Blob::table`, and `Write`.
-pub fn check<W: io::Write>(
+pub fn check<W: io::Write, H: BuildHasher + Clone + Drop>(
     alloc: Global,
     bytes: &[u8],
     rewrite: &Rewrite<'_>,
+    hash_builder: H,
     out: &mut W,
 ) -> Result<bool, Fault> {
     let old = Blob::read(alloc, bytes)?.table(alloc)?;
-    let (written, answers) = sanitize(alloc, bytes, rewrite)?;
+    let (written, answers) = sanitize(alloc, bytes, rewrite, hash_builder)?;
     let new = Blob::read(alloc, &written)?.table(alloc)?;
     let mut text = TextBuffer::new(out);
     write_features(answers.as_slice(), &mut text)?;

@@ -16,6 +16,7 @@ use btf_rules::BtfFeatureResolver;
 use btf_table::{Btf, rewrite_bytes_with};
 use std::alloc::Global;
 use std::collections::HashMap;
+use std::hash::BuildHasher;
 
 /// For what a table is rewritten.
 #[derive(Clone, Copy, Debug)]
@@ -29,14 +30,15 @@ pub struct Rewrite<'a> {
 }
 
 /// The bytes of a file whose table is rewritten for a kernel, and the features that were asked for. An object is
-/// rewritten as `sanitize_object_with` does. A table alone has no sections and no symbols.
+/// rewritten as `sanitize_object_with` does, with this hasher. A table alone has no sections and no symbols.
 ///
 /// `UnknownFormat`, `Rewrite` with the error of `sanitize_object_with`, `Table` with that of `ksyms_of` or of
 /// `rewrite_bytes_with`, and `OutOfMemory`.
-pub fn sanitize(
+pub fn sanitize<H: BuildHasher + Clone + Drop>(
     alloc: Global,
     bytes: &[u8],
     rewrite: &Rewrite<'_>,
+    hash_builder: H,
 ) -> Result<(Vec<u8>, ArrayVec<FeatureAnswer, 8>), Fault>
     // The new file of an object is the old one with the written form of the rewritten table in its section `.BTF`.
     ensures { IfOk result (λ r. BeginsObject bytes.now → IsSanitized bytes.now
@@ -50,6 +52,7 @@ pub fn sanitize(
             &rewrite.kernel,
             rewrite.policy,
             rewrite.placeholder,
+            hash_builder,
         )?),
         Blob::Table(bytes, endianness) => sanitize_table(alloc, bytes, endianness, rewrite),
     }

@@ -4,6 +4,7 @@ use btf_elf::Object;
 use btf_object::Kernel;
 use btf_rewrite_model::FillPolicy;
 use btfobj_cli::{Blob, Rewrite, sanitize};
+use std::hash::RandomState;
 
 /// The versions for which each object is rewritten. Between each and the next one kernels gained features.
 const VERSIONS: [&str; 5] = ["4.18", "5.2", "5.8", "5.13", "6.0"];
@@ -37,9 +38,10 @@ fn try_rewrite(
     rewrite: &Rewrite<'_>,
 ) -> anyhow::Result<Option<&'static str>> {
     let alloc = rt.alloc();
-    let (written, _) = sanitize(alloc, object, rewrite)?;
+    let keys = RandomState::new(rt)?;
+    let (written, _) = sanitize(alloc, object, rewrite, keys)?;
     let _table = Blob::read(alloc, &written)?.table(alloc)?;
-    let (again, _) = sanitize(alloc, &written, rewrite)?;
+    let (again, _) = sanitize(alloc, &written, rewrite, keys)?;
     if again.as_slice() != written.as_slice() {
         return Ok(Some("a second rewrite changes it"));
     }

@@ -1,6 +1,6 @@
 //! What a rewrite reads of the objects: sizes and offsets as readelf lists them.
 
-use crate::sample::{big, little};
+use crate::sample::{big, fixed_keys, little};
 use btf_elf::Object;
 use btf_object::ObjectLayout;
 use btf_words::SectionIndex;
@@ -127,7 +127,7 @@ fn has_rows(layout: &ObjectLayout) -> bool {
 
 /// Whether an object has the sizes and offsets of the rows.
 fn is_read(alloc: Global, file: &[u8]) -> Result<bool, Fail> {
-    let layout = ObjectLayout::read(alloc, &Object::parse(alloc, file)?)?;
+    let layout = ObjectLayout::read(alloc, &Object::parse(alloc, file)?, fixed_keys())?;
     Ok(has_rows(&layout))
 }
 

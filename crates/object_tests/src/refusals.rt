@@ -1,6 +1,6 @@
 //! Objects that are not rewritten: the first cause of each.
 
-use crate::sample::{little, overwrite};
+use crate::sample::{fixed_keys, little, overwrite};
 use btf_object::{FillPolicy, Kernel, SanitizeError, sanitize_object, sanitize_object_with};
 use std::alloc::Global;
 use std::test::Fail;
@@ -71,7 +71,14 @@ fn is_refused(
     text: &str,
 ) -> Result<bool, Fail> {
     let kernel = Kernel::of_version("5.4").ok_or("this is no version")?;
-    match sanitize_object_with(alloc, file, &kernel, FillPolicy::KeepSized, placeholder) {
+    match sanitize_object_with(
+        alloc,
+        file,
+        &kernel,
+        FillPolicy::KeepSized,
+        placeholder,
+        fixed_keys(),
+    ) {
         Ok(_) => Ok(false),
         Err(error) => has_text(alloc, &error, text),
     }

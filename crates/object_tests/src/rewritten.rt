@@ -1,6 +1,6 @@
 //! Objects that are rewritten for kernels.
 
-use crate::sample::{big, little};
+use crate::sample::{big, fixed_keys, little};
 use btf_elf::{Object, SectionHeader};
 use btf_object::{FillPolicy, Kernel, KsymsIds, ksyms_of, sanitize_object, sanitize_object_with};
 use btf_records::BtfType;
@@ -188,7 +188,8 @@ fn has_ids(btf: &Btf, placeholder: Option<&str>, placeholder_id: Option<u32>) ->
 fn first_symbol(alloc: Global, file: &[u8], placeholder: &str) -> Result<u32, Fail> {
     let kernel = Kernel::of_version("6.0").ok_or("this is no version")?;
     let policy = FillPolicy::KeepSized;
-    let (file, _) = sanitize_object_with(alloc, file, &kernel, policy, Some(placeholder))?;
+    let keys = fixed_keys();
+    let (file, _) = sanitize_object_with(alloc, file, &kernel, policy, Some(placeholder), keys)?;
     let btf = table_of(alloc, &file)?;
     match btf.type_by_id(42) {
         Ok(BtfType::DataSec(section)) => {

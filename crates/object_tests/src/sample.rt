@@ -1,6 +1,7 @@
 //! An object of each byte order, as a compiler wrote them.
 
 use std::alloc::Global;
+use std::hash::{BuildHasherDefault, FoldHasher};
 use std::test::Fail;
 
 /// The bytes of data/program.bpfel.o, of 5208 bytes.
@@ -362,4 +363,9 @@ pub fn overwrite(file: &mut [u8], at: usize, bytes: &[u8]) -> Result<(), Fail> {
     let place = rest.get_mut(..bytes.len()).ok_or("the bytes pass the end")?;
     place.copy_from_slice(bytes);
     Ok(())
+}
+
+/// A hasher with a fixed seed.
+pub fn fixed_keys() -> BuildHasherDefault<FoldHasher> {
+    BuildHasherDefault::new()
 }

@@ -10,6 +10,7 @@ ghost use Rattle.vbtf.specs.Object.{name_or_none, target_chosen, place_of, detai
 
 use crate::fault::{Fault, INVALID_ARGUMENT, OUT_OF_MEMORY, report, report_number};
 use crate::kernel::{Asked, Kernel};
+use crate::seed::keyed_by;
 use crate::write::fill;
 use btf_elf::{ObjectError, ParseError, ReplaceError};
 use btf_object::{SanitizeError, sanitize_object_with};
@@ -27,7 +28,8 @@ const NOT_REPLACEABLE: u32 = 106;
 
 /// Writes an object, with the table in its section `.BTF` rewritten for a kernel, to a buffer, its length in bytes to
 /// `needed`, and reports what was asked. `placeholder` is the name of the variable that takes the place of functions in
-/// `.ksyms`; it is empty where there is none. The ids of `kernel` are not read, since the object's table has names.
+/// `.ksyms`; it is empty where there is none. The ids of `kernel` are not read, since the object's table has names. `seed`
+/// is a random number, with which the names of sections and symbols are hashed.
 ///
 /// Status 100 where the buffer has too little room, and stays as it was. 104 where the bytes are no object; `id` is then
 /// the place of the error in `ParseError`, from 1 on, and `offset` what it names. 105 where no section is `.BTF`; 1 to
@@ -39,6 +41,7 @@ pub extern "C" fn vbtf_raw_sanitize_object(
     object: &[u8],
     kernel: &Kernel,
     placeholder: &[u8],
+    seed: u64,
     out: &mut [u8],
     needed: &mut u64,
     asked: &mut Asked,
@@ -53,7 +56,11 @@ pub extern "C" fn vbtf_raw_sanitize_object(
         return INVALID_ARGUMENT;
     };
     let features = btf_object::Kernel::of_bits(kernel.features);
-    match sanitize_object_with(alloc, object, &features, kernel.policy(), named(name)) {
+    // A `Seed` never fails; only the trait's type allows it.
+    let Ok(keys) = keyed_by(seed) else {
+        return report_cause(SanitizeError::OutOfMemory, fault);
+    };
+    match sanitize_object_with(alloc, object, &features, kernel.policy(), named(name), keys) {
         Ok((file, answers)) => {
             asked.list(&answers);
             fill(&file, out, needed)

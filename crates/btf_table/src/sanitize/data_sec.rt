@@ -37,6 +37,7 @@ use btf_plain::{BtfError, SectionIndex};
 use btf_records::{BtfType, DataSec, DataSecEntry, Struct};
 use btf_rules::{BtfFeature, BtfFeatureResolver, FillPolicy, renamed, section_size};
 use std::collections::{BTreeMap, HashMap};
+use std::hash::BuildHasher;
 
 /// The length of an entry in bytes.
 const ENTRY_LEN: usize = 12;
@@ -70,9 +71,9 @@ fn as_struct(
 /// Of each entry in turn: `UnknownBtfType` of an id that has no type, and `InvalidDatasec` where it is no VAR;
 /// `InvalidStringOffset` where its name can't be read; `SymbolOffsetNotFound` where no symbol has that name, or its
 /// offset has more than 32 bits.
-fn with_symbol_offsets(
+fn with_symbol_offsets<H: BuildHasher>(
     btf: &Btf,
-    symbols: &HashMap<String, u64>,
+    symbols: &HashMap<String, u64, H>,
     names: &mut ReadNames,
     data_sec: &DataSec,
     name_offset: u32,
@@ -102,9 +103,9 @@ fn with_symbol_offsets(
 ///
 /// Of one of size 0: `InvalidStringOffset` where the name can't be read; `UnknownSectionSize` of the name where the
 /// size isn't known or has more than 32 bits.
-fn final_size(
+fn final_size<G: BuildHasher>(
     btf: &Btf,
-    sections: &HashMap<String, (SectionIndex, u64)>,
+    sections: &HashMap<String, (SectionIndex, u64), G>,
     sizes: &mut BTreeMap<u32, u32>,
     data_sec: &DataSec,
 ) -> Result<u32, BtfError>
@@ -204,11 +205,11 @@ fn filled(
 /// `InvalidTypeInfo` where strings or types have no room for it. Of each entry of a DATASEC of size 0 in turn:
 /// `UnknownBtfType`, `InvalidDatasec` where it names no VAR, `InvalidStringOffset` where the name of that can't
 /// be read, and `SymbolOffsetNotFound` where the offset of its symbol isn't known or has more than 32 bits.
-pub fn rewrite_section<F: FnMut(BtfFeature) -> bool>(
+pub fn rewrite_section<F: FnMut(BtfFeature) -> bool, G: BuildHasher, H: BuildHasher>(
     made: &mut Made,
     btf: &Btf,
-    sections: &HashMap<String, (SectionIndex, u64)>,
-    symbols: &HashMap<String, u64>,
+    sections: &HashMap<String, (SectionIndex, u64), G>,
+    symbols: &HashMap<String, u64, H>,
     data_sec: &DataSec,
     policy: FillPolicy,
     names: &mut ReadNames,

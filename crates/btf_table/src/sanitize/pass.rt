@@ -27,6 +27,7 @@ use btf_plain::{BtfError, SectionIndex};
 use btf_records::BtfType;
 use btf_rules::{BtfFeature, BtfFeatureResolver, FillPolicy, sole_feature};
 use std::collections::HashMap;
+use std::hash::BuildHasher;
 
 /// Whether the kernel has the one feature that a type asks for; true where it asks for none. The type is neither a FUNC
 /// nor a DATASEC.
@@ -60,11 +61,11 @@ fn has_sole_feature<F: FnMut(BtfFeature) -> bool>(
 /// `InvalidStringOffset` where the name of a FUNC or a DATASEC can't be read, or strings have no room for what is
 /// appended; `InvalidTypeInfo` where types have no room for it; and of a DATASEC, `UnknownBtfType`,
 /// `InvalidDatasec`, `UnknownSectionSize` and `SymbolOffsetNotFound`.
-fn rewrite_type<F: FnMut(BtfFeature) -> bool>(
+fn rewrite_type<F: FnMut(BtfFeature) -> bool, G: BuildHasher, H: BuildHasher>(
     made: &mut Made,
     btf: &Btf,
-    sections: &HashMap<String, (SectionIndex, u64)>,
-    symbols: &HashMap<String, u64>,
+    sections: &HashMap<String, (SectionIndex, u64), G>,
+    symbols: &HashMap<String, u64, H>,
     btf_type: &BtfType,
     policy: FillPolicy,
     names: &mut ReadNames,
@@ -116,10 +117,10 @@ pub struct PassChanges {
 }
 
 /// What a pass changes in a table, for a kernel that has what the resolver says, or why it is refused.
-pub fn pass_changes<F: FnMut(BtfFeature) -> bool>(
+pub fn pass_changes<F: FnMut(BtfFeature) -> bool, G: BuildHasher, H: BuildHasher>(
     btf: &Btf,
-    sections: &HashMap<String, (SectionIndex, u64)>,
-    symbols: &HashMap<String, u64>,
+    sections: &HashMap<String, (SectionIndex, u64), G>,
+    symbols: &HashMap<String, u64, H>,
     policy: FillPolicy,
     resolver: &mut BtfFeatureResolver<F>,
 ) -> Result<PassChanges, BtfError>

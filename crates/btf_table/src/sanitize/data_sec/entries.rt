@@ -24,6 +24,7 @@ use btf_plain::{BtfError, VarLinkage};
 use btf_records::{BtfMember, BtfType, DataSec, DataSecEntry};
 use btf_rules::known_offset;
 use std::collections::{BTreeMap, HashMap};
+use std::hash::BuildHasher;
 
 /// The member that an entry becomes, of its type, at the bit of its offset. `names` are the string offsets of the names
 /// that all lower ids have by now; a later id has the name of the table.
@@ -75,9 +76,9 @@ pub fn members(btf: &Btf, names: &[u32], data_sec: &DataSec) -> Result<Vec<BtfMe
 ///
 /// `InvalidStringOffset` where the name can't be read; `SymbolOffsetNotFound` where no symbol has that name, or its
 /// offset has more than 32 bits.
-fn symbol_offset(
+fn symbol_offset<H: BuildHasher>(
     btf: &Btf,
-    symbols: &HashMap<String, u64>,
+    symbols: &HashMap<String, u64, H>,
     offsets: &mut BTreeMap<u32, u32>,
     name_offset: u32,
 ) -> Result<u32, BtfError>
@@ -109,9 +110,9 @@ fn symbol_offset(
 ///
 /// `UnknownBtfType` of an id that has no type, and `InvalidDatasec` where it is no VAR; `InvalidStringOffset` where its
 /// name can't be read; `SymbolOffsetNotFound` where no symbol has that name, or its offset has more than 32 bits.
-fn placed_entry(
+fn placed_entry<H: BuildHasher>(
     btf: &Btf,
-    symbols: &HashMap<String, u64>,
+    symbols: &HashMap<String, u64, H>,
     readable_end: usize,
     offsets: &mut BTreeMap<u32, u32>,
     entry: &DataSecEntry,
@@ -146,9 +147,9 @@ fn placed_entry(
 /// Of each entry in turn: `UnknownBtfType` of an id that has no type, and `InvalidDatasec` where it is no VAR;
 /// `InvalidStringOffset` where its name can't be read; `SymbolOffsetNotFound` where no symbol has that name, or its
 /// offset has more than 32 bits.
-pub fn placed_entries(
+pub fn placed_entries<H: BuildHasher>(
     btf: &Btf,
-    symbols: &HashMap<String, u64>,
+    symbols: &HashMap<String, u64, H>,
     readable_end: usize,
     offsets: &mut BTreeMap<u32, u32>,
     data_sec: &DataSec,
