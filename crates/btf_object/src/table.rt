@@ -20,8 +20,8 @@ use btf_table::Btf;
 use btf_words::BtfError;
 use std::alloc::Global;
 
-/// The bytes of a section of an object as a table that is rewritten for a kernel, in the object's order, with what the
-/// kernel was asked.
+/// Parses the bytes of a section of an object as a table, in the object's byte order, and rewrites the table for a
+/// kernel. Returns the bytes of the new table, and the features that the rewrite asked for, with the answers.
 pub fn rewritten(
     alloc: Global,
     object: &Object<'_>,

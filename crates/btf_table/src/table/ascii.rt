@@ -76,7 +76,7 @@ fn after_first_block(bytes: &[u8], from: usize) -> usize
     }
 }
 
-/// The place after the blocks at a place that are ASCII, with no zero byte.
+/// The place after the blocks from a place on that are ASCII without a zero byte.
 #[inline(never)]
 fn after_blocks(bytes: &[u8], from: usize) -> usize
     requires { BeginsAscii bytes.now from }

@@ -110,9 +110,9 @@ fn symbol_offset(
 /// The entry of a variable, at the offset of its symbol. The entry of a Static variable is unchanged, and the
 /// variable's name is not read.
 ///
-/// Fails with `UnknownBtfType` of an id that has no type, and `InvalidDatasec` where it is no VAR;
-/// `InvalidStringOffset` where its name can't be read; `SymbolOffsetNotFound` where no symbol has that name, or its
-/// offset has more than 32 bits.
+/// Fails with `UnknownBtfType` of an id that has no type, with `InvalidDatasec` if the type is no VAR, with
+/// `InvalidStringOffset` if its name can't be read, and with `SymbolOffsetNotFound` if no symbol has the name, or if
+/// the symbol's offset has more than 32 bits.
 fn placed_entry(
     btf: &Btf,
     symbols: &HashMap<String, u64>,
