@@ -17,7 +17,7 @@ use Rattle.btf_model.proofs.Words.{IsBytes, IsBytes-take, IsBytes-drop, half-hal
 use Rattle.btf_model.proofs.Records.{length-records, whole_are_records, same_records}
 use Rattle.btf_model.proofs.Blobs.{header_of-header_bytes, length-canon, canon_types, regrouped}
 
--- ---- what is kept is written as it stands
+-- ---- retained words are written as they were read
 
 capped_fits : (ws : List ℕ) → AllByRecursion (λ w. w < 2 ^ 32) ws → AllByRecursion (λ w. w < 2 ^ 32) (map (min 3) ws)
 capped_fits [] h = tt
@@ -58,7 +58,7 @@ kept_both DeclTag w h = (h, tt)
 kept_both TypeTag w h = (h, tt)
 kept_both Enum64 w h = (h, tt)
 
--- what is written as it stands is kept
+-- words that are written as they were read are retained
 stays : (k : Kind) (w : Record) → IsWrittenAsRead k w → kept k w ≡ w
 stays Unknown w h = sym h
 stays Fwd w h = ap (λ (t : ℕ). record w { third = t }) (sym h)
@@ -129,7 +129,7 @@ bytes_from_all bytes h i =
 length-slice : (at len : ℕ) (bytes : List ℕ) → at + len ≤ length bytes → length (slice at len bytes) ≡ len
 length-slice at len bytes le = omega (arith, length-take len (drop at bytes), length-drop at bytes)
 
--- what the table of a blob says of its parts
+-- the parts of a blob, by its table
 record Parts (order : Endianness) (bytes : List ℕ) (t : Table) : Type 0 where
   types : length (type_bytes t) ≡ (header_of order bytes).type_len
   strings : length t.strings ≡ (header_of order bytes).str_len
