@@ -1,4 +1,4 @@
--- What the lack of errors means.
+-- What holds for bytes without errors.
 use Rattle.std.proofs.Common.{◌≡◌, ◌∙◌, ◌⊎◌, ℕ, ◌+◌, ◌-◌, ◌<◌, ◌≤◌, Bool, true, false, List, [], ◌∷◌, length, take, drop, get_or, Option, None, Some, refl, sym, ap, subst, arith, inl, inr, ⊎_elim}
 use Rattle.std.specs.Prelude.{nat_lt, ◌%◌, ◌==◌, ◌&&◌, ◌||◌, not, position, option_map, slice_get, slice_index, unwrap_or, is_none}
 use Rattle.std.specs.List.{position_or_len}
@@ -41,7 +41,7 @@ apart bytes o index s is at some size =
 
 -- ---- names
 
--- the first element that passes is not behind one that does
+-- the first element that passes the test is not after one that passes
 first_not_behind : {X : Type 0} (p : X → Bool) (xs : List X) (k : ℕ) (d : X) → p (get_or xs k d) ≡ true → position_or_len p xs ≤ k
 first_not_behind p xs k d passes =
     ⊎_elim (λ lt. absurd (both_ways (p (get_or xs k d)) (fails_before_first p xs k d lt) passes)) (λ le. le) (cases_lt k (position_or_len p xs))

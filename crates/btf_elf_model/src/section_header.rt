@@ -13,8 +13,8 @@ pub struct SectionHeader {
     pub address: u64,
     /// `sh_offset`: the file offset of the first byte.
     pub offset: u64,
-    /// `sh_size`: the size in bytes. A section of type `SHT_NOBITS` or `SHT_NULL` has no bytes in the file, whatever this
-    /// is.
+    /// `sh_size`: the size in bytes. A section of type `SHT_NOBITS` or `SHT_NULL` has no bytes in the file, whatever
+    /// the size is.
     pub size: u64,
     /// `sh_link`: the index of another section; which one depends on the type.
     pub link: u32,

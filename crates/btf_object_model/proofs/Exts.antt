@@ -1,4 +1,4 @@
--- What the bytes of `.BTF.ext` say stays, where texts that can be read stay.
+-- The contents of `.BTF.ext` do not change, if no readable text changes.
 use Rattle.std.proofs.Common.{◌≡◌, ◌≢◌, ℕ, List, [], ◌∷◌, Option, None, Some, Ok, Err, sym, ap, inl, inr}
 use Rattle.std.specs.Result.{result_ok}
 use Rattle.std.proofs.lemmas.Option.{none-some}

@@ -1,4 +1,4 @@
--- What a rewritten object keeps of `.BTF.ext`.
+-- A rewritten object retains the contents of `.BTF.ext`.
 use Rattle.std.proofs.Common.{◌≡◌, ◌≢◌, ℕ, ◌<◌, List, [], length, Bool, true, Option, None, Some, refl, sym, ap, subst, ◌∙◌, arith}
 use Rattle.std.specs.Prelude.{position, slice_get, slice_set, unwrap_or, nat_lt, if◌then◌else◌}
 use Rattle.std.specs.List.{position_or_len}
@@ -40,14 +40,14 @@ ext_stays policy old new ids layout answers is order bytes =
 
 -- ---- names
 
--- the first place stays where an element is replaced by one that is tested alike
+-- the first place that passes a test does not change if an element is replaced by one with the same test result
 position_stays : {X : Type 0} (p : X → Bool) (xs : List X) (i : ℕ) (x y : X) → slice_get xs i ≡ Some x → p y ≡ p x → position p (slice_set xs i y) ≡ position p xs
 position_stays p xs i x y at alike =
     let place : position_or_len p (slice_set xs i y) ≡ position_or_len p xs = position_or_len-set p xs i y x (alike ∙ ap p (sym (get_or_from_slice_get xs i x x at))) in
     let len : length (slice_set xs i y) ≡ length xs = length-set xs i y in
     ap (λ (k : ℕ). if nat_lt k (length (slice_set xs i y)) then Some k else None) place ∙ ap (λ (n : ℕ). if nat_lt (position_or_len p xs) n then Some (position_or_len p xs) else None) len
 
--- one name is not another
+-- the two names are different
 not_both : (name a b : List ℕ) → bytes_eq name a ≡ true → bytes_eq name b ≡ true → a ≡ b
 not_both name a b is_a is_b = sym ((bytes_eq-Decides name a).0 is_a) ∙ (bytes_eq-Decides name b).0 is_b
 
@@ -83,14 +83,14 @@ module _ (bytes file : List ℕ) (target : Target) (answers : List FeatureAnswer
   abbrev written : ReplacesSection old z.index z.header (canon z.new) new
   written = z.replaced.2
 
-  -- each name is where it was
+  -- each name is at the same place
   index_stays : (name : List ℕ) → index_of new name ≡ index_of old name
   index_stays name =
       ap (λ (names : Option (List ℕ)). position (λ (s : SectionHeader). bytes_eq (name_at (unwrap_or names []) s.name) name) new.sections) written.names
       ∙ ap (position (λ (s : SectionHeader). bytes_eq (section_name old s) name)) written.sections
       ∙ position_stays (λ (s : SectionHeader). bytes_eq (section_name old s) name) old.sections z.index z.header changed z.section.header refl
 
-  -- the sections of other indices have the headers that they had
+  -- the headers of the sections of other indices are unchanged
   header_stays : (index : ℕ) (s : SectionHeader) → index ≢ z.index → slice_get old.sections index ≡ Some s → slice_get new.sections index ≡ Some s
   header_stays index s other at =
       let within : index < length old.sections = slice_get_within old.sections index s at in
@@ -112,7 +112,7 @@ module _ (bytes file : List ℕ) (target : Target) (answers : List FeatureAnswer
   new_section : HasSection file table_name new z.index changed
   new_section = record { object = z.replaced.1; first = index_stays table_name ∙ z.section.first; header = header_changes }
 
-  -- what `.BTF.ext` says under the new table
+  -- the contents of `.BTF.ext` with the new table
   says : (index : ℕ) (s : SectionHeader) (old_table new_table : Table) (at at' : ℕ) (t t' : SectionHeader) → HasSection bytes table_name old at t → IsTable old.header.order (section_bytes old t) old_table → HasSection file table_name new at' t'
       → IsTable old.header.order (section_bytes new t') new_table → SaysTheSame old.header.order (section_bytes old s) old_table new_table
   says index s old_table new_table at at' t t' has is has' is' =

@@ -1,4 +1,4 @@
--- Reading a record whose head is read, and writing one.
+-- Reading a record after its head, and writing a record.
 use Rattle.std.proofs.Common.{inl, ◌≡◌, ℕ, ◌+◌, ◌^◌, ◌<◌, List, [], ◌∷◌, drop, length, Some, None, Result, Ok, Err, refl, sym, ap, subst, ◌∙◌, arith}
 use Rattle.std.specs.Prelude.{IsErrAnd, OnOk, slice_get, map, min}
 use Rattle.std.specs.List.{AllByRecursion}
@@ -32,7 +32,7 @@ length-behind : (order : Endianness) (bytes : List ℕ) (head : Head) (rest : Li
 length-behind order bytes head rest h =
     omega (arith, h.long, ap length h.behind, length-drop 4 (drop 4 (drop 4 bytes)), length-drop 4 (drop 4 bytes), length-drop 4 bytes)
 
--- a record whose tail is put is read from the front
+-- a record that was put in a slot is read from the front of the bytes
 pub front_put : {P : Type 0} (HasPut : P → BtfType → P → Type 0) (Stays : P → P → Type 0) (old new : P) (order : Endianness) (bytes : List ℕ) (head : Head) (rest : List ℕ) (k : Kind) (r : Result ℕ BtfError) → IsBytes bytes → IsHead order bytes head rest → kind_of head.info ≡ Some k → Puts HasPut Stays old new (ReadsTail order head k rest) r → Puts HasPut Stays old new (ReadsFront order bytes) r
 front_put HasPut Stays old new order bytes head rest k (Ok size) fits h kind given =
     let t = given.0 in
@@ -58,7 +58,7 @@ kind_refused HasPut HasKept place order bytes head rest number r e err none is n
 
 -- ---- what is written
 
--- the words of a record that is kept as it is, in the kinds that have no list
+-- the words of a record that reading retains whole, for the kinds that have no list
 pub whole : (k : Kind) (r : Record) → kind_of r.info ≡ Some k → length r.tail ≡ tail_words k (vlen r.info) → AllByRecursion (λ w. w < 2 ^ 32) (words r) → kept k r ≡ r → IsWhole r
 whole k r kind tail fits stays = (k, record { kind = kind; tail = tail; words = fits }, stays)
 
@@ -74,7 +74,7 @@ pub always : {T E P : Type 0} (r : Result T E) → P → OnOk r P
 always (Ok x) p = p
 always (Err e) p = tt
 
--- a linkage has a small number, which stays
+-- a linkage has a small number, which reading does not change
 pub small_linkage : (l : VarLinkage) → var_linkage_number l < 2 ^ 32
 small_linkage linkages.Static = omega arith
 small_linkage linkages.Global = omega arith

@@ -40,7 +40,7 @@ read_have_kinds order bytes [] h id r is = absurd (omega (arith, slice_get_withi
 read_have_kinds order bytes (x ∷ rs) h zero r is = subst (λ (y : Record). (k : Kind) × (kind_of y.info ≡ Some k)) (same_Some x r is) (read_has_kind order h.0 x h.3)
 read_have_kinds order bytes (x ∷ rs) h (suc id) r is = read_have_kinds order h.1 rs h.4 id r is
 
--- where Unknown comes first
+-- if Unknown comes first
 pub behind_unknown : (rs : List Record) → AllHaveKinds rs → AllHaveKinds (unknown ∷ rs)
 behind_unknown rs h zero r is = (Unknown, ap (λ (y : Record). kind_of y.info) (sym (same_Some unknown r is)))
 behind_unknown rs h (suc id) r is = h id r is

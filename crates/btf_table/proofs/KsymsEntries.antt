@@ -56,7 +56,7 @@ zero_entry = record { btf_type = 0; offset = 0; size = 0 }
 abbrev pub at : List DataSecEntry → ℕ → DataSecEntry
 at es i = get_or es i zero_entry
 
--- the entries up to a place, and the one there
+-- the entries before a place, and the entry at it
 up_to : (es : List DataSecEntry) (i : ℕ) → i < length es → take (i + 1) es ≡ take i es ++ at es i ∷ []
 up_to es i lt =
     let more : i + 1 ≡ suc i = omega arith in
@@ -76,7 +76,7 @@ faults_at t placeholder es i refusal lt before faults =
 any_up_to : (test : Entry → Bool) (es : List DataSecEntry) (i : ℕ) → i < length es → list_any test (map entry (take (i + 1) es)) ≡ cond (test (entry (at es i))) true (list_any test (map entry (take i es)))
 any_up_to test es i lt = ap (λ (xs : List DataSecEntry). list_any test (map entry xs)) (up_to es i lt) ∙ any_more test (take i es) (at es i)
 
--- an entry that does not pass is what the search returns
+-- the refusal of an entry that does not pass is what the search returns
 pub fault_found : (t : Table) (placeholder : Option ℕ) (tail : List ℕ) (es : List DataSecEntry) (i : ℕ) (refusal : Refusal) → tail ≡ flat_map entry_words es → i < length es
     → first_fault (flat_map (ksyms_entry_checks t placeholder) (map entry (take i es))) ≡ None → first_fault (ksyms_entry_checks t placeholder (entry (at es i))) ≡ Some refusal → FindsSymbols t placeholder (entries tail) (Err refusal)
 fault_found t placeholder tail es i refusal words lt before faults =
@@ -92,7 +92,7 @@ this_or_not : (f : Bool) (prototype id : ℕ) → is_this (if f then Some protot
 this_or_not true prototype id = refl
 this_or_not false prototype id = refl
 
--- one more entry adds what it names
+-- one more entry adds its id and its prototype
 pub symbols_up_to : (t : Table) (es : List DataSecEntry) (i : ℕ) (old new : Symbols) (prototype : Option ℕ) → i < length es → HasSymbols t (map entry (take i es)) old
     → prototype ≡ prototype_of t (at es i).btf_type → ((q : ℕ) → has new.ids q ≡ cond ((at es i).btf_type == q) true (has old.ids q)) → ((q : ℕ) → has new.prototypes q ≡ cond (is_this prototype q) true (has old.prototypes q))
     → HasSymbols t (map entry (take (i + 1) es)) new
