@@ -12,7 +12,7 @@ use Rattle.btf_model.specs.Spelling.{spell}
 use Rattle.btf_model.specs.Table.{Table, strip, no_fallbacks, type_bytes}
 use Rattle.btf_model.specs.Blob.{Header, header_len, header_of, header_bytes, string_section, type_section, strings_end, types_end, slice, AreRecords, BeginsNoRecord, IsTable, IsRest, IsRefusal, rest_refusal, canon, canon_header, IsValid}
 use Rattle.btf_model.proofs.Words.{word_of-word, half_of-half}
-use Rattle.btf_model.proofs.Records.{goes_no_further, same_records, whole_are_records}
+use Rattle.btf_model.proofs.Records.{none_is_longer, same_records, whole_are_records}
 
 -- the bytes after the longest front begin with no spelling
 pub rest_from_none : (order : Endianness) (bytes front rest : List ℕ) (rs : List Record) → bytes ≡ front ++ rest → AreRecords order front rs → BeginsNoRecord order rest → IsRest order bytes rest
@@ -20,7 +20,7 @@ rest_from_none order bytes front rest rs whole cut none = record {
   front = front;
   whole = whole;
   cut = (rs, cut);
-  longest = λ other more qs e h. goes_no_further order front rest other more rs qs none cut h (sym whole ∙ e);
+  longest = λ other more qs e h. none_is_longer order front rest other more rs qs none cut h (sym whole ∙ e);
 }
 
 same_back : (a b x y : List ℕ) → length a ≡ length b → a ++ x ≡ b ++ y → x ≡ y

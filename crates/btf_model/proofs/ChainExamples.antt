@@ -5,7 +5,7 @@ use Rattle.std.proofs.Common.{ap, ◌∙◌, arith, inr}
 use Rattle.btf_model.specs.Record.{Record, Kind, Int, Ptr, FuncProto}
 use Rattle.btf_model.specs.Refusal.{Refusal, MaximumTypeDepthReached}
 use Rattle.btf_model.specs.Table.{Table}
-use Rattle.btf_model.specs.Walk.{Resolves, unmodified_in, behind_modifier, modified, walk_limit}
+use Rattle.btf_model.specs.Walk.{Resolves, unmodified_in, after_modifier, modified, walk_limit}
 use Rattle.btf_model.specs.Fields.{Pair, IsAt}
 use Rattle.btf_model.specs.Compat.{Plain, Walked, Paid, Finds, ResolvesPair, position_by}
 use Rattle.btf_model.specs.Compat.Plain.{walked}
@@ -17,7 +17,7 @@ use Rattle.btf_model.specs.CompatExamples.{table_of, pair, itself, none_open}
 
 -- a type that is no modifier resolves to itself
 pub no_modifier : (t : Table) (id : ℕ) (k : Kind) (r : Record) → IsAt t id k r → modified (Some k) r ≡ None → Resolves t.records id (Ok id)
-no_modifier t id k r is plain = itself t id (ap (unmodified_in id) is.0 ∙ ap (λ (x : Option Kind). behind_modifier id (modified x r)) is.1 ∙ ap (behind_modifier id) plain)
+no_modifier t id k r is plain = itself t id (ap (unmodified_in id) is.0 ∙ ap (λ (x : Option Kind). after_modifier id (modified x r)) is.1 ∙ ap (after_modifier id) plain)
 
 owed_itself : (t : Table) (id : ℕ) (k : Kind) (r : Record) → IsAt t id k r → modified (Some k) r ≡ None → ResolvesPair t t (pair id id) (Ok (pair id id))
 owed_itself t id k r is plain = (no_modifier t id k r is plain, no_modifier t id k r is plain)

@@ -133,15 +133,15 @@ same_records order bytes (r ∷ rs) (q ∷ qs) h g =
     ap (λ (x : Record). x ∷ rs) same.record_is ∙ ap (λ (xs : List Record). q ∷ xs) others
 
 -- if no spelling begins after a front of spellings, no other front of spellings is longer
-pub goes_no_further : (order : Endianness) (front rest other more : List ℕ) (rs qs : List Record) → BeginsNoRecord order rest → AreRecords order front rs → AreRecords order other qs → front ++ rest ≡ other ++ more → length other ≤ length front
-goes_no_further order front rest other more rs [] none h g e = omega (arith, ap length g)
-goes_no_further order front rest other more [] (q ∷ qs) none h g e =
+pub none_is_longer : (order : Endianness) (front rest other more : List ℕ) (rs qs : List Record) → BeginsNoRecord order rest → AreRecords order front rs → AreRecords order other qs → front ++ rest ≡ other ++ more → length other ≤ length front
+none_is_longer order front rest other more rs [] none h g e = omega (arith, ap length g)
+none_is_longer order front rest other more [] (q ∷ qs) none h g e =
     let begins : rest ≡ g.0 ++ (g.1 ++ more) = ap (λ t. t ++ rest) (sym h) ∙ e ∙ ap (λ t. t ++ more) g.2 ∙ append_assoc g.0 g.1 more in
     absurd (none g.0 (g.1 ++ more) q begins g.3)
-goes_no_further order front rest other more (r ∷ rs) (q ∷ qs) none h g e =
+none_is_longer order front rest other more (r ∷ rs) (q ∷ qs) none h g e =
     let e' : h.0 ++ (h.1 ++ rest) ≡ g.0 ++ (g.1 ++ more) = sym (append_assoc h.0 h.1 rest) ∙ ap (λ t. t ++ rest) (sym h.2) ∙ e ∙ ap (λ t. t ++ more) g.2 ∙ append_assoc g.0 g.1 more in
     let same = same_record order h.0 g.0 r q (h.1 ++ rest) (g.1 ++ more) h.3 g.3 e' in
-    let others = goes_no_further order h.1 rest g.1 more rs qs none h.4 g.4 same.rest in
+    let others = none_is_longer order h.1 rest g.1 more rs qs none h.4 g.4 same.rest in
     omega (arith, length-append h.0 h.1, length-append g.0 g.1, ap length h.2, ap length g.2, ap length same.bytes)
 
 -- the spellings of the records that are read are as long as the bytes

@@ -318,21 +318,21 @@ module _ (local target : Table) where
         (walked_pair (open_pairs below) g.pair b (stack.1 ++ t) awaits.begins apart.0 (awaits.fails (open_pairs below) avoids_below b t plain not_true)))
 
     -- whatever the answer of p is, the whole comparison has an answer, and its list begins with what was listed before
-    goes_somewhere : HaveKinds local → HaveKinds target → (root : Pair) (below : List Frame) (p : Pair) (before : List Pair) (b : Result Bool Refusal) (t : List Pair) → IsStack root below p before → AvoidsAll Settled (open_pairs below)
+    whole_has_answer : HaveKinds local → HaveKinds target → (root : Pair) (below : List Frame) (p : Pair) (before : List Pair) (b : Result Bool Refusal) (t : List Pair) → IsStack root below p before → AvoidsAll Settled (open_pairs below)
         → AreApart (open_pairs below) → Plain local target (open_pairs below) p b t → (a : Result Bool Refusal) × (rest : List Pair) × Plain local target [] root a (before ++ (t ++ rest))
-    goes_somewhere ls ts root [] p before b t stack avoids apart plain =
+    whole_has_answer ls ts root [] p before b t stack avoids apart plain =
         (b, [], subst (λ (x : List Pair). Plain local target [] root b x) (ap (λ (x : List Pair). x ++ t) (sym stack.1) ∙ ap (λ (x : List Pair). before ++ x) (sym (append-nil t))) (subst (λ (x : Pair). Plain local target [] x b t) stack.0 plain))
-    goes_somewhere ls ts root (g ∷ below) p before b t stack avoids apart plain =
+    whole_has_answer ls ts root (g ∷ below) p before b t stack avoids apart plain =
         let awaits = stack.4 in
         let avoids_below : AvoidsAll Settled (open_pairs below) = λ q m. avoids q (inr m) in
         let more = rest_answers local target ls ts (open_pairs below) g in
         elim (true_or_not b) [
           | inl is ↦
-              let whole = goes_somewhere ls ts root below g.pair stack.0 more.0 (g.pair ∷ (stack.1 ++ (t ++ more.1))) stack.3 avoids_below apart.1
+              let whole = whole_has_answer ls ts root below g.pair stack.0 more.0 (g.pair ∷ (stack.1 ++ (t ++ more.1))) stack.3 avoids_below apart.1
               (walked_pair (open_pairs below) g.pair more.0 (stack.1 ++ (t ++ more.1)) awaits.begins apart.0 (awaits.pays (open_pairs below) avoids_below t (subst (λ (x : Result Bool Refusal). Plain local target (g.pair ∷ open_pairs below) p x t) is plain) more.0 more.1 more.2)) in
               (whole.0, more.1 ++ whole.1, subst (λ (x : List Pair). Plain local target [] root whole.0 x) (lists_on stack.0 stack.1 before t more.1 whole.1 g.pair stack.2) whole.2)
           | inr not_true ↦
-              let whole = goes_somewhere ls ts root below g.pair stack.0 b (g.pair ∷ (stack.1 ++ t)) stack.3 avoids_below apart.1 (walked_pair (open_pairs below) g.pair b (stack.1 ++ t) awaits.begins apart.0 (awaits.fails (open_pairs below) avoids_below b t plain not_true)) in
+              let whole = whole_has_answer ls ts root below g.pair stack.0 b (g.pair ∷ (stack.1 ++ t)) stack.3 avoids_below apart.1 (walked_pair (open_pairs below) g.pair b (stack.1 ++ t) awaits.begins apart.0 (awaits.fails (open_pairs below) avoids_below b t plain not_true)) in
               (whole.0, whole.1, subst (λ (x : List Pair). Plain local target [] root whole.0 x) (lists_as stack.0 stack.1 before t whole.1 g.pair stack.2) whole.2)
         ]
 
@@ -386,7 +386,7 @@ module _ (local target : Table) where
     pub run_begins : HaveKinds local → HaveKinds target → (root : Pair) (f : Frame) (below : List Frame) (listed : List Pair) → Run root f below listed → BeginsWith root listed
     run_begins ls ts root f below listed run =
         let more = rest_answers local target ls ts (open_pairs below) f in
-        let whole = goes_somewhere ls ts root below f.pair run.before more.0 (f.pair ∷ (run.went ++ more.1)) run.stack (λ q m. run.avoids q (inr m)) run.apart.1 (top_answers root f below listed run more.0 more.1 more.2) in
+        let whole = whole_has_answer ls ts root below f.pair run.before more.0 (f.pair ∷ (run.went ++ more.1)) run.stack (λ q m. run.avoids q (inr m)) run.apart.1 (top_answers root f below listed run more.0 more.1 more.2) in
         let behind = firsts_begin (run.before ++ f.pair ∷ run.went) (more.1 ++ whole.1) in (
           whole.0,
           run.before ++ ((f.pair ∷ (run.went ++ more.1)) ++ whole.1),

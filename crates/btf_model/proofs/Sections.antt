@@ -17,17 +17,17 @@ length-section_bytes order s = omega (arith, length-append (word order s.name ++
 regrouped : (order : Endianness) (s : Section) (more : List ℕ) → section_bytes order s ++ more ≡ word order s.name ++ (word order s.count ++ (s.bytes ++ more))
 regrouped order s more = ap (λ (x : List ℕ). x ++ more) (append_assoc (word order s.name) (word order s.count) s.bytes) ∙ append_assoc (word order s.name) (word order s.count ++ s.bytes) more ∙ ap (λ (x : List ℕ). word order s.name ++ x) (append_assoc (word order s.count) s.bytes more)
 
-behind_name : (order : Endianness) (s : Section) (more : List ℕ) → drop 4 (section_bytes order s ++ more) ≡ word order s.count ++ (s.bytes ++ more)
-behind_name order s more = ap (drop 4) (regrouped order s more) ∙ drop_at (word order s.name) (word order s.count ++ (s.bytes ++ more)) 4 (length-word order s.name)
+after_name : (order : Endianness) (s : Section) (more : List ℕ) → drop 4 (section_bytes order s ++ more) ≡ word order s.count ++ (s.bytes ++ more)
+after_name order s more = ap (drop 4) (regrouped order s more) ∙ drop_at (word order s.name) (word order s.count ++ (s.bytes ++ more)) 4 (length-word order s.name)
 
 pub name_at : (order : Endianness) (s : Section) (more : List ℕ) → s.name < 2 ^ 32 → word_at order 0 (section_bytes order s ++ more) ≡ s.name
 name_at order s more lt = ap (λ (x : List ℕ). word_of order (take 4 x)) (regrouped order s more) ∙ ap (word_of order) (take_at (word order s.name) (word order s.count ++ (s.bytes ++ more)) 4 (length-word order s.name)) ∙ word_of-word order s.name lt
 
 pub count_at : (order : Endianness) (s : Section) (more : List ℕ) → s.count < 2 ^ 32 → word_at order 4 (section_bytes order s ++ more) ≡ s.count
-count_at order s more lt = ap (λ (x : List ℕ). word_of order (take 4 x)) (behind_name order s more) ∙ ap (word_of order) (take_at (word order s.count) (s.bytes ++ more) 4 (length-word order s.count)) ∙ word_of-word order s.count lt
+count_at order s more lt = ap (λ (x : List ℕ). word_of order (take 4 x)) (after_name order s more) ∙ ap (word_of order) (take_at (word order s.count) (s.bytes ++ more) 4 (length-word order s.count)) ∙ word_of-word order s.count lt
 
-pub records_behind : (order : Endianness) (s : Section) (more : List ℕ) → drop 4 (drop 4 (section_bytes order s ++ more)) ≡ s.bytes ++ more
-records_behind order s more = ap (drop 4) (behind_name order s more) ∙ drop_at (word order s.count) (s.bytes ++ more) 4 (length-word order s.count)
+pub records_after : (order : Endianness) (s : Section) (more : List ℕ) → drop 4 (drop 4 (section_bytes order s ++ more)) ≡ s.bytes ++ more
+records_after order s more = ap (drop 4) (after_name order s more) ∙ drop_at (word order s.count) (s.bytes ++ more) 4 (length-word order s.count)
 
 -- two sections at the front of the same bytes are equal, and the same bytes follow them
 pub record SameSection (s t : Section) (x y : List ℕ) : Type 0 where
@@ -41,7 +41,7 @@ pub same_section : (order : Endianness) (size : ℕ) (s t : Section) (x y : List
 same_section order size s t x y hs ht e =
     let name : s.name ≡ t.name = sym (name_at order s x hs.name) ∙ ap (word_at order 0) e ∙ name_at order t y ht.name in
     let count : s.count ≡ t.count = sym (count_at order s x hs.count) ∙ ap (word_at order 4) e ∙ count_at order t y ht.count in
-    let behind : s.bytes ++ x ≡ t.bytes ++ y = sym (records_behind order s x) ∙ ap (λ (b : List ℕ). drop 4 (drop 4 b)) e ∙ records_behind order t y in
+    let behind : s.bytes ++ x ≡ t.bytes ++ y = sym (records_after order s x) ∙ ap (λ (b : List ℕ). drop 4 (drop 4 b)) e ∙ records_after order t y in
     let len : length s.bytes ≡ length t.bytes = hs.records ∙ ap (λ (n : ℕ). size * n) count ∙ sym ht.records in
     let bytes : s.bytes ≡ t.bytes = sym (take_at s.bytes x (length t.bytes) len) ∙ ap (take (length t.bytes)) behind ∙ take_at t.bytes y (length t.bytes) refl in
     record {

@@ -5,7 +5,7 @@ use Rattle.std.specs.Result.{result_ok}
 use Rattle.std.proofs.lemmas.Option.{same_Some, none-some}
 use Rattle.btf_model.specs.Record.{Record}
 use Rattle.btf_model.specs.Refusal.{Refusal, UnknownBtfType, MaximumTypeDepthReached}
-use Rattle.btf_model.specs.Walk.{Finding, Ends, GoesOn, Leads, WalkAnswers, By, walk_limit, unmodified_in, behind_modifier, modified_type, Resolves}
+use Rattle.btf_model.specs.Walk.{Finding, Ends, GoesOn, Leads, WalkAnswers, By, walk_limit, unmodified_in, after_modifier, modified_type, Resolves}
 
 next_or : {P A : Type 0} → P → Finding P A → P
 next_or place (Ends answer) = place
@@ -77,12 +77,12 @@ lead_on {P = P} Finds zero start end next p q = (next, subst (λ (s : P). Finds 
 lead_on Finds (suc n) start end next p q = (p.0, p.1, lead_on Finds n p.0 end next p.2 q)
 
 -- a walk over modifiers that ends with an id ends at that id
-behind_ends : (id end : ℕ) (o : Option ℕ) → behind_modifier id o ≡ Ends (Ok end) → id ≡ end
-behind_ends id end (Some next) is = absurd (not_both (GoesOn next) (Ok end) next is refl)
-behind_ends id end None is = same_Some id end (ap result_ok (same_answer (Ok id) (Ok end) is))
+after_ends : (id end : ℕ) (o : Option ℕ) → after_modifier id o ≡ Ends (Ok end) → id ≡ end
+after_ends id end (Some next) is = absurd (not_both (GoesOn next) (Ok end) next is refl)
+after_ends id end None is = same_Some id end (ap result_ok (same_answer (Ok id) (Ok end) is))
 
 pub ends_there : (id end : ℕ) (o : Option Record) → unmodified_in id o ≡ Ends (Ok end) → id ≡ end
-ends_there id end (Some r) is = behind_ends id end (modified_type r) is
+ends_there id end (Some r) is = after_ends id end (modified_type r) is
 ends_there id end None is = absurd (none-some end (ap result_ok (same_answer (Err (UnknownBtfType id)) (Ok end) is)))
 
 pub resolves_to_itself : (records : List Record) (id end : ℕ) → Resolves records id (Ok end) → Resolves records end (Ok end)

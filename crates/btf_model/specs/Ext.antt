@@ -88,14 +88,14 @@ abbrev pub sections_of : List Named → List Section
 sections_of named = map (λ n. n.section) named
 
 -- After these named sections the bytes have a section whose name cannot be read.
-abbrev pub IsUnnamedBehind : Endianness → ℕ → List ℕ → List ℕ → List Named → Refusal → Type 0
-IsUnnamedBehind order size strings bytes named refusal =
+abbrev pub IsUnnamedAfter : Endianness → ℕ → List ℕ → List ℕ → List Named → Refusal → Type 0
+IsUnnamedAfter order size strings bytes named refusal =
     (s : Section) × (more : List ℕ) × BeginsWith order size bytes (sections_of named ++ s ∷ []) more
     × (text_at strings s.name ≡ Err refusal)
 
 -- After these named sections the bytes have a rest that is truncated.
-abbrev pub IsCutBehind : Endianness → ℕ → List ℕ → List Named → Refusal → Type 0
-IsCutBehind order size bytes named refusal =
+abbrev pub IsTruncatedAfter : Endianness → ℕ → List ℕ → List Named → Refusal → Type 0
+IsTruncatedAfter order size bytes named refusal =
     (rest : List ℕ) × Sections order size bytes (sections_of named) rest × (rest ≢ [])
     × (refusal ≡ cut_refusal order size rest)
 
@@ -106,7 +106,7 @@ AreNamed order size strings bytes (Ok named) =
     BeginsWith order size bytes (sections_of named) [] × HaveNames strings named
 AreNamed order size strings bytes (Err refusal) =
     (named : List Named) × HaveNames strings named
-    × (IsUnnamedBehind order size strings bytes named refusal ⊎ IsCutBehind order size bytes named refusal)
+    × (IsUnnamedAfter order size strings bytes named refusal ⊎ IsTruncatedAfter order size bytes named refusal)
 
 -- ---- records
 

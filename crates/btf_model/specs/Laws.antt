@@ -55,7 +55,7 @@ pub record IsUsual (order : Endianness) (bytes : List ℕ) : Type 0 where
   pub hdr_len : (header_of order bytes).hdr_len ≡ header_len
   pub type_off : (header_of order bytes).type_off ≡ 0
   pub str_off : (header_of order bytes).str_off ≡ (header_of order bytes).type_len
-  pub nothing_behind : length bytes ≡ strings_end (header_of order bytes)
+  pub nothing_after : length bytes ≡ strings_end (header_of order bytes)
   pub records : AreWrittenAsRead order (type_section (header_of order bytes) bytes)
 
 -- A blob that represents a table is written back unchanged exactly if it has the written form.

@@ -46,13 +46,13 @@ abbrev pub modified_type : Record → Option ℕ
 modified_type r = modified (kind_of r.info) r
 
 -- a walk over modifiers goes on from a modifier, and ends at any other type
-abbrev pub behind_modifier : ℕ → Option ℕ → Finding ℕ ℕ
-behind_modifier id (Some next) = GoesOn next
-behind_modifier id None = Ends (Ok id)
+abbrev pub after_modifier : ℕ → Option ℕ → Finding ℕ ℕ
+after_modifier id (Some next) = GoesOn next
+after_modifier id None = Ends (Ok id)
 
 -- what this walk finds at an id, by its record, if there is one
 abbrev pub unmodified_in : ℕ → Option Record → Finding ℕ ℕ
-unmodified_in id (Some r) = behind_modifier id (modified_type r)
+unmodified_in id (Some r) = after_modifier id (modified_type r)
 unmodified_in id None = Ends (Err (UnknownBtfType id))
 
 -- What an id resolves to: the first type that is no modifier, or why there is none.

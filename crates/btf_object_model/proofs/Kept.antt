@@ -24,18 +24,18 @@ use Rattle.btf_rewrite_model.specs.declared.feature.FillPolicy.{FillPolicy}
 use Rattle.btf_rewrite_model.specs.declared.ksyms_ids.KsymsIds.{KsymsIds}
 use Rattle.btf_object_model.specs.Kernel.{answers_of}
 use Rattle.btf_object_model.specs.Layout.{layout_of}
-use Rattle.btf_object_model.specs.Laws.{SaysTheSame, KeepsExt}
+use Rattle.btf_object_model.specs.Laws.{HasSameContents, KeepsExt}
 use Rattle.btf_object_model.specs.Sanitized.{Target, HasSection, IsSanitized, index_of, table_name, ext_name}
 use Rattle.btf_object_model.proofs.Appended.{texts_stay}
-use Rattle.btf_object_model.proofs.Exts.{says_ok, says_err}
+use Rattle.btf_object_model.proofs.Exts.{contents_ok, contents_err}
 
 pub ext_stays : (policy : FillPolicy) (old new : Table) (ids : Option KsymsIds) (layout : Layout) (answers : List FeatureAnswer) → Rewritten policy old ids layout answers new
-    → (order : Endianness) (bytes : List ℕ) → SaysTheSame order bytes old new
+    → (order : Endianness) (bytes : List ℕ) → HasSameContents order bytes old new
 ext_stays policy old new ids layout answers is order bytes =
     let stays = texts_stay policy old new ids layout answers is in
     record {
-      ok = says_ok old.strings new.strings stays order bytes;
-      err = says_err old.strings new.strings stays order bytes;
+      ok = contents_ok old.strings new.strings stays order bytes;
+      err = contents_err old.strings new.strings stays order bytes;
     }
 
 -- ---- names
@@ -114,7 +114,7 @@ module _ (bytes file : List ℕ) (target : Target) (answers : List FeatureAnswer
 
   -- the contents of `.BTF.ext` with the new table
   says : (index : ℕ) (s : SectionHeader) (old_table new_table : Table) (at at' : ℕ) (t t' : SectionHeader) → HasSection bytes table_name old at t → IsTable old.header.order (section_bytes old t) old_table → HasSection file table_name new at' t'
-      → IsTable old.header.order (section_bytes new t') new_table → SaysTheSame old.header.order (section_bytes old s) old_table new_table
+      → IsTable old.header.order (section_bytes new t') new_table → HasSameContents old.header.order (section_bytes old s) old_table new_table
   says index s old_table new_table at at' t t' has is has' is' =
       let there = same_section bytes table_name old old at z.index t z.header has z.section in
       let there' = same_section file table_name new new at' z.index t' changed has' new_section in
@@ -124,11 +124,11 @@ module _ (bytes file : List ℕ) (target : Target) (answers : List FeatureAnswer
       let new_is : new_table ≡ strip z.new =
       same_table order (canon z.new) new_table (strip z.new)
       (subst (λ (b : List ℕ). IsTable order b new_table) written.replaced (subst (λ (h : SectionHeader). IsTable order (section_bytes new h) new_table) there'.2 is')) z.table.written in
-      let same : SaysTheSame order (section_bytes old s) z.old z.new =
+      let same : HasSameContents order (section_bytes old s) z.old z.new =
       ext_stays target.policy z.old z.new z.table.ids (layout_of old) (answers_of target.has) z.table.rewritten order (section_bytes old s) in
-      let stripped : SaysTheSame order (section_bytes old s) z.old (strip z.new) = record { ok = same.ok; err = same.err } in
-      subst (λ (u : Table). SaysTheSame order (section_bytes old s) u new_table) (sym old_is)
-      (subst (λ (u : Table). SaysTheSame order (section_bytes old s) z.old u) (sym new_is) stripped)
+      let stripped : HasSameContents order (section_bytes old s) z.old (strip z.new) = record { ok = same.ok; err = same.err } in
+      subst (λ (u : Table). HasSameContents order (section_bytes old s) u new_table) (sym old_is)
+      (subst (λ (u : Table). HasSameContents order (section_bytes old s) z.old u) (sym new_is) stripped)
 
   -- the section of another name is another section
   other_place : (index : ℕ) (s : SectionHeader) → HasSection bytes ext_name old index s → index ≢ z.index

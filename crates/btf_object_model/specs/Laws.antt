@@ -24,7 +24,7 @@ TextsStay =
 
 -- The bytes of `.BTF.ext` have the same contents with both tables. A refusal is the same too, unless its reason is a
 -- name that cannot be read, because the rewrite may append this name.
-pub record SaysTheSame (order : Endianness) (bytes : List ℕ) (old new : Table) : Type 0 where
+pub record HasSameContents (order : Endianness) (bytes : List ℕ) (old new : Table) : Type 0 where
   pub ok : (ext : Ext) → IsExt order bytes old.strings (Ok ext) → IsExt order bytes new.strings (Ok ext)
   pub err : (refusal : Refusal) → ((offset : ℕ) → refusal ≢ InvalidStringOffset offset)
       → IsExt order bytes old.strings (Err refusal) → IsExt order bytes new.strings (Err refusal)
@@ -34,7 +34,7 @@ abbrev pub ExtStays : Type 0
 ExtStays =
     (policy : FillPolicy) (old new : Table) (ids : Option KsymsIds) (layout : Layout) (answers : List FeatureAnswer)
     → Rewritten policy old ids layout answers new
-    → (order : Endianness) (bytes : List ℕ) → SaysTheSame order bytes old new
+    → (order : Endianness) (bytes : List ℕ) → HasSameContents order bytes old new
 
 -- A rewritten object and its `.BTF.ext`: the section has the same index and the same bytes as in the old object. With
 -- the table in the new `.BTF` these bytes have the same contents as with the table in the old `.BTF`.
@@ -44,7 +44,7 @@ pub record KeepsExt (bytes file : List ℕ) (o new : Object) (index : ℕ) (s : 
   pub says : (old_table new_table : Table) (at at' : ℕ) (t t' : SectionHeader)
       → HasSection bytes table_name o at t → IsTable o.header.order (section_bytes o t) old_table
       → HasSection file table_name new at' t' → IsTable o.header.order (section_bytes new t') new_table
-      → SaysTheSame o.header.order (section_bytes o s) old_table new_table
+      → HasSameContents o.header.order (section_bytes o s) old_table new_table
 
 -- The written object retains the function, line and relocation records of the old object.
 abbrev pub SanitizedKeepsExt : Type 0

@@ -22,11 +22,11 @@ use Rattle.btf_plain.specs.Linkage.{var_linkage_number}
 use Rattle.btf_words.specs.Error.{refusal_of}
 use Rattle.btf_records.specs.declared.btf_type.BtfType.{BtfType}
 use Rattle.btf_records.specs.declared.codec.Head.{Head}
-use Rattle.btf_records.specs.Head.{IsHead, record_behind, ReadsTail}
+use Rattle.btf_records.specs.Head.{IsHead, record_after, ReadsTail}
 use Rattle.btf_records.specs.Slot.{Puts, StaysOr}
 
-behind_is : (order : Endianness) (bytes : List ℕ) (head : Head) (rest : List ℕ) (n : ℕ) → IsHead order bytes head rest → record_at order n bytes ≡ record_behind order head n rest
-behind_is order bytes head rest n h = λ i. record { name = sym h.name i; info = sym h.info i; third = sym h.third i; tail = words_at order n (sym h.behind i) }
+after_is : (order : Endianness) (bytes : List ℕ) (head : Head) (rest : List ℕ) (n : ℕ) → IsHead order bytes head rest → record_at order n bytes ≡ record_after order head n rest
+after_is order bytes head rest n h = λ i. record { name = sym h.name i; info = sym h.info i; third = sym h.third i; tail = words_at order n (sym h.behind i) }
 
 length-behind : (order : Endianness) (bytes : List ℕ) (head : Head) (rest : List ℕ) → IsHead order bytes head rest → length bytes ≡ 12 + length rest
 length-behind order bytes head rest h =
@@ -38,7 +38,7 @@ front_put HasPut Stays old new order bytes head rest k (Ok size) fits h kind giv
     let t = given.0 in
     let n = tail_words k (vlen head.info) in
     let found = reads order bytes k n fits (omega (arith, given.2.0, length-behind order bytes head rest h)) (ap kind_of (sym h.info) ∙ kind) (ap (λ (i : ℕ). tail_words k (vlen i)) h.info) in
-    (t, given.1, subst (λ (q : Record). ReadsFront order bytes (Ok q)) (ap (kept k) (behind_is order bytes head rest n h) ∙ sym given.2.1) found, given.3, given.4)
+    (t, given.1, subst (λ (q : Record). ReadsFront order bytes (Ok q)) (ap (kept k) (after_is order bytes head rest n h) ∙ sym given.2.1) found, given.3, given.4)
 front_put HasPut Stays old new order bytes head rest k (Err e) fits h kind given = (
   given.0,
   IfSome_then (refusal_of e) given.1 (λ f q.

@@ -16,8 +16,8 @@ pub record IsHead (order : Endianness) (bytes : List ℕ) (head : Head) (rest : 
   pub behind : rest ≡ drop 4 (drop 4 (drop 4 bytes))
 
 -- the record that consists of the head and the first words after it
-abbrev pub record_behind : Endianness → Head → ℕ → List ℕ → Record
-record_behind order head n rest =
+abbrev pub record_after : Endianness → Head → ℕ → List ℕ → Record
+record_after order head n rest =
     record { name = head.name; info = head.info; third = head.third; tail = words_at order n rest }
 
 -- what reading retains of the record that consists of the head and the words after it; refused if these words are
@@ -25,6 +25,6 @@ record_behind order head n rest =
 abbrev pub ReadsTail : Endianness → Head → Kind → List ℕ → Result Record Refusal → Type 0
 ReadsTail order head k rest (Ok r) =
     (4 * tail_words k (vlen head.info) ≤ length rest)
-    × (r ≡ kept k (record_behind order head (tail_words k (vlen head.info)) rest))
+    × (r ≡ kept k (record_after order head (tail_words k (vlen head.info)) rest))
 ReadsTail order head k rest (Err refusal) =
     (length rest < 4 * tail_words k (vlen head.info)) × (refusal ≡ InvalidTypeInfo)

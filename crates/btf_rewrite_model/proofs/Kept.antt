@@ -10,7 +10,7 @@ use Rattle.btf_model.specs.Record as kinds
 use Rattle.btf_model.specs.Record.{Kind, Record, unknown, kind_of, kind_number, vlen}
 use Rattle.btf_model.specs.Refusal.{Refusal, UnknownBtfType, MaximumTypeDepthReached}
 use Rattle.btf_model.specs.Table.{Table}
-use Rattle.btf_model.specs.Walk.{Extent, Finding, Ends, GoesOn, Leads, WalkAnswers, By, Elements, size_in, size_by, extent, modified, modified_type, behind_modifier, unmodified_in, Resolves, HasSize}
+use Rattle.btf_model.specs.Walk.{Extent, Finding, Ends, GoesOn, Leads, WalkAnswers, By, Elements, size_in, size_by, extent, modified, modified_type, after_modifier, unmodified_in, Resolves, HasSize}
 use Rattle.btf_rewrite_model.specs.declared.feature.BtfFeature.TheVariants as features
 use Rattle.btf_rewrite_model.specs.Feature.{is_signed}
 use Rattle.btf_rewrite_model.specs.declared.feature.FeatureAnswer.{FeatureAnswer}
@@ -227,14 +227,14 @@ module _ (policy : FillPolicy) (old new : Table) (ids : Option KsymsIds) (layout
   modifier_is_no_func : (k : Option Kind) (r : Record) (next : ℕ) → modified k r ≡ Some next → k ≢ Some kinds.Func
   modifier_is_no_func k r next modifies is_func = none-some next (sym (ap (λ (j : Option Kind). modified j r) is_func) ∙ modifies)
 
-  goes_on_by : (id next : ℕ) (o : Option ℕ) → ◌≡◌ {A = Finding ℕ ℕ} (behind_modifier id o) (GoesOn next) → o ≡ Some next
+  goes_on_by : (id next : ℕ) (o : Option ℕ) → ◌≡◌ {A = Finding ℕ ℕ} (after_modifier id o) (GoesOn next) → o ≡ Some next
   goes_on_by id next (Some other) is_next = ap (λ (n : ℕ). Some n) (same_next other next is_next)
   goes_on_by id next None is_next = absurd (not_both (Ends (Ok id)) (Ok id) next refl is_next)
 
-  unmodified_found : (id : ℕ) (r : Record) (found : Finding ℕ ℕ) → slice_get old.records id ≡ Some r → kind_of r.info ≢ Some kinds.Func → behind_modifier id (modified_type r) ≡ found → unmodified_in id (slice_get new.records id) ≡ found
+  unmodified_found : (id : ℕ) (r : Record) (found : Finding ℕ ℕ) → slice_get old.records id ≡ Some r → kind_of r.info ≢ Some kinds.Func → after_modifier id (modified_type r) ≡ found → unmodified_in id (slice_get new.records id) ≡ found
   unmodified_found id r found here other there =
       let same = same_modified id r here other in
-      ap (λ (o : Option Record). unmodified_in id o) same.1 ∙ ap (λ (o : Option ℕ). behind_modifier id o) same.2 ∙ there
+      ap (λ (o : Option Record). unmodified_in id o) same.1 ∙ ap (λ (o : Option ℕ). after_modifier id o) same.2 ∙ there
 
   on_too : (id next : ℕ) → By (λ at. unmodified_in at (slice_get old.records at)) id (GoesOn next) → By (λ at. unmodified_in at (slice_get new.records at)) id (GoesOn next)
   on_too id next finds =

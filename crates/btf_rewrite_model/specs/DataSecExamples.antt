@@ -179,14 +179,14 @@ appended_type_is_unknown = refl
 -- ---- texts that are appended are not read
 
 -- INT 1, FUNC_PROTO 2 with a parameter without a name, FUNC 3 of the name 1, an offset after all strings
-abbrev behind_all_strings : Pass
-behind_all_strings = record {
+abbrev after_all_strings : Pass
+after_all_strings = record {
   table = table_of (int 0 ∷ record { name = 0; info = 0x0d000001; third = 0; tail = 0 ∷ 1 ∷ [] } ∷ record { name = 1; info = 0x0c000000; third = 2; tail = [] } ∷ []);
   layout = no_layout;
   policy = KeepSized;
   answers = granted (features.Func ∷ []);
 }
 
-appended_text_is_not_read : fault behind_all_strings 3 ≡ Some (InvalidStringOffset 1)
+appended_text_is_not_read : fault after_all_strings 3 ≡ Some (InvalidStringOffset 1)
 unfolding digits
 appended_text_is_not_read = refl

@@ -58,9 +58,9 @@ abbrev extern_function : Table
 extern_function = named_table (codes "f" ∷ codes "ph" ∷ codes ".ksyms" ∷ codes "int" ∷ [])
     (int 13 ∷ record { name = 0; info = 0x0d000001; third = 1; tail = 0 ∷ 1 ∷ [] } ∷ func 1 2 2 ∷ var 3 1 1 ∷ one_entry 6 0 3 0 0 ∷ [])
 
-placeholder_stands_for_it : ksyms_table extern_function (ids 5 (Some 4))
+placeholder_replaces_it : ksyms_table extern_function (ids 5 (Some 4))
     ≡ record extern_function { records = unknown ∷ int 13 ∷ record { name = 0; info = 0x0d000001; third = 1; tail = 3 ∷ 1 ∷ [] } ∷ func 1 1 2 ∷ var 3 1 1 ∷ one_entry 6 4 4 0 4 ∷ [] }
-placeholder_stands_for_it = refl
+placeholder_replaces_it = refl
 
 -- a placeholder that is no VAR, one that does not exist, and a DATASEC id that is no DATASEC
 wrong_ids : (ksyms_fault extern_function (ids 5 (Some 1)) ≡ Some InvalidDatasec) × (ksyms_fault extern_function (ids 5 (Some 9)) ≡ Some (UnknownBtfType 9)) × (ksyms_fault extern_function (ids 2 None) ≡ Some InvalidDatasec)
@@ -86,11 +86,11 @@ abbrev open_ended : Option KsymsIds → Pass
 open_ended given = pass_of KeepSized (record (table_of (record { name = 0; info = 0x0f000000; third = 0; tail = [] } ∷ func 1 0 0 ∷ [])) { strings = 0 ∷ 0x66 ∷ [] }) given no_layout []
 
 -- after the step the name of FUNC 2 is "fint"
-read_behind_the_step : (fault (open_ended (Some (ids 1 None))) 2 ≡ None)
+read_after_the_step : (fault (open_ended (Some (ids 1 None))) 2 ≡ None)
     × ((rewritten (open_ended (Some (ids 1 None)))).records
     ≡ unknown ∷ record { name = 0; info = 0x04000000; third = 0; tail = [] } ∷ record { name = 1; info = 0x08000000; third = 0; tail = [] } ∷ record { name = 2; info = 0x01000000; third = 4; tail = 0x01000020 ∷ [] } ∷ [])
 unfolding pieces_from encode
-read_behind_the_step = (refl, refl)
+read_after_the_step = (refl, refl)
 
 both_are_asked_for : Asked (open_ended (Some (ids 1 None))) ≡ features.DataSec ∷ features.Func ∷ []
 unfolding pieces_from encode

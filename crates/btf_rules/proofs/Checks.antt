@@ -11,10 +11,10 @@ use Rattle.btf_model.specs.Table.{section_limit}
 use Rattle.btf_rewrite_model.specs.Checks.{Check, first_fault, has_room, fits}
 
 -- if the first tests pass, the others count
-pub fault_behind : (before after : List Check) → first_fault before ≡ None → first_fault (before ++ after) ≡ first_fault after
-fault_behind [] after passed = refl
-fault_behind (None ∷ before) after passed = fault_behind before after passed
-fault_behind (Some refusal ∷ before) after passed = absurd (none-some refusal (sym passed))
+pub fault_after : (before after : List Check) → first_fault before ≡ None → first_fault (before ++ after) ≡ first_fault after
+fault_after [] after passed = refl
+fault_after (None ∷ before) after passed = fault_after before after passed
+fault_after (Some refusal ∷ before) after passed = absurd (none-some refusal (sym passed))
 
 -- if one of the first tests does not pass, it counts
 pub fault_before : (before after : List Check) (refusal : Refusal) → first_fault before ≡ Some refusal → first_fault (before ++ after) ≡ Some refusal
@@ -24,10 +24,10 @@ fault_before (Some other ∷ before) after refusal faults = faults
 
 -- three lists of tests: the first, then the second
 pub fault_second : (a b c : List Check) (refusal : Refusal) → first_fault a ≡ None → first_fault b ≡ Some refusal → first_fault (a ++ b ++ c) ≡ Some refusal
-fault_second a b c refusal passed faults = fault_before (a ++ b) c refusal (fault_behind a b passed ∙ faults)
+fault_second a b c refusal passed faults = fault_before (a ++ b) c refusal (fault_after a b passed ∙ faults)
 
 pub fault_third : (a b c : List Check) → first_fault a ≡ None → first_fault b ≡ None → first_fault (a ++ b ++ c) ≡ first_fault c
-fault_third a b c passed too = fault_behind (a ++ b) c (fault_behind a b passed ∙ too)
+fault_third a b c passed too = fault_after (a ++ b) c (fault_after a b passed ∙ too)
 
 pub no_room : (offset : ℕ) (text : List ℕ) → offset ≤ section_limit → section_limit - offset ≤ length text → has_room offset text ≡ Some (InvalidStringOffset offset)
 no_room offset text below long = ap (λ (b : Bool). if b then None else Some (InvalidStringOffset offset)) (lt-leb (offset + length text + 1) section_limit (omega (arith, below, long)))

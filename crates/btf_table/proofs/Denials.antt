@@ -16,7 +16,7 @@ use Rattle.btf_table.specs.Btf.{table_of, IsKept}
 use Rattle.btf_table.specs.Changes.{put_all, each, changed}
 use Rattle.btf_table.specs.declared.table.changes.Changes.{Changes}
 use Rattle.btf_table.proofs.Put.{length-put}
-use Rattle.btf_table.proofs.Spelled.{behind_len}
+use Rattle.btf_table.proofs.Spelled.{after_len}
 use Rattle.btf_table.specs.Denied.{AllHaveKinds, AreIds, AreDenied, deny_all}
 
 pub length-deny : (ids : List ℕ) (rs : List Record) → length (deny_all ids rs) ≡ length rs
@@ -99,8 +99,8 @@ kept_denied b types ids kept inside d =
     let rs : List Record = map record_of types.items in
     let head = deny_first (length b.types.items) ids unknown kept.first.0 inside in
     let first : rs ≡ unknown ∷ head.0 = d.records ∙ ap (deny_all ids) kept.first.1 ∙ head.1 in
-    let old_len : sum_by record_len (map record_of b.types.items) ≡ 12 + length (type_bytes (table_of b)) = behind_len b.endianness kept.first.0 (map record_of b.types.items) kept.first.1 in
-    let new_len : sum_by record_len rs ≡ 12 + length (type_bytes (table_of (record b { types = types }))) = behind_len b.endianness head.0 rs first in
+    let old_len : sum_by record_len (map record_of b.types.items) ≡ 12 + length (type_bytes (table_of b)) = after_len b.endianness kept.first.0 (map record_of b.types.items) kept.first.1 in
+    let new_len : sum_by record_len rs ≡ 12 + length (type_bytes (table_of (record b { types = types }))) = after_len b.endianness head.0 rs first in
     record {
       magic = kept.magic;
       version = kept.version;

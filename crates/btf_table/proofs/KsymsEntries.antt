@@ -15,7 +15,7 @@ use Rattle.btf_items.specs.Items.{entry_words}
 use Rattle.btf_items.specs.declared.items.DataSecEntry.{DataSecEntry}
 use Rattle.btf_table.specs.KsymsStep.{entry, has, is_this, prototype_of, HasSymbols, FindsSymbols}
 use Rattle.btf_table.specs.declared.sanitize.ksyms.Symbols.{Symbols}
-use Rattle.btf_rules.proofs.Checks.{fault_behind, fault_before}
+use Rattle.btf_rules.proofs.Checks.{fault_after, fault_before}
 
 -- the words of entries are read as these
 pub entries_of_words : (es : List DataSecEntry) → entries (flat_map entry_words es) ≡ map entry es
@@ -28,7 +28,7 @@ pub one_more_passes : (t : Table) (placeholder : Option ℕ) (es : List DataSecE
 one_more_passes t placeholder es e before passed =
     let checks : Entry → List Check = ksyms_entry_checks t placeholder in
     ap (λ (xs : List Entry). first_fault (flat_map checks xs)) (map-append entry es (e ∷ [])) ∙ ap first_fault (flat_map-append checks (map entry es) (entry e ∷ []))
-    ∙ fault_behind (flat_map checks (map entry es)) (checks (entry e) ++ []) before ∙ ap first_fault (append-nil (checks (entry e))) ∙ passed
+    ∙ fault_after (flat_map checks (map entry es)) (checks (entry e) ++ []) before ∙ ap first_fault (append-nil (checks (entry e))) ∙ passed
 
 -- the first entry that does not pass counts
 pub one_faults : (t : Table) (placeholder : Option ℕ) (es : List DataSecEntry) (e : DataSecEntry) (rest : List DataSecEntry) (refusal : Refusal) → first_fault (flat_map (ksyms_entry_checks t placeholder) (map entry es)) ≡ None
@@ -36,7 +36,7 @@ pub one_faults : (t : Table) (placeholder : Option ℕ) (es : List DataSecEntry)
 one_faults t placeholder es e rest refusal before faults =
     let checks : Entry → List Check = ksyms_entry_checks t placeholder in
     ap (λ (xs : List Entry). first_fault (flat_map checks xs)) (map-append entry es (e ∷ rest)) ∙ ap first_fault (flat_map-append checks (map entry es) (map entry (e ∷ rest)))
-    ∙ fault_behind (flat_map checks (map entry es)) (checks (entry e) ++ flat_map checks (map entry rest)) before ∙ fault_before (checks (entry e)) (flat_map checks (map entry rest)) refusal faults
+    ∙ fault_after (flat_map checks (map entry es)) (checks (entry e) ++ flat_map checks (map entry rest)) before ∙ fault_before (checks (entry e)) (flat_map checks (map entry rest)) refusal faults
 
 -- a test of one more entry
 pub any_more : (test : Entry → Bool) (es : List DataSecEntry) (e : DataSecEntry) → list_any test (map entry (es ++ e ∷ [])) ≡ cond (test (entry e)) true (list_any test (map entry es))

@@ -45,7 +45,7 @@ use Rattle.btf_table.specs.declared.sanitize.made.Made.{Made}
 use Rattle.btf_table.specs.declared.sanitize.outcome.Outcome.{Outcome}
 use Rattle.btf_table.specs.declared.sanitize.outcome.Outcome.TheVariants.{Same, Denied, Other}
 use Rattle.btf_table.proofs.Denials.{deny_front, deny_last, ids_more, ids_next}
-use Rattle.btf_table.proofs.Spelled.{behind_len}
+use Rattle.btf_table.proofs.Spelled.{after_len}
 use Rattle.btf_table.proofs.Outcomes.{denied_record, placed_fallback}
 use Rattle.btf_table.proofs.KnownKinds.{one_more_kind, only_unknown}
 use Rattle.btf_table.proofs.Put.{length-put, put_kept, put_new, inside_more, inside_next, first_stays}
@@ -326,10 +326,10 @@ passed_all p n m ids rs is as_many first made_n = whole (subst (λ (i : ℕ). Is
         (ap (λ xs. xs ++ map fallback_of m.changes.new_types.items) fallen ∙ ap (λ xs. map (falls_back p) (range_with_len 0 count) ++ xs) (made.new_fallbacks ∙ ap no_fallbacks appended)) in
         let head : (rest : List Record) × (put_all (each record_of cs) (unknown ∷ rs) ≡ unknown ∷ rest) = first_stays record_of count cs unknown rs made.inside in
         let front_first : front ≡ unknown ∷ head.0 = ap (put_all (each record_of cs)) first ∙ head.1 in
-        let long : sum_by record_len (front ++ new) ≡ 12 + length (type_bytes (changed t m.changes)) = behind_len t.order (head.0 ++ new) (front ++ new) (ap (λ xs. xs ++ new) front_first) in
+        let long : sum_by record_len (front ++ new) ≡ 12 + length (type_bytes (changed t m.changes)) = after_len t.order (head.0 ++ new) (front ++ new) (ap (λ xs. xs ++ new) front_first) in
         let parts : sum_by record_len (front ++ new) ≡ sum_by record_len front + sum_by record_len (added_below p count) =
         sum_by-append record_len front new ∙ ap (λ rs. sum_by record_len front + sum_by record_len rs) appended in
-        let old_len : sum_by record_len t.records ≡ 12 + length (type_bytes t) = behind_len t.order rs t.records first in
+        let old_len : sum_by record_len t.records ≡ 12 + length (type_bytes t) = after_len t.order rs t.records first in
         let len : sum_by record_len front ≡ sum_by record_len t.records + growth_below p count =
         ap (sum_by record_len) (sym placed) ∙ made.len ∙ ap (λ xs. sum_by record_len xs + growth_below p count) all_records in
         let type_len : m.changes.type_len ≡ length (type_bytes t) + sum_by record_len (added_below p count) + growth_below p count = made.has_made.type_len_is in (

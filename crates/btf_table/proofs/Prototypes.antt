@@ -20,7 +20,7 @@ use Rattle.btf_items.specs.declared.items.BtfParam.{BtfParam}
 use Rattle.btf_table.specs.declared.table.changes.Changes.{Changes}
 use Rattle.btf_table.specs.Adding.{strings_end, Adds}
 use Rattle.btf_table.specs.Params.{lack_a_name}
-use Rattle.btf_rules.proofs.Checks.{fault_behind, fault_before}
+use Rattle.btf_rules.proofs.Checks.{fault_after, fault_before}
 use Rattle.btf_rules.proofs.NamedParams.{put_at}
 
 -- ---- texts
@@ -66,7 +66,7 @@ pub room_next : (offset : ℕ) (ps : List BtfParam) (i : ℕ) → i < length ps 
     → first_fault (have_room (offset + texts_len (texts_to i ps)) (param_texts i (param_words (at ps i)))) ≡ None → first_fault (have_room offset (texts_to (i + 1) ps)) ≡ None
 room_next offset ps i lt before passed =
     ap (λ (ts : List (List ℕ)). first_fault (have_room offset ts)) (texts_next ps i lt) ∙ ap first_fault (room_append offset (texts_to i ps) (param_texts i (param_words (at ps i))))
-    ∙ fault_behind (have_room offset (texts_to i ps)) (have_room (offset + texts_len (texts_to i ps)) (param_texts i (param_words (at ps i)))) before ∙ passed
+    ∙ fault_after (have_room offset (texts_to i ps)) (have_room (offset + texts_len (texts_to i ps)) (param_texts i (param_words (at ps i)))) before ∙ passed
 
 -- the first text that does not fit counts
 pub room_fault : (offset : ℕ) (ps : List BtfParam) (i : ℕ) (refusal : Refusal) → i < length ps → first_fault (have_room offset (texts_to i ps)) ≡ None
@@ -80,7 +80,7 @@ room_fault offset ps i refusal lt before faults =
     ap (λ (qs : List BtfParam). param_texts 0 (flat_map param_words qs)) (sym (take-append-drop (i + 1) ps)) ∙ texts_append 0 (take (i + 1) ps) (drop (i + 1) ps) in
     let up : first_fault (have_room offset to) ≡ Some refusal =
     ap (λ (ts : List (List ℕ)). first_fault (have_room offset ts)) (texts_next ps i lt) ∙ ap first_fault (room_append offset front here)
-    ∙ fault_behind (have_room offset front) (have_room (offset + texts_len front) here) before ∙ faults in
+    ∙ fault_after (have_room offset front) (have_room (offset + texts_len front) here) before ∙ faults in
     ap (λ (ts : List (List ℕ)). first_fault (have_room offset ts)) parts ∙ ap first_fault (room_append offset to rest) ∙ fault_before (have_room offset to) (have_room (offset + texts_len to) rest) refusal up
 
 -- ---- names

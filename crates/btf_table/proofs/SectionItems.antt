@@ -17,7 +17,7 @@ use Rattle.btf_table.specs.Adding.{strings_end, next_id, Adds}
 use Rattle.btf_table.specs.KsymsStep.{entry}
 use Rattle.btf_table.specs.declared.table.changes.Changes.{Changes}
 use Rattle.btf_table.proofs.Adding.{adds_then}
-use Rattle.btf_rules.proofs.Checks.{fault_behind, fault_before}
+use Rattle.btf_rules.proofs.Checks.{fault_after, fault_before}
 use Rattle.btf_table.proofs.KsymsEntries.{at, zero_entry, entries_of_words}
 
 -- ---- the filler
@@ -61,7 +61,7 @@ pub one_more_passes : (checks : Entry → List Check) (es : List DataSecEntry) (
     → first_fault (flat_map checks (map entry (take (i + 1) es))) ≡ None
 one_more_passes checks es i lt before passed =
     ap (λ (xs : List Entry). first_fault (flat_map checks xs)) (map_up_to es i lt) ∙ ap first_fault (flat_map-append checks (map entry (take i es)) (entry (at es i) ∷ []))
-    ∙ fault_behind (flat_map checks (map entry (take i es))) (checks (entry (at es i)) ++ []) before ∙ ap first_fault (append-nil (checks (entry (at es i)))) ∙ passed
+    ∙ fault_after (flat_map checks (map entry (take i es))) (checks (entry (at es i)) ++ []) before ∙ ap first_fault (append-nil (checks (entry (at es i)))) ∙ passed
 
 -- the first entry that does not pass counts
 pub this_one_faults : (checks : Entry → List Check) (tail : List ℕ) (es : List DataSecEntry) (i : ℕ) (refusal : Refusal) → tail ≡ flat_map entry_words es → i < length es
@@ -72,7 +72,7 @@ this_one_faults checks tail es i refusal words lt before faults =
     let split : es ≡ take i es ++ e ∷ rest = sym (take-append-drop i es) ∙ ap (λ (xs : List DataSecEntry). take i es ++ xs) (drop-cons es i zero_entry lt) in
     ap (λ (xs : List Entry). first_fault (flat_map checks xs)) (ap entries words ∙ entries_of_words es ∙ ap (map entry) split ∙ map-append entry (take i es) (e ∷ rest))
     ∙ ap first_fault (flat_map-append checks (map entry (take i es)) (map entry (e ∷ rest)))
-    ∙ fault_behind (flat_map checks (map entry (take i es))) (checks (entry e) ++ flat_map checks (map entry rest)) before ∙ fault_before (checks (entry e)) (flat_map checks (map entry rest)) refusal faults
+    ∙ fault_after (flat_map checks (map entry (take i es))) (checks (entry e) ++ flat_map checks (map entry rest)) before ∙ fault_before (checks (entry e)) (flat_map checks (map entry rest)) refusal faults
 
 -- the words that entries become, before a place and at it
 pub one_more_becomes : {X : Type 0} (f : Entry → List X) (es : List DataSecEntry) (i : ℕ) (old new : List X) → i < length es → old ≡ flat_map f (map entry (take i es)) → new ≡ f (entry (at es i)) → old ++ new ≡ flat_map f (map entry (take (i + 1) es))

@@ -42,7 +42,7 @@ use Rattle.btf_table.specs.PassStep.{IsHere, IsRuled, Rules, growth, HasAsked, A
 use Rattle.btf_table.specs.SectionStep.{HasNewName, filled, final_size, is_fillable, asks_zero}
 use Rattle.btf_table.specs.declared.sanitize.made.Made.{Made}
 use Rattle.btf_table.proofs.Adding.{adds_none, adds_then}
-use Rattle.btf_rules.proofs.Checks.{fault_behind, fault_before, fault_third, checked_ok, checked_err}
+use Rattle.btf_rules.proofs.Checks.{fault_after, fault_before, fault_third, checked_ok, checked_err}
 use Rattle.btf_table.proofs.Prototypes.{end_after}
 use Rattle.btf_words.proofs.Refused.{handed_on}
 use Rattle.btf_table.proofs.SectionItems.{id_stays}
@@ -176,7 +176,7 @@ module _ (p : Pass) (id : ℕ) (r : Record) (there : IsType p.table id (DataSec 
 
   fault_by : (granted unsized : Bool) → first_fault (name_checks p id) ≡ None → has p features.DataSec ≡ granted → (r.third == 0) ≡ unsized → fault p id ≡ first_fault (rest_by granted unsized)
   fault_by granted unsized passed has_it is =
-      fault_there p id (DataSec r) (Some kinds.DataSec) there kind ∙ fault_behind (name_checks p id) (rest_by (has p features.DataSec) (r.third == 0)) passed
+      fault_there p id (DataSec r) (Some kinds.DataSec) there kind ∙ fault_after (name_checks p id) (rest_by (has p features.DataSec) (r.third == 0)) passed
       ∙ ap (λ (b : Bool). first_fault (rest_by b (r.third == 0))) has_it ∙ ap (λ (b : Bool). first_fault (rest_by granted b)) is
 
   pub size_fault : (refusal : Refusal) → first_fault (name_checks p id) ≡ None → has p features.DataSec ≡ true → (r.third == 0) ≡ true → first_fault (is_read (name_of p id) ∷ is_sized (section_size p id) (name_of p id) ∷ []) ≡ Some refusal

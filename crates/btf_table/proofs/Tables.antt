@@ -29,19 +29,19 @@ use Rattle.btf_table.specs.Header.{header}
 use Rattle.btf_table.specs.Btf.{table_of, IsKept}
 
 -- the type section without id 0
-types_behind : (order : Endianness) (types : List BtfType) (rs : List Record) → map record_of types ≡ unknown ∷ rs → flat_map (spell order) (drop 1 (map record_of types)) ≡ flat_map (spell order) rs
-types_behind order types rs h = ap (λ (xs : List Record). flat_map (spell order) (drop 1 xs)) h
+types_after : (order : Endianness) (types : List BtfType) (rs : List Record) → map record_of types ≡ unknown ∷ rs → flat_map (spell order) (drop 1 (map record_of types)) ≡ flat_map (spell order) rs
+types_after order types rs h = ap (λ (xs : List Record). flat_map (spell order) (drop 1 xs)) h
 
 -- ids have 32 bits each record except the first has at least 12 bytes
 pub long_types : (b : Inside) → IsKept b → 12 * length b.types.items ≤ length (type_bytes (table_of b)) + 12
 long_types b h =
     let rs = h.first.0 in
-    omega (arith, ap length (types_behind b.endianness b.types.items rs h.first.1), records_are_long b.endianness rs, ap length h.first.1, length-map b.types.items record_of)
+    omega (arith, ap length (types_after b.endianness b.types.items rs h.first.1), records_are_long b.endianness rs, ap length h.first.1, length-map b.types.items record_of)
 
 pub few_types : (b : Inside) → IsKept b → length b.types.items < 2 ^ 32
 few_types b h =
     let rs = h.first.0 in
-    omega (arith, h.limit, h.types, ap length (types_behind b.endianness b.types.items rs h.first.1), records_are_long b.endianness rs, ap length h.first.1, length-map b.types.items record_of)
+    omega (arith, h.limit, h.types, ap length (types_after b.endianness b.types.items rs h.first.1), records_are_long b.endianness rs, ap length h.first.1, length-map b.types.items record_of)
 
 -- the invariant holds with one more type
 pub kept_push : (b : Inside) (types : Vec BtfType Global) (t : BtfType) (size : ℕ) (k : Kind) → IsKept b → kind_of (record_of t).info ≡ Some k → types.items ≡ b.types.items ++ t ∷ [] → size ≡ 12 + 4 * length (record_of t).tail → b.type_len + size ≤ section_limit → IsKept (record b { types = types; type_len = b.type_len + size })
@@ -50,21 +50,21 @@ kept_push b types t size k h kind is size-is fits =
     let rs = h.first.0 in
     let r = record_of t in
     let records : map record_of types.items ≡ unknown ∷ (rs ++ r ∷ []) = ap (map record_of) is ∙ map-append record_of b.types.items (t ∷ []) ∙ ap (λ (xs : List Record). xs ++ r ∷ []) h.first.1 in
-    let spelled : flat_map (spell order) (drop 1 (map record_of types.items)) ≡ flat_map (spell order) rs ++ (spell order r ++ []) = types_behind order types.items (rs ++ r ∷ []) records ∙ flat_map-append (spell order) rs (r ∷ []) in
+    let spelled : flat_map (spell order) (drop 1 (map record_of types.items)) ≡ flat_map (spell order) rs ++ (spell order r ++ []) = types_after order types.items (rs ++ r ∷ []) records ∙ flat_map-append (spell order) rs (r ∷ []) in
     record {
       magic = h.magic;
       version = h.version;
       flags = h.flags;
       limit = fits;
       strings = h.strings;
-      types = omega (arith, h.types, size-is, ap length spelled, length-append (flat_map (spell order) rs) (spell order r ++ []), ap length (append-nil (spell order r)), length-spell order r, ap length (types_behind order b.types.items rs h.first.1));
+      types = omega (arith, h.types, size-is, ap length spelled, length-append (flat_map (spell order) rs) (spell order r ++ []), ap length (append-nil (spell order r)), length-spell order r, ap length (types_after order b.types.items rs h.first.1));
       first = (rs ++ r ∷ [], records);
       kinds = subst AllHaveKinds (sym (ap (map record_of) is ∙ map-append record_of b.types.items (t ∷ []))) (one_more_kind (map record_of b.types.items) r k h.kinds kind);
     }
 
 -- the type section that was read has the length that the header gives
 pub read_len : (order : Endianness) (bytes : List ℕ) (types : List BtfType) (rs : List Record) → map record_of types ≡ unknown ∷ rs → AreRecords order bytes rs → length bytes ≡ length (flat_map (spell order) (drop 1 (map record_of types)))
-read_len order bytes types rs is h = sym (ap length (types_behind order types rs is) ∙ length-records order bytes rs h)
+read_len order bytes types rs is h = sym (ap length (types_after order types rs is) ∙ length-records order bytes rs h)
 
 -- a table with the invariant can be written
 pub kept_is_valid : (b : Inside) → IsKept b → AllByRecursion IsWhole (map record_of (drop 1 b.types.items)) → IsValid (table_of b)
