@@ -1,6 +1,6 @@
--- Objects: which bytes are an object, and the first error of other bytes. Source: ELF gABI, chapter 4, "Object Files".
--- The order of the errors is a choice of this project. Sections may overlap one another, and nothing is required of
--- types, addresses, alignments, program headers and relocations.
+-- Objects: which bytes are an object, and the first error of other bytes.
+-- Source: ELF gABI, chapter 4, "Object Files". The order of the errors is a choice of this project. Sections may
+-- overlap one another, and nothing is required of types, addresses, alignments, program headers and relocations.
 use Rattle.std.specs.Prelude.{◌≡◌, ℕ, ◌==◌, ◌||◌, ◌&&◌, not, nat_eq, nat_lt, Bool, List, [], ◌∷◌, length, position, if◌then◌else◌, Option, Some, None, is_none, option_map, unwrap_or}
 use Rattle.std.specs.List.{starts_with}
 use Rattle.std.specs.Option.{option_and_then}

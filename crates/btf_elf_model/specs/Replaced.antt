@@ -1,5 +1,6 @@
--- An object with other bytes in one section: what changes, and what does not. Source: a choice of this project. The ELF
--- gABI requires that sections don't overlap, and requires nothing of file offsets.
+-- An object with other bytes in one section: what changes, and what does not.
+-- Source: a choice of this project. The ELF gABI requires that sections don't overlap, and requires nothing of file
+-- offsets.
 use Rattle.std.specs.Prelude.{◌≡◌, ◌≢◌, ◌⊎◌, ℕ, ◌+◌, ◌-◌, ◌*◌, ◌%◌, ◌<◌, ◌≤◌, ◌==◌, ◌&&◌, not, nat_lt, nat_le, max, min, Bool, List, length, remove, slice_get, slice_set, if◌then◌else◌, Some}
 use Rattle.std.specs.List.{list_any}
 use Rattle.btf_model.specs.Blob.{slice}

@@ -1,6 +1,6 @@
--- Symbols. Source: ELF gABI, chapter 4, "Symbol Table": an object has at most one section of type SHT_SYMTAB, whose
--- sh_link is the index of its string table. If there are more such sections, the first one counts: a choice of this
--- project.
+-- Symbols.
+-- Source: ELF gABI, chapter 4, "Symbol Table": an object has at most one section of type SHT_SYMTAB, whose sh_link is
+-- the index of its string table. If there are more such sections, the first one counts: a choice of this project.
 use Rattle.std.specs.Prelude.{ℕ, ◌/◌, ◌%◌, ◌==◌, ◌||◌, not, List, [], length, map, find, slice_index, Option, Some, None, is_none, unwrap_or, Bool}
 use Rattle.std.specs.Simd.{first_chunks}
 use Rattle.btf_model.specs.Blob.{word_at}

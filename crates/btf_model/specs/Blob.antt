@@ -1,6 +1,6 @@
--- The grammar of a blob, its one written form, and the first reason to refuse it. Source: the kernel's BTF
--- documentation, "BTF Type and String Encoding", `struct btf_header`; the order of the tests is the order in aya-obj's
--- `Btf::parse`, with sums in 64 bits.
+-- The grammar of a blob, its one written form, and the first reason to refuse it.
+-- Source: the kernel's BTF documentation, "BTF Type and String Encoding", `struct btf_header`; the order of the tests
+-- is the order in aya-obj's `Btf::parse`, with sums in 64 bits.
 use Rattle.std.specs.Prelude.{◌≡◌, ◌≢◌, ℕ, ◌+◌, ◌<◌, ◌≤◌, ◌^◌, nat_lt, if◌then◌else◌, List, [], ◌∷◌, ◌++◌, length, take, drop, slice_index, Result, Ok, Err}
 use Rattle.std.specs.List.{flat_map, AllByRecursion}
 use Rattle.btf_model.specs.Word.{word, word_of, half, half_of}

@@ -1,10 +1,12 @@
--- The comparison of two types, each in its own table. Source: aya-obj's `types_are_compatible`, after libbpf's
--- `bpf_core_types_are_compat`. Two things are this project's profile: the comparison refuses a pair that it meets again
--- while the pair is open, and a walk has at most 32 positions. The words of this module: a pair of ids is *started*
--- when its kinds are looked up and compared; it is then *walked* from position to position (pointees, element types,
--- return types), and is *open* until its walk ends. `Told` means that a position decides the answer; `On` means that
--- the walk goes on to another position; `Owes` means that pairs of parameters are pending, and must be compared before
--- the walk goes on to the return types. `Paid` compares the pending pairs in order.
+-- The comparison of two types, each in its own table.
+-- Source: aya-obj's `types_are_compatible`, after libbpf's `bpf_core_types_are_compat`. Two things are this project's
+-- profile: the comparison refuses a pair that it meets again while the pair is open, and a walk has at most 32
+-- positions.
+-- The words of this module: a pair of ids is *started* when its kinds are looked up and compared; it is then *walked*
+-- from position to position (pointees, element types, return types), and is *open* until its walk ends. `Told` means
+-- that a position decides the answer; `On` means that the walk goes on to another position; `Owes` means that pairs of
+-- parameters are pending, and must be compared before the walk goes on to the return types. `Paid` compares the pending
+-- pairs in order.
 use Rattle.std.specs.Prelude.{◌≡◌, ◌≢◌, ◌⊎◌, ℕ, zero, suc, ◌==◌, ◌&&◌, not, Bool, true, false, if◌then◌else◌, List, [], ◌∷◌, ◌++◌, length, slice_get, Some, None, Result, Ok, Err, Contains}
 use Rattle.std.specs.List.{filter}
 use Rattle.btf_model.specs.Record.{Kind, Unknown, Int, Ptr, Array, Struct, Union, Enum, Fwd, FuncProto, Float, Enum64, Record, compared_kind}

@@ -1,7 +1,8 @@
--- `.BTF.ext`: the function, line and relocation records of a program's sections, and why bytes are refused. Source: the
--- kernel's BTF documentation, ".BTF.ext section", `struct btf_ext_header`, `btf_ext_info_sec`, `bpf_func_info`,
--- `bpf_line_info`, `bpf_core_relo`; aya-obj's `BtfExt::parse`, with sums in 64 bits, determines three things: how a
--- header of another length is read, the order of the tests, and which of several sections of one name counts.
+-- `.BTF.ext`: the function, line and relocation records of a program's sections, and why bytes are refused.
+-- Source: the kernel's BTF documentation, ".BTF.ext section", `struct btf_ext_header`, `btf_ext_info_sec`,
+-- `bpf_func_info`, `bpf_line_info`, `bpf_core_relo`; aya-obj's `BtfExt::parse`, with sums in 64 bits, determines three
+-- things: how a header of another length is read, the order of the tests, and which of several sections of one name
+-- counts.
 use Rattle.std.specs.Prelude.{◌≡◌, ◌≢◌, ◌⊎◌, ℕ, zero, suc, ◌+◌, ◌*◌, ◌-◌, ◌/◌, ◌<◌, ◌≤◌, ◌^◌, ◌==◌, min, nat_lt, if◌then◌else◌, List, [], ◌∷◌, ◌++◌, length, take, drop, map, filter, replicate, option_map, Option, None, Result, Ok, Err}
 use Rattle.std.specs.List.{flat_map, AllByRecursion, last_or}
 use Rattle.std.specs.Str.{bytes_eq}

@@ -1,5 +1,5 @@
--- Why a call fails, apart from allocation failure: the errors of the crate. Names are the bytes of their text. Source:
--- aya-obj's `BtfError`, without the errors of what this project leaves out.
+-- Why a call fails, apart from allocation failure: the errors of the crate. Names are the bytes of their text.
+-- Source: aya-obj's `BtfError`, without the errors of what this project leaves out.
 use Rattle.std.specs.Prelude.{ℕ, List}
 
 -- The reasons for which a call fails, apart from allocation failure. They have the names of the errors.

@@ -1,6 +1,6 @@
--- The relocation records of a section of a program, by the section's name. Source: the kernel's BTF documentation,
--- ".BTF.ext section", `struct bpf_core_relo`, in which each section names a section of the program. This project's
--- profile joins sections of the same name, and reads every name.
+-- The relocation records of a section of a program, by the section's name.
+-- Source: the kernel's BTF documentation, ".BTF.ext section", `struct bpf_core_relo`, in which each section names a
+-- section of the program. This project's profile joins sections of the same name, and reads every name.
 use Rattle.std.specs.Prelude.{◌≡◌, ℕ, Bool, false, List, ◌∷◌, ◌++◌, filter, Result, Ok, Err}
 use Rattle.std.specs.List.{flat_map, AllByRecursion}
 use Rattle.std.specs.Str.{bytes_eq}

@@ -1,5 +1,6 @@
--- Tables: what a blob represents. Source: the kernel's BTF documentation, "BTF Type and String Encoding"; the fallbacks
--- are aya-obj's, for an ENUM64 that a rewrite changed to a UNION.
+-- Tables: what a blob represents.
+-- Source: the kernel's BTF documentation, "BTF Type and String Encoding"; the fallbacks are aya-obj's, for an ENUM64
+-- that a rewrite changed to a UNION.
 use Rattle.std.specs.Prelude.{ℕ, ◌+◌, nat_le, if◌then◌else◌, Bool, List, [], ◌∷◌, ◌++◌, length, map, drop, Option, None, Result, Ok, Err}
 use Rattle.std.specs.List.{flat_map}
 use Rattle.btf_model.specs.declared.endianness.Endianness.{Endianness}

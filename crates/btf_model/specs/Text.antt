@@ -1,6 +1,7 @@
--- Names: the text at an offset of the string section, and the type that has a given name. Source: the kernel's BTF
--- documentation, "String Section", whose texts end at a zero byte. Bytes that are not UTF-8 are read as by Rust's
--- `String::from_utf8_lossy`, which aya-obj calls. The search is aya-obj's `Btf::id_by_type_name_kind`.
+-- Names: the text at an offset of the string section, and the type that has a given name.
+-- Source: the kernel's BTF documentation, "String Section", whose texts end at a zero byte. Bytes that are not UTF-8
+-- are read as by Rust's `String::from_utf8_lossy`, which aya-obj calls. The search is aya-obj's
+-- `Btf::id_by_type_name_kind`.
 use Rattle.std.specs.Prelude.{◌≡◌, ◌≢◌, ◌⊎◌, ℕ, ◌<◌, ◌==◌, Bool, List, length, take, drop, position, option_map, slice_get, Option, Some, None, Result, Ok, Err}
 use Rattle.std.specs.Str.{encode_utf8_all}
 use Rattle.bstr.specs.Utf8.{lossy_chars}

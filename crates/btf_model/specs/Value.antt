@@ -1,6 +1,7 @@
--- Values of variants, by name: of an ENUM, of an ENUM64, and of an ENUM64 that a UNION replaces. Source: the kernel's
--- BTF documentation, "BTF_KIND_ENUM" and "BTF_KIND_ENUM64"; aya-obj is the source for a UNION that retains the variants
--- of an ENUM64. The search for a name among variants, and its failures, are this project's profile.
+-- Values of variants, by name: of an ENUM, of an ENUM64, and of an ENUM64 that a UNION replaces.
+-- Source: the kernel's BTF documentation, "BTF_KIND_ENUM" and "BTF_KIND_ENUM64"; aya-obj is the source for a UNION that
+-- retains the variants of an ENUM64. The search for a name among variants, and its failures, are this project's
+-- profile.
 use Rattle.std.specs.Prelude.{◌≡◌, ◌≢◌, ℕ, ◌+◌, ◌*◌, ◌^◌, List, [], ◌∷◌, ◌++◌, slice_get, Option, Some, None, Result, Ok, Err}
 use Rattle.std.specs.List.{AllByRecursion}
 use Rattle.btf_model.specs.Record.{Kind, Union, Enum, Enum64, Record, kind_of}

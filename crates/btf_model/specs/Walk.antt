@@ -1,5 +1,5 @@
--- Walks from type to type: the type that an id resolves to after its modifiers, and the size of a type. Source:
--- aya-obj's `resolve_type` and `type_size`; the limit of 32 records is its `MAX_RESOLVE_DEPTH`.
+-- Walks from type to type: the type that an id resolves to after its modifiers, and the size of a type.
+-- Source: aya-obj's `resolve_type` and `type_size`; the limit of 32 records is its `MAX_RESOLVE_DEPTH`.
 use Rattle.std.specs.Prelude.{◌≡◌, ◌⊎◌, ℕ, zero, suc, ◌<◌, ◌*◌, ◌^◌, nat_lt, if◌then◌else◌, List, [], ◌∷◌, Option, Some, None, Result, Ok, Err, slice_get}
 use Rattle.btf_model.specs.Record.{Kind, Int, Ptr, Array, Struct, Union, Enum, Typedef, Volatile, Const, Restrict, FuncProto, Var, DataSec, Float, DeclTag, TypeTag, Enum64, Record, kind_of}
 use Rattle.btf_model.specs.Refusal.{Refusal, InvalidTypeInfo, UnknownBtfType, UnexpectedBtfType, MaximumTypeDepthReached}

@@ -1,5 +1,5 @@
--- The features of a kernel, and the first version of Linux with each feature. Source: the commit of Linux that
--- introduced each feature, and the first release that has it.
+-- The features of a kernel, and the first version of Linux with each feature.
+-- Source: the commit of Linux that introduced each feature, and the first release that has it.
 use Rattle.std.specs.Prelude.{◌≡◌, ℕ, ◌<◌, ◌^◌, ◌==◌, ◌&&◌, ◌||◌, nat_lt, nat_le, Bool, true, List, [], ◌∷◌, ◌++◌, map, codes}
 use Rattle.std.specs.Str.Parse.{IsNumeral, digits_value}
 use Rattle.btf_rewrite_model.specs.declared.feature.BtfFeature.{BtfFeature}

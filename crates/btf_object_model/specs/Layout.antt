@@ -1,7 +1,8 @@
 -- The data that the rewrite of a table reads from an object: the sizes of its sections and the offsets of its symbols,
--- by name. Source: ELF gABI, chapter 4, "Sections" (sh_size) and "Symbol Table" (st_info, st_value); aya-obj's
--- `Object::parse` determines which symbols count, and that the last of several with the same name counts. libbpf uses
--- only symbols of type STT_OBJECT that are global or weak, and lays out `.kconfig` itself (`find_elf_var_offset`,
+-- by name.
+-- Source: ELF gABI, chapter 4, "Sections" (sh_size) and "Symbol Table" (st_info, st_value); aya-obj's `Object::parse`
+-- determines which symbols count, and that the last of several with the same name counts. libbpf uses only symbols of
+-- type STT_OBJECT that are global or weak, and lays out `.kconfig` itself (`find_elf_var_offset`,
 -- `bpf_object__init_kconfig_map`).
 use Rattle.std.specs.Prelude.{ℕ, ◌==◌, ◌||◌, ◌&&◌, not, nat_lt, Bool, if◌then◌else◌, List, length, map, Option, None}
 use Rattle.std.specs.List.{filter, last_or}

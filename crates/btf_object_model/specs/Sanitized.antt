@@ -1,6 +1,6 @@
--- The object with its table rewritten for a kernel, or why there is none. Source: the kernel's BTF documentation, "ELF
--- File Format Interface", for the section `.BTF`; aya and libbpf rewrite the table for the kernel before a load
--- (`bpf_object__sanitize_btf`).
+-- The object with its table rewritten for a kernel, or why there is none.
+-- Source: the kernel's BTF documentation, "ELF File Format Interface", for the section `.BTF`; aya and libbpf rewrite
+-- the table for the kernel before a load (`bpf_object__sanitize_btf`).
 use Rattle.std.specs.Prelude.{◌≡◌, ◌⊎◌, ℕ, Bool, List, position, slice_get, codes, Option, Some, Ok, Err}
 use Rattle.std.specs.List.{AllByRecursion}
 use Rattle.std.specs.Str.{bytes_eq}
