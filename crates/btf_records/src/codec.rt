@@ -148,8 +148,8 @@ impl BtfType {
         read_to(types, alloc, data, endianness)
     }
 
-    /// Appends the record to bytes, in this byte order. `OutOfMemory` is the only error, and then some of the record's
-    /// words may already be appended.
+    /// Appends the record to bytes, in this byte order. Fails only if an allocation fails, and then some of the
+    /// record's words may already be appended.
     pub fn append_to(&self, out: &mut Vec<u8>, order: Endianness) -> Result<(), AllocError>
         ensures written { OnOk result (out.new.items ≡ out.old.items
             ++ spell order (record_of self.now)) }

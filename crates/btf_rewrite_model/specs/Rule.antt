@@ -20,8 +20,8 @@ abbrev pub known_func : Pass → Record → Result (List ℕ) Refusal → Record
 known_func p r (Ok name) = if is_global r && (is_builtin name || not (has p features.FuncGlobal)) then with_linkage 0 r else r
 known_func p r (Err refusal) = r
 
--- the parameters of a prototype, counted from k: each one without a name gets the next of the texts that begin at this
--- offset
+-- the parameters of a prototype, counted from k: each one that has a type and no name gets the next of the texts that
+-- begin at this offset
 abbrev pub named_params : ℕ → ℕ → List ℕ → List ℕ
 named_params k offset (name ∷ type ∷ words) =
     if wants_name name type then offset ∷ type ∷ named_params (k + 1) (offset + length (param_text k) + 1) words
