@@ -21,7 +21,7 @@ pub length-xword : (order : Endianness) (n : ℕ) → length (bytes_of w64 order
 length-xword Little n = refl
 length-xword Big n = refl
 
--- a number that is written is read again
+-- a number that is written is read back
 pub number_of-bytes_of : (order : Endianness) (n : ℕ) → n < 2 ^ 64 → number_of w64 order (bytes_of w64 order n) ≡ n
 number_of-bytes_of Little n lt = from_le_bytes-to_le_bytes_8 n lt
 number_of-bytes_of Big n lt = from_be_bytes-to_be_bytes_8 n lt
@@ -66,7 +66,7 @@ header_at h count bytes k d lt =
     get_or-map (section_header h.order) (first_chunks header_len count rest) k [] d (omega (arith, lt, length-first_chunks header_len count rest))
     ∙ ap (section_header h.order) (get_or-first_chunks header_len count rest k [] lt ∙ ap (take header_len) (drop-drop (header_len * k) h.section_headers bytes))
 
--- ---- an element in place of another
+-- ---- an element that replaces another
 
 pub slice_get-set_other : {X : Type 0} (xs : List X) (i k : ℕ) (v d : X) → k ≢ i → k < length xs → slice_get (slice_set xs i v) k ≡ Some (get_or xs k d)
 slice_get-set_other xs i k v d other lt =

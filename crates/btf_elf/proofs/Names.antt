@@ -1,4 +1,4 @@
--- Whether a name is another, by as many bytes as the other has and one.
+-- The comparison of two names, which reads one byte more than the other name has.
 use Rattle.std.proofs.Common.{◌≡◌, ◌∙◌, ℕ, suc, ◌+◌, Bool, true, false, cond, List, [], ◌∷◌, length, take, drop, refl, sym, ap, arith}
 use Rattle.std.specs.Prelude.{not, min, nat_eq, ◌&&◌}
 use Rattle.std.specs.List.{before_first, position_or_len}
@@ -6,7 +6,7 @@ use Rattle.std.specs.Str.{bytes_eq}
 use Rattle.std.proofs.lemmas.List.{take_min}
 use Rattle.btf_elf_model.specs.Section.{is_zero, name_at}
 
--- what stands before the first element that passes, by cases on the list
+-- the elements before the first one that passes the test, by cases on the list
 before_first-cons : {X : Type 0} (p : X → Bool) (x : X) (xs : List X) → before_first p (x ∷ xs) ≡ cond (p x) [] (x ∷ before_first p xs)
 before_first-cons p x xs =
     let more : 1 + position_or_len p xs ≡ suc (position_or_len p xs) = omega arith in
@@ -15,7 +15,7 @@ before_first-cons p x xs =
       | false ↦ ap (λ (n : ℕ). take n (x ∷ xs)) more
     ]
 
--- the front of bytes decides whether the name in them is another
+-- the front of the bytes determines whether the name in them is the other name
 same_front : (xs name : List ℕ) → bytes_eq (before_first is_zero (take (suc (length name)) xs)) name ≡ bytes_eq (before_first is_zero xs) name
 same_front [] name = refl
 same_front (x ∷ xs) [] =

@@ -24,7 +24,7 @@ unfolding sections_of headers_of
 sections_are bytes h table sections p q r =
     r ∙ ap (map (section_header h.order)) q ∙ ap (λ (x : FileHeader). headers_of x (section_count x bytes) bytes) p
 
--- what `parse` returns where an error comes first
+-- what `parse` returns if an error comes first
 pub refused : (bytes : List ℕ) (h : FileHeader) (sections : List SectionHeader) (e : ParseError) (r : Result Object ObjectError)
     → IsErrAnd r (λ x. x ≡ Parse e) → h ≡ file_header bytes → sections ≡ sections_of bytes → Comes (errors_of bytes h sections) e
     → MatchResult r (IsObject bytes) (IsReason bytes)
@@ -33,7 +33,7 @@ refused bytes h sections e r err p q comes =
     subst (λ (x : Result Object ObjectError). MatchResult x (IsObject bytes) (IsReason bytes)) (sym (at.1 ∙ ap (λ (x : ObjectError). Err x) at.2))
     (sym (by_parts bytes h sections p q) ∙ first_comes (errors_of bytes h sections) e comes)
 
--- the bytes are the object, where no error comes
+-- the bytes represent the object, if there is no error
 pub parsed : (bytes : List ℕ) (h : FileHeader) (headers sections : List SectionHeader) → h ≡ file_header bytes → headers ≡ sections_of bytes
     → headers ≡ sections → NoneComes (errors_of bytes h headers) → IsObject bytes (record { header = h; sections = sections; bytes = bytes })
 parsed bytes h headers sections p q same none = record {
@@ -41,7 +41,7 @@ parsed bytes h headers sections p q same none = record {
   object = λ i. let r : sections ≡ sections_of bytes = sym same ∙ q in record { header = p i; sections = r i; bytes = bytes };
 }
 
--- what was checked of the symbols that were read holds of those of the bytes
+-- what was checked for the symbols that were read holds for the symbols of the bytes
 pub symbols_checked : (bytes : List ℕ) (h : FileHeader) (sections : List SectionHeader) (t : SymbolTable) → IsTable bytes sections (symbol_table sections) t
     → (o : Option ParseError) → symbol_error t.names.now (map (symbol h.order) t.entries.now) ≡ o
     → symbol_error (symbol_names_of bytes sections (symbol_table sections)) (symbols_of h.order bytes (symbol_table sections)) ≡ o

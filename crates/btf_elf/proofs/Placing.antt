@@ -1,4 +1,4 @@
--- What the tests of sections say, and where the bytes of a section are put.
+-- What the tests of sections mean, and the offset at which the bytes of a section are put.
 use Rattle.std.proofs.Common.{◌≡◌, ◌≢◌, ◌∙◌, ℕ, suc, ◌+◌, ◌-◌, ◌<◌, ◌≤◌, Bool, true, false, List, length, take, drop, get_or, sym, ap, arith, inl, inr, ⊎_elim}
 use Rattle.std.specs.Prelude.{nat_lt, nat_le, ◌&&◌, not, remove}
 use Rattle.std.specs.List.{list_any}
@@ -25,7 +25,7 @@ not_shared offset len s test some size lt =
     (λ e. inr (ltb-false s.offset (offset + len) e))
     (and_cases (has_bytes s && nat_lt 0 len && nat_lt 0 s.size && nat_lt offset (s.offset + s.size)) (nat_lt s.offset (offset + len)) test)
 
--- where no other section passes, each of another index fails
+-- if no other section passes the test, each section of another index fails it
 each_other_fails : {X : Type 0} (p : X → Bool) (xs : List X) (index k : ℕ) (d : X) → index < length xs → list_any p (remove xs index) ≡ false → k ≢ index → k < length xs
     → p (get_or xs k d) ≡ false
 each_other_fails p xs index k d within none other lt =
@@ -44,7 +44,7 @@ each_other_fails p xs index k d within none other lt =
 pub aligned_above : (n alignment : ℕ) → n ≤ aligned n alignment
 aligned_above n alignment = omega arith
 
--- Where bytes fit, they are no more than the section has, and apart from each other section.
+-- If bytes fit, they are at most as many as the section has, and share no byte with any other section.
 pub fits_apart : (sections : List SectionHeader) (index : ℕ) (s : SectionHeader) (len : ℕ) → index < length sections → fits sections index s len ≡ true
     → (len ≤ s.size) × ((k : ℕ) (d : SectionHeader) → k ≢ index → k < length sections → has_bytes (get_or sections k d) ≡ true
     → Apart (get_or sections k d).offset (get_or sections k d).size s.offset len)

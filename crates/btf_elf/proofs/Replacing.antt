@@ -1,4 +1,4 @@
--- An object in which the bytes of a section were replaced is an object, with what else it had.
+-- An object in which the bytes of a section were replaced is an object, and everything else in it is unchanged.
 use Rattle.std.proofs.Common.{◌≡◌, ◌≢◌, ◌∙◌, ℕ, zero, suc, ◌+◌, ◌-◌, ◌*◌, ◌^◌, ◌<◌, ◌≤◌, Bool, true, false, List, [], ◌∷◌, length, get_or, map, Option, None, Some, refl, sym, ap, subst, arith, ⊎_elim}
 use Rattle.std.specs.Prelude.{◌==◌, ◌%◌, ◌/◌, ◌&&◌, ◌||◌, not, max, slice_get, slice_set, option_map, position, find, if◌then◌else◌, unwrap_or, is_none}
 use Rattle.std.specs.Option.{option_and_then}
@@ -128,7 +128,7 @@ module _ (bytes : List ℕ) (index : ℕ) (s : SectionHeader) (given new : List 
 
   -- ---- no errors
 
-  -- what holds of the new header and of each other one
+  -- what holds for the new header and for each other header
   each_holds : (P : SectionHeader → Type 0) → ((k : ℕ) (d : SectionHeader) → k ≢ index → k < length ss → P (get_or ss k d)) → P there
       → (k : ℕ) (d : SectionHeader) → k < length ss' → P (get_or ss' k d)
   each_holds P others this k d lt =
@@ -222,7 +222,7 @@ module _ (bytes : List ℕ) (index : ℕ) (s : SectionHeader) (given new : List 
     bytes = written.keeps bytes index s given new w;
   }
 
--- These bytes were made of an object, with other bytes in the section of an index.
+-- These bytes were made from an object, with other bytes in the section of an index.
 pub record IsRewrite (o : Object) (index : ℕ) (s : SectionHeader) (given file : List ℕ) : Type 0 where
   pub valid : IsObject o.bytes o
   pub section : slice_get o.sections index ≡ Some s

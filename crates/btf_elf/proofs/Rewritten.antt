@@ -1,4 +1,4 @@
--- The bytes of an object in which the bytes of a section were replaced: what they keep, and their headers.
+-- The bytes of an object in which the bytes of a section were replaced: what does not change, and their headers.
 use Rattle.std.proofs.Common.{◌≡◌, ◌≢◌, ◌∙◌, ◌⊎◌, ℕ, ◌+◌, ◌*◌, ◌^◌, ◌<◌, ◌≤◌, true, false, List, [], ◌++◌, length, get_or, None, sym, ap, arith, inl, inr, ⊎_elim}
 use Rattle.std.specs.Prelude.{nat_lt, ◌==◌, ◌&&◌, not, max, replicate, slice_set, if◌then◌else◌}
 use Rattle.std.specs.Int.{w64}
@@ -49,7 +49,7 @@ module _ (bytes : List ℕ) (index : ℕ) (s : SectionHeader) (given new : List 
   abbrev pub entry : ℕ
   entry = h.section_headers + header_len * index
 
-  -- what is replaceable is not section 0, and is of some types only
+  -- a replaceable section is not section 0, and has one of the allowed types
   pub is_some : (0 < index) × (has_bytes s ≡ true) × ((s.kind == sht_strtab) ≡ false) × ((s.kind == sht_symtab) ≡ false)
   unfolding is_replaceable
   is_some =
@@ -67,7 +67,7 @@ module _ (bytes : List ℕ) (index : ℕ) (s : SectionHeader) (given new : List 
   pub old_sections : SectionsFit h bytes (sections_of bytes)
   old_sections = sections_fit h bytes (sections_of bytes) (no_errors bytes w.no_error).1.1.1.0
 
-  -- the bytes of the section are written apart from the headers
+  -- the bytes of the section are not written into the headers
   pub at_clear : IsClear h.section_headers (table_end h bytes) at (length given)
   unfolding place
   at_clear some =
@@ -80,7 +80,7 @@ module _ (bytes : List ℕ) (index : ℕ) (s : SectionHeader) (given new : List 
       (λ _. let above = aligned_above (length bytes) (alignment_of s) in
       (omega (arith, above, table.behind, table.within), inl (omega (arith, above, table.within))))
 
-  -- they are written apart from the bytes of each other section
+  -- they are not written into the bytes of any other section
   pub at_apart : (k : ℕ) (d : SectionHeader) → k ≢ index → k < length (sections_of bytes) → has_bytes (get_or (sections_of bytes) k d) ≡ true
       → Apart (get_or (sections_of bytes) k d).offset (get_or (sections_of bytes) k d).size at (length given)
   unfolding place
@@ -118,7 +118,7 @@ module _ (bytes : List ℕ) (index : ℕ) (s : SectionHeader) (given new : List 
       ∙ length-put (entry + 24) words base (omega (arith, length-words, length-base, entry_within, table.within))
       ∙ length-base ∙ w.room
 
-  -- the other bytes stay
+  -- the other bytes do not change
   pub keeps : (a l : ℕ) → a + l ≤ length bytes → Apart a l (entry + 24) 16 → Apart a l at (length given) → slice a l new ≡ slice a l bytes
   keeps a l within header apart =
       ap (slice a l) w.new_is
@@ -126,7 +126,7 @@ module _ (bytes : List ℕ) (index : ℕ) (s : SectionHeader) (given new : List 
       ∙ slice-put a l at given (bytes ++ replicate w.spare 0) apart (omega (arith, length-spare, w.room))
       ∙ slice-append a l bytes (replicate w.spare 0) within
 
-  -- a place in the table of section headers is apart from the bytes of the section
+  -- a place in the table of section headers is not in the bytes of the section
   table_apart : (a l : ℕ) → h.section_headers ≤ a → a + l ≤ table_end h bytes → Apart a l at (length given)
   table_apart a l from to _ some = ⊎_elim (λ le. inl (omega (arith, le, to))) (λ le. inr (omega (arith, le, from))) (at_clear some).1
 
@@ -161,7 +161,7 @@ module _ (bytes : List ℕ) (index : ℕ) (s : SectionHeader) (given new : List 
       (λ _ _. ⊎_elim (λ before. inl (omega (arith, before))) (λ behind. inr (omega (arith, behind, other))) (cases_lt k index))
       (table_apart (h.section_headers + header_len * k) header_len (omega arith) (omega (arith, lt, count_is)))
 
-  -- a part of the section's header beside the two words stays
+  -- a part of the section's header outside the two words does not change
   part_kept : (j n : ℕ) → j + n ≤ header_len → (j + n ≤ 24) ⊎ (40 ≤ j) → slice j n (slice entry header_len new) ≡ slice j n (slice entry header_len bytes)
   part_kept j n within beside =
       slice-slice j n entry header_len new within
@@ -170,7 +170,7 @@ module _ (bytes : List ℕ) (index : ℕ) (s : SectionHeader) (given new : List 
       (table_apart (entry + j) n (omega arith) (omega (arith, within, entry_within)))
       ∙ sym (slice-slice j n entry header_len bytes within)
 
-  -- the two words are those that were written
+  -- the two words are the written ones
   word_written : (f : ℕ) → f + 8 ≤ 16 → slice (24 + f) 8 (slice entry header_len new) ≡ slice f 8 words
   word_written f within =
       let place : entry + (24 + f) ≡ (entry + 24) + f = omega arith in

@@ -19,14 +19,14 @@ first_of_chunks : (n m : ℕ) (xs first : List ℕ) → 0 < m → first ≡ get_
 first_of_chunks n zero xs first some is = absurd (omega arith)
 first_of_chunks n (suc m) xs first some is = is
 
--- the number of sections, where there is a table
+-- the number of sections, if there is a table
 count_is : (h : FileHeader) (bytes : List ℕ) → h.section_headers ≢ 0
     → section_count h bytes ≡ count_by_first h (take header_len (drop h.section_headers bytes))
 unfolding section_count count_by_first
 count_is h bytes some =
     ap (λ (b : Bool). if b then 0 else count_by_first h (take header_len (drop h.section_headers bytes))) (ne_eqb h.section_headers 0 some)
 
--- What a table of whole entries from e_shoff on says: the first entry and the stated count.
+-- What a table of complete entries from e_shoff on gives: the first entry and the stated count.
 pub record IsFound (h : FileHeader) (bytes : List ℕ) (entries : List (List ℕ)) (first : List ℕ) (count : ℕ) : Type 0 where
   pub some : h.section_headers ≢ 0
   pub after : header_len ≤ h.section_headers

@@ -1,4 +1,4 @@
--- Slices of bytes in which others were written.
+-- Slices of bytes that were partly overwritten.
 use Rattle.std.proofs.Common.{◌≡◌, ◌∙◌, ℕ, zero, suc, ◌+◌, ◌-◌, ◌≤◌, List, [], ◌∷◌, ◌++◌, length, take, drop, refl, sym, ap, arith, ⊎_elim}
 use Rattle.std.proofs.lemmas.List.{append_assoc, take-append-drop, take-append-le, drop-append-le, take-take, drop-take, drop-drop, length-append, length-take-le, length-drop}
 use Rattle.std.proofs.Math.Seq.{drop-append-add}
@@ -44,7 +44,7 @@ slice-slice f k p n xs le =
     ∙ take-take k (n - f) (drop f (drop p xs)) (omega (arith, le))
     ∙ ap (take k) (drop-drop f p xs)
 
--- a slice of a beginning
+-- a slice of the front of bytes
 slice-take : (at len n : ℕ) (xs : List ℕ) → at + len ≤ n → slice at len (take n xs) ≡ slice at len xs
 slice-take at len n xs le =
     let split : n ≡ at + (n - at) = omega (arith, le) in
@@ -79,7 +79,7 @@ put_nothing at xs =
     let none : at + 0 ≡ at = omega arith in
     put_front at [] xs ∙ ap (λ (n : ℕ). take at xs ++ drop n xs) none ∙ take-append-drop at xs
 
--- what is written elsewhere leaves a slice as it is
+-- a write elsewhere does not change a slice
 pub slice-put : (at len other : ℕ) (ys xs : List ℕ) → Apart at len other (length ys) → other + length ys ≤ length xs
     → slice at len (put other ys xs) ≡ slice at len xs
 slice-put at zero other ys xs apart within = refl
@@ -88,7 +88,7 @@ slice-put at (suc len) other (y ∷ ys) xs apart within =
     ⊎_elim (λ le. slice-put_before at (suc len) other (y ∷ ys) xs le (omega (arith, within))) (λ le. slice-put_after at (suc len) other (y ∷ ys) xs le (omega (arith, within)))
     (apart (omega arith) (omega arith))
 
--- a slice of what is written
+-- a slice of the written bytes
 pub slice-put_same : (f k other : ℕ) (ys xs : List ℕ) → f + k ≤ length ys → other + length ys ≤ length xs → slice (other + f) k (put other ys xs) ≡ slice f k ys
 slice-put_same f k other ys xs le within =
     let place : length (take other xs) ≡ other = length-take-le other xs (omega (arith, within)) in

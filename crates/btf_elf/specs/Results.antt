@@ -1,16 +1,16 @@
--- How results are related to the errors of the definitions.
+-- The relation between results and the errors of the definitions.
 use Rattle.std.specs.Prelude.{◌≡◌, ⊤, ℕ, List, Option, Some, None, Result, Ok, Err}
 use Rattle.btf_elf_model.specs.Object.{IsRefused}
 use Rattle.btf_elf_model.specs.declared.error.ParseError.{ParseError}
 use Rattle.btf_elf.specs.declared.error.ObjectError.{ObjectError}
 use Rattle.btf_elf.specs.declared.error.ObjectError.TheVariants.{Parse, OutOfMemory}
 
--- The result is an error exactly where there is one, and is that error.
+-- The result is the error if there is one, and otherwise a success.
 abbrev pub HasError : {T : Type 0} → Result T ParseError → Option ParseError → Type 0
 HasError (Ok _) error = error ≡ None
 HasError (Err e) error = error ≡ Some e
 
--- The error is the first error of the bytes, or says that an allocation failed.
+-- The error is the first error of the bytes, or reports that an allocation failed.
 abbrev pub IsReason : List ℕ → ObjectError → Type 0
 IsReason bytes (Parse e) = IsRefused bytes e
 IsReason bytes OutOfMemory = ⊤

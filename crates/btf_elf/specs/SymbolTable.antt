@@ -1,4 +1,4 @@
--- The symbols of a symbol table and the names of symbols, as the code keeps them.
+-- The symbols of a symbol table and the names of symbols, as the code stores them.
 use Rattle.std.specs.Prelude.{◌≡◌, ℕ, List, Option}
 use Rattle.btf_elf_model.specs.Symbols.{symbol_entries, symbol_names_of}
 use Rattle.btf_elf_model.specs.declared.section_header.SectionHeader.{SectionHeader}

@@ -14,6 +14,6 @@ unfoldable pub count_by_first : FileHeader → List ℕ → ℕ
 count_by_first h first =
     if h.section_header_count == 0 then (section_header h.order first).size else h.section_header_count
 
--- The table begins in the file header, or ends past the end.
+-- The table begins in the file header, or ends after the end of the bytes.
 abbrev pub IsTableOutside : FileHeader → List ℕ → Type 0
 IsTableOutside h bytes = (h.section_headers < header_len) ⊎ (length bytes < table_end h bytes)

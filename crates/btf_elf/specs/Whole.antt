@@ -1,15 +1,15 @@
--- What an `Object` is, and what holds of its fields.
+-- What an `Object` represents, and the invariant of its fields.
 use Rattle.std.specs.Prelude.{◌≡◌, Some}
 use Rattle.btf_elf_model.specs.Symbols.{symbol_table}
 use Rattle.btf_elf_model.specs.Object as model
 use Rattle.btf_elf.specs.SymbolTable.{IsTable}
 use Rattle.btf_elf.specs.declared.object.Object.TheInside.{Inside}
 
--- the object, as the definitions have it
+-- the object as a value of the definitions
 abbrev pub as_object : Inside → model.Object
 as_object a = record { header = a.header; sections = a.sections.items; bytes = a.bytes.now }
 
--- The fields say what the bytes say, and the bytes are an object.
+-- The bytes represent an object, and the fields agree with it.
 pub record IsWhole (a : Inside) : Type 0 where
   pub object : model.IsObject a.bytes.now (as_object a)
   pub names : model.name_table (as_object a) ≡ Some a.names.now

@@ -10,7 +10,7 @@ use Rattle.btf_elf_model.specs.declared.section_header.SectionHeader.{SectionHea
 use Rattle.btf_elf.specs.declared.error.ReplaceError.{ReplaceError}
 use Rattle.btf_elf.specs.declared.error.ReplaceError.TheVariants.{NoSuchSection, NotReplaceable}
 
--- bytes with others in place of those at an offset
+-- bytes that are overwritten with others from an offset on
 unfoldable pub put : ℕ → List ℕ → List ℕ → List ℕ
 put at new bytes = take at bytes ++ new ++ drop (at + length new) bytes
 

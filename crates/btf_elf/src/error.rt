@@ -1,4 +1,4 @@
-//! The error of a call that may also run out of memory.
+//! The errors of calls in which an allocation may also fail.
 
 ghost use Rattle.std.specs.Prelude.{◌≡◌};
 ghost use Rattle.btf_elf.specs.declared.error.ObjectError.TheVariants.{Parse, OutOfMemory};
@@ -11,7 +11,7 @@ use thiserror::Error;
 /// Why a call failed.
 #[derive(Clone, Copy, Debug, PartialEq, Eq, Error)]
 pub enum ObjectError {
-    /// The bytes are no object.
+    /// The bytes represent no object.
     #[error("{0}")]
     Parse(ParseError),
 
@@ -47,15 +47,15 @@ impl<T: Drop> From<AllocFailed<T>> for ObjectError {
 /// Why the bytes of a section are not replaced.
 #[derive(Clone, Copy, Debug, PartialEq, Eq, Error)]
 pub enum ReplaceError {
-    /// There are fewer sections.
+    /// There is no section with this index.
     #[error("there is no section {index}")]
     NoSuchSection {
         /// The index that was asked for.
         index: usize,
     },
 
-    /// The section is section 0, or has type `SHT_NULL`, `SHT_NOBITS`, `SHT_STRTAB` or `SHT_SYMTAB`: it has no bytes in
-    /// the file, or the names of sections and the symbols depend on them.
+    /// The section is section 0, or has type `SHT_NULL`, `SHT_NOBITS`, `SHT_STRTAB` or `SHT_SYMTAB`. Such a section has
+    /// no bytes in the file, or the names of sections and the symbols depend on it.
     #[error("the bytes of section {index} can't be replaced")]
     NotReplaceable {
         /// The index of the section.

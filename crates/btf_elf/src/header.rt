@@ -15,7 +15,7 @@ pub const HEADER_LEN: usize = 64;
 /// The bytes that each object begins with.
 const MAGIC: [u8; 4] = [0x7f, b'E', b'L', b'F'];
 
-/// The file header that its bytes spell, in a byte order.
+/// The file header that 64 bytes spell, in a byte order.
 fn header_in(bytes: &[u8], order: Endianness) -> FileHeader
     requires { header_len ≤ length bytes.now }
     ensures { result ≡ header_in order bytes.now }
@@ -40,9 +40,9 @@ fn header_in(bytes: &[u8], order: Endianness) -> FileHeader
     }
 }
 
-/// The byte order of an object's words, by its first 64 bytes, or fewer where it has fewer.
+/// The byte order of an object's words, by its first 64 bytes, or by all bytes if it has fewer.
 ///
-/// `NotElf`, `UnsupportedClass`, `UnsupportedEncoding` and `UnsupportedVersion`, in this order.
+/// Fails with `NotElf`, `UnsupportedClass`, `UnsupportedEncoding` or `UnsupportedVersion`, tested in this order.
 #[tactic(auto, unfolding(btf_elf_model::specs::Object::identification_error))]
 fn identify(front: &[u8]) -> Result<Endianness, ParseError>
     ensures error { HasError result (identification_error front.now) }
@@ -66,7 +66,7 @@ fn identify(front: &[u8]) -> Result<Endianness, ParseError>
     Ok(order)
 }
 
-/// The first 64 bytes, or fewer where there are fewer.
+/// The first 64 bytes, or all bytes if there are fewer.
 fn front(bytes: &[u8]) -> &[u8]
     ensures { result.now ≡ front bytes.now }
 {
@@ -74,8 +74,8 @@ fn front(bytes: &[u8]) -> &[u8]
     &bytes[..len]
 }
 
-/// The file header at the front of the bytes. The errors of the identification: `NotElf`, `UnsupportedClass`,
-/// `UnsupportedEncoding` and `UnsupportedVersion`, in this order.
+/// The file header at the front of the bytes. Fails with the errors of the identification: `NotElf`,
+/// `UnsupportedClass`, `UnsupportedEncoding` or `UnsupportedVersion`, tested in this order.
 #[tactic(auto, unfolding(btf_elf_model::specs::Header::file_header))]
 pub fn read_header(bytes: &[u8]) -> Result<FileHeader, ParseError>
     ensures error { HasError result (identification_error (front bytes.now)) }
@@ -86,7 +86,7 @@ pub fn read_header(bytes: &[u8]) -> Result<FileHeader, ParseError>
     Ok(header_in(front, order))
 }
 
-/// Checks the other words of a file header. `UnsupportedVersion` and `BadHeaderSize`, in this order.
+/// Checks the other words of a file header. Fails with `UnsupportedVersion` or `BadHeaderSize`, tested in this order.
 #[tactic(auto, unfolding(btf_elf_model::specs::Object::header_error))]
 pub fn check_header(header: &FileHeader) -> Result<(), ParseError>
     ensures { HasError result (header_error header.now) }

@@ -1,7 +1,7 @@
 //! ELF object files: their sections and symbols, read from untrusted bytes.
 //!
 //! `Object::parse` checks a file once, in a fixed order, and what it returns borrows the file's bytes. The definitions
-//! are those of `btf_elf_model`.
+//! are in `btf_elf_model`.
 #![tactic(auto)]
 
 mod error;

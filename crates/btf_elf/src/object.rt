@@ -19,8 +19,8 @@ use btf_elf_model::{FileHeader, ParseError, SectionHeader, Symbol};
 use std::alloc::Global;
 use std::marker::Model;
 
-/// A 64-bit ELF object file of either byte order and any machine. It borrows the bytes of the file, and has room of its
-/// own for the section headers alone.
+/// A 64-bit ELF object file of either byte order and any machine. It borrows the bytes of the file, and allocates
+/// memory only for the section headers.
 #[derive(Debug, Drop)]
 pub struct Object<'a> {
     bytes: &'a [u8],
@@ -43,9 +43,9 @@ impl<'a> Model for Object<'a> {
 }
 
 impl<'a> Object<'a> {
-    /// The object that the bytes of a file are.
+    /// The object that the bytes of a file represent.
     ///
-    /// `Parse` with the first error of the bytes, in the order of `ParseError`, or `OutOfMemory`.
+    /// Fails with `Parse` and the first error of the bytes, in the order of `ParseError`, or with `OutOfMemory`.
     pub fn parse(alloc: Global, bytes: &'a [u8]) -> Result<Object<'a>, ObjectError>
         ensures { MatchResult result (model.IsObject bytes.now) (IsReason bytes.now) }
     {
@@ -82,22 +82,22 @@ impl<'a> Object<'a> {
         &self.header
     }
 
-    /// The headers of all sections, by their indices. Section 0 has no bytes in a file as the gABI has it, but this is
-    /// not checked.
+    /// The headers of all sections, by their indices. According to the gABI, section 0 has no bytes in the file, but
+    /// this is not checked.
     pub fn sections(&self) -> &[SectionHeader]
         ensures { result.now ≡ self.now.sections }
     {
         self.sections.as_slice()
     }
 
-    /// The bytes of a section in the file; none of a section of type `SHT_NULL` or `SHT_NOBITS`.
+    /// The bytes of a section in the file; empty for a section of type `SHT_NULL` or `SHT_NOBITS`.
     pub fn section_bytes(&self, section: &SectionHeader) -> &'a [u8]
         ensures { result.now ≡ model.section_bytes self.now section.now }
     {
         contents(self.bytes, section)
     }
 
-    /// The name of a section: bytes without a zero byte, which need be no UTF-8. Empty where the file has no table of
+    /// The name of a section: bytes without a zero byte, which need not be UTF-8. Empty if the file has no table of
     /// section names.
     pub fn section_name(&self, section: &SectionHeader) -> &'a [u8]
         ensures { result.now ≡ model.section_name self.now section.now }
@@ -105,7 +105,7 @@ impl<'a> Object<'a> {
         name_at(self.names, section.name)
     }
 
-    /// The index of the first section of a name.
+    /// The index of the first section with this name.
     pub fn section_by_name(&self, name: &[u8]) -> Option<usize>
         ensures first { result ≡ position (λ s. bytes_eq (model.section_name self.now s) name.now)
             self.now.sections }
@@ -117,14 +117,14 @@ impl<'a> Object<'a> {
             .position(|s| has_name(names, s.name, name))
     }
 
-    /// How many symbols there are.
+    /// The number of symbols.
     pub fn symbol_count(&self) -> usize
         ensures { result ≡ length (model.symbols self.now) }
     {
         self.symbols.entries.len()
     }
 
-    /// The symbol of an index; None where there are fewer symbols.
+    /// The symbol of an index; None if there is no such symbol.
     pub fn symbol(&self, index: usize) -> Option<Symbol>
         ensures { result ≡ slice_get (model.symbols self.now) index }
     {
@@ -132,7 +132,7 @@ impl<'a> Object<'a> {
         Some(symbol(entry, self.header.order))
     }
 
-    /// The name of a symbol: bytes without a zero byte, which need be no UTF-8.
+    /// The name of a symbol: bytes without a zero byte, which need not be UTF-8.
     pub fn symbol_name(&self, symbol: &Symbol) -> &'a [u8]
         ensures { result.now ≡ model.symbol_name self.now symbol.now }
     {
@@ -154,7 +154,8 @@ impl<'a> Object<'a> {
         Ok(*section)
     }
 
-    /// Where `len` bytes of a section are put: in its place if they fit there, else at the end of the file, aligned.
+    /// The offset for `len` bytes of a section: the offset of the section if they fit there, else the aligned end of
+    /// the file.
     #[tactic(auto, unfolding(btf_elf_model::specs::Replaced::place))]
     fn place(&self, index: usize, section: &SectionHeader, len: u64) -> u64
         requires { index < length self.now.sections }
@@ -167,13 +168,13 @@ impl<'a> Object<'a> {
         }
     }
 
-    /// The file with other bytes in a section: in its place where they are no more than the section has and no other
-    /// section shares them, else at the end of the file, at a multiple of `sh_addralign`, but of 4096 at most. Of the
-    /// header of the section `sh_offset` and `sh_size` change, and nothing else does: the new file is an object, in
-    /// which the section has these bytes, and each other section, the symbols and all names are as they were. Bytes
-    /// that no section has any more stay in the file.
+    /// The file with other bytes in a section. The new bytes replace the old ones in their place if there are at most
+    /// as many, and if no other section shares this place. Otherwise they are at the end of the file, at a multiple of
+    /// `sh_addralign`, but of at most 4096. In the header of the section only `sh_offset` and `sh_size` change. The new
+    /// file is an object in which the section has these bytes; all other sections, the symbols and all names are
+    /// unchanged. Bytes that belong to no section any more remain in the file.
     ///
-    /// `NoSuchSection`, `NotReplaceable` and `OutOfMemory`, in this order.
+    /// Fails with `NoSuchSection`, `NotReplaceable` or `OutOfMemory`, tested in this order.
     pub fn with_section(
         &self,
         alloc: Global,

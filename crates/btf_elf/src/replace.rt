@@ -73,7 +73,7 @@ pub fn aligned_end(len: usize, section: &SectionHeader) -> u64
     }
 }
 
-/// Writes bytes over those at a place.
+/// Overwrites the bytes from an offset on.
 pub fn put(file: &mut [u8], at: usize, bytes: &[u8])
     requires { at + length bytes.now ≤ length file.old }
     ensures { file.new ≡ put at bytes.now file.old }
@@ -91,7 +91,7 @@ fn xword(value: u64, order: Endianness) -> [u8; 8]
     }
 }
 
-/// The two words of a section header that say where the bytes of the section are.
+/// The bytes of the two words of a section header that give the place of the section in the file.
 fn place_words(header: &FileHeader, offset: u64, size: u64) -> [u8; 16]
     ensures { result ≡ place_words header.now offset size }
 {
@@ -101,7 +101,7 @@ fn place_words(header: &FileHeader, offset: u64, size: u64) -> [u8; 16]
     words
 }
 
-/// Bytes in memory of their own, with zeros after them up to an end.
+/// A copy of the bytes, with zeros after them up to an end.
 fn copy_up_to(alloc: Global, bytes: &[u8], end: usize) -> Result<Vec<u8>, AllocError>
     ensures { IfOk result (λ file. file.items ≡ up_to end bytes.now) }
 {
@@ -112,7 +112,8 @@ fn copy_up_to(alloc: Global, bytes: &[u8], end: usize) -> Result<Vec<u8>, AllocE
     Ok(file)
 }
 
-/// The bytes of a file in which the bytes of a section are replaced, at an offset, and the two words of its header.
+/// The bytes of a file in which the bytes of a section, at an offset, and two words of the section's header are
+/// replaced.
 pub fn rewritten(
     alloc: Global,
     header: &FileHeader,

@@ -1,4 +1,4 @@
-//! The bytes of sections, and what is asked of them.
+//! The bytes of sections, and their tests.
 
 ghost use Rattle.std.specs.Prelude.{◌≡◌, drop, position};
 ghost use Rattle.btf_elf_model.specs.Section.{table_end, has_bytes, contents, is_past_end, is_over_headers};
@@ -14,8 +14,8 @@ pub fn has_bytes(section: &SectionHeader) -> bool
     section.kind != SectionHeader::NULL && section.kind != SectionHeader::NOBITS
 }
 
-/// The bytes of a section in the file; none of a section of type `SHT_NULL` or `SHT_NOBITS`. What is past the end is
-/// left out.
+/// The bytes of a section in the file; empty for a section of type `SHT_NULL` or `SHT_NOBITS`. Bytes after the end of
+/// the file are left out.
 #[tactic(auto, unfolding(btf_elf_model::specs::Section::contents))]
 pub fn contents<'a>(bytes: &'a [u8], section: &SectionHeader) -> &'a [u8]
     ensures { result.now ≡ contents bytes.now section.now }
@@ -28,14 +28,14 @@ pub fn contents<'a>(bytes: &'a [u8], section: &SectionHeader) -> &'a [u8]
     &rest[..len]
 }
 
-/// The bytes from an offset on; none where that is past the end.
+/// The bytes from an offset on; empty if the offset is after the end.
 pub fn tail(bytes: &[u8], offset: u64) -> &[u8]
     ensures { result.now ≡ drop offset bytes.now }
 {
     bytes.get(offset as usize..).unwrap_or(&[])
 }
 
-/// Whether a section ends past the end of a file.
+/// Whether a section ends after the end of a file.
 #[tactic(auto, unfolding(btf_elf_model::specs::Section::is_past_end))]
 fn is_past_end(section: &SectionHeader, len: u64) -> bool
     ensures { result ≡ is_past_end len section.now }
@@ -43,7 +43,7 @@ fn is_past_end(section: &SectionHeader, len: u64) -> bool
     has_bytes(section) && (len < section.offset || len - section.offset < section.size)
 }
 
-/// Whether a section shares bytes with the file header, or with the section header table from an offset up to another.
+/// Whether a section shares bytes with the file header, or with the section header table, which has this start and end.
 #[tactic(auto, unfolding(btf_elf_model::specs::Section::is_over_headers))]
 fn is_over_headers(section: &SectionHeader, table: u64, end: u64) -> bool
     ensures { result ≡ is_over_headers table end section.now }
@@ -53,7 +53,7 @@ fn is_over_headers(section: &SectionHeader, table: u64, end: u64) -> bool
     has_bytes(section) && section.size > 0 && (offset < 64 || (offset < end && ends_after(table)))
 }
 
-/// The first section that ends past the end of a file.
+/// The first section that ends after the end of a file.
 fn first_past_end(sections: &[SectionHeader], len: u64) -> Option<usize>
     ensures { result ≡ position (is_past_end len) sections.now }
 {
@@ -67,8 +67,8 @@ fn first_over_headers(sections: &[SectionHeader], table: u64, end: u64) -> Optio
     sections.iter().position(|s| is_over_headers(s, table, end))
 }
 
-/// Checks all sections: `SectionOutOfRange` of the first that ends past the end, or else `SectionOverHeaders` of the
-/// first that overlaps a header. The table of section headers ends at `end`.
+/// Checks all sections. Fails with `SectionOutOfRange` of the first section that ends after the end, or else with
+/// `SectionOverHeaders` of the first that overlaps a header. The table of section headers ends at `end`.
 #[tactic(auto, unfolding(btf_elf_model::specs::Object::section_error))]
 pub fn check_sections(
     bytes: &[u8],

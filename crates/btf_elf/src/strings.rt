@@ -36,7 +36,7 @@ fn is_string_table(strings: &[u8]) -> bool
     strings.is_empty() || (strings[0] == 0 && strings[strings.len() - 1] == 0)
 }
 
-/// The string table that an index names, and an empty one for index 0. None where there is no such section, or it is no
+/// The string table that an index names, and an empty one for index 0. None if there is no such section, or if it is no
 /// string table.
 #[tactic(auto, unfolding(btf_elf_model::specs::Section::string_table))]
 pub fn string_table<'a>(bytes: &'a [u8], sections: &[SectionHeader], index: u32) -> Option<&'a [u8]>
@@ -64,14 +64,14 @@ pub fn is_name(strings: &[u8], offset: u32) -> bool
     offset == 0 || (offset as usize) < strings.len()
 }
 
-/// Where the first zero byte is.
+/// The index of the first zero byte.
 fn first_zero(bytes: &[u8]) -> Option<usize>
     ensures { result ≡ position is_zero bytes.now }
 {
     bytes.iter().position(|&byte| byte == 0)
 }
 
-/// The bytes up to the first zero byte; all where there is none.
+/// The bytes up to the first zero byte; all bytes if there is none.
 fn before_zero(bytes: &[u8]) -> &[u8]
     ensures { result.now ≡ before_first is_zero bytes.now }
 {
@@ -89,7 +89,7 @@ pub fn name_at(strings: &[u8], offset: u32) -> &[u8]
     before_zero(tail(strings, u64::from(offset)))
 }
 
-/// Whether the name at an offset is this one. It looks at no more bytes than the name has, and one.
+/// Whether the name at an offset is this one. It reads at most one byte more than the name has.
 pub fn has_name(strings: &[u8], offset: u32, name: &[u8]) -> bool
     ensures { result ≡ bytes_eq (name_at strings.now offset) name.now }
 {
@@ -105,7 +105,8 @@ fn first_unnamed(names: &[u8], sections: &[SectionHeader]) -> Option<usize>
     sections.iter().position(|s| !is_name(names, s.name))
 }
 
-/// Checks the names of all sections. `BadSectionName` of the first whose name doesn't begin in the table.
+/// Checks the names of all sections. Fails with `BadSectionName` of the first section whose name doesn't begin in the
+/// table.
 #[tactic(auto, unfolding(btf_elf_model::specs::Object::name_error))]
 pub fn check_names(names: &[u8], sections: &[SectionHeader]) -> Result<(), ParseError>
     ensures { HasError result (name_error (Some names.now) sections.now) }
@@ -116,8 +117,8 @@ pub fn check_names(names: &[u8], sections: &[SectionHeader]) -> Result<(), Parse
     }
 }
 
-/// The string table with the names of sections, in which each name begins. `BadNameTable` and `BadSectionName`, in this
-/// order.
+/// The string table with the names of sections, in which each name begins. Fails with `BadNameTable` or
+/// `BadSectionName`, tested in this order.
 #[tactic(auto, unfolding(btf_elf_model::specs::Object::name_error))]
 pub fn read_names<'a>(
     bytes: &'a [u8],

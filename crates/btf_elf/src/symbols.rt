@@ -21,7 +21,7 @@ pub struct SymbolTable<'a> {
     pub names: &'a [u8],
 }
 
-/// The symbol that its bytes spell.
+/// The symbol that 24 bytes spell.
 #[tactic(auto, unfolding(btf_elf_model::specs::Symbols::symbol))]
 pub fn symbol(entry: &[u8; 24], order: Endianness) -> Symbol
     ensures { result ≡ symbol order entry.now }
@@ -65,7 +65,7 @@ fn read_table<'a>(
     }
 }
 
-/// The symbols of the first symbol table, or `BadSymbolTable`; no symbols where there is none.
+/// The symbols of the first symbol table, or `BadSymbolTable`; no symbols if there is no symbol table.
 #[tactic(auto, unfolding(btf_elf_model::specs::Object::symbol_table_error))]
 pub fn read_symbols<'a>(
     bytes: &'a [u8],
@@ -93,7 +93,8 @@ fn first_unnamed(table: &SymbolTable<'_>, order: Endianness) -> Option<usize>
     symbols.position(|s| !is_name(names, s.name))
 }
 
-/// Checks the names of all symbols. `BadSymbolName` of the first whose name doesn't begin in the string table.
+/// Checks the names of all symbols. Fails with `BadSymbolName` of the first symbol whose name doesn't begin in the
+/// string table.
 #[tactic(auto, unfolding(btf_elf_model::specs::Object::symbol_error))]
 pub fn check_symbols(table: &SymbolTable<'_>, order: Endianness) -> Result<(), ParseError>
     ensures { HasError result (symbol_error table.now.names.now

@@ -13,7 +13,7 @@ use btf_elf_model::{FileHeader, ParseError, SectionHeader};
 use btf_model::Endianness;
 use std::alloc::{AllocError, Global};
 
-/// The section header that its bytes spell.
+/// The section header that 64 bytes spell.
 #[tactic(auto, unfolding(btf_elf_model::specs::Section::section_header))]
 fn section_header(entry: &[u8; 64], order: Endianness) -> SectionHeader
     ensures { result ≡ section_header order entry.now }
@@ -44,7 +44,7 @@ fn stated_count(header: &FileHeader, first: &[u8; 64]) -> u64
     }
 }
 
-/// As many section headers as there are bytes for from `e_shoff` on; none where that is past the end.
+/// All complete section headers from `e_shoff` on; none if `e_shoff` is after the end.
 fn entries_at(bytes: &[u8], offset: u64) -> Option<&[[u8; 64]]>
     ensures { MatchOption result
         (length bytes.now < offset)
@@ -72,7 +72,7 @@ pub fn section_table<'a>(bytes: &'a [u8], header: &FileHeader) -> Result<&'a [[u
     find_table(bytes, header).ok_or(ParseError::SectionTableOutOfRange)
 }
 
-/// The table of section headers, where it begins after the file header and ends in the bytes.
+/// The table of section headers, if it begins after the file header and ends within the bytes.
 fn find_table<'a>(bytes: &'a [u8], header: &FileHeader) -> Option<&'a [[u8; 64]]>
     requires { header.now.section_headers ≢ 0 }
     ensures { MatchOption result
@@ -88,7 +88,7 @@ fn find_table<'a>(bytes: &'a [u8], header: &FileHeader) -> Option<&'a [[u8; 64]]
     entries.get(..stated_count(header, first) as usize)
 }
 
-/// Where the table of section headers ends.
+/// The end of the table of section headers.
 pub fn table_end(header: &FileHeader, table: &[[u8; 64]]) -> u64
     requires { header.now.section_headers + 64 * max 1 (length table.now) < 2 ^ 63 }
     ensures { result ≡ header.now.section_headers + 64 * max 1 (length table.now) }

@@ -1,4 +1,4 @@
-//! Words at a place of bytes.
+//! Words at an offset of bytes.
 
 ghost use Rattle.std.specs.Prelude.{◌≡◌, ◌+◌, ◌≤◌, length};
 ghost use Rattle.std.specs.Int.{w64};

@@ -1,4 +1,4 @@
--- The first error of bytes, by what is looked at one after another.
+-- The first error of bytes, by the tests in order.
 use Rattle.std.proofs.Common.{◌≡◌, ◌⊎◌, ◌∙◌, ℕ, Bool, true, false, List, [], ◌∷◌, Option, None, Some, refl, ap, inl, inr}
 use Rattle.std.specs.Prelude.{option_map}
 use Rattle.btf_elf_model.specs.Header.{front, file_header}
@@ -9,7 +9,7 @@ use Rattle.btf_elf_model.specs.declared.file_header.FileHeader.{FileHeader}
 use Rattle.btf_elf_model.specs.declared.section_header.SectionHeader.{SectionHeader}
 use Rattle.btf_elf_model.specs.declared.error.ParseError.{ParseError}
 
--- The first error comes after places without one.
+-- The first error is after places without an error.
 abbrev pub Comes : List (Option ParseError) → ParseError → Type 0
 Comes [] e = ⊥
 Comes (o ∷ more) e = (o ≡ Some e) ⊎ ((o ≡ None) × Comes more e)

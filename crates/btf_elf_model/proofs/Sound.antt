@@ -1,4 +1,4 @@
--- What the lack of errors means.
+-- What holds for bytes without errors.
 use Rattle.std.proofs.Common.{◌≡◌, ◌∙◌, ◌⊎◌, ℕ, ◌+◌, ◌-◌, ◌<◌, ◌≤◌, Bool, true, false, List, [], ◌∷◌, length, take, drop, get_or, Option, None, Some, refl, sym, ap, subst, arith, inl, inr, ⊎_elim}
 use Rattle.std.specs.Prelude.{nat_lt, ◌%◌, ◌==◌, ◌&&◌, ◌||◌, not, position, option_map, slice_get, slice_index, unwrap_or, is_none}
 use Rattle.std.specs.List.{position_or_len}
@@ -41,9 +41,9 @@ apart bytes o index s is at some size =
 
 -- ---- names
 
--- the first element that passes is not behind one that does
-first_not_behind : {X : Type 0} (p : X → Bool) (xs : List X) (k : ℕ) (d : X) → p (get_or xs k d) ≡ true → position_or_len p xs ≤ k
-first_not_behind p xs k d passes =
+-- the first element that passes the test is not after one that passes
+first_not_after : {X : Type 0} (p : X → Bool) (xs : List X) (k : ℕ) (d : X) → p (get_or xs k d) ≡ true → position_or_len p xs ≤ k
+first_not_after p xs k d passes =
     ⊎_elim (λ lt. absurd (both_ways (p (get_or xs k d)) (fails_before_first p xs k d lt) passes)) (λ le. le) (cases_lt k (position_or_len p xs))
 
 -- in a table that ends with a zero byte each name ends
@@ -56,7 +56,7 @@ name_ends strings offset lt last =
     let zero_last : is_zero (get_or rest (length rest - 1) 0) ≡ true =
     eq-eqb (get_or rest (length rest - 1) 0) 0 (get_or-drop offset strings (length rest - 1) 0 ∙ ap (λ (n : ℕ). get_or strings n 0) split ∙ last) in
     let first = position_or_len is_zero rest in
-    let before : first ≤ length rest - 1 = first_not_behind is_zero rest (length rest - 1) 0 zero_last in
+    let before : first ≤ length rest - 1 = first_not_after is_zero rest (length rest - 1) 0 zero_last in
     let inside : first < length rest = omega (arith, before, len, lt) in
     let zero_there : get_or rest first 0 ≡ 0 = eqb-true (get_or rest first 0) 0 (passes_at_first is_zero rest 0 inside) in
     let place : length (take first rest) ≡ first = length-take-le first rest (omega (arith, inside)) in

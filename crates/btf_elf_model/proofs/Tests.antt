@@ -1,4 +1,4 @@
--- What the tests of sections and tables say.
+-- What the tests of sections and tables mean.
 use Rattle.std.proofs.Common.{◌≡◌, ◌≢◌, ◌∙◌, ◌⊎◌, ℕ, ◌+◌, ◌<◌, ◌≤◌, Bool, true, false, cond, List, [], ◌∷◌, length, get_or, Option, None, Some, sym, ap, arith, inl, inr, ⊎_elim}
 use Rattle.std.specs.Prelude.{nat_lt, ◌==◌, ◌&&◌, ◌||◌, not, position, option_map}
 use Rattle.std.specs.List.{position_or_len}
@@ -12,7 +12,7 @@ use Rattle.btf_elf_model.specs.declared.section_header.SectionHeader.{SectionHea
 use Rattle.btf_elf_model.specs.declared.error.ParseError.TheVariants.{SectionTableOutOfRange, SectionOutOfRange, SectionOverHeaders}
 use Rattle.btf_elf_model.proofs.Errors.{all_none, when_none, map_none}
 
--- no place passes
+-- no place passes the test
 pub none_passes : {X : Type 0} (p : X → Bool) (xs : List X) (d : X) → position p xs ≡ None → (k : ℕ) → k < length xs → p (get_or xs k d) ≡ false
 none_passes p xs d none k lt =
     ⊎_elim
@@ -40,7 +40,7 @@ past_not len s le =
     (λ none. and_left (has_bytes s) (nat_lt len (s.offset + s.size)) none)
     (cases_Bool (has_bytes s))
 
--- A section of some bytes is behind the file header, and before or behind the section header table.
+-- A section with bytes is after the file header, and before or after the section header table.
 abbrev pub IsClear : ℕ → ℕ → ℕ → ℕ → Type 0
 IsClear table end offset size = 0 < size → (header_len ≤ offset) × ((end ≤ offset) ⊎ (offset + size ≤ table))
 
@@ -111,7 +111,7 @@ fits_table h bytes f =
     or_from (nat_lt h.section_headers header_len) (nat_lt (length bytes) (table_end h bytes)) (le-ltb h.section_headers header_len f.behind) (le-ltb (length bytes) (table_end h bytes) f.within) in
     ap (λ (b : Bool). when b SectionTableOutOfRange) (and_right (not (h.section_headers == 0)) _ inside)
 
--- what is asked of each section
+-- the tests of each section
 pub record SectionsFit (h : FileHeader) (bytes : List ℕ) (sections : List SectionHeader) : Type 0 where
   pub within : (k : ℕ) (d : SectionHeader) → k < length sections → is_past_end (length bytes) (get_or sections k d) ≡ false
   pub clear : (k : ℕ) (d : SectionHeader) → k < length sections → is_over_headers h.section_headers (table_end h bytes) (get_or sections k d) ≡ false

@@ -13,7 +13,7 @@ xword_in_both_orders :
     × (xword_at Big 0 (0 ∷ 0 ∷ 0 ∷ 0 ∷ 0 ∷ 0 ∷ 2 ∷ 1 ∷ []) ≡ 513)
 xword_in_both_orders = (refl, refl)
 
--- the table "\0ab\0", where a name may begin in the middle of another
+-- the string table "\0ab\0", in which a name may begin in the middle of another
 names : List ℕ
 names = 0 ∷ 0x61 ∷ 0x62 ∷ 0 ∷ []
 
@@ -52,7 +52,7 @@ no_sections : (parse_error (header_with 2 0) ≡ None) × (sections_of (header_w
 unfolding header_with file_header sections_of headers_of section_count parse_error identification_error header_error table_error section_error name_error string_table names_index symbol_table_error symbol_error
 no_sections = (refl, refl)
 
--- an object of 32 bits, bytes without the magic, and a section header table behind the end
+-- an object of 32 bits, bytes without the magic, and a section header table after the end
 first_errors :
     (parse_error (header_with 1 0) ≡ Some (UnsupportedClass 1)) × (parse_error [] ≡ Some NotElf)
     × (parse_error (header_with 2 64) ≡ Some SectionTableOutOfRange)

@@ -14,13 +14,13 @@ pub record ObjectIsDetermined : Type 0 where
   pub not_both : (bytes : List ℕ) (o : Object) (e : ParseError) → IsObject bytes o → IsRefused bytes e → ⊥
   pub one_of_both : (bytes : List ℕ) → ((o : Object) × IsObject bytes o) ⊎ ((e : ParseError) × IsRefused bytes e)
 
--- A name of a string table ends: a zero byte is right after it, or it is the empty name in an empty table.
+-- A name of a string table ends: a zero byte is right after the name, or it is the empty name in an empty table.
 abbrev pub Ends : List ℕ → ℕ → Type 0
 Ends strings offset =
     ((strings ≡ []) × (offset ≡ 0)) ⊎ (slice_get strings (offset + length (name_at strings offset)) ≡ Some 0)
 
--- What the lack of errors means: sections with bytes are in the file, and apart from the file header and the table of
--- section headers, and the names of sections and symbols end.
+-- What holds for bytes without errors: sections with bytes are in the file, and share no bytes with the file header and
+-- the table of section headers; and the names of sections and symbols end.
 pub record ObjectIsSound : Type 0 where
   pub sections_are_within : (bytes : List ℕ) (o : Object) (index : ℕ) (s : SectionHeader) → IsObject bytes o
       → slice_get o.sections index ≡ Some s → has_bytes s ≡ true → s.offset + s.size ≤ length bytes

@@ -1,6 +1,6 @@
--- Objects: which bytes are one, and the first error of those that are none.
+-- Objects: which bytes are an object, and the first error of other bytes.
 -- Source: ELF gABI, chapter 4, "Object Files". The order of the errors is a choice of this project. Sections may
--- overlap one another, and nothing is asked of types, addresses, alignments, program headers and relocations.
+-- overlap one another, and nothing is required of types, addresses, alignments, program headers and relocations.
 use Rattle.std.specs.Prelude.{◌≡◌, ℕ, ◌==◌, ◌||◌, ◌&&◌, not, nat_eq, nat_lt, Bool, List, [], ◌∷◌, length, position, if◌then◌else◌, Option, Some, None, is_none, option_map, unwrap_or}
 use Rattle.std.specs.List.{starts_with}
 use Rattle.std.specs.Option.{option_and_then}
@@ -19,7 +19,7 @@ pub record Object : Type 0 where
   pub sections : List SectionHeader
   pub bytes : List ℕ
 
--- what bytes say, where they are an object
+-- the object that bytes represent, if they have no error
 abbrev pub object_of : List ℕ → Object
 object_of bytes = record { header = file_header bytes; sections = sections_of bytes; bytes = bytes }
 
@@ -27,7 +27,7 @@ object_of bytes = record { header = file_header bytes; sections = sections_of by
 abbrev pub section_bytes : Object → SectionHeader → List ℕ
 section_bytes o s = contents o.bytes s
 
--- the string table that e_shstrndx names; none where it names none
+-- the string table that e_shstrndx names; none if it names none
 abbrev pub names_of : FileHeader → List ℕ → List SectionHeader → Option (List ℕ)
 names_of h bytes sections = string_table bytes sections (names_index h sections)
 
@@ -53,7 +53,7 @@ symbol_name o s = name_at (symbol_names o) s.name
 
 -- ---- errors
 
--- the error, where the test holds
+-- the error if the test holds, else none
 abbrev pub when : Bool → ParseError → Option ParseError
 when holds e = if holds then Some e else None
 
@@ -63,7 +63,8 @@ first_error [] = None
 first_error (Some e ∷ more) = Some e
 first_error (None ∷ more) = first_error more
 
--- The first error of the identification, by which the other words are read, in the first 64 bytes.
+-- The first error of the identification in the first 64 bytes. The identification determines how the other words are
+-- read.
 unfoldable pub identification_error : List ℕ → Option ParseError
 identification_error header = first_error (
     when (nat_lt (length header) header_len || not (starts_with nat_eq header magic)) NotElf
@@ -80,14 +81,14 @@ header_error h = first_error (
     BadHeaderSize
     ∷ [])
 
--- The table of section headers begins in the file header, or ends past the end.
+-- The table of section headers begins in the file header, or ends after the end of the bytes.
 unfoldable pub table_error : FileHeader → List ℕ → Option ParseError
 table_error h bytes =
     when (not (h.section_headers == 0)
     && (nat_lt h.section_headers header_len || nat_lt (length bytes) (table_end h bytes)))
     SectionTableOutOfRange
 
--- The first section that ends past the end, or else the first that overlaps a header.
+-- The first section that ends after the end of the bytes, or else the first that overlaps a header.
 unfoldable pub section_error : FileHeader → List ℕ → List SectionHeader → Option ParseError
 section_error h bytes sections = first_error (
     option_map SectionOutOfRange (position (is_past_end (length bytes)) sections)
@@ -110,7 +111,7 @@ symbol_table_error bytes sections =
 unfoldable pub symbol_error : List ℕ → List Symbol → Option ParseError
 symbol_error names symbols = option_map BadSymbolName (position (λ s. not (is_name names s.name)) symbols)
 
--- The first error of bytes; none where they are an object.
+-- The first error of bytes; none if they are an object.
 unfoldable pub parse_error : List ℕ → Option ParseError
 parse_error bytes = let o = object_of bytes in
     first_error (
@@ -123,11 +124,11 @@ parse_error bytes = let o = object_of bytes in
     ∷ symbol_error (symbol_names o) (symbols o)
     ∷ [])
 
--- The bytes are this object: they have no error, and the object is what they say.
+-- The bytes represent this object, and have no error.
 pub record IsObject (bytes : List ℕ) (o : Object) : Type 0 where
   pub no_error : parse_error bytes ≡ None
   pub object : o ≡ object_of bytes
 
--- The bytes are no object, and this is their first error.
+-- The bytes represent no object, and this is their first error.
 abbrev pub IsRefused : List ℕ → ParseError → Type 0
 IsRefused bytes e = parse_error bytes ≡ Some e

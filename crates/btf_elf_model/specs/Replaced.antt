@@ -1,5 +1,6 @@
--- An object with other bytes in one section: what changes, and what stays.
--- Source: a choice of this project. The ELF gABI asks that sections don't overlap, and asks nothing of file offsets.
+-- An object with other bytes in one section: what changes, and what does not.
+-- Source: a choice of this project. The ELF gABI requires that sections don't overlap, and requires nothing of file
+-- offsets.
 use Rattle.std.specs.Prelude.{◌≡◌, ◌≢◌, ◌⊎◌, ℕ, ◌+◌, ◌-◌, ◌*◌, ◌%◌, ◌<◌, ◌≤◌, ◌==◌, ◌&&◌, not, nat_lt, nat_le, max, min, Bool, List, length, remove, slice_get, slice_set, if◌then◌else◌, Some}
 use Rattle.std.specs.List.{list_any}
 use Rattle.btf_model.specs.Blob.{slice}
@@ -8,8 +9,8 @@ use Rattle.btf_elf_model.specs.Section.{has_bytes, sht_symtab, sht_strtab}
 use Rattle.btf_elf_model.specs.Object.{Object, section_bytes, name_table, symbols, symbol_names}
 use Rattle.btf_elf_model.specs.declared.section_header.SectionHeader.{SectionHeader}
 
--- The bytes of a section can be replaced: the file has some, they are no string table and no symbol table, on which
--- names and symbols depend, and it is not section 0, whose header may have the number of sections.
+-- The bytes of a section can be replaced. The file has bytes of the section. It is no string table and no symbol table,
+-- because names and symbols depend on these. It is not section 0, because its header may have the number of sections.
 unfoldable pub is_replaceable : ℕ → SectionHeader → Bool
 is_replaceable index s = nat_lt 0 index && has_bytes s && not (s.kind == sht_strtab) && not (s.kind == sht_symtab)
 
@@ -19,12 +20,13 @@ shares_bytes offset len s =
     has_bytes s && nat_lt 0 len && nat_lt 0 s.size
     && nat_lt offset (s.offset + s.size) && nat_lt s.offset (offset + len)
 
--- len bytes fit in the place of a section: it has no fewer, and no other section has one of them.
+-- len bytes fit in the place of a section: the section has at least len bytes, and no other section has one of these
+-- bytes.
 unfoldable pub fits : List SectionHeader → ℕ → SectionHeader → ℕ → Bool
 fits sections index s len =
     nat_le len s.size && not (list_any (shares_bytes s.offset len) (remove sections index))
 
--- the alignment of a section in the file: its own, 4096 at most
+-- the alignment of a section in the file: its own alignment, but at most 4096
 abbrev pub alignment_of : SectionHeader → ℕ
 alignment_of s = min (max 1 s.alignment) 4096
 
@@ -32,7 +34,7 @@ alignment_of s = min (max 1 s.alignment) 4096
 abbrev pub aligned : ℕ → ℕ → ℕ
 aligned n alignment = n + (if n % alignment == 0 then 0 else (alignment - n % alignment))
 
--- Where len bytes of a section are put: in its place if they fit there, else at the end of the file, aligned.
+-- The offset for len bytes of a section: the offset of the section if they fit there, else the aligned end of the file.
 unfoldable pub place : Object → ℕ → SectionHeader → ℕ → ℕ
 place o index s len =
     if fits o.sections index s len then s.offset else aligned (length o.bytes) (alignment_of s)
@@ -41,7 +43,7 @@ place o index s len =
 abbrev pub moved : ℕ → ℕ → SectionHeader → SectionHeader
 moved offset size s = record s { offset = offset; size = size }
 
--- where sh_offset and sh_size of a section are in the file: these two words of its header change
+-- the file offset of sh_offset and sh_size of a section, which are the two words of its header that change
 abbrev pub place_in_header : Object → ℕ → ℕ
 place_in_header o index = o.header.section_headers + header_len * index + 24
 

@@ -33,13 +33,13 @@ headers_of h count bytes = map (section_header h.order) (first_chunks header_len
 abbrev pub size_of_first : FileHeader → List ℕ → ℕ
 size_of_first h bytes = (section_header h.order (slice h.section_headers header_len bytes)).size
 
--- How many sections there are: none without a table; e_shnum; and where that is 0, sh_size of section 0.
+-- The number of sections: 0 without a table of section headers; else e_shnum, or sh_size of section 0 if e_shnum is 0.
 unfoldable pub section_count : FileHeader → List ℕ → ℕ
 section_count h bytes =
     if h.section_headers == 0 then 0
     else (if h.section_header_count == 0 then size_of_first h bytes else h.section_header_count)
 
--- where the table of section headers ends: it has that of section 0 at least
+-- the end of the table of section headers, which has at least the header of section 0
 abbrev pub table_end : FileHeader → List ℕ → ℕ
 table_end h bytes = h.section_headers + header_len * max 1 (section_count h bytes)
 
@@ -49,7 +49,7 @@ sections_of bytes = let h = file_header bytes in headers_of h (section_count h b
 
 -- ---- contents
 
--- SHT_NULL, SHT_SYMTAB, SHT_STRTAB, SHT_NOBITS: the types of sections that are told apart here
+-- SHT_NULL, SHT_SYMTAB, SHT_STRTAB, SHT_NOBITS: the types of sections that the definitions distinguish
 abbrev pub sht_null : ℕ
 sht_null = 0
 
@@ -70,11 +70,11 @@ has_bytes s = not (s.kind == sht_null) && not (s.kind == sht_nobits)
 unfoldable pub contents : List ℕ → SectionHeader → List ℕ
 contents bytes s = if has_bytes s then slice s.offset s.size bytes else []
 
--- The section ends past the end of a file of this length.
+-- The section ends after the end of a file of this length.
 unfoldable pub is_past_end : ℕ → SectionHeader → Bool
 is_past_end len s = has_bytes s && nat_lt len (s.offset + s.size)
 
--- The section shares bytes with the file header, or with the table of section headers that is from here to there.
+-- The section shares bytes with the file header, or with the table of section headers, which has this start and end.
 unfoldable pub is_over_headers : ℕ → ℕ → SectionHeader → Bool
 is_over_headers table end s =
     has_bytes s && nat_lt 0 s.size
@@ -91,7 +91,7 @@ unfoldable pub is_string_table : List ℕ → Bool
 is_string_table strings =
     (length strings == 0) || (is_zero (slice_index strings 0) && is_zero (slice_index strings (length strings - 1)))
 
--- A name begins at the offset: a byte of the table does, or the offset is 0, which is the empty name in an empty table.
+-- A name begins at the offset: the offset is within the table, or it is 0, which is the empty name in an empty table.
 abbrev pub is_name : List ℕ → ℕ → Bool
 is_name strings offset = (offset == 0) || nat_lt offset (length strings)
 
@@ -99,7 +99,7 @@ is_name strings offset = (offset == 0) || nat_lt offset (length strings)
 unfoldable pub name_at : List ℕ → ℕ → List ℕ
 name_at strings offset = before_first is_zero (drop offset strings)
 
--- the string table in a section; none where it is of another type, or its bytes are no string table
+-- the string table in a section; none if the section has another type, or its bytes are no string table
 abbrev pub strings_in : List ℕ → SectionHeader → Option (List ℕ)
 strings_in bytes s =
     if (s.kind == sht_strtab) && is_string_table (contents bytes s) then Some (contents bytes s) else None
@@ -114,6 +114,6 @@ abbrev pub link_of_first : List SectionHeader → ℕ
 link_of_first [] = 0
 link_of_first (s ∷ _) = s.link
 
--- The index of the section with the names of sections: e_shstrndx; where that is SHN_XINDEX, sh_link of section 0.
+-- The index of the section with the names of sections: e_shstrndx, or sh_link of section 0 if e_shstrndx is SHN_XINDEX.
 unfoldable pub names_index : FileHeader → List SectionHeader → ℕ
 names_index h sections = if h.section_names == 0xffff then link_of_first sections else h.section_names

@@ -1,6 +1,6 @@
 -- Symbols.
--- Source: ELF gABI, chapter 4, "Symbol Table": an object has one section of type SHT_SYMTAB at most, whose sh_link is
--- the index of its string table. Where there are more, the first counts: a choice of this project.
+-- Source: ELF gABI, chapter 4, "Symbol Table": an object has at most one section of type SHT_SYMTAB, whose sh_link is
+-- the index of its string table. If there are more such sections, the first one counts: a choice of this project.
 use Rattle.std.specs.Prelude.{ℕ, ◌/◌, ◌%◌, ◌==◌, ◌||◌, not, List, [], length, map, find, slice_index, Option, Some, None, is_none, unwrap_or, Bool}
 use Rattle.std.specs.Simd.{first_chunks}
 use Rattle.btf_model.specs.Blob.{word_at}
@@ -34,7 +34,7 @@ is_symbol_table s = s.kind == sht_symtab
 abbrev pub symbol_table : List SectionHeader → Option SectionHeader
 symbol_table sections = find is_symbol_table sections
 
--- A symbol table is malformed: its entries have another size than 24, the last is cut, or it has no string table.
+-- A symbol table is malformed: its entry size is not 24, its last entry is truncated, or it has no string table.
 unfoldable pub is_malformed : List ℕ → List SectionHeader → SectionHeader → Bool
 is_malformed bytes sections s =
     not (s.entry_size == symbol_len) || not (length (contents bytes s) % symbol_len == 0)

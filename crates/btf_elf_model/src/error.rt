@@ -2,7 +2,7 @@
 
 use thiserror::Error;
 
-/// Why bytes are no object file that is read here. The variants are in the order in which they are looked for.
+/// Why bytes are not an object file that this crate reads. The variants are in the order of the tests.
 #[derive(Clone, Copy, Debug, PartialEq, Eq, Error)]
 pub enum ParseError {
     /// The bytes are shorter than a file header of 64 bytes, or don't begin with the four magic bytes.
@@ -31,11 +31,11 @@ pub enum ParseError {
     #[error("the file header states a size of headers that is not 64")]
     BadHeaderSize,
 
-    /// The table of section headers begins in the file header or ends past the end of the file.
+    /// The table of section headers begins in the file header, or ends after the end of the file.
     #[error("the section header table is not in the file")]
     SectionTableOutOfRange,
 
-    /// A section ends past the end of the file.
+    /// A section ends after the end of the file.
     #[error("section {index} is not in the file")]
     SectionOutOfRange {
         /// The index of the section.
@@ -54,19 +54,19 @@ pub enum ParseError {
     #[error("the table of section names is malformed")]
     BadNameTable,
 
-    /// The name of a section begins past the end of the table of section names.
+    /// The name of a section begins after the end of the table of section names.
     #[error("section {index} has a name that is not in the string table")]
     BadSectionName {
         /// The index of the section.
         index: usize,
     },
 
-    /// The symbol table states entries of a size that is not 24, has a part of an entry at its end, or names a string
-    /// table that doesn't exist, is none, or doesn't begin and end with a zero byte.
+    /// The symbol table states an entry size other than 24, ends with a part of an entry, or names a string table that
+    /// doesn't exist, is no string table, or doesn't begin and end with a zero byte.
     #[error("the symbol table is malformed")]
     BadSymbolTable,
 
-    /// The name of a symbol begins past the end of its string table.
+    /// The name of a symbol begins after the end of its string table.
     #[error("symbol {index} has a name that is not in the string table")]
     BadSymbolName {
         /// The index of the symbol.

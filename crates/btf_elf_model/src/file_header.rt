@@ -34,9 +34,9 @@ pub struct FileHeader {
     pub program_header_count: u16,
     /// `e_shentsize`: the size of a section header in bytes.
     pub section_header_size: u16,
-    /// `e_shnum`: the number of section headers; 0 where the header of section 0 has it.
+    /// `e_shnum`: the number of section headers; 0 if the header of section 0 has this number.
     pub section_header_count: u16,
-    /// `e_shstrndx`: the index of the section with the names of sections; 0 for none, and `SHN_XINDEX` (0xffff)
-    /// where the header of section 0 has it.
+    /// `e_shstrndx`: the index of the section with the names of sections; 0 for none, and `SHN_XINDEX` (0xffff) if the
+    /// header of section 0 has this index.
     pub section_names: u16,
 }

@@ -1,7 +1,7 @@
-//! What an ELF object file is, which errors refuse bytes that are none, and the laws of both.
+//! What an ELF object file is, the errors for bytes that are not one, and the laws of both.
 //!
 //! The definitions are in `specs/`. Each law is the contract of a function here that does nothing. The sources are the
-//! ELF gABI, chapter 4 "Object Files", for everything but the machine, and the BPF psABI for that.
+//! BPF psABI for the machine, and the ELF gABI, chapter 4 "Object Files", for everything else.
 #![tactic(auto)]
 
 ghost use Rattle.btf_elf_model.specs.Laws.{ObjectIsDetermined, ObjectIsSound};
@@ -21,7 +21,7 @@ pub fn object_is_determined()
     ensures { ObjectIsDetermined }
 {}
 
-/// In an object each section is in the file, apart from the headers, and each name ends.
+/// In an object each section is in the file and shares no bytes with the headers, and each name ends.
 pub fn object_is_sound()
     ensures { ObjectIsSound }
 {}

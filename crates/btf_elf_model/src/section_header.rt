@@ -5,16 +5,16 @@
 pub struct SectionHeader {
     /// `sh_name`: the offset of the name in the table of section names.
     pub name: u32,
-    /// `sh_type`: what the section holds, as `SHT_PROGBITS`.
+    /// `sh_type`: what the section contains, such as `SHT_PROGBITS`.
     pub kind: u32,
-    /// `sh_flags`: attributes, as `SHF_ALLOC`.
+    /// `sh_flags`: attributes, such as `SHF_ALLOC`.
     pub flags: u64,
     /// `sh_addr`: the address of the first byte in the memory of a process; 0 for none.
     pub address: u64,
     /// `sh_offset`: the file offset of the first byte.
     pub offset: u64,
-    /// `sh_size`: the size in bytes. A section of type `SHT_NOBITS` or `SHT_NULL` has no bytes in the file, whatever this
-    /// is.
+    /// `sh_size`: the size in bytes. A section of type `SHT_NOBITS` or `SHT_NULL` has no bytes in the file, whatever
+    /// the size is.
     pub size: u64,
     /// `sh_link`: the index of another section; which one depends on the type.
     pub link: u32,

@@ -11,12 +11,13 @@ pub struct Symbol {
     pub kind: u8,
     /// `st_other`: its two lowest bits are the visibility.
     pub other: u8,
-    /// `st_shndx`: the index of the section to which the symbol belongs. `SHN_UNDEF` (0) for a symbol that is not
-    /// defined here; from `SHN_LORESERVE` (0xff00) on no index: `SHN_ABS` (0xfff1), `SHN_COMMON` (0xfff2), or
-    /// `SHN_XINDEX` (0xffff), where a section of type `SHT_SYMTAB_SHNDX` has the index, which is not read here.
+    /// `st_shndx`: the index of the section to which the symbol belongs. `SHN_UNDEF` (0) is for a symbol that is not
+    /// defined here. Values from `SHN_LORESERVE` (0xff00) on are no indices, such as `SHN_ABS` (0xfff1), `SHN_COMMON`
+    /// (0xfff2), and `SHN_XINDEX` (0xffff). With `SHN_XINDEX` a section of type `SHT_SYMTAB_SHNDX` has the index, which
+    /// this crate does not read.
     pub section: u16,
     /// `st_value`: in a relocatable object, the offset in the section.
     pub value: u64,
-    /// `st_size`: the size in bytes; 0 where there is none.
+    /// `st_size`: the size in bytes; 0 if there is none.
     pub size: u64,
 }

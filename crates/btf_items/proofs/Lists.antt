@@ -24,7 +24,7 @@ words_at-add order (suc m) n bytes =
     let at : drop (4 * m) (drop 4 bytes) ≡ drop (4 * suc m) bytes = drop-drop (4 * m) 4 bytes ∙ ap (λ (j : ℕ). drop j bytes) (omega arith) in
     ap (λ k. words_at order k bytes) k ∙ ap (λ (ws : List ℕ). word_of order (take 4 bytes) ∷ ws) (words_at-add order m n (drop 4 bytes) ∙ ap (λ (b : List ℕ). words_at order m (drop 4 bytes) ++ words_at order n b) at)
 
--- the items that have been read from the front of the bytes, and what stays
+-- the items that have been read from the front of the bytes, and the bytes that are left
 pub record ItemsSoFar {X : Type 0} (width : ℕ) (item_words : X → List ℕ) (order : Endianness) (bytes : List ℕ) (n : ℕ) (items : List X) (rest : List ℕ) : Type 0 where
   pub count : length items ≡ n
   pub within : 4 * (width * n) ≤ length bytes
@@ -55,7 +55,7 @@ more_items width item_words order bytes n items more rest next x h le words next
       behind = next-is ∙ ap (drop (4 * width)) h.behind ∙ drop-drop (4 * width) (4 * (width * n)) bytes ∙ ap (λ (j : ℕ). drop j bytes) (omega arith);
     }
 
--- an item that is cut
+-- a truncated item
 pub items_cut : {X : Type 0} {Y : Type 0} (items_of : Y → List X) (width : ℕ) (item_words : X → List ℕ) (order : Endianness) (bytes : List ℕ) (n count : ℕ) (items : List X) (rest : List ℕ) (e : BtfError) (r : Result Y BtfError) → ItemsSoFar width item_words order bytes n items rest → n < count → length rest < 4 * width → e ≡ InvalidTypeInfo → IsErrAnd r (λ y. y ≡ e) → MeetsOrNoMemory items_of r (ReadsItems width item_words order bytes count)
 items_cut {X} {Y} items_of width item_words order bytes n count items rest e r h lt short is err =
     let p = err_from_is_err_and r err in
@@ -65,12 +65,12 @@ items_cut {X} {Y} items_of width item_words order bytes n count items rest e r h
 
 -- ---- lists as the tail of a record
 
--- so many words for each item
+-- the number of words of each item
 pub length-items : {X : Type 0} (k : ℕ) (f : X → List ℕ) → ((x : X) → length (f x) ≡ k) → (xs : List X) → length (flat_map f xs) ≡ k * length xs
 length-items k f each [] = omega arith
 length-items k f each (x ∷ xs) = omega (arith, length-append (f x) (flat_map f xs), each x, length-items k f each xs)
 
--- a record with a list is kept as it is
+-- reading retains all words of a record with a list
 pub list_is_whole : (k : Kind) (r : Record) → kind_of r.info ≡ Some k → length r.tail ≡ tail_words k (vlen r.info) → AllByRecursion (λ w. w < 2 ^ 32) (r.name ∷ r.info ∷ r.third ∷ []) → AllByRecursion (λ w. w < 2 ^ 32) r.tail → kept k r ≡ r → IsWhole r
 list_is_whole k r kind tail head fits stays = (k, record { kind = kind; tail = tail; words = (head.0, (head.1.0, (head.1.1.0, fits))) }, stays)
 
@@ -88,7 +88,7 @@ words_after k f each xs i le =
     let len : length (flat_map f (take i xs)) ≡ k * i = length-items k f each (take i xs) ∙ ap (λ (n : ℕ). k * n) (length-take-le i xs le) in
     ap (drop (k * i)) parts ∙ drop_at (flat_map f (take i xs)) (flat_map f (drop i xs)) (k * i) len
 
--- an item in the place of another
+-- an item that replaces another
 pub words_of_set : {X : Type 0} (k : ℕ) (f : X → List ℕ) → ((x : X) → length (f x) ≡ k) → (xs : List X) (i : ℕ) (y : X) → i < length xs → flat_map f (set xs i y) ≡ take (k * i) (flat_map f xs) ++ f y ++ drop (k * suc i) (flat_map f xs)
 words_of_set k f each xs i y lt =
     ap (flat_map f) (set_split xs i y lt) ∙ flat_map-append f (take i xs) (y ∷ drop (suc i) xs)
@@ -110,7 +110,7 @@ first_items width f each order bytes n more xs le h =
           ∙ take_at (words_at order (width * n) bytes) (words_at order (width * more - width * n) (drop (4 * (width * n)) bytes)) (width * n) (length-words_at order (width * n) bytes),
     )
 
--- clones have the words of what they are clones of
+-- clones have the words of the originals
 pub same_words : {X A : Type 0} (IsClone : X → X → Type 0) (words : X → List A) → ((x y : X) → IsClone x y → words y ≡ words x) → (xs ys : List X) → AllZip IsClone xs ys → flat_map words ys ≡ flat_map words xs
 same_words IsClone words same [] [] h = refl
 same_words IsClone words same [] (y ∷ ys) h = absurd h

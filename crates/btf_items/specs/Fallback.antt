@@ -1,4 +1,4 @@
--- The fallback of a UNION as the definitions have it.
+-- The fallback of a UNION as a value of the definitions.
 use Rattle.std.specs.Prelude.{map, Option}
 use Rattle.std.specs.Option.{option_map}
 use Rattle.btf_model.specs.Table as model
@@ -13,6 +13,6 @@ variant_of v = record { name = v.name_offset; value = v.value }
 abbrev pub fallback_value : Enum64Fallback → model.Fallback
 fallback_value f = record { signed = f.signed; variants = map variant_of f.variants.items }
 
--- the same, where there is one
+-- the same, if there is one
 abbrev pub fallback_of_option : Option Enum64Fallback → Option model.Fallback
 fallback_of_option o = option_map fallback_value o

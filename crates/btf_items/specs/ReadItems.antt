@@ -1,11 +1,11 @@
--- What the reader of a list returns.
+-- What the function that reads a list returns.
 use Rattle.std.specs.Prelude.{◌≡◌, ℕ, ◌*◌, ◌<◌, ◌≤◌, List, length, Result, Ok, Err}
 use Rattle.std.specs.List.{flat_map}
 use Rattle.btf_model.specs.Word.{words_at}
 use Rattle.btf_model.specs.declared.endianness.Endianness.{Endianness}
 use Rattle.btf_model.specs.Refusal.{Refusal, InvalidTypeInfo}
 
--- so many items of so many words each, read from the front of bytes; refused where the bytes end before them
+-- items with the same number of words each, read from the front of bytes; refused if the bytes are too few
 abbrev pub ReadsItems : {X : Type 0} → ℕ → (X → List ℕ) → Endianness → List ℕ → ℕ → Result (List X) Refusal → Type 0
 ReadsItems width item_words order bytes count (Ok items) =
     (4 * (width * count) ≤ length bytes) × (length items ≡ count)

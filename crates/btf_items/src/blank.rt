@@ -1,4 +1,4 @@
-//! What fills the places of a list: blank items, and copies of items.
+//! Items that fill unused places of a list: blank items, and copies of items.
 
 ghost use Rattle.std.specs.Prelude.{◌≡◌, length};
 
@@ -10,11 +10,11 @@ pub trait Blank: Item {
     /// The item whose words are zero.
     fn blank() -> Self;
 
-    /// The same item once more, which takes no memory.
+    /// A copy of the item, without an allocation.
     fn copied(&self) -> Self
         ensures { result ≡ self.now };
 
-    /// Each item has so many words.
+    /// Each item has this number of words.
     ghost item_width: { (x : Self) → length (Self.item_words x) ≡ Self.width };
 }
 

@@ -1,4 +1,4 @@
-//! What an ENUM64 was before a UNION took its place.
+//! The data of an ENUM64 that a UNION replaced.
 
 ghost use Rattle.std.specs.Prelude.{Ok};
 ghost use Rattle.btf_words.specs.Error.{IsOrNoMemory};
@@ -11,11 +11,11 @@ use btf_words::BtfError;
 pub struct Enum64VariantFallback {
     /// The string offset of the name.
     pub name_offset: u32,
-    /// The value, as two's complement where the ENUM64 is signed.
+    /// The value, in two's complement if the ENUM64 is signed.
     pub value: u64,
 }
 
-/// The ENUM64 that a UNION stands in for, where a kernel has no 64-bit enumerations. It is not written.
+/// The ENUM64 that a UNION replaces for a kernel without 64-bit enumerations. It is not written to a blob.
 #[derive(Debug, Drop)]
 pub struct Enum64Fallback {
     /// Whether the values have a sign.
@@ -25,7 +25,7 @@ pub struct Enum64Fallback {
 }
 
 impl Enum64Fallback {
-    /// An equal fallback. `OutOfMemory` is the only error.
+    /// A copy of the fallback. `OutOfMemory` is the only error.
     pub fn try_clone(&self) -> Result<Self, BtfError>
         ensures { IsOrNoMemory fallback_value result (Ok (fallback_value self.now)) }
     {

@@ -1,4 +1,4 @@
-//! The list of a record, a few items of which lie in the record itself.
+//! The list of a record. A few items are stored in the record itself.
 
 ghost use Rattle.std.specs.Prelude.{◌≡◌, ◌<◌, ◌≤◌, length, take, slice_set, IfOk};
 ghost use Rattle.std.specs.List.{flat_map};
@@ -12,15 +12,15 @@ use btf_words::{BtfError, Endianness};
 use std::alloc::{AllocError, Global};
 use std::{array, fmt};
 
-/// The length in bytes of an item of three words, which no item passes.
+/// The length in bytes of an item of three words, which is the longest item.
 const LONGEST_ITEM: usize = 12;
 
-/// The items of a record. Most records have a few, which lie in the record itself and take no memory of their own.
+/// The items of a record. Most records have a few items, which are stored in the record itself without an allocation.
 #[derive(Drop)]
 pub enum ItemList<T, const N: usize> {
-    /// The first so many of these.
+    /// A number of items at the front of an array.
     Few(usize, [T; N]),
-    /// All of these.
+    /// All items of a vector.
     Many(Vec<T>),
 }
 
@@ -40,7 +40,7 @@ impl<T, const N: usize> ItemList<T, N> {
 }
 
 impl<T: Blank, const N: usize> ItemList<T, N> {
-    /// So many items from the front of bytes. `InvalidTypeInfo` where the bytes end before them.
+    /// Reads `count` items from the front of bytes. Fails with `InvalidTypeInfo` if the bytes are too few.
     pub fn read(
         alloc: Global,
         bytes: &[u8],
@@ -53,7 +53,8 @@ impl<T: Blank, const N: usize> ItemList<T, N> {
         if count > N {
             return Ok(ItemList::Many(read_items(alloc, bytes, endianness, count)?));
         }
-        // A loop of a known number of rounds is faster, so all places are filled where so many bytes are there.
+        // A loop with a constant number of rounds is faster, so all places of the array are filled if there are enough
+        // bytes.
         if bytes.len() / LONGEST_ITEM >= N {
             if let Ok(items) = read_few(bytes, endianness, N) {
                 return Ok(ItemList::Few(count, items));
@@ -77,7 +78,7 @@ impl<T: Blank, const N: usize> ItemList<T, N> {
         ItemList::Few(items.len(), few)
     }
 
-    /// Equal items.
+    /// A copy of the items.
     pub fn try_clone(&self) -> Result<Self, AllocError>
         ensures { IfOk result (λ v. (flat_map T.item_words (items_of v)
             ≡ flat_map T.item_words (items_of self.now))
@@ -91,7 +92,7 @@ impl<T: Blank, const N: usize> ItemList<T, N> {
 }
 
 impl<T: Item, const N: usize> ItemList<T, N> {
-    /// Puts an item in the place of the one that is there.
+    /// Replaces the item at an index.
     pub fn set(&mut self, index: usize, item: T)
         requires { index < length (items_of self.old) }
         ensures { items_of self.new ≡ slice_set (items_of self.old) index item }
@@ -103,7 +104,7 @@ impl<T: Item, const N: usize> ItemList<T, N> {
     }
 }
 
-/// The same items once more. A loop of a known number of rounds is copied as a whole.
+/// A copy of the items. A loop with a constant number of rounds is compiled to one copy of the whole array.
 fn copy_few<T: Blank, const N: usize>(items: &[T; N]) -> [T; N]
     ensures { result ≡ items.now }
 {
@@ -114,8 +115,8 @@ fn copy_few<T: Blank, const N: usize>(items: &[T; N]) -> [T; N]
     copies
 }
 
-/// So many items from the front of bytes, in the first places of an array. `InvalidTypeInfo` where the bytes end before
-/// them.
+/// Reads `count` items from the front of bytes into the first places of an array. Fails with `InvalidTypeInfo` if the
+/// bytes are too few.
 fn read_few<T: Blank, const N: usize>(
     bytes: &[u8],
     endianness: Endianness,

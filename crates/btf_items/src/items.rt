@@ -13,12 +13,12 @@ use std::alloc::AllocError;
 pub struct BtfEnum {
     /// The string offset of the name.
     pub name_offset: u32,
-    /// The value, as two's complement where the ENUM is signed.
+    /// The value, in two's complement if the ENUM is signed.
     pub value: u32,
 }
 
 impl BtfEnum {
-    /// A variant of this name and value.
+    /// A variant with this name and value.
     pub fn new(name_offset: u32, value: u32) -> Self
         ensures { result ≡ record { name_offset = name_offset; value = value } }
     {
@@ -38,7 +38,7 @@ pub struct BtfEnum64 {
 }
 
 impl BtfEnum64 {
-    /// A variant of this name and value.
+    /// A variant with this name and value.
     pub fn new(name_offset: u32, value: u64) -> Self
         ensures { result ≡ record {
           name_offset = name_offset;
@@ -61,7 +61,7 @@ pub struct BtfMember {
     pub name_offset: u32,
     /// The id of the type.
     pub btf_type: u32,
-    /// The bit offset; where the record's kind flag is set, the size of a bit-field stands in its high 8 bits.
+    /// The bit offset; if the record's kind flag is set, the high 8 bits are the size of a bit-field.
     pub offset: u32,
 }
 
@@ -70,7 +70,7 @@ pub struct BtfMember {
 pub struct BtfParam {
     /// The string offset of the name.
     pub name_offset: u32,
-    /// The id of the type; 0 stands for further arguments of any type.
+    /// The id of the type; 0 represents further arguments of any type.
     pub btf_type: u32,
 }
 
@@ -79,7 +79,7 @@ pub struct BtfParam {
 pub struct DataSecEntry {
     /// The id of the VAR.
     pub btf_type: u32,
-    /// Where the variable lies in the section, in bytes.
+    /// The offset of the variable in the section, in bytes.
     pub offset: u32,
     /// Its size in bytes.
     pub size: u32,

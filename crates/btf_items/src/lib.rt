@@ -1,4 +1,5 @@
-//! The items of records that have a list, how a list is read, written and copied, and what a UNION keeps of an ENUM64.
+//! The items of records that have a list; reading, writing and copying a list; and the fallback, which is what a UNION
+//! retains of an ENUM64.
 #![tactic(auto)]
 
 mod blank;

@@ -1,4 +1,4 @@
-//! Lists of items: what is said once of all kinds that have a list.
+//! Lists of items: the code that all kinds with a list share.
 
 ghost use Rattle.std.specs.Prelude.{◌≡◌, ℕ, ◌*◌, ◌<◌, ◌≤◌, ◌^◌, ◌++◌, List, length, drop, Ok, IfOk, OnOk, MatchResult};
 ghost use Rattle.std.specs.List.{flat_map, AllByRecursion};
@@ -10,15 +10,15 @@ use crate::words::push;
 use btf_words::{BtfError, Endianness};
 use std::alloc::{AllocError, Global};
 
-/// An item of a list: so many words.
+/// An item of a list: a fixed number of words.
 pub trait Item: Sized + Clone + Drop {
-    /// How many words an item has.
+    /// The number of words of an item.
     ghost width: { ℕ };
 
     /// The words of an item.
     ghost item_words: { Self → List ℕ };
 
-    /// The item at the front of bytes, and what follows it.
+    /// The item at the front of bytes, and the bytes after it.
     fn read(bytes: &[u8], endianness: Endianness) -> Result<(Self, &[u8]), BtfError>
         ensures { MatchResult result
             (λ x. (4 * width ≤ length bytes.now)
@@ -26,7 +26,7 @@ pub trait Item: Sized + Clone + Drop {
             × (x.1.now ≡ drop (4 * width) bytes.now))
             (λ e. (length bytes.now < 4 * width) × (e ≡ BtfError.InvalidTypeInfo)) };
 
-    /// Writes the item at the end of bytes.
+    /// Appends the item to bytes.
     fn append_to(&self, out: &mut Vec<u8>, endianness: Endianness) -> Result<(), AllocError>
         ensures written { OnOk result (out.new.items ≡ out.old.items
             ++ flat_map (word endianness) (item_words self.now)) }
@@ -36,7 +36,7 @@ pub trait Item: Sized + Clone + Drop {
     ghost cloned_words: { (x y : Self) → Self.is_clone x y → item_words y ≡ item_words x };
 }
 
-/// Writes items at the end of bytes.
+/// Appends items to bytes.
 pub fn push_items<T: Item>(
     out: &mut Vec<u8>,
     endianness: Endianness,
@@ -53,7 +53,7 @@ pub fn push_items<T: Item>(
     Ok(())
 }
 
-/// Equal items, in a vector of just their number.
+/// Copies of items, in a vector whose capacity is their number.
 pub fn clone_items<T: Item>(items: &Vec<T>) -> Result<Vec<T>, AllocError>
     ensures { IfOk result (λ v. (flat_map T.item_words v.items
         ≡ flat_map T.item_words items.now.items) × (length v.items ≡ length items.now.items)) }
@@ -61,8 +61,8 @@ pub fn clone_items<T: Item>(items: &Vec<T>) -> Result<Vec<T>, AllocError>
     items.clone()
 }
 
-/// So many items from the front of bytes, in a vector of just their number. `InvalidTypeInfo` where the bytes
-/// end before them.
+/// Reads `count` items from the front of bytes, into a vector whose capacity is `count`. Fails with `InvalidTypeInfo`
+/// if the bytes are too few.
 pub fn read_items<T: Item>(
     alloc: Global,
     bytes: &[u8],

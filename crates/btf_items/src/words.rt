@@ -1,4 +1,4 @@
-//! Words at the front of bytes, and at their end.
+//! Reading words at the front of bytes, and appending words.
 
 ghost use Rattle.std.specs.Prelude.{◌≡◌, ◌<◌, ◌≤◌, ◌^◌, ◌++◌, length, take, drop, OnOk, MatchResult};
 ghost use Rattle.std.specs.List.{flat_map, AllByRecursion};
@@ -7,7 +7,7 @@ ghost use Rattle.btf_model.specs.Word.{word, word_of};
 use btf_words::{BtfError, Endianness};
 use std::alloc::AllocError;
 
-/// The first word of bytes, and what follows it.
+/// The first word of bytes, and the bytes after it.
 pub fn split_word(bytes: &[u8], endianness: Endianness) -> Result<(u32, &[u8]), BtfError>
     ensures { MatchResult result
         (λ x. (4 ≤ length bytes.now) × (x.0 ≡ word_of endianness (take 4 bytes.now))
@@ -20,7 +20,7 @@ pub fn split_word(bytes: &[u8], endianness: Endianness) -> Result<(u32, &[u8]), 
     Ok((endianness.read_u32(*word), rest))
 }
 
-/// Writes words at the end of bytes, all at once.
+/// Appends words to bytes, in one step.
 pub fn push_array<const N: usize>(
     out: &mut Vec<u8>,
     endianness: Endianness,
@@ -38,7 +38,7 @@ pub fn push_array<const N: usize>(
     out.extend_from_slice(bytes.as_flattened())
 }
 
-/// Writes words at the end of bytes.
+/// Appends words to bytes.
 pub fn push(out: &mut Vec<u8>, endianness: Endianness, words: &[u32]) -> Result<(), AllocError>
     ensures written { OnOk result (out.new.items ≡ out.old.items
         ++ flat_map (word endianness) words.now) }

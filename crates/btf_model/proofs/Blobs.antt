@@ -1,4 +1,4 @@
--- What bytes stand for is determined, and so is why they are refused; what is written is read again.
+-- Bytes determine the table that they represent, or why they are refused; what is written is read back.
 use Rattle.std.specs.Prelude.{slice_get}
 use Rattle.std.proofs.Common.{◌≡◌, ℕ, zero, suc, ◌+◌, ◌^◌, ◌<◌, List, [], ◌∷◌, ◌++◌, length, take, drop, Some, refl, sym, ap, subst, ◌∙◌, append_assoc, arith, inl, inr}
 use Rattle.std.specs.List.{flat_map}
@@ -12,15 +12,15 @@ use Rattle.btf_model.specs.Spelling.{spell}
 use Rattle.btf_model.specs.Table.{Table, strip, no_fallbacks, type_bytes}
 use Rattle.btf_model.specs.Blob.{Header, header_len, header_of, header_bytes, string_section, type_section, strings_end, types_end, slice, AreRecords, BeginsNoRecord, IsTable, IsRest, IsRefusal, rest_refusal, canon, canon_header, IsValid}
 use Rattle.btf_model.proofs.Words.{word_of-word, half_of-half}
-use Rattle.btf_model.proofs.Records.{goes_no_further, same_records, whole_are_records}
+use Rattle.btf_model.proofs.Records.{none_is_longer, same_records, whole_are_records}
 
--- after the longest front no spelling begins
+-- the bytes after the longest front begin with no spelling
 pub rest_from_none : (order : Endianness) (bytes front rest : List ℕ) (rs : List Record) → bytes ≡ front ++ rest → AreRecords order front rs → BeginsNoRecord order rest → IsRest order bytes rest
 rest_from_none order bytes front rest rs whole cut none = record {
   front = front;
   whole = whole;
   cut = (rs, cut);
-  longest = λ other more qs e h. goes_no_further order front rest other more rs qs none cut h (sym whole ∙ e);
+  longest = λ other more qs e h. none_is_longer order front rest other more rs qs none cut h (sym whole ∙ e);
 }
 
 same_back : (a b x y : List ℕ) → length a ≡ length b → a ++ x ≡ b ++ y → x ≡ y
@@ -33,13 +33,13 @@ same_rest order bytes x y h g =
     let b = g.longest h.front x h.cut.0 h.whole h.cut.1 in
     same_back h.front g.front x y (omega arith) (sym h.whole ∙ g.whole)
 
--- bytes that are cut whole leave no rest
+-- bytes that consist of spellings leave no rest
 pub no_rest : (order : Endianness) (bytes rest : List ℕ) (rs : List Record) → AreRecords order bytes rs → IsRest order bytes rest → rest ≡ []
 no_rest order bytes rest rs cut h =
     let le = h.longest bytes [] rs (sym (append-nil bytes)) cut in
     nil_from_length rest (omega (arith, ap length h.whole, length-append h.front rest))
 
--- bytes stand for one table
+-- bytes represent one table
 pub same_table : (order : Endianness) (bytes : List ℕ) (t u : Table) → IsTable order bytes t → IsTable order bytes u → t ≡ u
 same_table order bytes t u h g =
     let rs = same_records order _ h.records.0 g.records.0 h.records.2 g.records.2 in
@@ -50,13 +50,13 @@ same_table order bytes t u h g =
     same : t.order ≡ u.order → t.magic ≡ u.magic → t.version ≡ u.version → t.flags ≡ u.flags → t.strings ≡ u.strings → t.records ≡ u.records → t.fallbacks ≡ u.fallbacks → t ≡ u
     same a b c d e f g = λ i. record { order = a i; magic = b i; version = c i; flags = d i; strings = e i; records = f i; fallbacks = g i }
 
--- bytes that stand for a table are not refused
+-- bytes that represent a table are not refused
 pub table_not_refused : (order : Endianness) (bytes : List ℕ) (t : Table) (refusal : Refusal) → IsTable order bytes t → IsRefusal order bytes refusal → ⊥
 table_not_refused order bytes t refusal h g =
     let p = g.record_at h.header_fits h.strings_fit h.types_fit in
     p.2 (no_rest order _ p.0 h.records.0 h.records.2 p.1)
 
--- there is one first cause
+-- there is one first reason to refuse bytes
 pub same_refusal : (order : Endianness) (bytes : List ℕ) (f g : Refusal) → IsRefusal order bytes f → IsRefusal order bytes g → f ≡ g
 same_refusal order bytes f g h k =
     elim (cases_lt (length bytes) header_len) [
@@ -75,7 +75,7 @@ same_refusal order bytes f g h k =
 
 -- ---- what is written
 
--- the header that is written is read again
+-- the header that is written is read back
 pub header_of-header_bytes : (order : Endianness) (h : Header) (rest : List ℕ) → h.magic < 2 ^ 16 → h.hdr_len < 2 ^ 32 → h.type_off < 2 ^ 32 → h.type_len < 2 ^ 32 → h.str_off < 2 ^ 32 → h.str_len < 2 ^ 32 → header_of order (header_bytes order h ++ rest) ≡ h
 header_of-header_bytes Little h rest a b c d e f =
     λ i. record { magic = half_of-half Little h.magic a i; version = h.version; flags = h.flags; hdr_len = word_of-word Little h.hdr_len b i; type_off = word_of-word Little h.type_off c i; type_len = word_of-word Little h.type_len d i; str_off = word_of-word Little h.str_off e i; str_len = word_of-word Little h.str_len f i }
@@ -106,7 +106,7 @@ canon_types t =
     let behind = drop_at front (type_bytes t ++ t.strings) 24 (length-header_bytes t.order (canon_header t)) in
     ap (λ b. take (length (type_bytes t)) (drop 24 b)) (regrouped t) ∙ ap (take (length (type_bytes t))) behind ∙ take_at (type_bytes t) t.strings (length (type_bytes t)) refl
 
--- what is written stands for the table without its fallbacks
+-- what is written represents the table without its fallbacks
 pub canon_is_table : (t : Table) → IsValid t → IsTable t.order (canon t) (strip t)
 canon_is_table t v =
     let small : length (type_bytes t) < 2 ^ 32 = omega (arith, v.types) in
@@ -129,7 +129,7 @@ canon_is_table t v =
 
 -- ---- ids
 
--- an element that is there stays where it is when more follow
+-- an element has the same place after more elements are appended
 pub slice_get-append_left : {X : Type 0} (xs ys : List X) (i : ℕ) → i < length xs → slice_get (xs ++ ys) i ≡ slice_get xs i
 slice_get-append_left [] ys i lt = absurd (omega arith)
 slice_get-append_left (x ∷ xs) ys zero lt = refl

@@ -1,10 +1,11 @@
--- Worked examples of the comparison of types with themselves: what is started twice, and walks that are cut.
+-- Worked examples of the comparison of types with themselves: pairs that are started twice, and walks that are too
+-- deep.
 use Rattle.std.specs.Prelude.{◌≡◌, ◌≢◌, ℕ, zero, suc, ◌+◌, ◌<◌, List, [], ◌∷◌, replicate, slice_get, slice_index_or, Option, Some, None, Bool, true, false, Result, Ok, Err, Contains, refl}
 use Rattle.std.proofs.Common.{ap, ◌∙◌, arith, inr}
 use Rattle.btf_model.specs.Record.{Record, Kind, Int, Ptr, FuncProto}
 use Rattle.btf_model.specs.Refusal.{Refusal, MaximumTypeDepthReached}
 use Rattle.btf_model.specs.Table.{Table}
-use Rattle.btf_model.specs.Walk.{Resolves, unmodified_in, behind_modifier, modified, walk_limit}
+use Rattle.btf_model.specs.Walk.{Resolves, unmodified_in, after_modifier, modified, walk_limit}
 use Rattle.btf_model.specs.Fields.{Pair, IsAt}
 use Rattle.btf_model.specs.Compat.{Plain, Walked, Paid, Finds, ResolvesPair, position_by}
 use Rattle.btf_model.specs.Compat.Plain.{walked}
@@ -16,16 +17,16 @@ use Rattle.btf_model.specs.CompatExamples.{table_of, pair, itself, none_open}
 
 -- a type that is no modifier resolves to itself
 pub no_modifier : (t : Table) (id : ℕ) (k : Kind) (r : Record) → IsAt t id k r → modified (Some k) r ≡ None → Resolves t.records id (Ok id)
-no_modifier t id k r is plain = itself t id (ap (unmodified_in id) is.0 ∙ ap (λ (x : Option Kind). behind_modifier id (modified x r)) is.1 ∙ ap (behind_modifier id) plain)
+no_modifier t id k r is plain = itself t id (ap (unmodified_in id) is.0 ∙ ap (λ (x : Option Kind). after_modifier id (modified x r)) is.1 ∙ ap (after_modifier id) plain)
 
 owed_itself : (t : Table) (id : ℕ) (k : Kind) (r : Record) → IsAt t id k r → modified (Some k) r ≡ None → ResolvesPair t t (pair id id) (Ok (pair id id))
 owed_itself t id k r is plain = (no_modifier t id k r is plain, no_modifier t id k r is plain)
 
--- what it finds when it is compared with itself
+-- what is found when it is compared with itself
 pub on_itself : (t : Table) (id : ℕ) (k : Kind) (r : Record) → IsAt t id k r → modified (Some k) r ≡ None → Finds t t (pair id id) (position_by id k r r)
 on_itself t id k r is plain = inr (pair id id, k, k, r, r, owed_itself t id k r is plain, is, is, inr (refl, refl))
 
--- the start of that, where nothing is open, and where another type is compared with itself
+-- this pair is started while nothing is open, and while another type is compared with itself
 pub alone : (t : Table) (id : ℕ) (k : Kind) (r : Record) (answer : Result Bool Refusal) (starts : List Pair) → IsAt t id k r → Walked t t (pair id id ∷ []) walk_limit (pair id id) answer starts → Plain t t [] (pair id id) answer (pair id id ∷ starts)
 alone t id k r answer starts is walk = walked [] (pair id id) k k answer starts (none_open (pair id id)) (r, r, is, is) refl walk
 
@@ -59,8 +60,8 @@ shifted = table_of (record { name = 0; info = 0x01000000; third = 4; tail = 0x00
 shifted_is_not_itself : Plain shifted shifted [] (pair 1 1) (Ok false) (pair 1 1 ∷ [])
 shifted_is_not_itself = alone shifted 1 Int _ (Ok false) [] (refl, refl) (told _ 31 (pair 1 1) (Ok false) (on_itself shifted 1 Int _ (refl, refl) refl))
 
--- FUNC_PROTO 1 has two parameters of type 2 and returns it, INT 2: the pair of 2 is started for each parameter, since
--- nothing is remembered; the return type is a position, and no pair that is started.
+-- FUNC_PROTO 1 has two parameters of type 2 and returns type 2, which is an INT. The pair of 2 is started for each
+-- parameter, because no result is remembered. The return type is a position of the walk, so its pair is not started.
 abbrev two_parameters : Table
 two_parameters = table_of (record { name = 0; info = 0x0d000002; third = 2; tail = 0 ∷ 2 ∷ 0 ∷ 2 ∷ [] } ∷ int ∷ [])
 
@@ -78,8 +79,8 @@ parameters_are_started_again =
 
 -- ---- a walk in a circle
 
--- FUNC_PROTO 1 with a parameter of type 2 returns type 3, INT 2, PTR 3 to 1: the walk goes round and round, and so it
--- is cut. At each turn the parameter's pair is started again, since nothing is remembered.
+-- FUNC_PROTO 1 has a parameter of type 2 and returns type 3; 2 is an INT, and 3 is a PTR to 1. The walk is cyclic, so
+-- it ends at its limit. In each round the parameter's pair is started again, because no result is remembered.
 abbrev circle : Table
 circle = table_of (prototype 2 3 ∷ int ∷ pointer 1 ∷ [])
 
@@ -89,7 +90,7 @@ its_parameter =
     (under_one circle 1 2 Int _ (Ok true) [] (λ e. omega (arith, e)) (refl, refl) (told _ 31 (pair 2 2) (Ok true) (on_itself circle 2 Int _ (refl, refl) refl)))
     (all _)
 
--- a turn is two positions
+-- a round has two positions
 abbrev positions : ℕ → ℕ
 positions zero = zero
 positions (suc turns) = suc (suc (positions turns))
@@ -105,7 +106,7 @@ circle_is_cut = alone circle 1 FuncProto _ (Err (MaximumTypeDepthReached 1)) (re
 
 -- ---- a walk that comes upon a pair that came out true
 
--- so many pointers, the first to this type, and each of the others to the one before; then a prototype
+-- a number of pointers, the first to this type, and each other to the pointer before it; then a prototype
 abbrev pointers : ℕ → ℕ → List Record
 pointers type zero = prototype 32 32 ∷ []
 pointers type (suc n) = pointer type ∷ pointers (suc type) n
@@ -122,20 +123,20 @@ pointer_at type (suc n) (suc k) lt = pointer_at (suc type) n k (omega (arith, lt
 is_pointer : (k : ℕ) → k < 31 → IsAt chain (suc (suc k)) Ptr (pointer (suc k))
 is_pointer k lt = (pointer_at 1 31 k lt ∙ ap (λ (id : ℕ). Some (pointer id)) (omega arith), refl)
 
--- from the pointer k + 1 the INT is k + 1 positions away
+-- the walk from the pointer k + 1 reaches the INT after k + 1 positions
 comes_to_int : (above : List Pair) (k : ℕ) → k < 32 → Walked chain chain above (suc k) (pair (suc k) (suc k)) (Ok true) []
 comes_to_int above zero lt = told above zero (pair 1 1) (Ok true) (on_itself chain 1 Int _ (refl, refl) refl)
 comes_to_int above (suc k) lt =
     on above (suc k) (pair (suc (suc k)) (suc (suc k))) (pair (suc k) (suc k)) (Ok true) [] (on_itself chain (suc (suc k)) Ptr (pointer (suc k)) (is_pointer k (omega (arith, lt))) refl) (comes_to_int above k (omega (arith, lt)))
 
--- and with one position less the walk is cut in front of it
+-- with one position less the walk ends just before the INT
 is_cut : (above : List Pair) (k : ℕ) → k < 32 → Walked chain chain above k (pair (suc k) (suc k)) (Err (MaximumTypeDepthReached 1)) []
 is_cut above zero lt = too_deep above (pair 1 1)
 is_cut above (suc k) lt =
     on above k (pair (suc (suc k)) (suc (suc k))) (pair (suc k) (suc k)) (Err (MaximumTypeDepthReached 1)) [] (on_itself chain (suc (suc k)) Ptr (pointer (suc k)) (is_pointer k (omega (arith, lt))) refl) (is_cut above k (omega (arith, lt)))
 
--- The pair of the parameter comes out true; the walk comes to it with 31 positions left, walks on through it, and is
--- cut.
+-- The parameter's pair is compatible. The walk reaches this pair again as its return type with 31 positions left, walks
+-- through it, and ends at its limit.
 true_pair_is_walked_through : Plain chain chain [] (pair 33 33) (Err (MaximumTypeDepthReached 1)) (pair 33 33 ∷ pair 32 32 ∷ [])
 true_pair_is_walked_through =
     alone chain 33 FuncProto _ (Err (MaximumTypeDepthReached 1)) (pair 32 32 ∷ []) (refl, refl)

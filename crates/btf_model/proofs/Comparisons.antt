@@ -1,4 +1,4 @@
--- Comparisons: at a position one thing is found, and something is found in tables whose records have kinds.
+-- Comparisons: at most one thing is found at a position, and something is found in tables whose records have kinds.
 use Rattle.std.proofs.Common.{◌≡◌, ℕ, List, Result, Ok, Err, sym, ap, subst, ◌∙◌, refl, false, inl, inr}
 use Rattle.std.specs.Prelude.{slice_get}
 use Rattle.std.specs.Result.{result_ok, result_err}
@@ -12,7 +12,7 @@ use Rattle.btf_model.specs.Compat.{Position, Told, position_by, PositionFound, R
 use Rattle.btf_model.proofs.Walks.{one_answer, by_one, resolving_has_answer, resolved_is_known}
 use Rattle.btf_model.proofs.SameKinds.{same_kind_or_not}
 
--- an id resolves to one type, or for one cause to none
+-- an id resolves to one type, or fails for one reason
 pub one_id : (records : List Record) (id : ℕ) (a b : Result ℕ Refusal) → Resolves records id a → Resolves records id b → a ≡ b
 one_id records id a b p q = one_answer (By (λ at. unmodified_in at (slice_get records at))) (by_one (λ at. unmodified_in at (slice_get records at))) id (λ _. MaximumTypeDepthReached id) a b p q
 
@@ -25,11 +25,11 @@ same_err a b is = same_Some a b (ap result_err is)
 ok_or_err : {A E : Type 0} (a : A) (b : E) → ◌≡◌ {A = Result A E} (Ok a) (Err b) → ⊥
 ok_or_err a b is = none-some a (sym (ap result_ok is))
 
--- two pairs of the same ids are one
+-- two pairs of the same ids are equal
 pub same_pair : (a b : Pair) → a.local ≡ b.local → a.target ≡ b.target → a ≡ b
 same_pair a b p q = ap (λ (id : ℕ). record { local = id; target = a.target }) p ∙ ap (λ (id : ℕ). record { local = b.local; target = id }) q
 
--- an id that resolves to a type is refused for no cause
+-- an id that resolves to a type is not refused
 pub not_refused : (records : List Record) (id end : ℕ) (refusal : Refusal) → Resolves records id (Ok end) → Resolves records id (Err refusal) → ⊥
 not_refused records id end refusal p q = ok_or_err end refusal (one_id records id (Ok end) (Err refusal) p q)
 
@@ -43,7 +43,7 @@ one_refusal local target at a b (inl p) (inr q) = absurd (not_refused local.reco
 one_refusal local target at a b (inr p) (inl q) = absurd (not_refused local.records at.local p.0 b p.1 q)
 one_refusal local target at a b (inr p) (inr q) = same_err a b (one_id target.records at.target (Err a) (Err b) p.2 q.2)
 
--- a pair resolves to one pair, or for one cause to none
+-- a pair resolves to one pair, or fails for one reason
 pub one_resolved : (local target : Table) (at : Pair) (a b : Result Pair Refusal) → ResolvesPair local target at a → ResolvesPair local target at b → a ≡ b
 one_resolved local target at (Ok a) (Ok b) p q =
     ap (λ (x : Pair). Ok x) (same_pair a b (same_ok a.local b.local (one_id local.records at.local (Ok a.local) (Ok b.local) p.0 q.0)) (same_ok a.target b.target (one_id target.records at.target (Ok a.target) (Ok b.target) p.1 q.1)))
@@ -58,7 +58,7 @@ one_record t id k q r s h g = same_Some r s (sym h.0 ∙ g.0)
 pub one_kind : (t : Table) (id : ℕ) (k q : Kind) (r s : Record) → IsAt t id k r → IsAt t id q s → k ≡ q
 one_kind t id k q r s h g = same_Some k q (sym h.1 ∙ ap (λ (x : Record). kind_of x.info) (one_record t id k q r s h g) ∙ g.1)
 
--- of two types one thing is found
+-- at most one thing is found at two types
 found_one : (id : ℕ) (k q : Kind) (r s : Record) (a b : Position) → PositionFound id k q r s a → PositionFound id k q r s b → a ≡ b
 found_one id k q r s a b (inl p) (inl g) = p.1 ∙ sym g.1
 found_one id k q r s a b (inl p) (inr g) = absurd (p.0 g.0)
@@ -74,7 +74,7 @@ found_of_same id other k l q m r t s u a ids ks qs rs ss h =
     (subst (λ (x : Record). PositionFound other l m x s a) (sym rs)
     (subst (λ (x : Record). PositionFound other l m t x a) (sym ss) h))))
 
--- at a position one thing is found
+-- at most one thing is found at a position
 pub one_position : (local target : Table) (at : Pair) (a b : Position) → Finds local target at a → Finds local target at b → a ≡ b
 one_position local target at a b (inl p) (inl q) = p.2 ∙ ap (λ (x : Refusal). Told (Err x)) (one_refusal local target at p.0 q.0 p.1 q.1) ∙ sym q.2
 one_position local target at a b (inl p) (inr q) = absurd (pair_not_refused local target at q.0 p.0 q.5 p.1)
@@ -87,7 +87,7 @@ one_position local target at a b (inr p) (inr q) =
     (found_of_same p.0.local q.0.local p.1 q.1 p.2 q.2 p.3 q.3 p.4 q.4 b (ap (λ (x : Pair). x.local) pairs) (one_kind local p.0.local p.1 q.1 p.3 q.3 p.6 here) (one_kind target p.0.target p.2 q.2 p.4 q.4 p.7 there)
     (one_record local p.0.local p.1 q.1 p.3 q.3 p.6 here) (one_record target p.0.target p.2 q.2 p.4 q.4 p.7 there) q.8)
 
--- where the ids resolve to the same types, the same is found
+-- the same is found at ids that resolve to the same types
 pub found_alike : (local target : Table) (at other p : Pair) (found : Position) → ResolvesPair local target at (Ok p) → ResolvesPair local target other (Ok p) → Finds local target at found → Finds local target other found
 found_alike local target at other p found here there (inl h) = absurd (pair_not_refused local target at p h.0 here h.1)
 found_alike local target at other p found here there (inr h) =

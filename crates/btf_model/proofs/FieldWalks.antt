@@ -1,5 +1,5 @@
--- The comparison of the types of two fields: at each pair one thing is found, and something is found in tables whose
--- records have kinds.
+-- The comparison of the types of two fields: at most one thing is found at each pair, and something is found in tables
+-- whose records have kinds.
 use Rattle.std.proofs.Common.{◌≡◌, ℕ, zero, suc, List, [], ◌∷◌, refl, sym, ap, subst, ◌∙◌, inl, inr, Bool, true, false, Some, Result, Ok, Err, slice_get}
 use Rattle.std.specs.Prelude.{◌⊎◌}
 use Rattle.std.specs.List.{AllByRecursion}
@@ -18,7 +18,7 @@ use Rattle.btf_model.proofs.Comparisons.{one_id, same_ok, same_err, not_refused,
 
 -- ---- one thing
 
--- of two types one thing is found
+-- at most one thing is found at two types
 found_one : (local target : Table) (id : ℕ) (k q : Kind) (r s : Record) (a b : Finding Pair Bool) → FieldsFound local target id k q r s a → FieldsFound local target id k q r s b → a ≡ b
 found_one local target id k q r s a b (inl p) (inl g) = p.1 ∙ sym g.1
 found_one local target id k q r s a b (inl p) (inr (inl g)) = absurd (g.0 p.0)

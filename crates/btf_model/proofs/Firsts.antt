@@ -60,7 +60,7 @@ firsts_new (p ∷ ps) q new =
     ∙ ap (λ (xs : List Pair). p ∷ xs) (others_append p (firsts ps) (q ∷ []) ∙ ap (λ (xs : List Pair). others p (firsts ps) ++ xs) (others_with p q (λ is. new (inl is))))
     ∙ ap (λ (xs : List Pair). xs ++ q ∷ []) (sym (firsts_cons p ps))
 
--- a pair that is there already is left out after p, where it is p
+-- a pair that is already in the list is not added again, if it is p
 left_out : (p q : Pair) (ps : List Pair) → p ≡ q → others p (firsts ps ++ q ∷ []) ≡ others p (firsts ps)
 left_out p q ps is = others_append p (firsts ps) (q ∷ []) ∙ ap (λ (xs : List Pair). others p (firsts ps) ++ xs) (others_without p q is) ∙ append-nil (others p (firsts ps))
 
@@ -83,7 +83,7 @@ among_front [] qs q m = elim m [ ]
 among_front (p ∷ ps) qs q (inl is) = inl is
 among_front (p ∷ ps) qs q (inr m) = inr (among_front ps qs q m)
 
--- pairs that are there already change nothing
+-- pairs that are already in the list change nothing
 pub firsts_of_known : (ps qs : List Pair) → ((q : Pair) → Among qs q → Among ps q) → firsts (ps ++ qs) ≡ firsts ps
 firsts_of_known ps [] known = ap firsts (append-nil ps)
 firsts_of_known ps (q ∷ qs) known =
@@ -91,7 +91,7 @@ firsts_of_known ps (q ∷ qs) known =
     ∙ firsts_of_known (ps ++ q ∷ []) qs (λ r m. among_front ps (q ∷ []) r (known r (inr m)))
     ∙ firsts_again ps q (known q (inl refl))
 
--- more pairs leave the first ones in front
+-- more pairs at the end leave the front of the list unchanged
 pub firsts_begin : (ps qs : List Pair) → (rest : List Pair) × (firsts (ps ++ qs) ≡ firsts ps ++ rest)
 firsts_begin ps [] = ([], ap firsts (append-nil ps) ∙ sym (append-nil (firsts ps)))
 firsts_begin ps (q ∷ qs) =

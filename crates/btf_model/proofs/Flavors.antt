@@ -1,4 +1,4 @@
--- Names in front of their flavors.
+-- The parts of names before their flavors.
 use Rattle.std.proofs.Common.{◌≡◌, ◌≢◌, ℕ, zero, suc, ◌+◌, ◌<◌, ◌≤◌, List, [], ◌∷◌, length, take, drop, refl, ap, ◌∙◌, arith}
 use Rattle.std.specs.Prelude.{if◌then◌else◌}
 use Rattle.std.specs.Str.{bytes_eq}
@@ -22,7 +22,7 @@ not_short name i short at =
     let len : length (take 3 (drop i name)) ≡ 3 = ap length at in
     omega (arith, len, short, length-take 3 (drop i name), length-drop i name)
 
--- so it fits where it begins
+-- so there are three bytes at the place where a mark begins
 pub mark_fits : (name : List ℕ) (i : ℕ) → take 3 (drop i name) ≡ flavor_mark → i + 3 ≤ length name
 mark_fits name i at =
     let len : length (take 3 (drop i name)) ≡ 3 = ap length at in

@@ -157,7 +157,7 @@ open_still : (above : List Pair) (p q : Pair) → (p ≡ q) ⊎ Contains above q
 open_still above p q (inl is) = contains_from_among (p ∷ above) q (inl is)
 open_still above p q (inr h) = contains_from_among (p ∷ above) q (inr (among_from_contains above q h))
 
--- where a pair is opened, the rest without it still covers
+-- after a pair is opened, the rest without it still covers all other pairs
 pub still_covers : (local target : Table) (above rest : List Pair) (p : Pair) (fewer : Without rest p) → Covers local target rest above → Covers local target fewer.rest (p ∷ above)
 still_covers local target above rest p fewer covers q known =
     elim (covers q known) [

@@ -1,5 +1,5 @@
--- The pairs that a comparison starts: their ids are known, and without repeats they are no more than the pairs of known
--- ids.
+-- The pairs that a comparison starts: their ids are known, and without repeats their number is at most the number of
+-- pairs of known ids.
 use Rattle.std.proofs.Common.{◌≡◌, ℕ, ◌*◌, ◌≤◌, Bool, true, false, List, [], ◌∷◌, length, refl, sym, ap, subst, ◌∙◌, arith, inl, inr, Result, Ok}
 use Rattle.std.specs.Prelude.{not, cond, All}
 use Rattle.std.specs.List.{filter, AllByRecursion, IsDistinct}
@@ -87,7 +87,7 @@ not_among [] p apart m = m
 not_among (q ∷ ps) p apart (inl is) = false≢true (sym apart.0 ∙ ap (pair_eq p) is ∙ eq_itself p)
 not_among (q ∷ ps) p apart (inr m) = not_among ps p apart.1 m
 
--- distinct pairs that are all among others are no more than those
+-- distinct pairs that are all in another list are at most as many as the pairs of that list
 distinct_fit : (ps qs : List Pair) → IsDistinct pair_eq ps → ((q : Pair) → Among ps q → Among qs q) → length ps ≤ length qs
 distinct_fit [] qs distinct inside = omega arith
 distinct_fit (p ∷ ps) qs distinct inside =

@@ -1,4 +1,4 @@
--- The comparison of two fields, from the other side.
+-- The comparison of two fields with its sides exchanged.
 use Rattle.std.proofs.Common.{ℕ, zero, suc, sym, ap, subst, ◌∙◌, inl, inr, Bool, Result, Ok, Err}
 use Rattle.std.specs.Result.{result_ok}
 use Rattle.std.proofs.lemmas.Option.{none-some}
@@ -39,6 +39,6 @@ module _ (local target : Table) where
   refused_by id other refusal (Ok b) h g = absurd (none-some b (ap result_ok (one_field local id target other (Err refusal) (Ok b) h (fields_mirrored target local other id b g))))
   refused_by id other refusal (Err f) h g = (f, g)
 
-  -- what is refused from one side is refused from the other
+  -- a refused comparison is also refused with its sides exchanged
   pub fields_refused : HaveKinds local → HaveKinds target → (id other : ℕ) (refusal : Refusal) → Fields local id target other (Err refusal) → (f : Refusal) × Fields target other local id (Err f)
   fields_refused ls ts id other refusal h = let there = field_answers target local ts ls other id in refused_by id other refusal there.0 h there.1

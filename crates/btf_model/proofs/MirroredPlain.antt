@@ -1,4 +1,4 @@
--- The comparison of two types, from the other side.
+-- The comparison of two types with its sides exchanged.
 use Rattle.std.proofs.Common.{◌≡◌, ℕ, suc, List, [], ◌∷◌, map, refl, sym, ap, subst, ◌∙◌, inl, inr, Bool, true, Result, Ok, Err, Contains}
 use Rattle.std.specs.Result.{result_ok}
 use Rattle.std.proofs.lemmas.List.{map-append}
@@ -92,7 +92,7 @@ module _ (local target : Table) where
       absurd (none-some b (ap result_ok (one_plain local target above p (Err refusal) (Ok b) starts (map exchanged others) h forth).0))
   refused_by above p refusal starts (Err f) others h g = (f, others, g)
 
-  -- what is refused from one side is refused from the other
+  -- a refused comparison is also refused with its sides exchanged
   pub plain_refused : HaveKinds local → HaveKinds target → (above : List Pair) (p : Pair) (refusal : Refusal) (starts : List Pair) → Plain local target above p (Err refusal) starts
       → (f : Refusal) × (more : List Pair) × Plain target local (map exchanged above) (exchanged p) (Err f) more
   plain_refused ls ts above p refusal starts h =

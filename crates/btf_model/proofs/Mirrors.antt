@@ -1,4 +1,4 @@
--- What is found at two types, from either side: the same, with the sides exchanged, unless it is a refusal.
+-- What is found at two types is the same with the sides exchanged, unless it is a refusal.
 use Rattle.std.proofs.Common.{◌≡◌, ℕ, List, [], ◌∷◌, length, map, refl, sym, ap, subst, ◌∙◌, inl, inr, Bool, true, false, Result, Ok, Err, if◌then◌else◌}
 use Rattle.std.specs.Prelude.{◌⊎◌, ◌==◌, ◌&&◌, Decides}
 use Rattle.std.specs.Str.{bytes_eq}
@@ -21,7 +21,7 @@ itself_or_enum64 : (k : Kind) → (k ≡ Enum64) ⊎ (compared_kind k ≡ k)
 itself_or_enum64 Enum64 = inl refl
 itself_or_enum64 k = inr refl
 
--- kinds that are one to a comparison are one, or ENUM and ENUM64
+-- kinds with the same compared kind are equal, or are ENUM and ENUM64
 abbrev pub OneOrEnums : Kind → Kind → Type 0
 OneOrEnums k q = (k ≡ q) ⊎ (((k ≡ Enum) × (q ≡ Enum64)) ⊎ ((k ≡ Enum64) × (q ≡ Enum)))
 
@@ -66,7 +66,7 @@ offsets_flip r s = ap (λ (b : Bool). Ok b) (and_comm (int_offset s == 0) (int_o
 
 -- ---- fields
 
--- what is found, from the other side
+-- what is found with the sides exchanged
 abbrev pub mirrored : Finding Pair Bool → Finding Pair Bool
 mirrored (Ends answer) = Ends answer
 mirrored (GoesOn next) = GoesOn (exchanged next)
@@ -124,7 +124,7 @@ pairs_turned [] (y ∷ ys) = refl
 pairs_turned (x ∷ xs) [] = refl
 pairs_turned (x ∷ xs) (y ∷ ys) = ap (λ (ps : List Pair). record { local = y; target = x } ∷ ps) (pairs_turned xs ys)
 
--- two prototypes with as many parameters, or not
+-- two prototypes whose numbers of parameters are equal or differ
 by_count : (b : Bool) (owed back : List Pair) (next : Pair) → back ≡ map exchanged owed → (if b then Owes back (exchanged next) else Told (Ok false)) ≡ turned (if b then Owes owed next else Told (Ok false))
 by_count true owed back next is = ap (λ (ps : List Pair). Owes ps (exchanged next)) is
 by_count false owed back next is = refl

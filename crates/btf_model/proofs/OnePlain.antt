@@ -7,7 +7,7 @@ use Rattle.btf_model.specs.Fields.{Pair}
 use Rattle.btf_model.specs.Compat.{Told, On, Owes, Plain, Walked, Paid}
 use Rattle.btf_model.proofs.PlainSteps.{Are, walked_follows, paid_none, paid_follows, is_again, is_looked_up, is_started}
 
--- two that are the same as a third
+-- two values that equal a third are equal
 flipped : (a b : Result Bool Refusal) (s t : List Pair) → Are b t a s → Are a s b t
 flipped a b s t h = (sym h.0, sym h.1)
 

@@ -14,7 +14,7 @@ use Rattle.btf_model.proofs.SameKinds.{same_kind_or_not}
 use Rattle.btf_model.proofs.Comparisons.{pair_answer, position_answer}
 use Rattle.btf_model.proofs.Known.{Among, HasIds, Covers, known_pairs, known_pairs_cover, without, still_covers, open_or_not}
 
--- an answer is true or another
+-- an answer is true, or it is not
 pub true_or_not : (answer : Result Bool Refusal) → (answer ≡ Ok true) ⊎ (answer ≢ Ok true)
 true_or_not (Ok true) = inl refl
 true_or_not (Ok false) = inr (λ e. false≢true (same_Some false true (ap result_ok e)))
@@ -30,7 +30,7 @@ module _ (local target : Table) where
   abbrev pub HasPaid : List Pair → List Pair → Type 0
   HasPaid above owed = (answer : Result Bool Refusal) × (starts : List Pair) × Paid local target above owed answer starts
 
-  -- ---- owed pairs
+  -- ---- pending pairs of parameters
 
   pay_next : (above : List Pair) (at p : Pair) (owed : List Pair) → ResolvesPair local target at (Ok p) → HasPlain above p → HasPaid above owed → HasPaid above (at ∷ owed)
   pay_next above at p owed resolved first behind =
@@ -91,7 +91,7 @@ module _ (local target : Table) where
         | inr new ↦ look_up above p (slice_get local.records p.local) (slice_get target.records p.target) refl refl ls ts new (behind new)
       ]
 
-  -- each pair that is opened is one of the rest, which so many are
+  -- each pair that is opened is one of the rest, whose number is given
   its_place : (above rest : List Pair) (p : Pair) → Covers local target rest above → ¬ (Contains above p) → HasIds local target p → Among rest p
   its_place above rest p covers new known = elim (covers p known) [ inl h ↦ absurd (new h) | inr m ↦ m ]
 
@@ -106,7 +106,7 @@ module _ (local target : Table) where
       let fewer = without rest p (its_place above rest p covers new known) in
       walked_by (p ∷ above) walk_limit p ls ts (λ q. plain_within n (p ∷ above) fewer.rest q (omega (arith, size, fewer.shorter)) (still_covers local target above rest p fewer covers) ls ts))
 
-  -- each comparison, each walk of one and each row of owed pairs has an answer
+  -- each comparison, each walk and each list of pending pairs has an answer
   pub plain_answers : HaveKinds local → HaveKinds target → (above : List Pair) (p : Pair) → HasPlain above p
   plain_answers ls ts above p = plain_within (length (known_pairs local target)) above (known_pairs local target) p refl (known_pairs_cover local target above) ls ts
 

@@ -1,4 +1,4 @@
--- One step of a comparison, read off its answer: what was found decides what it rests on.
+-- Inversion of one step of a comparison: what was found determines the premises of its answer.
 use Rattle.std.proofs.Common.{◌≡◌, ◌≢◌, ℕ, suc, List, [], ◌∷◌, ◌++◌, refl, sym, subst, inl, inr, Bool, true, false, Option, Some, None, Result, Ok, Err, Contains, slice_get}
 use Rattle.std.specs.Prelude.{◌⊎◌}
 use Rattle.btf_model.specs.Record.{Record, Kind, compared_kind, kind_of}
@@ -16,7 +16,7 @@ Are a s b t = (a ≡ b) × (s ≡ t)
 module _ (local target : Table) where
   -- ---- a walk
 
-  -- what a walk from a position rests on, by what is found there
+  -- the premises of a walk from a position, by what is found there
   abbrev pub Follows : List Pair → ℕ → Position → Result Bool Refusal → List Pair → Type 0
   Follows above n (Told a) b t = Are b t a []
   Follows above n (On to) b t = Walked local target above n to b t
@@ -29,15 +29,15 @@ module _ (local target : Table) where
   walked_finds above n at b t (Walked.paid _ _ _ to owed answer first behind found pays goes) = (Owes owed to, found, inl (first, behind, pays, goes, refl))
   walked_finds above n at b t (Walked.unpaid _ _ _ to owed answer starts found pays not_true) = (Owes owed to, found, inr (pays, not_true))
 
-  -- a walk rests on that
+  -- a walk has these premises
   pub walked_follows : (above : List Pair) (n : ℕ) (at : Pair) (found : Position) (b : Result Bool Refusal) (t : List Pair) → Finds local target at found → Walked local target above (suc n) at b t → Follows above n found b t
   walked_follows above n at found b t is h =
       let step = walked_finds above n at b t h in
       subst (λ (x : Position). Follows above n x b t) (one_position local target at step.0 found step.1 is) step.2
 
-  -- ---- owed pairs
+  -- ---- pending pairs of parameters
 
-  -- what the first owed pair rests on, by what it resolves to
+  -- the premises of the first pending pair, by what it resolves to
   abbrev pub Pays : List Pair → List Pair → Result Pair Refusal → Result Bool Refusal → List Pair → Type 0
   Pays above owed (Err refusal) b t = Are b t (Err refusal) []
   Pays above owed (Ok p) b t =
@@ -58,7 +58,7 @@ module _ (local target : Table) where
 
   -- ---- a pair
 
-  -- what a pair that is started rests on, by the kinds
+  -- the premises of a pair that is started, by the kinds
   abbrev pub Starts : List Pair → Pair → Kind → Kind → Result Bool Refusal → List Pair → Type 0
   Starts above p k q b t =
       ((compared_kind k ≢ compared_kind q) × Are b t (Ok false) (p ∷ [])) ⊎ ((compared_kind k ≡ compared_kind q) × (starts : List Pair) × Walked local target (p ∷ above) walk_limit p b starts × (t ≡ p ∷ starts))
@@ -68,13 +68,13 @@ module _ (local target : Table) where
   StartsBy above p (Some k) None b t = ⊥
   StartsBy above p None q b t = ⊥
 
-  -- what a pair that is looked up rests on, by its records
+  -- the premises of a pair that is looked up, by its records
   abbrev pub LookedUp : List Pair → Pair → Option Record → Option Record → Result Bool Refusal → List Pair → Type 0
   LookedUp above p None s b t = Are b t (Err (UnknownBtfType p.local)) []
   LookedUp above p (Some r) None b t = Are b t (Err (UnknownBtfType p.target)) []
   LookedUp above p (Some r) (Some s) b t = StartsBy above p (kind_of r.info) (kind_of s.info) b t
 
-  -- and what any pair rests on
+  -- the premises of any pair
   abbrev pub Compares : List Pair → Pair → Result Bool Refusal → List Pair → Type 0
   Compares above p b t =
       (Contains above p × Are b t (Err (MaximumTypeDepthReached p.local)) []) ⊎ (¬ (Contains above p) × LookedUp above p (slice_get local.records p.local) (slice_get target.records p.target) b t)
@@ -102,7 +102,7 @@ module _ (local target : Table) where
   pub is_again : (above : List Pair) (p : Pair) (b : Result Bool Refusal) (t : List Pair) → Contains above p → Plain local target above p b t → Are b t (Err (MaximumTypeDepthReached p.local)) []
   is_again above p b t is_open h = elim (compares above p b t h) [ inl g ↦ g.1 | inr g ↦ absurd (g.0 is_open) ]
 
-  -- the records of the pair are these, or missing
+  -- the records of the pair are these, or do not exist
   pub is_looked_up : (above : List Pair) (p : Pair) (o u : Option Record) (b : Result Bool Refusal) (t : List Pair) → ¬ (Contains above p) → slice_get local.records p.local ≡ o → slice_get target.records p.target ≡ u → Plain local target above p b t → LookedUp above p o u b t
   is_looked_up above p o u b t new is there h = subst (λ (x : Option Record). LookedUp above p o x b t) there (subst (λ (x : Option Record). LookedUp above p x (slice_get target.records p.target) b t) is (is_new above p b t new h))
 

@@ -25,7 +25,7 @@ record_at order n bytes = record {
 abbrev pub info_at : Endianness → List ℕ → ℕ
 info_at order bytes = word_of order (take 4 (drop 4 bytes))
 
--- a kind that is read has a number up to the highest, and no other number has one
+-- a kind that the library reads has a number up to the highest, and no other number has a kind
 pub kind_some : (info : ℕ) (k : Kind) → kind_of info ≡ Some k → kind_number info ≤ highest_kind
 kind_some info k e = omega (arith, slice_get_within (take (highest_kind + 1) kinds) (kind_number info) k e)
 
@@ -39,7 +39,7 @@ kind_none info e =
     different : (k : Kind) → Some k ≡ None → ⊥
     different k h = cc
 
--- the whole words at the front are the record
+-- if the words at the front are complete, they are the record
 pub reads : (order : Endianness) (bytes : List ℕ) (k : Kind) (n : ℕ) → IsBytes bytes → 12 + 4 * n ≤ length bytes → kind_of (info_at order bytes) ≡ Some k → n ≡ tail_words k (vlen (info_at order bytes)) → ReadsFront order bytes (Ok (kept k (record_at order n bytes)))
 reads order bytes k n fits long kind tail =
     let le : 4 * suc (suc (suc n)) ≤ length bytes = omega arith in (
@@ -59,7 +59,7 @@ reads order bytes k n fits long kind tail =
       ),
     )
 
--- a spelling that begins the bytes has the info word that stands there
+-- a spelling at the front of the bytes has the info word of the bytes
 info_of_front : (order : Endianness) (bytes front rest : List ℕ) (r : Record) (p : IsRecord order front r) → bytes ≡ front ++ rest → p.1.info ≡ info_at order bytes
 info_of_front order bytes front rest r p e =
     let whole : bytes ≡ spell order p.1 ++ rest = e ∙ ap (λ t. t ++ rest) p.3 in
@@ -77,7 +77,7 @@ pub reads_short : (order : Endianness) (bytes : List ℕ) → length bytes < 12 
 reads_short order bytes lt =
     (λ front rest r e p. omega (arith, spelling_is_long order front r p, long_front bytes front rest e), rw (lt-ltb (length bytes) 12 lt) refl)
 
--- a kind that is not read
+-- a kind that the library does not read
 pub reads_other_kind : (order : Endianness) (bytes : List ℕ) → 12 ≤ length bytes → kind_of (info_at order bytes) ≡ None → ReadsFront order bytes (Err (InvalidTypeKind (kind_number (info_at order bytes))))
 reads_other_kind order bytes le none = (
   λ front rest r e p. different p.0 (sym p.2.kind ∙ ap kind_of (info_of_front order bytes front rest r p e) ∙ none),
@@ -87,7 +87,7 @@ reads_other_kind order bytes le none = (
     different : (k : Kind) → Some k ≡ None → ⊥
     different k h = cc
 
--- a tail that is cut
+-- a truncated tail
 pub reads_cut : (order : Endianness) (bytes : List ℕ) (k : Kind) → 12 ≤ length bytes → kind_of (info_at order bytes) ≡ Some k → length bytes < 12 + 4 * tail_words k (vlen (info_at order bytes)) → ReadsFront order bytes (Err InvalidTypeInfo)
 reads_cut order bytes k le kind lt = (
   λ front rest r e p.

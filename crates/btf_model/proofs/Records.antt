@@ -1,4 +1,4 @@
--- No spelling is a proper beginning of another, and what bytes are cut into is determined.
+-- No spelling is a proper prefix of another, and bytes determine the spellings that they consist of.
 use Rattle.std.proofs.Common.{◌≡◌, ℕ, suc, ◌+◌, ◌*◌, ◌^◌, ◌<◌, ◌≤◌, List, [], ◌∷◌, ◌++◌, length, take, Some, refl, sym, ap, subst, ◌∙◌, append_assoc, arith}
 use Rattle.std.specs.List.{flat_map, AllByRecursion}
 use Rattle.std.proofs.lemmas.List.{length-append, length-map, append_cancel_left, append-nil}
@@ -24,7 +24,7 @@ from_words-words r = refl
 same_kind : (k l : Kind) → Some k ≡ Some l → k ≡ l
 same_kind k l e = cc
 
--- the info words of two spellings of one beginning are one
+-- two spellings at the front of the same bytes have the same info word
 same_info : (order : Endianness) (w v : Record) (x y : List ℕ) → AllByRecursion (λ n. n < 2 ^ 32) (words w) → AllByRecursion (λ n. n < 2 ^ 32) (words v) → spell order w ++ x ≡ spell order v ++ y → w.info ≡ v.info
 unfolding from_words
 same_info order w v x y fw fv e =
@@ -33,7 +33,7 @@ same_info order w v x y fw fv e =
     let both : take 3 (words w) ≡ take 3 (words v) = sym a ∙ ap (words_at order 3) e ∙ b in
     ap (λ ws. (from_words ws).info) both
 
--- what the first of two records of one beginning has, the second has
+-- two records at the front of the same bytes have the same words
 pub record SameStart (k l : Kind) (w v : Record) (x y : List ℕ) : Type 0 where
   pub kind : k ≡ l
   pub words : w ≡ v
@@ -52,7 +52,7 @@ same_start order k l w v x y hw hv e =
     let rest : x ≡ y = append_cancel_left (spell order w) x y (e ∙ ap (λ (r : Record). spell order r ++ y) (sym same)) in
     record { kind = kind; words = same; rest = rest }
 
--- two spellings of one beginning spell one record, and the same follows them
+-- two spellings at the front of the same bytes spell the same record, and the same bytes follow them
 pub record SameRecord (a b : List ℕ) (r q : Record) (x y : List ℕ) : Type 0 where
   pub bytes : a ≡ b
   pub record_is : r ≡ q
@@ -68,11 +68,11 @@ same_record order a b r q x y p s e =
       rest = same.rest;
     }
 
--- a spelling has its three words at least
+-- a spelling has at least three words
 pub spelling_is_long : (order : Endianness) (a : List ℕ) (r : Record) → IsRecord order a r → 12 ≤ length a
 spelling_is_long order a r p = omega (arith, length-spell order p.1, ap length p.3)
 
--- what is kept has the words that were read
+-- a retained record has as many words as were read
 pub length-kept : (k : Kind) (w : Record) → HasKind k w → length (kept k w).tail ≡ length w.tail
 length-kept Unknown w h = sym h.tail
 length-kept Var w h = length-map _ _
@@ -99,11 +99,11 @@ length-kept Enum64 w h = refl
 pub length-spelling : (order : Endianness) (a : List ℕ) (r : Record) → IsRecord order a r → length a ≡ 12 + 4 * length r.tail
 length-spelling order a r p = omega (arith, length-spell order p.1, ap length p.3, ap (λ (q : Record). length q.tail) p.4, length-kept p.0 p.1 p.2)
 
--- a whole record's own spelling is read as it
+-- the spelling of a record that reading retains whole is read as this record
 pub whole_is_record : (order : Endianness) (r : Record) → IsWhole r → IsRecord order (spell order r) r
 whole_is_record order r h = (h.0, r, h.1, refl, sym h.2)
 
--- ---- rows of records
+-- ---- lists of records
 
 -- one more record at the end
 pub AreRecords-push : (order : Endianness) (a b : List ℕ) (rs : List Record) (r : Record) → AreRecords order a rs → IsRecord order b r → AreRecords order (a ++ b) (rs ++ r ∷ [])
@@ -122,7 +122,7 @@ begins_nothing order a b r p e A =
     let len = ap length e in
     absurd (omega (arith, length-append a b))
 
--- bytes are cut whole in one way
+-- there is one way to split bytes into spellings
 pub same_records : (order : Endianness) (bytes : List ℕ) (rs qs : List Record) → AreRecords order bytes rs → AreRecords order bytes qs → rs ≡ qs
 same_records order bytes [] [] h g = refl
 same_records order bytes [] (q ∷ qs) h g = begins_nothing order g.0 g.1 q g.3 (sym h ∙ g.2) ([] ≡ q ∷ qs)
@@ -132,16 +132,16 @@ same_records order bytes (r ∷ rs) (q ∷ qs) h g =
     let others = same_records order h.1 rs qs h.4 (subst (λ t. AreRecords order t qs) (sym same.rest) g.4) in
     ap (λ (x : Record). x ∷ rs) same.record_is ∙ ap (λ (xs : List Record). q ∷ xs) others
 
--- no front that is cut into spellings goes further than one after which no spelling begins
-pub goes_no_further : (order : Endianness) (front rest other more : List ℕ) (rs qs : List Record) → BeginsNoRecord order rest → AreRecords order front rs → AreRecords order other qs → front ++ rest ≡ other ++ more → length other ≤ length front
-goes_no_further order front rest other more rs [] none h g e = omega (arith, ap length g)
-goes_no_further order front rest other more [] (q ∷ qs) none h g e =
+-- if no spelling begins after a front of spellings, no other front of spellings is longer
+pub none_is_longer : (order : Endianness) (front rest other more : List ℕ) (rs qs : List Record) → BeginsNoRecord order rest → AreRecords order front rs → AreRecords order other qs → front ++ rest ≡ other ++ more → length other ≤ length front
+none_is_longer order front rest other more rs [] none h g e = omega (arith, ap length g)
+none_is_longer order front rest other more [] (q ∷ qs) none h g e =
     let begins : rest ≡ g.0 ++ (g.1 ++ more) = ap (λ t. t ++ rest) (sym h) ∙ e ∙ ap (λ t. t ++ more) g.2 ∙ append_assoc g.0 g.1 more in
     absurd (none g.0 (g.1 ++ more) q begins g.3)
-goes_no_further order front rest other more (r ∷ rs) (q ∷ qs) none h g e =
+none_is_longer order front rest other more (r ∷ rs) (q ∷ qs) none h g e =
     let e' : h.0 ++ (h.1 ++ rest) ≡ g.0 ++ (g.1 ++ more) = sym (append_assoc h.0 h.1 rest) ∙ ap (λ t. t ++ rest) (sym h.2) ∙ e ∙ ap (λ t. t ++ more) g.2 ∙ append_assoc g.0 g.1 more in
     let same = same_record order h.0 g.0 r q (h.1 ++ rest) (g.1 ++ more) h.3 g.3 e' in
-    let others = goes_no_further order h.1 rest g.1 more rs qs none h.4 g.4 same.rest in
+    let others = none_is_longer order h.1 rest g.1 more rs qs none h.4 g.4 same.rest in
     omega (arith, length-append h.0 h.1, length-append g.0 g.1, ap length h.2, ap length g.2, ap length same.bytes)
 
 -- the spellings of the records that are read are as long as the bytes
@@ -150,7 +150,7 @@ length-records order bytes [] h = ap length (sym h)
 length-records order bytes (r ∷ rs) h =
     omega (arith, length-append (spell order r) (flat_map (spell order) rs), length-spell order r, length-spelling order h.0 r h.3, length-records order h.1 rs h.4, ap length h.2, length-append h.0 h.1)
 
--- each record has its three words
+-- each record has at least three words
 pub records_are_long : (order : Endianness) (rs : List Record) → 12 * length rs ≤ length (flat_map (spell order) rs)
 records_are_long order [] = omega arith
 records_are_long order (r ∷ rs) = omega (arith, length-append (spell order r) (flat_map (spell order) rs), length-spell order r, records_are_long order rs)

@@ -1,4 +1,4 @@
--- How long a run of the comparison can be: each step leaves less to do.
+-- A bound for the length of a run of the comparison: each step leaves less to do.
 use Rattle.std.proofs.Common.{◌≡◌, ℕ, zero, suc, ◌+◌, ◌*◌, ◌-◌, ◌<◌, ◌≤◌, List, [], ◌∷◌, length, ap, inl, inr, Bool, true, false, Some, Ok, arith, slice_get}
 use Rattle.std.specs.Prelude.{◌==◌, if◌then◌else◌}
 use Rattle.std.proofs.lemmas.Option.{same_Some, slice_get_within}
@@ -20,7 +20,7 @@ tail_within [] id r is = absurd (omega (arith, slice_get_within [] id r is))
 tail_within (s ∷ rs) zero r is = omega (arith, ap (λ (x : Record). length x.tail) (same_Some s r is))
 tail_within (s ∷ rs) (suc id) r is = omega (arith, tail_within rs id r is)
 
--- the pairs that are owed there
+-- the pending pairs of parameters at a position
 abbrev pub owed_at : Position → List Pair
 owed_at (Told answer) = []
 owed_at (On to) = []
@@ -68,14 +68,14 @@ few_owed_found : (id : ℕ) (k q : Kind) (r s : Record) (found : Position) → P
 few_owed_found id k q r s found (inl h) = omega (arith, ap (λ (x : Position). length (owed_at x)) h.1)
 few_owed_found id k q r s found (inr h) = omega (arith, ap (λ (x : Position). length (owed_at x)) h.1, few_owed_by id k r s)
 
--- no more pairs are owed than the widest record has words
+-- the number of pending pairs is at most the number of words of the widest record
 pub few_owed : (local target : Table) (at : Pair) (found : Position) → Finds local target at found → length (owed_at found) ≤ widest local.records
 few_owed local target at found (inl h) = omega (arith, ap (λ (x : Position). length (owed_at x)) h.2)
 few_owed local target at found (inr h) = omega (arith, few_owed_found h.0.local h.1 h.2 h.3 h.4 found h.8, tail_within local.records h.0.local h.3 h.6.0)
 
 -- ---- what is left to do
 
--- of the walk of one pair, where no prototype has more than w parameters
+-- in the walk of one pair, if no prototype has more than w parameters
 abbrev pub work : ℕ → Frame → ℕ
 work w f = f.left * suc w + (w - f.parameter) + 1
 
@@ -83,7 +83,7 @@ abbrev pub works : ℕ → List Frame → ℕ
 works w [] = 0
 works w (f ∷ fs) = work w f + works w fs
 
--- of the run: the pairs that are not listed yet, each with a whole walk, and what is left of the walks that began
+-- in the run: a whole walk for each pair that is not listed yet, and the rest of each walk that began
 abbrev pub left_to_do : (known listed w : ℕ) → Frame → List Frame → ℕ
 left_to_do known listed w top below = (known - listed) * (33 * suc w) + work w top + works w below
 

@@ -1,5 +1,5 @@
--- What holds at each step of a run of the comparison: of the pairs that are settled, of those that are open, and of
--- what is listed.
+-- The invariant of a run of the comparison: facts about the settled pairs (known to be compatible), about the open
+-- pairs, and about the pairs that are listed.
 use Rattle.std.proofs.Common.{◌≡◌, ◌≢◌, ℕ, zero, suc, ◌+◌, ◌<◌, List, [], ◌∷◌, ◌++◌, length, refl, sym, ap, subst, ◌∙◌, inl, inr, Bool, true, false, Result, Ok, arith, append_assoc, Contains}
 use Rattle.std.specs.Prelude.{◌⊎◌, map, not, cond, slice_get, Some}
 use Rattle.std.proofs.lemmas.List.{append-nil, length-append}
@@ -25,12 +25,12 @@ use Rattle.btf_model.proofs.Runs.{RestOf, WalkOf, walked_from_rest, ends_rest, g
 abbrev pub open_pairs : List Frame → List Pair
 open_pairs fs = map (λ f. f.pair) fs
 
--- no pair stands there twice
+-- no pair is in the list twice
 abbrev pub AreApart : List Pair → Type 0
 AreApart [] = Unit {0}
 AreApart (p ∷ ps) = (Among ps p → ⊥) × AreApart ps
 
--- none of the pairs is one of which P holds
+-- P holds for none of the pairs
 abbrev pub AvoidsAll : (Pair → Type 0) → List Pair → Type 0
 AvoidsAll P ps = (q : Pair) → Among ps q → P q → ⊥
 
@@ -65,7 +65,7 @@ among_of_firsts [] q m = m
 among_of_firsts (p ∷ ps) q (inl is) = inl is
 among_of_firsts (p ∷ ps) q (inr m) = inr (among_of_firsts ps q (among_filtered (λ r. not (pair_eq p r)) (firsts ps) q m))
 
--- where a pair is listed, the rest without it still covers
+-- after a pair is listed, the rest without it still covers all other pairs
 covers_at_end : (local target : Table) (listed rest : List Pair) (p : Pair) (fewer : Without rest p) → Covers local target rest listed → Covers local target fewer.rest (listed ++ p ∷ [])
 covers_at_end local target listed rest p fewer covers q ids =
     elim (covers q ids) [
@@ -76,7 +76,7 @@ covers_at_end local target listed rest p fewer covers q ids =
       ]
     ]
 
--- the same list, with the pairs that were listed before together
+-- the same list, with the pairs that were listed before grouped together
 lists_as : (early went before t rest : List Pair) (p : Pair) → before ≡ early ++ p ∷ went → early ++ ((p ∷ (went ++ t)) ++ rest) ≡ before ++ (t ++ rest)
 lists_as early went before t rest p is = rw is (simp append_assoc)
 
@@ -93,28 +93,28 @@ there_within : (owed : List Pair) (index : ℕ) → index < length owed → (at 
 there_within owed index lt = elim (slice_get_cases owed index).1 [ inl h ↦ (h.0, h.2) | inr past ↦ absurd (omega (arith, past.0, lt)) ]
 
 module _ (local target : Table) where
-  -- each of the pairs before this place resolves to a pair of which P holds
+  -- each pair before this place resolves to a pair for which P holds
   abbrev pub AllBefore : List Pair → ℕ → (Pair → Type 0) → Type 0
   AllBefore owed place P = (index : ℕ) → index < place → (at : Pair) → slice_get owed index ≡ Some at → (p : Pair) × ResolvesPair local target at (Ok p) × P p
 
-  -- so do the parameters of an open pair's position that had their turn
+  -- the same for the parameters of an open pair's position that were compared
   abbrev pub HavePaid : Frame → (Pair → Type 0) → Type 0
   HavePaid f P = (owed : List Pair) (to : Pair) → Finds local target f.at (Owes owed to) → AllBefore owed f.parameter P
 
-  -- a pair that is begun and walked
+  -- the comparison of a pair that is started and walked
   walked_pair : (above : List Pair) (p : Pair) (b : Result Bool Refusal) (t : List Pair) → Begins local target p → (Among above p → ⊥) → WalkOf local target above p b t → Plain local target above p b (p ∷ t)
   walked_pair above p b t begins new h = Plain.walked above p begins.0 begins.1 b t (not_open above p new) begins.2 begins.3 h
 
   module _ (Settled : Pair → Type 0) where
-    -- An open pair that is walked: what it has started, and that what is left of its walk makes the whole, under any
-    -- pairs that are not settled.
+    -- An open pair that is walked: `went` is what it has started. The rest of its walk completes the whole walk, under
+    -- any open pairs that are not settled.
     pub record Walks (f : Frame) (went : List Pair) : Type 0 where
       pub begins : Begins local target f.pair
       pub starts : (q : Pair) → Among went q → Settled q
       pub paid : HavePaid f Settled
       pub goes : (above : List Pair) → AvoidsAll Settled above → (b : Result Bool Refusal) (t : List Pair) → RestOf local target above f b t → WalkOf local target above f.pair b (went ++ t)
 
-    -- The same of an open pair that waits for the answer of p, and then goes on.
+    -- The same for an open pair that waits for the answer of p, and then goes on.
     pub record Awaits (g : Frame) (p : Pair) (went : List Pair) : Type 0 where
       pub begins : Begins local target g.pair
       pub starts : (q : Pair) → Among went q → Settled q
@@ -123,17 +123,17 @@ module _ (local target : Table) where
       pub pays : (above : List Pair) → AvoidsAll Settled above → (first : List Pair) → Plain local target (g.pair ∷ above) p (Ok true) first → (b : Result Bool Refusal) (t : List Pair) → RestOf local target above g b t
           → WalkOf local target above g.pair b (went ++ (first ++ t))
 
-    -- Each settled pair is compatible under any pairs that are not settled, and starts settled pairs only, always the
-    -- same.
+    -- Each settled pair is compatible under any open pairs that are not settled. It starts only settled pairs, and
+    -- always the same list.
     abbrev pub IsClosed : Type 0
     IsClosed = (p : Pair) → Settled p → (starts : List Pair) × ((q : Pair) → Among starts q → Settled q) × ((above : List Pair) → AvoidsAll Settled above → Plain local target above p (Ok true) starts)
 
-    -- The open pairs below p, of which each waits for the one above it, and what was listed before p.
+    -- The open pairs below p, and what was listed before p. Each of these pairs waits for the one above it.
     abbrev pub IsStack : Pair → List Frame → Pair → List Pair → Type 0
     IsStack root [] p before = (p ≡ root) × (before ≡ [])
     IsStack root (g ∷ below) p before = (early went : List Pair) × (before ≡ early ++ g.pair ∷ went) × IsStack root below g.pair early × Awaits g p went
 
-    -- ---- what a frame does
+    -- ---- the steps of a frame
 
     begun_walks : (p : Pair) → Begins local target p → Walks (new_frame p) []
     begun_walks p begins = record {
@@ -155,7 +155,7 @@ module _ (local target : Table) where
           goes = λ above avoids b t h. walks.goes above avoids b t (goes_on_rest local target f on to above b t h);
         })
 
-    -- the parameters that were paid, and the one that is waited for now
+    -- the parameters that were compared, and the one that the frame waits for now
     paid_or_next : (f : Frame) (p : Pair) (went : List Pair) → Walks f went → IsNext local target f (Waits p (record f { parameter = suc f.parameter })) → (owed : List Pair) (to : Pair) → Finds local target f.at (Owes owed to) → (index : ℕ) (at : Pair) → slice_get owed index ≡ Some at
         → (index < f.parameter) ⊎ (f.parameter ≡ index) → (q : Pair) × ResolvesPair local target at (Ok q) × (Settled q ⊎ (p ≡ q))
     paid_or_next f p went walks next owed to finds index at is (inl lt) = let was = walks.paid owed to finds index lt at is in (was.0, was.1, inl was.2)
@@ -174,7 +174,7 @@ module _ (local target : Table) where
       pays = λ above avoids first plain b t h. walks.goes above avoids b (first ++ t) (pays_rest local target f (record f { parameter = suc f.parameter }) p next above first plain b t h);
     }
 
-    -- a pair that got its answer walks on
+    -- a pair goes on with its walk after it got the answer
     paid_walks : (g : Frame) (p : Pair) (went first : List Pair) → Awaits g p went → ((q : Pair) → Among first q → Settled q) → ((above : List Pair) → AvoidsAll Settled above → Plain local target above p (Ok true) first) → (Settled g.pair → ⊥) → Settled p
         → Walks g (went ++ first)
     paid_walks g p went first awaits starts plain not_settled settled = record {
@@ -186,7 +186,7 @@ module _ (local target : Table) where
           (awaits.pays above avoids first (plain (g.pair ∷ above) (λ q. elim [ inl is ↦ (λ s. not_settled (subst Settled (sym is) s)) | inr m ↦ avoids q m ])) b t h);
     }
 
-    -- ---- all that holds
+    -- ---- the whole invariant
 
     pub record Run (root : Pair) (top : Frame) (below : List Frame) (listed : List Pair) : Type 0 where
       pub before : List Pair
@@ -224,7 +224,7 @@ module _ (local target : Table) where
           counts = run.counts;
         })
 
-    -- a pair that is settled already pays at once
+    -- a parameter whose pair is already settled is paid immediately
     pub run_paid : (root : Pair) (f g : Frame) (p : Pair) (below : List Frame) (listed : List Pair) → Run root f below listed → IsNext local target f (Waits p g) → Settled p → Run root g below listed
     run_paid root f g p below listed run next settled =
         let on : Frame = record f { parameter = suc f.parameter } in
@@ -249,7 +249,7 @@ module _ (local target : Table) where
           counts = run.counts;
         })
 
-    -- So do all parameters from here on, where each resolves to a settled pair, and then the walk goes on.
+    -- If each parameter from here on resolves to a settled pair, all are paid, and the walk goes on.
     pub run_passes : (root : Pair) (many : ℕ) (f : Frame) (n : ℕ) (owed : List Pair) (to : Pair) (below : List Frame) (listed : List Pair) → Run root f below listed → f.left ≡ suc n → Finds local target f.at (Owes owed to) → AllBefore owed (length owed) Settled → f.parameter + many ≡ length owed
         → Run root (record { pair = f.pair; at = to; left = n; parameter = zero }) below listed
     run_passes root zero f n owed to below listed run left finds settled is = run_on root f (record { pair = f.pair; at = to; left = n; parameter = zero }) below listed run (n, to, left, refl, inr (owed, finds, omega (arith, is)))
@@ -304,7 +304,7 @@ module _ (local target : Table) where
 
     -- ---- what the whole comparison returns
 
-    -- what goes wrong with p goes wrong with each pair that waits for it
+    -- an answer of p other than true is the answer of each pair that waits for p
     falls : (root : Pair) (below : List Frame) (p : Pair) (before : List Pair) (b : Result Bool Refusal) (t : List Pair) → IsStack root below p before → AvoidsAll Settled (open_pairs below) → AreApart (open_pairs below) → b ≢ Ok true
         → Plain local target (open_pairs below) p b t → Plain local target [] root b (before ++ t)
     falls root [] p before b t stack avoids apart not_true plain =
@@ -317,42 +317,42 @@ module _ (local target : Table) where
         (falls root below g.pair stack.0 b (g.pair ∷ (stack.1 ++ t)) stack.3 avoids_below apart.1 not_true
         (walked_pair (open_pairs below) g.pair b (stack.1 ++ t) awaits.begins apart.0 (awaits.fails (open_pairs below) avoids_below b t plain not_true)))
 
-    -- whatever comes out for p, the whole has an answer, and lists what was listed first
-    goes_somewhere : HaveKinds local → HaveKinds target → (root : Pair) (below : List Frame) (p : Pair) (before : List Pair) (b : Result Bool Refusal) (t : List Pair) → IsStack root below p before → AvoidsAll Settled (open_pairs below)
+    -- whatever the answer of p is, the whole comparison has an answer, and its list begins with what was listed before
+    whole_has_answer : HaveKinds local → HaveKinds target → (root : Pair) (below : List Frame) (p : Pair) (before : List Pair) (b : Result Bool Refusal) (t : List Pair) → IsStack root below p before → AvoidsAll Settled (open_pairs below)
         → AreApart (open_pairs below) → Plain local target (open_pairs below) p b t → (a : Result Bool Refusal) × (rest : List Pair) × Plain local target [] root a (before ++ (t ++ rest))
-    goes_somewhere ls ts root [] p before b t stack avoids apart plain =
+    whole_has_answer ls ts root [] p before b t stack avoids apart plain =
         (b, [], subst (λ (x : List Pair). Plain local target [] root b x) (ap (λ (x : List Pair). x ++ t) (sym stack.1) ∙ ap (λ (x : List Pair). before ++ x) (sym (append-nil t))) (subst (λ (x : Pair). Plain local target [] x b t) stack.0 plain))
-    goes_somewhere ls ts root (g ∷ below) p before b t stack avoids apart plain =
+    whole_has_answer ls ts root (g ∷ below) p before b t stack avoids apart plain =
         let awaits = stack.4 in
         let avoids_below : AvoidsAll Settled (open_pairs below) = λ q m. avoids q (inr m) in
         let more = rest_answers local target ls ts (open_pairs below) g in
         elim (true_or_not b) [
           | inl is ↦
-              let whole = goes_somewhere ls ts root below g.pair stack.0 more.0 (g.pair ∷ (stack.1 ++ (t ++ more.1))) stack.3 avoids_below apart.1
+              let whole = whole_has_answer ls ts root below g.pair stack.0 more.0 (g.pair ∷ (stack.1 ++ (t ++ more.1))) stack.3 avoids_below apart.1
               (walked_pair (open_pairs below) g.pair more.0 (stack.1 ++ (t ++ more.1)) awaits.begins apart.0 (awaits.pays (open_pairs below) avoids_below t (subst (λ (x : Result Bool Refusal). Plain local target (g.pair ∷ open_pairs below) p x t) is plain) more.0 more.1 more.2)) in
               (whole.0, more.1 ++ whole.1, subst (λ (x : List Pair). Plain local target [] root whole.0 x) (lists_on stack.0 stack.1 before t more.1 whole.1 g.pair stack.2) whole.2)
           | inr not_true ↦
-              let whole = goes_somewhere ls ts root below g.pair stack.0 b (g.pair ∷ (stack.1 ++ t)) stack.3 avoids_below apart.1 (walked_pair (open_pairs below) g.pair b (stack.1 ++ t) awaits.begins apart.0 (awaits.fails (open_pairs below) avoids_below b t plain not_true)) in
+              let whole = whole_has_answer ls ts root below g.pair stack.0 b (g.pair ∷ (stack.1 ++ t)) stack.3 avoids_below apart.1 (walked_pair (open_pairs below) g.pair b (stack.1 ++ t) awaits.begins apart.0 (awaits.fails (open_pairs below) avoids_below b t plain not_true)) in
               (whole.0, whole.1, subst (λ (x : List Pair). Plain local target [] root whole.0 x) (lists_as stack.0 stack.1 before t whole.1 g.pair stack.2) whole.2)
         ]
 
-    -- The whole returns b, and this is what it lists.
+    -- The whole comparison returns b, and lists these pairs.
     abbrev pub Outcome : Pair → Result Bool Refusal → List Pair → Type 0
     Outcome root b listed = (starts : List Pair) × Plain local target [] root b starts × (firsts starts ≡ listed)
 
-    -- the pair at the top, whose walk ends, has its answer
+    -- the pair at the top has its answer when its walk ends
     top_answers : (root : Pair) (f : Frame) (below : List Frame) (listed : List Pair) (run : Run root f below listed) (b : Result Bool Refusal) (t : List Pair) → RestOf local target (open_pairs below) f b t → Plain local target (open_pairs below) f.pair b (f.pair ∷ (run.went ++ t))
     top_answers root f below listed run b t h =
         walked_pair (open_pairs below) f.pair b (run.went ++ t) run.walks.begins run.apart.0 (run.walks.goes (open_pairs below) (λ q m. run.avoids q (inr m)) b t h)
 
-    -- another answer than true is the answer of the whole
+    -- an answer other than true is the answer of the whole comparison
     fails_with : (root : Pair) (f : Frame) (below : List Frame) (listed : List Pair) (run : Run root f below listed) (b : Result Bool Refusal) (t : List Pair) → RestOf local target (open_pairs below) f b t → b ≢ Ok true
         → Plain local target [] root b ((run.before ++ f.pair ∷ run.went) ++ t)
     fails_with root f below listed run b t h not_true =
         subst (λ (x : List Pair). Plain local target [] root b x) (sym (append_assoc run.before (f.pair ∷ run.went) t))
         (falls root below f.pair run.before b (f.pair ∷ (run.went ++ t)) run.stack (λ q m. run.avoids q (inr m)) run.apart.1 not_true (top_answers root f below listed run b t h))
 
-    -- the same where nothing is listed any more
+    -- the same if nothing more is listed
     outcome_now : (root : Pair) (f : Frame) (below : List Frame) (listed : List Pair) (run : Run root f below listed) (b : Result Bool Refusal) → RestOf local target (open_pairs below) f b [] → b ≢ Ok true → Outcome root b listed
     outcome_now root f below listed run b h not_true =
         ((run.before ++ f.pair ∷ run.went) ++ [], fails_with root f below listed run b [] h not_true, ap firsts (append-nil (run.before ++ f.pair ∷ run.went)) ∙ run.lists)
@@ -360,7 +360,7 @@ module _ (local target : Table) where
     pub run_fails : (root : Pair) (f : Frame) (below : List Frame) (listed : List Pair) → Run root f below listed → (b : Result Bool Refusal) → IsNext local target f (Ends b) → b ≢ Ok true → Outcome root b listed
     run_fails root f below listed run b next not_true = outcome_now root f below listed run b (ends_rest local target f b next (open_pairs below)) not_true
 
-    -- a pair that is waited for is refused, or known to be incompatible, at once
+    -- the pair that the top waits for is refused, or incompatible, without being started
     pub run_refused : (root : Pair) (f g : Frame) (p : Pair) (below : List Frame) (listed : List Pair) → Run root f below listed → IsNext local target f (Waits p g) → (b : Result Bool Refusal) → Plain local target (f.pair ∷ open_pairs below) p b [] → b ≢ Ok true → Outcome root b listed
     run_refused root f g p below listed run next b plain not_true = outcome_now root f below listed run b (fails_rest local target f g p next (open_pairs below) b [] plain not_true) not_true
 
@@ -379,14 +379,14 @@ module _ (local target : Table) where
         let same : f.pair ∷ (run.went ++ []) ≡ run.before ++ f.pair ∷ run.went = ap (λ (x : List Pair). f.pair ∷ x) (append-nil run.went) ∙ ap (λ (x : List Pair). x ++ f.pair ∷ run.went) (sym run.stack.1) in
         (f.pair ∷ (run.went ++ []), subst (λ (x : Pair). Plain local target [] x (Ok true) (f.pair ∷ (run.went ++ []))) run.stack.0 plain, ap firsts same ∙ run.lists)
 
-    -- The whole lists at first what is listed so far, and something after it.
+    -- The list of the whole comparison begins with what is listed so far.
     abbrev pub BeginsWith : Pair → List Pair → Type 0
     BeginsWith root listed = (b : Result Bool Refusal) × (starts rest : List Pair) × Plain local target [] root b starts × (firsts starts ≡ listed ++ rest)
 
     pub run_begins : HaveKinds local → HaveKinds target → (root : Pair) (f : Frame) (below : List Frame) (listed : List Pair) → Run root f below listed → BeginsWith root listed
     run_begins ls ts root f below listed run =
         let more = rest_answers local target ls ts (open_pairs below) f in
-        let whole = goes_somewhere ls ts root below f.pair run.before more.0 (f.pair ∷ (run.went ++ more.1)) run.stack (λ q m. run.avoids q (inr m)) run.apart.1 (top_answers root f below listed run more.0 more.1 more.2) in
+        let whole = whole_has_answer ls ts root below f.pair run.before more.0 (f.pair ∷ (run.went ++ more.1)) run.stack (λ q m. run.avoids q (inr m)) run.apart.1 (top_answers root f below listed run more.0 more.1 more.2) in
         let behind = firsts_begin (run.before ++ f.pair ∷ run.went) (more.1 ++ whole.1) in (
           whole.0,
           run.before ++ ((f.pair ∷ (run.went ++ more.1)) ++ whole.1),
@@ -434,7 +434,7 @@ module _ (local target : Table) where
     stack_more root [] p before stack = stack
     stack_more root (g ∷ below) p before stack = (stack.0, stack.1, stack.2, stack_more root below g.pair stack.0 stack.3, awaits_more g p stack.1 stack.4)
 
-    -- the pair at the top came out true, and so is settled
+    -- the pair at the top is compatible, and so is settled
     module _ (root : Pair) (f : Frame) (below : List Frame) (listed : List Pair) (run : Run Settled root f below listed) (next : IsNext local target f (Ends (Ok true))) (settled : More f.pair) (either : (q : Pair) → More q → Settled q ⊎ (f.pair ≡ q)) where
       its_starts : (q : Pair) → Among (f.pair ∷ run.went) q → More q
       its_starts q (inl is) = subst More is settled
@@ -452,7 +452,7 @@ module _ (local target : Table) where
             | inr is ↦ (f.pair ∷ run.went, its_starts, λ above avoids. subst (λ (x : Pair). Plain local target above x (Ok true) (f.pair ∷ run.went)) is (is_plain above avoids))
           ]
 
-    -- and the one below it goes on
+    -- and the pair below it goes on
     pub run_settles : (root : Pair) (f g : Frame) (below : List Frame) (listed : List Pair) → Run Settled root f (g ∷ below) listed → IsNext local target f (Ends (Ok true)) → More f.pair → ((q : Pair) → More q → Settled q ⊎ (f.pair ≡ q)) → Run More root g below listed
     run_settles root f g below listed run next settled either =
         let early = run.stack.0 in

@@ -1,5 +1,6 @@
--- A run of the comparison of types that remembers the pairs which came out true: the pairs that are open, each with the
--- position of its walk, and what the run has to say of the comparison that remembers nothing.
+-- A run of the comparison of types that remembers the pairs known to be compatible: the open pairs, each with the
+-- position of its walk, and how the run relates to the comparison that remembers nothing. A pair that is known to be
+-- compatible is called settled. A pending parameter pair is owed, and it is paid when it is settled.
 use Rattle.std.proofs.Common.{◌≡◌, ◌≢◌, ℕ, zero, suc, List, [], ◌∷◌, ◌++◌, drop, refl, sym, ap, subst, ◌∙◌, inl, inr, Bool, true, Some, Result, Ok, Err, append_assoc, slice_get}
 use Rattle.std.specs.Prelude.{◌⊎◌}
 use Rattle.std.specs.Result.{result_ok}
@@ -19,7 +20,7 @@ use Rattle.btf_model.proofs.PlainSteps.{Are}
 module _ (local target : Table) where
   -- ---- what is left of a walk
 
-  -- after what is found at a position, where so many of its parameters are settled
+  -- by what is found at a position, if its first j pairs of parameters are settled
   abbrev pub RestBy : List Pair → ℕ → ℕ → Position → Result Bool Refusal → List Pair → Type 0
   RestBy above n j (Told a) b t = Are b t a []
   RestBy above n j (On to) b t = Walked local target above n to b t
@@ -39,7 +40,7 @@ module _ (local target : Table) where
   walked_by_rest above n at (Owes owed to) b t found (inl h) = subst (λ (x : List Pair). Walked local target above (suc n) at b x) (sym h.4) (Walked.paid above n at to owed b h.0 h.1 found h.2 h.3)
   walked_by_rest above n at (Owes owed to) b t found (inr h) = Walked.unpaid above n at to owed b t found h.0 h.1
 
-  -- where no parameter is settled, the whole of it
+  -- if no parameter is settled, the rest is the whole walk
   pub walked_from_rest : (above : List Pair) (n : ℕ) (at : Pair) (b : Result Bool Refusal) (t : List Pair) → Rest above n at zero b t → Walked local target above n at b t
   walked_from_rest above zero at b t is = walked_as above zero at (Err (MaximumTypeDepthReached at.local)) b [] t is (Walked.too_deep above at)
   walked_from_rest above (suc n) at b t h = walked_by_rest above n at h.0 b t h.1 h.2
@@ -61,7 +62,7 @@ module _ (local target : Table) where
   pays_from : (above owed : List Pair) (j : ℕ) (at : Pair) (b : Result Bool Refusal) (t : List Pair) → slice_get owed j ≡ Some at → Paid local target above (at ∷ drop (suc j) owed) b t → Paid local target above (drop j owed) b t
   pays_from above owed j at b t is h = subst (λ (qs : List Pair). Paid local target above qs b t) (first_owed owed j at is) h
 
-  -- a walk that ends, ends under any open pairs
+  -- a walk that ends does so under any open pairs
   pub ends_rest : (f : Frame) (b : Result Bool Refusal) → IsNext local target f (Ends b) → (above : List Pair) → RestOf above f b []
   ends_rest f b (inl h) above = subst (λ (m : ℕ). Rest (f.pair ∷ above) m f.at f.parameter b []) (sym h.0) (h.1, refl)
   ends_rest f b (inr h) above =

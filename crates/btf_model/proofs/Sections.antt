@@ -1,4 +1,4 @@
--- Sections of `.BTF.ext`: what begins bytes is determined, and when nothing does.
+-- Sections of `.BTF.ext`: bytes determine the sections that they begin with, and when they begin with none.
 use Rattle.std.proofs.Common.{◌≡◌, ℕ, zero, suc, ◌+◌, ◌*◌, ◌^◌, ◌<◌, ◌≤◌, List, [], ◌∷◌, ◌++◌, length, take, drop, refl, sym, ap, ◌∙◌, append_assoc, arith}
 use Rattle.std.specs.Prelude.{◌⊎◌}
 use Rattle.std.specs.List.{flat_map, AllByRecursion}
@@ -17,19 +17,19 @@ length-section_bytes order s = omega (arith, length-append (word order s.name ++
 regrouped : (order : Endianness) (s : Section) (more : List ℕ) → section_bytes order s ++ more ≡ word order s.name ++ (word order s.count ++ (s.bytes ++ more))
 regrouped order s more = ap (λ (x : List ℕ). x ++ more) (append_assoc (word order s.name) (word order s.count) s.bytes) ∙ append_assoc (word order s.name) (word order s.count ++ s.bytes) more ∙ ap (λ (x : List ℕ). word order s.name ++ x) (append_assoc (word order s.count) s.bytes more)
 
-behind_name : (order : Endianness) (s : Section) (more : List ℕ) → drop 4 (section_bytes order s ++ more) ≡ word order s.count ++ (s.bytes ++ more)
-behind_name order s more = ap (drop 4) (regrouped order s more) ∙ drop_at (word order s.name) (word order s.count ++ (s.bytes ++ more)) 4 (length-word order s.name)
+after_name : (order : Endianness) (s : Section) (more : List ℕ) → drop 4 (section_bytes order s ++ more) ≡ word order s.count ++ (s.bytes ++ more)
+after_name order s more = ap (drop 4) (regrouped order s more) ∙ drop_at (word order s.name) (word order s.count ++ (s.bytes ++ more)) 4 (length-word order s.name)
 
 pub name_at : (order : Endianness) (s : Section) (more : List ℕ) → s.name < 2 ^ 32 → word_at order 0 (section_bytes order s ++ more) ≡ s.name
 name_at order s more lt = ap (λ (x : List ℕ). word_of order (take 4 x)) (regrouped order s more) ∙ ap (word_of order) (take_at (word order s.name) (word order s.count ++ (s.bytes ++ more)) 4 (length-word order s.name)) ∙ word_of-word order s.name lt
 
 pub count_at : (order : Endianness) (s : Section) (more : List ℕ) → s.count < 2 ^ 32 → word_at order 4 (section_bytes order s ++ more) ≡ s.count
-count_at order s more lt = ap (λ (x : List ℕ). word_of order (take 4 x)) (behind_name order s more) ∙ ap (word_of order) (take_at (word order s.count) (s.bytes ++ more) 4 (length-word order s.count)) ∙ word_of-word order s.count lt
+count_at order s more lt = ap (λ (x : List ℕ). word_of order (take 4 x)) (after_name order s more) ∙ ap (word_of order) (take_at (word order s.count) (s.bytes ++ more) 4 (length-word order s.count)) ∙ word_of-word order s.count lt
 
-pub records_behind : (order : Endianness) (s : Section) (more : List ℕ) → drop 4 (drop 4 (section_bytes order s ++ more)) ≡ s.bytes ++ more
-records_behind order s more = ap (drop 4) (behind_name order s more) ∙ drop_at (word order s.count) (s.bytes ++ more) 4 (length-word order s.count)
+pub records_after : (order : Endianness) (s : Section) (more : List ℕ) → drop 4 (drop 4 (section_bytes order s ++ more)) ≡ s.bytes ++ more
+records_after order s more = ap (drop 4) (after_name order s more) ∙ drop_at (word order s.count) (s.bytes ++ more) 4 (length-word order s.count)
 
--- two sections of one beginning are one, and the same follows them
+-- two sections at the front of the same bytes are equal, and the same bytes follow them
 pub record SameSection (s t : Section) (x y : List ℕ) : Type 0 where
   pub section_is : s ≡ t
   pub rest : x ≡ y
@@ -41,7 +41,7 @@ pub same_section : (order : Endianness) (size : ℕ) (s t : Section) (x y : List
 same_section order size s t x y hs ht e =
     let name : s.name ≡ t.name = sym (name_at order s x hs.name) ∙ ap (word_at order 0) e ∙ name_at order t y ht.name in
     let count : s.count ≡ t.count = sym (count_at order s x hs.count) ∙ ap (word_at order 4) e ∙ count_at order t y ht.count in
-    let behind : s.bytes ++ x ≡ t.bytes ++ y = sym (records_behind order s x) ∙ ap (λ (b : List ℕ). drop 4 (drop 4 b)) e ∙ records_behind order t y in
+    let behind : s.bytes ++ x ≡ t.bytes ++ y = sym (records_after order s x) ∙ ap (λ (b : List ℕ). drop 4 (drop 4 b)) e ∙ records_after order t y in
     let len : length s.bytes ≡ length t.bytes = hs.records ∙ ap (λ (n : ℕ). size * n) count ∙ sym ht.records in
     let bytes : s.bytes ≡ t.bytes = sym (take_at s.bytes x (length t.bytes) len) ∙ ap (take (length t.bytes)) behind ∙ take_at t.bytes y (length t.bytes) refl in
     record {
@@ -49,7 +49,7 @@ same_section order size s t x y hs ht e =
       rest = append_cancel_left s.bytes x y (behind ∙ ap (λ (b : List ℕ). b ++ y) (sym bytes));
     }
 
--- after sections up to where none begins, no others go further
+-- if no section begins after a list of sections, no other list is longer
 no_further : (order : Endianness) (size : ℕ) (ss ts : List Section) (rest more : List ℕ) → AllByRecursion (IsSection size) ss → AllByRecursion (IsSection size) ts → BeginsNoSection order size rest → flat_map (section_bytes order) ss ++ rest ≡ flat_map (section_bytes order) ts ++ more → length rest ≤ length more
 no_further order size [] [] rest more hs ht none e = omega (arith, ap length e)
 no_further order size [] (t ∷ ts) rest more hs ht none e = absurd (none t (flat_map (section_bytes order) ts ++ more) ht.0 (e ∙ append_assoc (section_bytes order t) (flat_map (section_bytes order) ts) more))
@@ -58,7 +58,7 @@ no_further order size (s ∷ ss) (t ∷ ts) rest more hs ht none e =
     let first = same_section order size s t (flat_map (section_bytes order) ss ++ rest) (flat_map (section_bytes order) ts ++ more) hs.0 ht.0 (sym (append_assoc (section_bytes order s) (flat_map (section_bytes order) ss) rest) ∙ e ∙ append_assoc (section_bytes order t) (flat_map (section_bytes order) ts) more) in
     no_further order size ss ts rest more hs.1 ht.1 none first.rest
 
--- after the most sections none begins
+-- no section begins after the longest list of sections
 pub sections_from_none : (order : Endianness) (size : ℕ) (bytes : List ℕ) (ss : List Section) (rest : List ℕ) → BeginsWith order size bytes ss rest → BeginsNoSection order size rest → Sections order size bytes ss rest
 sections_from_none order size bytes ss rest cut none = record {
   cut = cut;
@@ -82,11 +82,11 @@ begins_push order size bytes ss s rest more h is e = (
       ∙ ap (λ (x : List ℕ). x ++ more) (sym (flat_map-append (section_bytes order) ss (s ∷ []))),
 )
 
--- no section begins less than two words
+-- fewer than two words begin with no section
 pub none_in_short : (order : Endianness) (size : ℕ) (bytes : List ℕ) → length bytes < 8 → BeginsNoSection order size bytes
 none_in_short order size bytes lt s more is e = omega (arith, lt, ap length e, length-append (section_bytes order s) more, length-section_bytes order s)
 
--- nor bytes whose records are none, or are cut
+-- nor do bytes whose count is 0 or whose records are truncated
 pub none_in_cut : (order : Endianness) (size : ℕ) (bytes : List ℕ) (len : ℕ) → 8 ≤ length bytes → len ≡ size * word_at order 4 bytes → (len ≡ 0) ⊎ (length bytes < 8 + len) → BeginsNoSection order size bytes
 none_in_cut order size bytes len le len-is bad s more is e =
     let count : word_at order 4 bytes ≡ s.count = ap (word_at order 4) e ∙ count_at order s more is.count in
@@ -101,7 +101,7 @@ none_in_cut order size bytes len le len-is bad s more is e =
     positive (suc a) zero pa pb e = omega (arith, pb)
     positive (suc a) (suc b) pa pb e = omega (arith, e)
 
--- a section that lies whole in bytes begins them
+-- if the bytes have all bytes of a section, they begin with it
 pub begins_section : (order : Endianness) (bytes : List ℕ) (s : Section) (more : List ℕ) → IsBytes bytes → 8 ≤ length bytes → s.name ≡ word_at order 0 bytes → s.count ≡ word_at order 4 bytes → drop 4 (drop 4 bytes) ≡ s.bytes ++ more → bytes ≡ section_bytes order s ++ more
 begins_section order bytes s more fits le name count cut =
     let four : length (take 4 bytes) ≡ 4 = omega (arith, length-take 4 bytes) in
@@ -111,11 +111,11 @@ begins_section order bytes s more fits le name count cut =
     sym (take-append-drop 4 bytes) ∙ ap (λ (x : List ℕ). take 4 bytes ++ x) (sym (take-append-drop 4 (drop 4 bytes)) ∙ ap (λ (x : List ℕ). take 4 (drop 4 bytes) ++ x) cut ∙ ap (λ (x : List ℕ). x ++ (s.bytes ++ more)) (sym c))
     ∙ ap (λ (x : List ℕ). x ++ (word order s.count ++ (s.bytes ++ more))) (sym n) ∙ sym (regrouped order s more)
 
--- what is read of the first two words fits them
+-- the values of the first two words have 32 bits
 pub word_at_fits : (order : Endianness) (at : ℕ) (bytes : List ℕ) → IsBytes bytes → word_at order at bytes < 2 ^ 32
 word_at_fits order at bytes fits = word_of_below order (take 4 (drop at bytes)) (IsBytes-take 4 (drop at bytes) (IsBytes-drop at bytes fits))
 
--- sections and a rest of one length are one
+-- two lists of sections whose rests have the same length are equal
 same_cut : (order : Endianness) (size : ℕ) (ss ts : List Section) (rest more : List ℕ) → AllByRecursion (IsSection size) ss → AllByRecursion (IsSection size) ts → length rest ≡ length more → flat_map (section_bytes order) ss ++ rest ≡ flat_map (section_bytes order) ts ++ more → (ss ≡ ts) × (rest ≡ more)
 same_cut order size [] [] rest more hs ht len e = (refl, e)
 same_cut order size [] (t ∷ ts) rest more hs ht len e =

@@ -1,4 +1,4 @@
--- An INT that begins at another bit than 0 is compatible with no type, so neither with itself.
+-- An INT that does not begin at bit 0 is compatible with no type, so not with itself.
 use Rattle.std.specs.Prelude.{◌≡◌, ◌≢◌, ℕ, [], ◌∷◌, ◌==◌, ◌&&◌, Bool, false, Ok, None, refl}
 use Rattle.std.proofs.Common.{ap, subst, arith, inl, inr}
 use Rattle.std.proofs.lemmas.Bool.{false≢true, ne_eqb}
@@ -14,7 +14,7 @@ use Rattle.btf_model.specs.Laws.{IsShifted, with_itself}
 use Rattle.btf_model.specs.Blob.{IsValid}
 use Rattle.btf_model.proofs.ChainExamples.{no_modifier, on_itself, alone}
 
--- an INT is no STRUCT and no UNION
+-- an INT is neither a STRUCT nor a UNION
 no_composite : BothComposite Int Int → ⊥
 no_composite both = false≢true both.0
 

@@ -1,4 +1,4 @@
--- Texts: where the first zero byte stands, and what a text that is added after others changes.
+-- Texts: the place of the first zero byte, and what changes when a text is appended.
 use Rattle.std.proofs.Common.{◌≡◌, ℕ, ◌<◌, Bool, true, false, nat_lt, cond, List, [], ◌∷◌, ◌++◌, length, take, drop, get_or, Option, None, Some, Result, Ok, Err, refl, sym, ap, ◌∙◌, arith, ◌⊎◌, inl, inr, ⊎_elim}
 use Rattle.std.specs.Prelude.{position, option_map, Contains, slice_get}
 use Rattle.std.specs.List.{position_or_len}
@@ -16,19 +16,19 @@ use Rattle.btf_model.specs.Record.{Kind, Record, kind_of}
 use Rattle.btf_model.specs.Refusal.{Refusal}
 use Rattle.btf_model.specs.Text.{is_zero, bytes_at, lossy, text_of, text_at, IsPassed, ArePassed, IsReached, FindsName}
 
--- the first place that passes
+-- the first place that passes the test
 pub position_is : {X : Type 0} (p : X → Bool) (xs : List X) (i : ℕ) (d : X) → i < length xs → ((k : ℕ) → k < i → p (get_or xs k d) ≡ false) → p (get_or xs i d) ≡ true → position p xs ≡ Some i
 position_is p xs i d lt before at =
     let place : position_or_len p xs ≡ i = position_or_len_is p xs i d (omega (arith, lt)) before (λ _. at) in
     ap (λ (n : ℕ). cond (nat_lt n (length xs)) (Some n) None) place ∙ ap (λ b. cond b (Some i) None) (lt-ltb i (length xs) lt)
 
--- no place passes
+-- no place passes the test
 position_none : {X : Type 0} (p : X → Bool) (xs : List X) (d : X) → ((k : ℕ) → k < length xs → p (get_or xs k d) ≡ false) → position p xs ≡ None
 position_none p xs d none =
     let end : position_or_len p xs ≡ length xs = position_or_len_is p xs (length xs) d (omega arith) none (λ lt. absurd (omega (arith, lt))) in
     ap (λ (n : ℕ). cond (nat_lt n (length xs)) (Some n) None) end ∙ ap (λ b. cond b (Some (length xs)) None) (le-ltb (length xs) (length xs) (omega arith))
 
--- what stands after a place that passes changes nothing
+-- elements after a place that passes the test change nothing
 position_append : {X : Type 0} (p : X → Bool) (xs ys : List X) (i : ℕ) (d : X) → position p xs ≡ Some i → position p (xs ++ ys) ≡ Some i
 position_append p xs ys i d is =
     let at = position-Some p xs i d is in
@@ -40,21 +40,21 @@ position_append p xs ys i d is =
 pub lossy_of_utf8 : (bytes : List ℕ) → IsUtf8 bytes → lossy bytes ≡ bytes
 lossy_of_utf8 bytes is = lossy_chars-utf8_lossy bytes ∙ utf8_lossy-IsUtf8 bytes is
 
--- what is mapped to something is something
+-- if the map of an option is a value, the option is a value
 pub some_mapped : {A B : Type 0} (f : A → B) (o : Option A) (y : B) → option_map f o ≡ Some y → (x : A) × (o ≡ Some x) × (f x ≡ y)
 some_mapped f (Some x) y is = (x, refl, same_Some (f x) y is)
 some_mapped f None y is = absurd (none-some y is)
 
--- the bytes up to the first zero byte of what stands at an offset
+-- the bytes from an offset up to the first zero byte
 pub bytes_are : (strings : List ℕ) (offset : ℕ) (rest : List ℕ) (end : ℕ) → rest ≡ drop offset strings → end < length rest → ((k : ℕ) → k < end → is_zero (get_or rest k 0) ≡ false) → is_zero (get_or rest end 0) ≡ true → bytes_at strings offset ≡ Some (take end rest)
 bytes_are strings offset rest end is lt before at =
     ap (λ (xs : List ℕ). option_map (λ i. take i xs) (position is_zero xs)) (sym is) ∙ ap (option_map (λ i. take i rest)) (position_is is_zero rest end 0 lt before at)
 
--- no zero byte stands there
+-- there is no zero byte
 pub no_bytes : (strings : List ℕ) (offset : ℕ) (rest : List ℕ) → rest ≡ drop offset strings → ((k : ℕ) → k < length rest → is_zero (get_or rest k 0) ≡ false) → bytes_at strings offset ≡ None
 no_bytes strings offset rest is none = ap (λ (xs : List ℕ). option_map (λ i. take i xs) (position is_zero xs)) (sym is) ∙ ap (option_map (λ i. take i rest)) (position_none is_zero rest 0 none)
 
--- what is read at an offset is read there when more is added after it
+-- the text at an offset is unchanged when more is appended
 bytes_at_append : (strings more : List ℕ) (offset : ℕ) (bytes : List ℕ) → bytes_at strings offset ≡ Some bytes → bytes_at (strings ++ more) offset ≡ Some bytes
 bytes_at_append strings more offset bytes is =
     let rest = drop offset strings in
@@ -96,7 +96,7 @@ added_text strings text is none = text_is (strings ++ text ++ 0 ∷ []) (length 
 
 -- ---- the search for a name
 
--- the text of a record is one, and a name that is passed is another
+-- a record has one text, and the name of a skipped record is different
 not_passed : (strings : List ℕ) (k : Kind) (name : List ℕ) (r : Record) (answer : Result (List ℕ) Refusal) → kind_of r.info ≡ Some k → text_at strings r.name ≡ answer → ((other : List ℕ) → answer ≡ Ok other → other ≡ name) → IsPassed strings k name r → ⊥
 not_passed strings k name r answer kind is wanted (inl other-kind) = other-kind kind
 not_passed strings k name r answer kind is wanted (inr p) = p.2 (wanted p.0 (sym is ∙ p.1))
@@ -107,11 +107,11 @@ refused_is_no_text refusal other name is = absurd (none-some other (ap result_ok
 named_is_name : (other name : List ℕ) → result_ok {E = Refusal} (Ok name) ≡ Some other → other ≡ name
 named_is_name other name is = sym (same_Some name other is)
 
--- The search ends at an id, whose name reads as this: the name, or no text.
+-- The search ends at an id whose name is the given name, or cannot be read.
 abbrev EndsHere : List ℕ → List Record → Kind → List ℕ → ℕ → Result (List ℕ) Refusal → Type 0
 EndsHere strings records k name id answer = (r : Record) × IsReached strings records k name id r × (text_at strings r.name ≡ answer) × ((other : List ℕ) → answer ≡ Ok other → other ≡ name)
 
--- it does not end below an id that it comes to
+-- it does not end below an id that it reaches
 not_lower : (strings : List ℕ) (records : List Record) (k : Kind) (name : List ℕ) (low id : ℕ) (b : Result (List ℕ) Refusal) → low < id → ArePassed strings records k name id → EndsHere strings records k name low b → ⊥
 not_lower strings records k name low id b lt passed f = not_passed strings k name f.0 b f.1.2 f.2 f.3 (passed low f.0 lt f.1.1)
 
@@ -125,7 +125,7 @@ same_end strings records k name id at a b e f =
     ⊎_elim (λ (lt : id < at). absurd (not_lower strings records k name id at a lt f.1.0 e)) (λ (lt : at < id). absurd (not_lower strings records k name at id b lt e.1.0 f)) other)
     (cases_order id at)
 
--- or it goes past them all
+-- or it skips all ids
 not_all : (strings : List ℕ) (records : List Record) (k : Kind) (name : List ℕ) (id : ℕ) (a : Result (List ℕ) Refusal) → EndsHere strings records k name id a → ArePassed strings records k name (length records) → ⊥
 not_all strings records k name id a e all = not_lower strings records k name id (length records) a (slice_get_within records id e.0 e.1.1) all e
 

@@ -17,7 +17,7 @@ use Rattle.btf_model.proofs.Words.{IsBytes, IsBytes-take, IsBytes-drop, half-hal
 use Rattle.btf_model.proofs.Records.{length-records, whole_are_records, same_records}
 use Rattle.btf_model.proofs.Blobs.{header_of-header_bytes, length-canon, canon_types, regrouped}
 
--- ---- what is kept is written as it stands
+-- ---- retained words are written as they were read
 
 capped_fits : (ws : List ℕ) → AllByRecursion (λ w. w < 2 ^ 32) ws → AllByRecursion (λ w. w < 2 ^ 32) (map (min 3) ws)
 capped_fits [] h = tt
@@ -58,7 +58,7 @@ kept_both DeclTag w h = (h, tt)
 kept_both TypeTag w h = (h, tt)
 kept_both Enum64 w h = (h, tt)
 
--- what is written as it stands is kept
+-- words that are written as they were read are retained
 stays : (k : Kind) (w : Record) → IsWrittenAsRead k w → kept k w ≡ w
 stays Unknown w h = sym h
 stays Fwd w h = ap (λ (t : ℕ). record w { third = t }) (sym h)
@@ -81,20 +81,20 @@ stays DeclTag w h = refl
 stays TypeTag w h = refl
 stays Enum64 w h = refl
 
-abbrev StandsAsRead : Record → Type 0
-StandsAsRead w = (k : Kind) × HasKind k w × IsWrittenAsRead k w
+abbrev IsAsRead : Record → Type 0
+IsAsRead w = (k : Kind) × HasKind k w × IsWrittenAsRead k w
 
-read_stand : (order : Endianness) (bytes : List ℕ) (rs : List Record) → AreRecords order bytes rs → AllByRecursion StandsAsRead rs
-read_stand order bytes [] h = tt
-read_stand order bytes (r ∷ rs) h =
+read_as_written : (order : Endianness) (bytes : List ℕ) (rs : List Record) → AreRecords order bytes rs → AllByRecursion IsAsRead rs
+read_as_written order bytes [] h = tt
+read_as_written order bytes (r ∷ rs) h =
     let p = h.3 in
     let both = kept_both p.0 p.1 p.2 in
     let here : Both p.0 r = subst (Both p.0) (sym p.4) both in
-    ((p.0, here.0, here.1), read_stand order h.1 rs h.4)
+    ((p.0, here.0, here.1), read_as_written order h.1 rs h.4)
 
-stand_whole : (rs : List Record) → AllByRecursion StandsAsRead rs → AllByRecursion IsWhole rs
-stand_whole [] h = tt
-stand_whole (r ∷ rs) h = ((h.0.0, h.0.1, stays h.0.0 r h.0.2), stand_whole rs h.1)
+written_whole : (rs : List Record) → AllByRecursion IsAsRead rs → AllByRecursion IsWhole rs
+written_whole [] h = tt
+written_whole (r ∷ rs) h = ((h.0.0, h.0.1, stays h.0.0 r h.0.2), written_whole rs h.1)
 
 -- ---- the header
 
@@ -129,7 +129,7 @@ bytes_from_all bytes h i =
 length-slice : (at len : ℕ) (bytes : List ℕ) → at + len ≤ length bytes → length (slice at len bytes) ≡ len
 length-slice at len bytes le = omega (arith, length-take len (drop at bytes), length-drop at bytes)
 
--- what the table of a blob says of its parts
+-- the parts of a blob, by its table
 record Parts (order : Endianness) (bytes : List ℕ) (t : Table) : Type 0 where
   types : length (type_bytes t) ≡ (header_of order bytes).type_len
   strings : length t.strings ≡ (header_of order bytes).str_len
@@ -164,8 +164,8 @@ written_is_usual order bytes t fits h e =
       hdr_len = ap (λ (x : Header). x.hdr_len) header;
       type_off = ap (λ (x : Header). x.type_off) header;
       str_off = ap (λ (x : Header). x.str_off) header ∙ sym (ap (λ (x : Header). x.type_len) header);
-      nothing_behind = sym (ap length e) ∙ length-canon t ∙ sym (ap strings_end header);
-      records = (rs, read_stand order (type_section (header_of order bytes) bytes) rs h.records.2, section);
+      nothing_after = sym (ap length e) ∙ length-canon t ∙ sym (ap strings_end header);
+      records = (rs, read_as_written order (type_section (header_of order bytes) bytes) rs h.records.2, section);
     }
 
 -- a blob of the written form is written as it was read
@@ -175,7 +175,7 @@ usual_is_written order bytes t fits h u =
     let header = header_of order bytes in
     let section = type_section header bytes in
     let ws = u.records.0 in
-    let again : AreRecords order section ws = subst (λ (b : List ℕ). AreRecords order b ws) (sym u.records.2) (whole_are_records order ws (stand_whole ws u.records.1)) in
+    let again : AreRecords order section ws = subst (λ (b : List ℕ). AreRecords order b ws) (sym u.records.2) (whole_are_records order ws (written_whole ws u.records.1)) in
     let same : h.records.0 ≡ ws = same_records order section h.records.0 ws h.records.2 again in
     let spelled : type_bytes t ≡ section = ap (λ (xs : List Record). flat_map (spell t.order) (drop 1 xs)) h.records.1 ∙ ap (λ (o : Endianness). flat_map (spell o) h.records.0) h.same_order ∙ ap (flat_map (spell order)) same ∙ sym u.records.2 in
     let same_header : canon_header t ≡ header = λ i. record {
@@ -194,7 +194,7 @@ usual_is_written order bytes t fits h u =
     let types : section ≡ take header.type_len (drop 24 bytes) = ap (λ (k : ℕ). take header.type_len (drop k bytes)) types_at in
     let strings : t.strings ≡ drop header.type_len (drop 24 bytes) =
     h.strings ∙ ap (λ (k : ℕ). take header.str_len (drop k bytes)) strings_at
-    ∙ take_all header.str_len (drop (24 + header.type_len) bytes) (omega (arith, length-drop (24 + header.type_len) bytes, u.nothing_behind, u.hdr_len, u.str_off))
+    ∙ take_all header.str_len (drop (24 + header.type_len) bytes) (omega (arith, length-drop (24 + header.type_len) bytes, u.nothing_after, u.hdr_len, u.str_off))
     ∙ sym (drop-drop header.type_len 24 bytes) in
     regrouped t ∙ ap (λ (x : List ℕ). x ++ (type_bytes t ++ t.strings)) front
     ∙ ap (λ (x : List ℕ). take 24 bytes ++ (x ++ t.strings)) (spelled ∙ types)

@@ -19,7 +19,7 @@ use Rattle.btf_model.proofs.Walks.{one_answer, by_one}
 
 -- ---- the variant of a name
 
--- what the search returns at a variant, where this is what it returns among those after it
+-- what the search returns at a variant, given what it returns for the variants after it
 looked_at : List ℕ → Variant → Result (List ℕ) Refusal → Result (Option ℕ) Refusal → Result (Option ℕ) Refusal
 looked_at name v (Ok text) rest = if bytes_eq text name then Ok (Some v.value) else rest
 looked_at name v (Err refusal) rest = Err refusal
@@ -28,7 +28,7 @@ looked : List ℕ → List ℕ → List Variant → Result (Option ℕ) Refusal
 looked strings name [] = Ok None
 looked strings name (v ∷ vs) = looked_at name v (text_at strings v.name) (looked strings name vs)
 
--- variants of other names are passed
+-- variants with other names are skipped
 others_looked : (strings name : List ℕ) (vs rest : List Variant) → HaveOtherNames strings name vs → looked strings name (vs ++ rest) ≡ looked strings name rest
 unfolding looked looked_at
 others_looked strings name [] rest others = refl
@@ -63,7 +63,7 @@ ok_is_no_err : {A : Type 0} (a : A) (refusal : Refusal) → Ok a ≡ Err refusal
 ok_is_no_err a refusal is = false≢true (sym (ap is_ok is))
 
 module _ {A B : Type 0} (first : Result A Refusal → Type 0) (second : A → Result B Refusal → Type 0) (one : (a b : Result A Refusal) → first a → first b → a ≡ b) (next : (x : A) (a b : Result B Refusal) → second x a → second x b → a ≡ b) where
-  -- the answers after what was read first
+  -- the results of the second step
   same_after : (x y : A) (a b : Result B Refusal) → first (Ok x) → first (Ok y) → second x a → second y b → a ≡ b
   same_after x y a b p q h k = next y a b (subst (λ (z : A). second z a) (same_Some x y (ap result_ok (one (Ok x) (Ok y) p q))) h) k
 
@@ -95,7 +95,7 @@ one_value t id name a b p q =
 
 -- ---- the records of a section
 
--- the first of two that is there
+-- the first of two options that is a value
 first_of_two : Option Refusal → Option Refusal → Option Refusal
 first_of_two (Some refusal) other = Some refusal
 first_of_two None other = other
@@ -105,7 +105,7 @@ unread : List ℕ → List RelocationSection → Option Refusal
 unread strings [] = None
 unread strings (s ∷ ss) = first_of_two (result_err (text_at strings s.0)) (unread strings ss)
 
--- sections whose names can be read are passed
+-- sections whose names can be read are skipped
 names_unread : (strings : List ℕ) (ss rest : List RelocationSection) → HaveNames strings ss → unread strings (ss ++ rest) ≡ unread strings rest
 unfolding unread first_of_two
 names_unread strings [] rest names = refl

@@ -5,7 +5,7 @@ use Rattle.std.specs.Result.{result_ok}
 use Rattle.std.proofs.lemmas.Option.{same_Some, none-some}
 use Rattle.btf_model.specs.Record.{Record}
 use Rattle.btf_model.specs.Refusal.{Refusal, UnknownBtfType, MaximumTypeDepthReached}
-use Rattle.btf_model.specs.Walk.{Finding, Ends, GoesOn, Leads, WalkAnswers, By, walk_limit, unmodified_in, behind_modifier, modified_type, Resolves}
+use Rattle.btf_model.specs.Walk.{Finding, Ends, GoesOn, Leads, WalkAnswers, By, walk_limit, unmodified_in, after_modifier, modified_type, Resolves}
 
 next_or : {P A : Type 0} → P → Finding P A → P
 next_or place (Ends answer) = place
@@ -32,11 +32,11 @@ pub not_both : {P A : Type 0} (f : Finding P A) (a : Result A Refusal) (next : P
 unfolding IsEnd
 not_both f a next p q = subst IsEnd (sym p ∙ q) tt
 
--- one thing is found at a place
+-- at most one thing is found at a place
 abbrev pub FindsOne : {P A : Type 0} → (P → Finding P A → Type 0) → Type 0
 FindsOne {P = P} {A = A} Finds = (place : P) (f g : Finding P A) → Finds place f → Finds place g → f ≡ g
 
--- what is found by a function is one thing
+-- a function finds one thing
 pub by_one : {P A : Type 0} (find : P → Finding P A) → FindsOne (By find)
 by_one find place f g p q = sym p ∙ q
 
@@ -77,12 +77,12 @@ lead_on {P = P} Finds zero start end next p q = (next, subst (λ (s : P). Finds 
 lead_on Finds (suc n) start end next p q = (p.0, p.1, lead_on Finds n p.0 end next p.2 q)
 
 -- a walk over modifiers that ends with an id ends at that id
-behind_ends : (id end : ℕ) (o : Option ℕ) → behind_modifier id o ≡ Ends (Ok end) → id ≡ end
-behind_ends id end (Some next) is = absurd (not_both (GoesOn next) (Ok end) next is refl)
-behind_ends id end None is = same_Some id end (ap result_ok (same_answer (Ok id) (Ok end) is))
+after_ends : (id end : ℕ) (o : Option ℕ) → after_modifier id o ≡ Ends (Ok end) → id ≡ end
+after_ends id end (Some next) is = absurd (not_both (GoesOn next) (Ok end) next is refl)
+after_ends id end None is = same_Some id end (ap result_ok (same_answer (Ok id) (Ok end) is))
 
 pub ends_there : (id end : ℕ) (o : Option Record) → unmodified_in id o ≡ Ends (Ok end) → id ≡ end
-ends_there id end (Some r) is = behind_ends id end (modified_type r) is
+ends_there id end (Some r) is = after_ends id end (modified_type r) is
 ends_there id end None is = absurd (none-some end (ap result_ok (same_answer (Err (UnknownBtfType id)) (Ok end) is)))
 
 pub resolves_to_itself : (records : List Record) (id end : ℕ) → Resolves records id (Ok end) → Resolves records end (Ok end)
@@ -93,7 +93,7 @@ resolves_to_itself records id end (inr p) = absurd (none-some end (ap result_ok 
 
 -- ---- every walk has an answer
 
--- so many places: the walk ends at one of them, or they lead on
+-- after n steps: the walk ended at one of the places, or it leads on
 abbrev EndsWithin : {P A : Type 0} → (P → Finding P A → Type 0) → ℕ → P → Type 0
 EndsWithin {P = P} {A = A} Finds n start =
     ((answer : Result A Refusal) × (m : ℕ) × (end : P) × (m < n) × Leads Finds m start end × Finds end (Ends answer)) ⊎ ((end : P) × Leads Finds n start end)
@@ -122,7 +122,7 @@ module _ {P A : Type 0} (Finds : P → Finding P A → Type 0) (has : (place : P
 pub resolving_has_answer : (records : List Record) (id : ℕ) → (answer : Result ℕ Refusal) × Resolves records id answer
 resolving_has_answer records id = walk_has_answer (By (λ at. unmodified_in at (slice_get records at))) (λ at. (unmodified_in at (slice_get records at), refl)) id (λ _. MaximumTypeDepthReached id)
 
--- the type that an id resolves to is known
+-- the type that an id resolves to exists
 known_end : (id end : ℕ) (o : Option Record) → unmodified_in id o ≡ Ends (Ok end) → (r : Record) × (o ≡ Some r)
 known_end id end (Some r) is = (r, refl)
 known_end id end None is = absurd (none-some end (ap result_ok (same_answer (Err (UnknownBtfType id)) (Ok end) is)))

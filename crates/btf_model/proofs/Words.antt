@@ -32,7 +32,7 @@ pub length-half : (order : Endianness) (n : ℕ) → length (half order n) ≡ 2
 length-half Little n = refl
 length-half Big n = refl
 
--- a word that is written is read again
+-- a word that is written is read back
 pub word_of-word : (order : Endianness) (n : ℕ) → n < 2 ^ 32 → word_of order (word order n) ≡ n
 word_of-word Little n lt = from_le_bytes-to_le_bytes_4 n lt
 word_of-word Big n lt = from_be_bytes-to_be_bytes_4 n lt
@@ -68,7 +68,7 @@ pub length-spelled : (order : Endianness) (ws : List ℕ) → length (flat_map (
 length-spelled order [] = refl
 length-spelled order (w ∷ ws) = omega (arith, length-append (word order w) (flat_map (word order) ws), length-word order w, length-spelled order ws)
 
--- words that are written are read again, whatever follows them
+-- words that are written are read back, whatever follows them
 pub words_at-spelled : (order : Endianness) (ws rest : List ℕ) → AllByRecursion (λ w. w < 2 ^ 32) ws → words_at order (length ws) (flat_map (word order) ws ++ rest) ≡ ws
 words_at-spelled order [] rest fits = refl
 words_at-spelled order (w ∷ ws) rest fits =
@@ -89,7 +89,7 @@ pub words_at_fit : (order : Endianness) (n : ℕ) (bytes : List ℕ) → IsBytes
 words_at_fit order zero bytes fits = tt
 words_at_fit order (suc n) bytes fits = (word_of_below order (take 4 bytes) (IsBytes-take 4 bytes fits), words_at_fit order n (drop 4 bytes) (IsBytes-drop 4 bytes fits))
 
--- the first words of those that are written
+-- the first words of the words that are written
 pub words_at-front : (order : Endianness) (m : ℕ) (ws rest : List ℕ) → AllByRecursion (λ w. w < 2 ^ 32) ws → m ≤ length ws → words_at order m (flat_map (word order) ws ++ rest) ≡ take m ws
 words_at-front order zero ws rest fits le = refl
 words_at-front order (suc m) [] rest fits le = absurd (omega arith)

@@ -19,7 +19,7 @@ large = record empty_table {
   fallbacks = None ∷ None ∷ None ∷ [];
 }
 
--- one byte is no other, and no empty text
+-- two texts that `bytes_eq` tells apart are different
 differ : (a b : List ℕ) → bytes_eq a a ≡ true → bytes_eq a b ≡ false → a ≢ b
 differ a b same other is = true≢false (sym same ∙ ap (bytes_eq a) is ∙ other)
 
@@ -36,7 +36,7 @@ value_of_no_name = (1, inl (0, 1, omega arith, refl, refl), (_, (_, None, refl, 
 value_in_void : Value large 0 (65 ∷ []) (Err (UnexpectedBtfType 0))
 value_in_void = inr (0, inl (0, 0, omega arith, refl, refl), inl (_, None, refl, refl, refl))
 
--- the value -1 of a signed ENUM, in 64 bits
+-- the value -1 of a signed ENUM is read as 2 ^ 32 - 1
 value_of_sign : enum_variants (3 ∷ 0xffffffff ∷ []) ≡ record { name = 3; value = 4294967295 } ∷ []
 value_of_sign = refl
 

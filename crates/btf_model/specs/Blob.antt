@@ -1,6 +1,6 @@
--- The grammar of a blob, its one written form, and the first cause of refusal.
--- Source: the kernel's BTF documentation, "BTF Type and String Encoding", `struct btf_header`; the order of refusals is
--- that of aya-obj's `Btf::parse`, with sums in 64 bits.
+-- The grammar of a blob, its one written form, and the first reason to refuse it.
+-- Source: the kernel's BTF documentation, "BTF Type and String Encoding", `struct btf_header`; the order of the tests
+-- is the order in aya-obj's `Btf::parse`, with sums in 64 bits.
 use Rattle.std.specs.Prelude.{◌≡◌, ◌≢◌, ℕ, ◌+◌, ◌<◌, ◌≤◌, ◌^◌, nat_lt, if◌then◌else◌, List, [], ◌∷◌, ◌++◌, length, take, drop, slice_index, Result, Ok, Err}
 use Rattle.std.specs.List.{flat_map, AllByRecursion}
 use Rattle.btf_model.specs.Word.{word, word_of, half, half_of}
@@ -10,11 +10,11 @@ use Rattle.btf_model.specs.Spelling.{IsRecord, IsWhole}
 use Rattle.btf_model.specs.Refusal.{Refusal, InvalidHeader, InvalidTypeInfo, InvalidTypeKind}
 use Rattle.btf_model.specs.Table.{Table, no_fallbacks, type_bytes, section_limit}
 
--- the slice of so many bytes that begins at a place
+-- len bytes from an offset on
 abbrev pub slice : ℕ → ℕ → List ℕ → List ℕ
 slice at len bytes = take len (drop at bytes)
 
--- the word that stands at a place
+-- the word at an offset
 abbrev pub word_at : Endianness → ℕ → List ℕ → ℕ
 word_at order at bytes = word_of order (slice at 4 bytes)
 
@@ -52,7 +52,7 @@ header_bytes order h =
     half order h.magic ++ h.version ∷ h.flags
     ∷ flat_map (word order) (h.hdr_len ∷ h.type_off ∷ h.type_len ∷ h.str_off ∷ h.str_len ∷ [])
 
--- where the string section ends, and where the type section does
+-- where the string section ends in a blob
 abbrev pub strings_end : Header → ℕ
 strings_end h = h.hdr_len + h.str_off + h.str_len
 
@@ -68,14 +68,14 @@ string_section h bytes = slice (h.hdr_len + h.str_off) h.str_len bytes
 abbrev pub type_section : Header → List ℕ → List ℕ
 type_section h bytes = slice (h.hdr_len + h.type_off) h.type_len bytes
 
--- The bytes are cut whole into spellings of these records, one after another.
+-- The bytes are the spellings of these records, one after another, with nothing left over.
 abbrev pub AreRecords : Endianness → List ℕ → List Record → Type 0
 AreRecords order bytes [] = bytes ≡ []
 AreRecords order bytes (r ∷ rs) =
     (front rest : List ℕ) × (bytes ≡ front ++ rest) × IsRecord order front r × AreRecords order rest rs
 
--- The bytes stand for the table: the header names two slices of them, which are the string section and the spellings of
--- the records from id 1 on. Magic, version and flags are the header's. There are no fallbacks.
+-- The bytes represent the table. The header gives two slices of the bytes: the string section, and the spellings of the
+-- records from id 1 on. Magic, version and flags are the header's. There are no fallbacks.
 pub record IsTable (order : Endianness) (bytes : List ℕ) (t : Table) : Type 0 where
   pub header_fits : header_len ≤ length bytes
   pub strings_fit : strings_end (header_of order bytes) ≤ length bytes
@@ -89,23 +89,23 @@ pub record IsTable (order : Endianness) (bytes : List ℕ) (t : Table) : Type 0 
       × AreRecords order (type_section (header_of order bytes) bytes) rs
   pub fallbacks : t.fallbacks ≡ no_fallbacks t.records
 
--- No spelling begins the bytes.
+-- The bytes begin with no spelling of a record.
 abbrev pub BeginsNoRecord : Endianness → List ℕ → Type 0
 BeginsNoRecord order bytes = (front rest : List ℕ) (r : Record) → bytes ≡ front ++ rest → IsRecord order front r → ⊥
 
--- why the bytes begin with no spelling
+-- why the bytes begin with no spelling of a record
 abbrev pub rest_refusal : Endianness → List ℕ → Refusal
 rest_refusal order rest =
     let kind = kind_number (word_at order 4 rest) in
     if nat_lt (length rest) 12 then InvalidTypeInfo
     else (if nat_lt highest_kind kind then InvalidTypeKind kind else InvalidTypeInfo)
 
--- What reading one record returns: the record of which the bytes begin with a spelling, else why they begin with none.
+-- What reading one record returns: the record whose spelling the bytes begin with, or why they begin with none.
 abbrev pub ReadsFront : Endianness → List ℕ → Result Record Refusal → Type 0
 ReadsFront order bytes (Ok r) = (front rest : List ℕ) × (bytes ≡ front ++ rest) × IsRecord order front r
 ReadsFront order bytes (Err refusal) = BeginsNoRecord order bytes × (refusal ≡ rest_refusal order bytes)
 
--- What stays of the bytes when their longest front that can be cut into spellings is taken away.
+-- What is left of the bytes after their longest front that consists of spellings.
 pub record IsRest (order : Endianness) (bytes rest : List ℕ) : Type 0 where
   pub front : List ℕ
   pub whole : bytes ≡ front ++ rest
@@ -113,8 +113,8 @@ pub record IsRest (order : Endianness) (bytes rest : List ℕ) : Type 0 where
   pub longest : (other more : List ℕ) (rs : List Record) → bytes ≡ other ++ more → AreRecords order other rs
       → length other ≤ length front
 
--- The first cause for which bytes are refused: a cut header, strings that don't fit, types that don't fit, and then
--- what stays after the longest front of records.
+-- The first reason to refuse the bytes: a truncated header, a string section that does not fit, a type section that
+-- does not fit, or bytes that are left after the longest front of records.
 pub record IsRefusal (order : Endianness) (bytes : List ℕ) (refusal : Refusal) : Type 0 where
   pub header : length bytes < header_len → refusal ≡ InvalidHeader
   pub strings : header_len ≤ length bytes → length bytes < strings_end (header_of order bytes) → refusal ≡ InvalidHeader
@@ -125,7 +125,7 @@ pub record IsRefusal (order : Endianness) (bytes : List ℕ) (refusal : Refusal)
       → (rest : List ℕ) × IsRest order (type_section (header_of order bytes) bytes) rest × (rest ≢ [])
       × (refusal ≡ rest_refusal order rest)
 
--- What parsing returns: the table that the bytes stand for, else the first cause of refusal.
+-- What parsing returns: the table that the bytes represent, or the first reason to refuse them.
 abbrev pub Parses : Endianness → List ℕ → Result Table Refusal → Type 0
 Parses order bytes (Ok t) = IsTable order bytes t
 Parses order bytes (Err refusal) = IsRefusal order bytes refusal
@@ -148,8 +148,8 @@ canon_header t = record {
 abbrev pub canon : Table → List ℕ
 canon t = header_bytes t.order (canon_header t) ++ type_bytes t ++ t.strings
 
--- A table that can be written: the header's three values fit, so do the lengths of both sections, record 0 is Unknown,
--- the others are whole, and there is a place for the fallback of each.
+-- A table that can be written. The header's three values fit in their fields, the lengths of both sections are within
+-- the limit, record 0 is Unknown, reading retains all of each other record, and there is one fallback entry per record.
 pub record IsValid (t : Table) : Type 0 where
   pub magic : t.magic < 2 ^ 16
   pub version : t.version < 2 ^ 8

@@ -1,5 +1,5 @@
--- Worked examples of the comparison of types: small tables, with their answers and starts. Those that take steps of
--- their own stand in proofs/ChainExamples.antt, and those of fields in proofs/FieldsExamples.antt.
+-- Worked examples of the comparison of types: small tables, with their answers and starts. The examples with longer
+-- proofs are in proofs/ChainExamples.antt, and the examples of fields in proofs/FieldsExamples.antt.
 use Rattle.std.specs.Prelude.{◌≡◌, ◌≢◌, ℕ, List, [], ◌∷◌, Bool, true, false, Result, Ok, Err, Contains, refl}
 use Rattle.std.specs.Result.{is_ok}
 use Rattle.std.proofs.Common.{ap, arith, inl, inr}
@@ -51,7 +51,7 @@ no_record t id ends = inl (0, id, omega arith, refl, ends)
 refused_is_not_true : (refusal : Refusal) → ◌≡◌ {A = Result Bool Refusal} (Err refusal) (Ok true) → ⊥
 refused_is_not_true refusal e = false≢true (ap is_ok e)
 
--- FUNC_PROTO 1 has one parameter, of a type that is not there: the pair is started, and then its parameter is refused.
+-- FUNC_PROTO 1 has one parameter, whose type does not exist: the pair is started, and then its parameter is refused.
 abbrev without_parameter : Table
 without_parameter = table_of (record { name = 0; info = 0x0d000001; third = 0; tail = 0 ∷ 9 ∷ [] } ∷ [])
 

@@ -24,7 +24,7 @@ int64 = record { name = 1; info = 0x01000000; third = 8; tail = 0x40 ∷ [] }
 kind_of_int : kind_of 0x01000000 ≡ Some Int
 kind_of_int = refl
 
--- spare bits of info say nothing of the kind
+-- spare bits of info do not affect the kind
 kind_of_ptr : (kind_of 0x82ff0005 ≡ Some Ptr) × (vlen 0x82ff0005 ≡ 5) × (kind_flag 0x82ff0005 ≡ 1)
 kind_of_ptr = (refl, refl, refl)
 
@@ -62,11 +62,11 @@ plain_member_place = (refl, refl)
 enum64_words : (kind_of 0x13000001 ≡ Some Enum64) × (tail_words Enum64 (vlen 0x13000001) ≡ 3)
 enum64_words = (refl, refl)
 
--- the third word of a FWD is not kept
+-- reading drops the third word of a FWD
 fwd_keeps_no_third_word : kept Fwd (record { name = 5; info = 0x87000000; third = 9; tail = [] }) ≡ record { name = 5; info = 0x87000000; third = 0; tail = [] }
 fwd_keeps_no_third_word = refl
 
--- why a rest begins with no spelling: a kind that is none, and then less than three words
+-- why a rest begins with no spelling: an unknown kind, and then fewer than three words
 unknown_kind : rest_refusal Little (0 ∷ 0 ∷ 0 ∷ 0 ∷ 0 ∷ 0 ∷ 0 ∷ 0x14 ∷ 0 ∷ 0 ∷ 0 ∷ 0 ∷ []) ≡ InvalidTypeKind 20
 unknown_kind = refl
 

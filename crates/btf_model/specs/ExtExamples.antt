@@ -18,7 +18,8 @@ words_of_records = refl
 instruction_2 : in_instructions (16 ∷ 42 ∷ []) ≡ 2 ∷ 42 ∷ []
 instruction_2 = refl
 
--- a rest of seven bytes, one with no records, and one that is cut: 4,294,967,295 records of 8 bytes
+-- a rest of seven bytes, one with no records, and one that is truncated: it should have 4,294,967,295 records of 8
+-- bytes
 cut_head : cut_refusal Little 8 (0 ∷ 0 ∷ 0 ∷ 0 ∷ 1 ∷ 0 ∷ 0 ∷ []) ≡ InvalidInfo 0 8 7
 cut_head = refl
 
@@ -40,7 +41,7 @@ short_header : header_words Little (header_bytes Little (159 ∷ 235 ∷ 1 ∷ 0
     ≡ record { func = record { start = 17; len = 0; least = 8 }; line = record { start = 12; len = 0; least = 16 }; core = record { start = 12; len = 0; least = 16 } }
 short_header = refl
 
--- one of no bytes has length 0
+-- a header whose length is 0: all its words are zeros
 no_header : header_bytes Big (235 ∷ 159 ∷ 1 ∷ 0 ∷ 0 ∷ 0 ∷ 0 ∷ 0 ∷ []) ≡ 0 ∷ 0 ∷ 0 ∷ 0 ∷ 0 ∷ 0 ∷ 0 ∷ 0 ∷ 0 ∷ 0 ∷ 0 ∷ 0 ∷ 0 ∷ 0 ∷ 0 ∷ 0 ∷ 0 ∷ 0 ∷ 0 ∷ 0 ∷ 0 ∷ 0 ∷ 0 ∷ 0 ∷ 0 ∷ 0 ∷ 0 ∷ 0 ∷ 0 ∷ 0 ∷ 0 ∷ 0 ∷ []
 no_header = refl
 

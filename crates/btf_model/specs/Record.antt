@@ -2,7 +2,7 @@
 -- Source: the kernel's BTF documentation, "Type Encoding", `struct btf_type` and what follows it for each kind.
 use Rattle.std.specs.Prelude.{ℕ, ◌+◌, ◌*◌, ◌/◌, ◌%◌, ◌^◌, List, [], ◌∷◌, take, Bool, true, false, Option, Some, None, slice_get, ◌==◌, if◌then◌else◌}
 
--- what a record describes
+-- the kinds of types that a record describes
 pub data Kind : Type 0 where
   Unknown : Kind
   Int : Kind
@@ -31,7 +31,7 @@ kinds =
     Unknown ∷ Int ∷ Ptr ∷ Array ∷ Struct ∷ Union ∷ Enum ∷ Fwd ∷ Typedef ∷ Volatile ∷ Const ∷ Restrict ∷ Func ∷ FuncProto
     ∷ Var ∷ DataSec ∷ Float ∷ DeclTag ∷ TypeTag ∷ Enum64 ∷ []
 
--- the highest kind that is read
+-- the highest kind number that the library reads
 abbrev pub highest_kind : ℕ
 highest_kind = 19
 
@@ -42,7 +42,7 @@ pub record Record : Type 0 where
   pub third : ℕ
   pub tail : List ℕ
 
--- Bits 0 to 15 of info: how many items stand in the tail, in the kinds that have a list.
+-- Bits 0 to 15 of info: the number of items in the tail, for the kinds that have a list.
 abbrev pub vlen : ℕ → ℕ
 vlen info = info % 2 ^ 16
 
@@ -54,11 +54,11 @@ kind_number info = info / 2 ^ 24 % 2 ^ 5
 abbrev pub kind_flag : ℕ → ℕ
 kind_flag info = info / 2 ^ 31
 
--- the kind of an info word, where it is one that is read
+-- the kind in an info word, if the library reads that kind
 abbrev pub kind_of : ℕ → Option Kind
 kind_of info = slice_get (take (highest_kind + 1) kinds) (kind_number info)
 
--- How many words follow the third, by the kind and the number of items.
+-- The number of words after the third, by the kind and the number of items.
 abbrev pub tail_words : Kind → ℕ → ℕ
 tail_words Unknown n = 0
 tail_words Int n = 1
@@ -89,7 +89,7 @@ unknown = record { name = 0; info = 0; third = 0; tail = [] }
 abbrev pub words : Record → List ℕ
 words r = r.name ∷ r.info ∷ r.third ∷ r.tail
 
--- The size in bytes that a record has: its third word, or 8 for a pointer; none for the kinds that have no size.
+-- The size in bytes that a record gives: its third word, or 8 for a pointer; none for kinds without a size.
 abbrev pub record_size : Kind → Record → Option ℕ
 record_size Int r = Some r.third
 record_size Ptr r = Some 8
@@ -101,8 +101,8 @@ record_size Float r = Some r.third
 record_size Enum64 r = Some r.third
 record_size k r = None
 
--- The one type that a record leads to: its third word, in the kinds where that is a type; none in the others, FUNC
--- among them.
+-- The one type that a record refers to: its third word, for the kinds whose third word is a type here; none for the
+-- other kinds. FUNC is one of the others.
 abbrev pub record_target : Kind → Record → Option ℕ
 record_target Ptr r = Some r.third
 record_target Typedef r = Some r.third
@@ -121,16 +121,16 @@ is_composite Struct = true
 is_composite Union = true
 is_composite k = false
 
--- ENUM and ENUM64 are one kind to a comparison, and each other kind is itself.
+-- A comparison treats ENUM and ENUM64 as one kind, and each other kind as itself.
 abbrev pub compared_kind : Kind → Kind
 compared_kind Enum64 = Enum
 compared_kind k = k
 
--- The bit at which a member of a STRUCT or UNION begins, by the record's info and the member's offset word: with the
--- kind flag set its low 24 bits, else the whole word.
+-- The bit at which a member of a STRUCT or UNION begins, by the record's info and the member's offset word: the low 24
+-- bits of the word if the kind flag is set, else the whole word.
 abbrev pub member_bit_offset : ℕ → ℕ → ℕ
 member_bit_offset info offset = if kind_flag info == 1 then offset % 2 ^ 24 else offset
 
--- The number of bits of a bit-field member: with the kind flag set the high 8 bits of its offset word, else 0.
+-- The number of bits of a bit-field member: the high 8 bits of its offset word if the kind flag is set, else 0.
 abbrev pub member_bit_field_size : ℕ → ℕ → ℕ
 member_bit_field_size info offset = if kind_flag info == 1 then offset / 2 ^ 24 else 0

@@ -1,8 +1,8 @@
--- Why a call is refused, allocation failure aside: the errors of the crate, with names as the bytes of their text.
+-- Why a call fails, apart from allocation failure: the errors of the crate. Names are the bytes of their text.
 -- Source: aya-obj's `BtfError`, without the errors of what this project leaves out.
 use Rattle.std.specs.Prelude.{ℕ, List}
 
--- The causes for which a call fails, beside a failed allocation. They have the names of the errors.
+-- The reasons for which a call fails, apart from allocation failure. They have the names of the errors.
 pub data Refusal : Type 0 where
   InvalidHeader : Refusal
   InvalidTypeInfo : Refusal

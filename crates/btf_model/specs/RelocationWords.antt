@@ -1,6 +1,6 @@
 -- The relocation records of a section of a program, by the section's name.
--- Source: the kernel's BTF documentation, ".BTF.ext section", `struct bpf_core_relo`, whose sections name a section of
--- the program each; that sections of one name are joined, and that every name is read, are this project's profile.
+-- Source: the kernel's BTF documentation, ".BTF.ext section", `struct bpf_core_relo`, in which each section names a
+-- section of the program. This project's profile joins sections of the same name, and reads every name.
 use Rattle.std.specs.Prelude.{◌≡◌, ℕ, Bool, false, List, ◌∷◌, ◌++◌, filter, Result, Ok, Err}
 use Rattle.std.specs.List.{flat_map, AllByRecursion}
 use Rattle.std.specs.Str.{bytes_eq}
@@ -24,7 +24,8 @@ is_name name (Err refusal) = false
 abbrev pub words_named : List ℕ → List ℕ → List RelocationSection → List (List ℕ)
 words_named strings name sections = flat_map (λ s. s.1) (filter (λ s. is_name name (text_at strings s.0)) sections)
 
--- The records under a name, where the names of all sections can be read; or the first name that cannot be read.
+-- The records of the sections with this name, if the names of all sections can be read; else why the first unreadable
+-- name cannot be read.
 abbrev pub Words : List ℕ → List RelocationSection → List ℕ → Result (List (List ℕ)) Refusal → Type 0
 Words strings sections name (Ok words) = HaveNames strings sections × (words ≡ words_named strings name sections)
 Words strings sections name (Err refusal) =

@@ -1,5 +1,6 @@
--- A run of the comparison of types: the pairs that are open, each with the position of its walk, and what comes next
--- for one.
+-- A run of the comparison of types: the open pairs, each with the position of its walk, and the next step of one. The
+-- words are those of Compat: `Owes` gives pending parameter pairs, and a parameter "comes next" when it is the one to
+-- compare.
 use Rattle.std.specs.Prelude.{◌≡◌, ◌⊎◌, ℕ, zero, suc, ◌≤◌, Bool, List, length, slice_get, Some, Result, Ok, Err}
 use Rattle.btf_model.specs.Record.{Kind, compared_kind}
 use Rattle.btf_model.specs.Refusal.{Refusal, MaximumTypeDepthReached}
@@ -8,32 +9,31 @@ use Rattle.btf_model.specs.Walk.{walk_limit}
 use Rattle.btf_model.specs.Fields.{Pair}
 use Rattle.btf_model.specs.Compat.{Told, On, Owes, ResolvesPair, Finds, AreKnown}
 
--- An open pair: where its walk is, how many positions are left of it, and the parameter that comes next.
+-- An open pair: the position of its walk, the number of positions left, and the index of the next parameter to compare.
 pub record Frame : Type 0 where
   pub pair : Pair
   pub at : Pair
   pub left : ℕ
   pub parameter : ℕ
 
--- a pair whose walk begins
+-- the frame of a pair whose walk begins
 abbrev pub new_frame : Pair → Frame
 new_frame p = record { pair = p; at = p; left = walk_limit; parameter = zero }
 
--- What comes next for an open pair: its walk ends; it goes on; or a pair has to be compatible first, and then it goes
--- on.
+-- The next step of an open pair: its walk ends, its walk goes on, or it waits until another pair is compared.
 pub data Next : Type 0 where
   Ends : Result Bool Refusal → Next
   GoesOn : Frame → Next
   Waits : Pair → Frame → Next
 
 module _ (local target : Table) where
-  -- the parameters that come next resolve to a, and then next is the position
+  -- the next pair of parameters resolves to a, and `to` is the position after all parameters
   abbrev pub OwesNext : Frame → List Pair → Pair → Result Pair Refusal → Type 0
   OwesNext f owed to a =
       Finds local target f.at (Owes owed to)
       × ((at : Pair) × (slice_get owed f.parameter ≡ Some at) × ResolvesPair local target at a)
 
-  -- What comes next for an open pair.
+  -- This is the next step of an open pair.
   abbrev pub IsNext : Frame → Next → Type 0
   IsNext f (Ends answer) =
       ((f.left ≡ zero) × (answer ≡ Err (MaximumTypeDepthReached f.at.local)))
@@ -48,6 +48,6 @@ module _ (local target : Table) where
       (n : ℕ) × (owed : List Pair) × (to : Pair) × (f.left ≡ suc n) × OwesNext f owed to (Ok p)
       × (g ≡ record f { parameter = suc f.parameter })
 
-  -- the pair is known, and of compatible kinds
+  -- both ids of the pair are known, and their kinds are compatible
   abbrev pub Begins : Pair → Type 0
   Begins p = (k q : Kind) × AreKnown local target p k q × (compared_kind k ≡ compared_kind q)

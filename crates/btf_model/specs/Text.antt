@@ -1,6 +1,6 @@
--- Names: the text at a place of the string section, and the type that has a name.
--- Source: the kernel's BTF documentation, "String Section", texts that end at a zero byte; bytes that are not UTF-8 are
--- read as Rust's `String::from_utf8_lossy` does, which aya-obj calls; the search is aya-obj's
+-- Names: the text at an offset of the string section, and the type that has a given name.
+-- Source: the kernel's BTF documentation, "String Section", whose texts end at a zero byte. Bytes that are not UTF-8
+-- are read as by Rust's `String::from_utf8_lossy`, which aya-obj calls. The search is aya-obj's
 -- `Btf::id_by_type_name_kind`.
 use Rattle.std.specs.Prelude.{◌≡◌, ◌≢◌, ◌⊎◌, ℕ, ◌<◌, ◌==◌, Bool, List, length, take, drop, position, option_map, slice_get, Option, Some, None, Result, Ok, Err}
 use Rattle.std.specs.Str.{encode_utf8_all}
@@ -12,16 +12,15 @@ use Rattle.btf_model.specs.Refusal.{Refusal, InvalidStringOffset, UnknownBtfType
 abbrev pub is_zero : ℕ → Bool
 is_zero byte = byte == 0
 
--- The bytes from an offset up to the first zero byte: none where no zero byte stands at the offset or after it.
+-- The bytes from an offset up to the first zero byte; none if there is no zero byte at the offset or after it.
 abbrev pub bytes_at : List ℕ → ℕ → Option (List ℕ)
 bytes_at strings offset = option_map (λ end. take end (drop offset strings)) (position is_zero (drop offset strings))
 
--- The text that bytes are read as: themselves where they are UTF-8, and U+FFFD in place of each longest piece that is
--- none.
+-- The text that bytes are read as: valid UTF-8 is unchanged, and U+FFFD replaces each maximal invalid piece.
 abbrev pub lossy : List ℕ → List ℕ
 lossy bytes = encode_utf8_all (lossy_chars bytes)
 
--- the text of bytes, where there are bytes
+-- the text of the bytes, or a refusal if there are none
 abbrev pub text_of : ℕ → Option (List ℕ) → Result (List ℕ) Refusal
 text_of offset (Some bytes) = Ok (lossy bytes)
 text_of offset None = Err (InvalidStringOffset offset)
@@ -32,24 +31,23 @@ text_at strings offset = text_of offset (bytes_at strings offset)
 
 -- ---- the type of a name
 
--- A record that the search for a type of this kind and name goes past: one of another kind, or of another name that can
--- be read.
+-- A record that the search for this kind and name skips: it has another kind, or a readable name that is different.
 abbrev pub IsPassed : List ℕ → Kind → List ℕ → Record → Type 0
 IsPassed strings k name r =
     (kind_of r.info ≢ Some k) ⊎ ((other : List ℕ) × (text_at strings r.name ≡ Ok other) × (other ≢ name))
 
--- All ids below this one are gone past.
+-- The search skips all ids below this one.
 abbrev pub ArePassed : List ℕ → List Record → Kind → List ℕ → ℕ → Type 0
 ArePassed strings records k name id =
     (low : ℕ) (r : Record) → low < id → slice_get records low ≡ Some r → IsPassed strings k name r
 
--- The search comes to an id: its record is r, which has this kind, and all lower ids are gone past.
+-- The search reaches an id: its record is r, which has this kind, and all lower ids are skipped.
 abbrev pub IsReached : List ℕ → List Record → Kind → List ℕ → ℕ → Record → Type 0
 IsReached strings records k name id r =
     ArePassed strings records k name id × (slice_get records id ≡ Some r) × (kind_of r.info ≡ Some k)
 
--- The id of the type of a kind and a name: the least. A name of that kind that cannot be read, at a lower id, is why
--- there is none; or no record has the kind and the name.
+-- The result of the search is the least id that has the kind and the name. It fails if the search reaches a record of
+-- that kind whose name cannot be read, or if no record has the kind and the name.
 abbrev pub FindsName : List ℕ → List Record → Kind → List ℕ → Result ℕ Refusal → Type 0
 FindsName strings records k name (Ok id) =
     (r : Record) × IsReached strings records k name id r × (text_at strings r.name ≡ Ok name)

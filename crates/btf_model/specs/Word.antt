@@ -10,7 +10,7 @@ abbrev pub bytes_of : Width → Endianness → ℕ → List ℕ
 bytes_of w Little n = to_le_bytes w n
 bytes_of w Big n = to_be_bytes w n
 
--- the number that the bytes of this width stand for, in an order
+-- the number that these bytes encode, in an order
 abbrev pub number_of : Width → Endianness → List ℕ → ℕ
 number_of w Little bytes = from_le_bytes w bytes
 number_of w Big bytes = from_be_bytes w bytes
@@ -23,7 +23,7 @@ word order n = bytes_of w32 order n
 abbrev pub word_of : Endianness → List ℕ → ℕ
 word_of order bytes = number_of w32 order bytes
 
--- half a word is 16 bits: the magic alone is one
+-- a half-word is 16 bits; only the magic is one
 abbrev pub half : Endianness → ℕ → List ℕ
 half order n = bytes_of w16 order n
 

@@ -3,7 +3,7 @@
 ghost use Rattle.std.specs.Prelude.{◌≡◌};
 ghost use Rattle.btf_model.specs.Word.{half, half_of, word, word_of};
 
-/// The byte order of a blob: that of the machine that its program is for.
+/// The byte order of a blob: the byte order of the machine that its program is for.
 #[derive(Clone, Copy, Debug, Default, PartialEq, Eq)]
 pub enum Endianness {
     /// The lowest byte comes first.

@@ -1,4 +1,4 @@
--- What was asked of a kernel was answered as it is.
+-- The answers of a kernel are whether it has the features.
 use Rattle.std.proofs.Common.{◌≡◌, ℕ, List, [], ◌∷◌, Bool, true, false, ◌||◌, refl, sym, ap, ◌∙◌, eq-eqb, eqb-true}
 use Rattle.std.specs.Prelude.{if◌then◌else◌, ◌==◌}
 use Rattle.std.specs.List.{list_any, AllByRecursion}
@@ -50,7 +50,7 @@ kernel_grants has features.Enum64 = refl
 abbrev pub AreOfKernel : (BtfFeature → Bool) → List FeatureAnswer → Type 0
 AreOfKernel has answers = AllByRecursion (λ (a : FeatureAnswer). a.granted ≡ has a.feature) answers
 
--- a predicate that answers so, whatever it is called for
+-- a predicate that gives these answers for every feature
 pub all_of_kernel : {F : Type 0} (step : F → BtfFeature → Bool → F → Type 0) (has : BtfFeature → Bool) (Is : F → Type 0)
     → ((f g : F) (feature : BtfFeature) (granted : Bool) → Is f → step f feature granted g → (granted ≡ has feature) × Is g)
     → (before : F) (answers : List FeatureAnswer) (after : F) → Is before → Called step before answers after → AreOfKernel has answers
@@ -58,7 +58,7 @@ all_of_kernel step has Is each before [] after is called = tt
 all_of_kernel step has Is each before (a ∷ answers) after is called =
     let one = each before called.0 a.feature a.granted is called.1 in (one.0, all_of_kernel step has Is each called.0 answers after one.1 called.2)
 
--- such answers agree with those of the kernel to all features
+-- such answers agree with the kernel's answers to all features
 pub kernel_agrees : (has : BtfFeature → Bool) (answers : List FeatureAnswer) → AreOfKernel has answers → AgreeWith answers (answers_of has)
 kernel_agrees has [] are f among = absurd (false≢true among)
 kernel_agrees has (a ∷ answers) are f among =

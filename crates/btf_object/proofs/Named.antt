@@ -37,7 +37,7 @@ last_more p number xs x =
     ]
 
 module _ {T : Type 0} (name_of : T → List ℕ) (number : T → ℕ) where
-  -- one more that has a name for which a rewrite may ask
+  -- one more item, and a rewrite may ask for its name
   pub named_push : (xs : List T) (x : T) (name : List ℕ) → is_askable (name_of x) ≡ true → last_named name_of number (xs ++ x ∷ []) name ≡ (if bytes_eq (name_of x) name then Some (number x) else last_named name_of number xs name)
   named_push xs x name askable =
       let rest : Option ℕ = last_or None (map number (filter (λ t. bytes_eq (name_of t) name) xs)) in
@@ -47,7 +47,7 @@ module _ {T : Type 0} (name_of : T → List ℕ) (number : T → ℕ) where
         | false ↦ λ other. refl
       ] refl
 
-  -- one more that has another name
+  -- one more item with another name
   pub named_pass : (xs : List T) (x : T) (name : List ℕ) → is_askable (name_of x) ≡ false → last_named name_of number (xs ++ x ∷ []) name ≡ last_named name_of number xs name
   named_pass xs x name left =
       let rest : Option ℕ = last_or None (map number (filter (λ t. bytes_eq (name_of t) name) xs)) in
@@ -64,7 +64,7 @@ module _ {T : Type 0} (name_of : T → List ℕ) (number : T → ℕ) where
 pub take_next : {T : Type 0} (xs : List T) (i : ℕ) (d : T) → i < length xs → take (i + 1) xs ≡ take i xs ++ get_or xs i d ∷ []
 take_next xs i d lt = let next : i + 1 ≡ suc i = omega arith in ap (λ (n : ℕ). take n xs) next ∙ take-suc xs i d lt
 
--- ---- what a map has where a name is put into it
+-- ---- what a map has after a name is inserted
 
 pub section_kept : (b : Bool) (section : SectionIndex × ℕ) (old : Option (SectionIndex × ℕ)) (rest : Option ℕ) → option_map (λ (s : SectionIndex × ℕ). s.1) old ≡ rest
     → option_map (λ (s : SectionIndex × ℕ). s.1) (cond b (Some section) old) ≡ (if b then Some section.1 else rest)
@@ -75,7 +75,7 @@ pub symbol_kept : (b : Bool) (offset : ℕ) (old rest : Option ℕ) → old ≡ 
 symbol_kept true offset old rest is = refl
 symbol_kept false offset old rest is = is
 
--- the maps are a layout if they say the same of each name
+-- the maps represent a layout if they have the same value for each name
 pub layouts_alike : (layout other : Layout) → ((name : List ℕ) → layout.sections name ≡ other.sections name) → ((name : List ℕ) → layout.symbols name ≡ other.symbols name) → layout ≡ other
 layouts_alike layout other sizes offsets =
     ap (λ (f : List ℕ → Option ℕ). record { sections = f; symbols = layout.symbols }) (fun_ext sizes)
@@ -113,7 +113,7 @@ section_pass o i name lt out =
 no_symbol : Symbol
 no_symbol = record { name = 0; binding = 0; kind = 0; other = 0; section = 0; value = 0; size = 0 }
 
--- those that are read, with one more
+-- the symbols that are read, with one more
 read_next : (all : List Symbol) (i : ℕ) (s : Symbol) → slice_get all i ≡ Some s → filter is_read (take (i + 1) all) ≡ filter is_read (take i all) ++ cond (is_read s) (s ∷ []) []
 read_next all i s here =
     let lt : i < length all = slice_get_within all i s here in

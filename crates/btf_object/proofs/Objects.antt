@@ -1,4 +1,4 @@
--- An object that is rewritten, and why one is not.
+-- An object that is rewritten, or why it is not.
 use Rattle.std.proofs.Common.{◌≡◌, ◌⊎◌, ℕ, List, Some, Result, Err, refl, sym, ap, subst, ◌∙◌, inl, inr}
 use Rattle.std.specs.Prelude.{IfErr, IfSome, IsErrAnd}
 use Rattle.std.proofs.lemmas.Option.{same_Some}
@@ -20,7 +20,7 @@ use Rattle.btf_object.specs.Errors.{of_table, of_section, IsCause}
 use Rattle.btf_object.specs.Names.{IsTableSection}
 use Rattle.btf_object.specs.declared.error.SanitizeError.{SanitizeError}
 
--- what is known of an error that becomes another
+-- what is known about an error that is converted to another
 pub becomes : {T : Type 0} (P : SanitizeError → Type 0) (e : SanitizeError) (r : Result T SanitizeError) → P e → IsErrAnd r (λ y. y ≡ e) → IfErr r P
 becomes {T} P e r known err =
     let q = err_from_is_err_and r err in

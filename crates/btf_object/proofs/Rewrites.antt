@@ -1,4 +1,4 @@
--- The rewrite of a section's table, under the answers to what was asked, is the one for the kernel.
+-- The rewrite of a section's table under the answers to what was asked is the rewrite for the kernel.
 use Rattle.std.proofs.Common.{◌≡◌, ℕ, List, Option, None, Some, Result, Ok, Err, sym, ap, subst, ◌∙◌, inr}
 use Rattle.std.specs.Prelude.{IfErr, IfSome, IsErrAnd}
 use Rattle.std.proofs.lemmas.Result.{err_from_is_err_and}
@@ -41,7 +41,7 @@ module _ (o : Object) (bytes : List ℕ) (target : Target) (old : Table) (ids : 
       let known : Refuses target.policy old ids (model.layout_of o) answers refusal = subst (λ (l : Layout). Refuses target.policy old ids l answers refusal) same is in
       inr (inr (old, ids, table, ksyms, refused_alike target.policy old ids (model.layout_of o) answers (answers_of target.has) refusal known (kernel_agrees target.has answers are)))
 
--- what is known of an error that is passed on
+-- what is known about an error that is passed on
 pub passed_on : {T : Type 0} (P Q : Refusal → Type 0) (e : BtfError) (r : Result T BtfError) → ((refusal : Refusal) → P refusal → Q refusal) → IfSome (refusal_of e) P → IsErrAnd r (λ y. y ≡ e) → IfErr r (λ y. IfSome (refusal_of y) Q)
 passed_on {T} P Q e r so known err =
     let q = err_from_is_err_and r err in

@@ -1,4 +1,4 @@
--- Names in string tables, of which no more is read than a name may have.
+-- Names in string tables, of which at most as many bytes are read as a name may have.
 use Rattle.std.proofs.Common.{◌≡◌, ℕ, ◌<◌, ◌≤◌, ⊎_elim, Bool, true, false, ◌&&◌, List, [], length, take, get_or, Option, None, Some, refl, sym, ap, ◌∙◌, arith}
 use Rattle.std.specs.Prelude.{nat_lt, min, position, slice_get, unwrap_or, if◌then◌else◌, ◌==◌, not, ◌||◌, ◌%◌, is_none}
 use Rattle.std.specs.List.{before_first, position_or_len}
@@ -48,14 +48,14 @@ zero_in_front rest len at =
     position_or_len_is is_zero rest len 0 (omega (arith, found.0, all)) (λ k lt. ap is_zero (sym (same k (omega (arith, lt, found.0, most)))) ∙ found.2 k lt) (λ _. ap is_zero (sym (same len (omega (arith, found.0, most)))) ∙ found.1) in
     (omega (arith, found.0, all), omega (arith, found.0, most), ap (λ (n : ℕ). take n rest) len_is)
 
--- where there is none in the front, which is all, the name is all
+-- if there is no zero byte in the front, and the front is all bytes, the name is all bytes
 pub all_of_it : (rest : List ℕ) → position is_zero (take 512 rest) ≡ None → length rest < 512 → before_first is_zero rest ≡ rest
 all_of_it rest none short =
     let whole : take 512 rest ≡ rest = take_all 512 rest (omega (arith, short)) in
     let len_is : position_or_len is_zero rest ≡ length rest = none_or_len is_zero rest (ap (position is_zero) (sym whole) ∙ none) in
     take_all (position_or_len is_zero rest) rest (omega (arith, len_is))
 
--- where there is none in the front, and more after it, the name is long
+-- if there is no zero byte in the front, and there are bytes after it, the name is too long
 pub long_name : (rest : List ℕ) → position is_zero (take 512 rest) ≡ None → 512 ≤ length rest → 512 ≤ length (before_first is_zero rest)
 long_name rest none long =
     let first : ℕ = position_or_len is_zero rest in

@@ -18,7 +18,7 @@ use Rattle.btf_object_model.specs.Kernel.{IsVersion, ends_version}
 use Rattle.btf_object_model.specs.declared.version.Version.{Version}
 use Rattle.btf_object.specs.Kernel.{is_other}
 
--- a digit is no other byte
+-- a digit is not one of the other bytes
 digit_passes : (byte : ℕ) → IsInRange 48 57 byte → is_other byte ≡ false
 digit_passes byte is = ap (λ (b : Bool). not (b && nat_le byte 57)) (le-leb 48 byte is.0) ∙ ap not (le-leb byte 57 is.1)
 
@@ -26,19 +26,19 @@ not_false : (b : Bool) → not b ≡ false → b ≡ true
 not_false true is = refl
 not_false false is = absurd (false≢true (sym is))
 
--- a byte that passes for none is a digit, and so ASCII
+-- a byte that does not pass the test for other bytes is a digit, and so ASCII
 digit_is_ascii : (byte : ℕ) → is_other byte ≡ false → byte < 128
 digit_is_ascii byte is =
     let both = and_parts (nat_le 48 byte) (nat_le byte 57) (not_false (is_ascii_digit byte) is) in
     let le : byte ≤ 57 = leb-true byte 57 both.1 in omega (arith, le)
 
--- the place of the first that passes
+-- the place of the first byte that passes the test
 pub first_or_len : {X : Type 0} (p : X → Bool) (xs : List X) (n : ℕ) → position p xs ≡ Some n → position_or_len p xs ≡ n
 first_or_len p xs n is =
     elim (nat_lt (position_or_len p xs) (length xs)) as (λ (b : Bool). cond b (Some (position_or_len p xs)) None ≡ Some n → position_or_len p xs ≡ n)
     [ true ↦ λ some. same_Some (position_or_len p xs) n some | false ↦ λ none. absurd (none-some n none) ] is
 
--- the length, where none passes
+-- the length, if no byte passes the test
 pub none_or_len : {X : Type 0} (p : X → Bool) (xs : List X) → position p xs ≡ None → position_or_len p xs ≡ length xs
 none_or_len p xs is =
     elim (nat_lt (position_or_len p xs) (length xs)) as (λ (b : Bool). nat_lt (position_or_len p xs) (length xs) ≡ b → cond b (Some (position_or_len p xs)) None ≡ None → position_or_len p xs ≡ length xs) [
@@ -76,7 +76,7 @@ end_is_other (byte ∷ rest) ends some =
     ] refl ends
 
 module _ (text : List ℕ) (v : Version) (is : IsVersion text v) where
-  -- what comes after the dot
+  -- the text after the dot
   abbrev pub tail : List ℕ
   tail = is.1 ++ is.2
 
@@ -101,7 +101,7 @@ module _ (text : List ℕ) (v : Version) (is : IsVersion text v) where
       let none : length is.1 ≡ length is.1 + 0 = omega arith in
       ap is_other (ap (λ (n : ℕ). get_or tail n 0) none ∙ get_or-append-add is.1 is.2 0 0) ∙ end_is_other is.2 is.6 some)
 
-  -- so a tail is cut into the second number and what follows
+  -- so the text after the dot consists of the second number and what follows it
   pub minor_is : (rest : List ℕ) → rest ≡ tail → take (position_or_len is_other rest) rest ≡ is.1
   minor_is rest same = ap (λ (t : List ℕ). take (position_or_len is_other t) t) same ∙ ap (λ (n : ℕ). take n tail) minor_len ∙ take-append_seam is.1 is.2
 

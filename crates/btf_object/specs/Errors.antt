@@ -35,14 +35,14 @@ abbrev pub of_section : ReplaceError → SanitizeError
 of_section replace.OutOfMemory = OutOfMemory
 of_section e = Section e
 
--- ---- causes
+-- ---- reasons
 
--- what an object is rewritten for, by the arguments of a call
+-- the target of a rewrite, by the arguments of a call
 abbrev pub target_of : Kernel → FillPolicy → Option (List ℕ) → Target
 target_of kernel policy placeholder = record { has = has kernel; policy = policy; placeholder = placeholder }
 
--- The bytes are no object; the object has no section `.BTF`; its table is none, or the rewrite is refused; or the
--- section cannot be replaced. An allocation may fail in each step.
+-- The bytes represent no object; or the object has no section `.BTF`; or this section represents no table, or the
+-- rewrite is refused; or the section cannot be replaced. An allocation may fail in each step.
 abbrev pub IsCause : List ℕ → Target → SanitizeError → Type 0
 IsCause bytes target (Object e) = (p : ParseError) × (e ≡ object.Parse p) × elf.IsRefused bytes p
 IsCause bytes target NoTable = (o : elf.Object) × elf.IsObject bytes o × (index_of o table_name ≡ None)

@@ -1,4 +1,4 @@
--- The features of a kernel, as the code has them.
+-- The features of a kernel, as the code stores them.
 use Rattle.std.specs.Prelude.{ℕ, ◌/◌, ◌%◌, ◌^◌, ◌==◌, Bool, not}
 use Rattle.std.specs.Char.{is_ascii_digit}
 use Rattle.btf_rewrite_model.specs.Feature.{number}

@@ -1,4 +1,4 @@
--- What is read of a section and of a symbol, and the section of the table.
+-- What is read from a section and from a symbol, and the section of the table.
 use Rattle.std.specs.Prelude.{◌≡◌, ◌⊎◌, ℕ, ◌==◌, List, [], true, false, if◌then◌else◌, slice_get, Option, Some, None}
 use Rattle.std.specs.Option.{option_map_or}
 use Rattle.btf_elf_model.specs.Object.{Object, section_name, section_bytes, symbols, symbol_name}
@@ -7,7 +7,7 @@ use Rattle.btf_elf_model.specs.declared.symbol.Symbol.{Symbol}
 use Rattle.btf_object_model.specs.Layout.{is_askable, is_read}
 use Rattle.btf_object_model.specs.Sanitized.{index_of, table_name}
 
--- The section of an index has this name, for which a rewrite may ask, and this size.
+-- The section of an index has this name, and a rewrite may ask for the name; and it has this size.
 pub record IsReadSection (o : Object) (index : ℕ) (name : List ℕ) (size : ℕ) : Type 0 where
   pub section : SectionHeader
   pub here : slice_get o.sections index ≡ Some section
@@ -15,12 +15,12 @@ pub record IsReadSection (o : Object) (index : ℕ) (name : List ℕ) (size : �
   pub askable : is_askable name ≡ true
   pub size_is : size ≡ section.size
 
--- The section of an index, if there is one, has a name for which no rewrite asks.
+-- No rewrite asks for the name of the section of this index, if there is such a section.
 abbrev pub IsSectionLeftOut : Object → ℕ → Type 0
 IsSectionLeftOut o index =
     (s : SectionHeader) → slice_get o.sections index ≡ Some s → is_askable (section_name o s) ≡ false
 
--- The symbol of an index is read: it has this name, for which a rewrite may ask, and this value.
+-- The symbol of an index is read. It has this name, and a rewrite may ask for the name; and it has this value.
 pub record IsReadSymbol (o : Object) (index : ℕ) (name : List ℕ) (value : ℕ) : Type 0 where
   pub symbol : Symbol
   pub here : slice_get (symbols o) index ≡ Some symbol
@@ -29,7 +29,7 @@ pub record IsReadSymbol (o : Object) (index : ℕ) (name : List ℕ) (value : �
   pub askable : is_askable name ≡ true
   pub value_is : value ≡ symbol.value
 
--- The symbol of an index, if there is one, is not read, or no rewrite asks for its name.
+-- The symbol of this index, if there is one, is not read, or no rewrite asks for its name.
 abbrev pub IsSymbolLeftOut : Object → ℕ → Type 0
 IsSymbolLeftOut o index =
     (s : Symbol) → slice_get (symbols o) index ≡ Some s
@@ -42,7 +42,7 @@ pub record IsTableSection (o : Object) (index : ℕ) (bytes : List ℕ) : Type 0
   pub here : slice_get o.sections index ≡ Some section
   pub bytes_are : bytes ≡ section_bytes o section
 
--- the bytes of the section of an index, without a look at its type; none for index 0
+-- the bytes of the section of an index, whatever its type is; empty for index 0
 abbrev pub strings_at : Object → ℕ → List ℕ
 strings_at o index = if index == 0 then [] else option_map_or (section_bytes o) (slice_get o.sections index) []
 

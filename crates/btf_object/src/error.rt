@@ -9,11 +9,11 @@ use btf_words::BtfError;
 use std::alloc::AllocError;
 use thiserror::Error;
 
-/// Why an object is not rewritten. The variants are in the order in which they are looked for, `OutOfMemory` aside,
-/// which any step returns where an allocation fails.
+/// Why an object is not rewritten. The variants are in the order of the tests, except for `OutOfMemory`, which any step
+/// returns if an allocation fails.
 #[derive(Debug, Drop, Error)]
 pub enum SanitizeError {
-    /// The bytes are no object file that `btf_elf` reads. Never `ObjectError::OutOfMemory`.
+    /// The bytes represent no object file that `btf_elf` reads. Never `ObjectError::OutOfMemory`.
     #[error(transparent)]
     Object(ObjectError),
 
@@ -21,7 +21,8 @@ pub enum SanitizeError {
     #[error("the object has no section .BTF")]
     NoTable,
 
-    /// The section `.BTF` holds no table, or the rewrite of the table is refused. Never `BtfError::OutOfMemory`.
+    /// The bytes of the section `.BTF` represent no table, or the rewrite of the table is refused. Never
+    /// `BtfError::OutOfMemory`.
     #[error(transparent)]
     Table(BtfError),
 

@@ -65,8 +65,8 @@ impl Kernel {
         kernel
     }
 
-    /// The kernel whose features have their bits set, each at its number: Func at bit 0, and so on. Other bits are not
-    /// looked at.
+    /// The kernel whose features have their bits set. The bit of a feature is its number: Func is bit 0, and so on.
+    /// Other bits are ignored.
     pub fn of_bits(bits: u32) -> Kernel
         ensures { (f : BtfFeature) → has result f ≡ has_bit bits f }
     {
@@ -98,12 +98,12 @@ impl Kernel {
         }
     }
 
-    /// The kernel of a version: the first two numbers of `5.4`, or of what `uname -r` prints, as `5.15.0-91-generic`
-    /// or `6.1.0-rc3+`. What follows them is empty, or begins with `.`, `-` or `+`, and is not read. None where the
-    /// text is no version.
+    /// The kernel of a version: the first two numbers of `5.4`, or of what `uname -r` prints, such as
+    /// `5.15.0-91-generic` or `6.1.0-rc3+`. The text after the numbers is empty or begins with `.`, `-` or `+`, and the
+    /// rest of it is not read. None if the text is no version.
     ///
-    /// It has the features that Linux of that version has. A distribution's kernel may have more than its version
-    /// says, since features are backported.
+    /// It has the features that Linux of that version has. A distribution's kernel may have more features than Linux of
+    /// its version, because features are backported.
     pub fn of_version(text: &str) -> Option<Kernel>
         ensures some { IfSome result (λ kernel. (v : Version) × IsVersion text.now v
             × ((f : BtfFeature) → has kernel f ≡ has_by_version v f)) }

@@ -13,7 +13,7 @@ use btf_words::{BtfError, BtfKind};
 /// The name of the DATASEC of the kernel's symbols.
 const KSYMS: &str = ".ksyms";
 
-/// The id of the first DATASEC of that name, if there is one.
+/// The id of the first DATASEC with this name, if there is one.
 fn find_datasec(btf: &Btf) -> Result<Option<u32>, BtfError>
     ensures { MeetsOrNoMemory (λ id. id) result (FindsDataSecOrNone btf.now) }
 {
@@ -35,12 +35,12 @@ fn find_placeholder(btf: &Btf, placeholder: Option<&str>) -> Result<Option<u32>,
     }
 }
 
-/// The ids that a rewrite's step of `.ksyms` takes: of the first DATASEC of that name, and of the first VAR that has
-/// the name of the placeholder, where one is given. None where the table has no such DATASEC: no placeholder is looked
-/// for then.
+/// The ids for a rewrite's step of `.ksyms`: the id of the first DATASEC named `.ksyms`, and the id of the first VAR
+/// with the placeholder's name, if a name is given. None if the table has no such DATASEC; the placeholder is not
+/// searched for then.
 ///
-/// `InvalidStringOffset` where a DATASEC or VAR that the search comes to has a name that can't be read, and
-/// `UnknownBtfTypeName` where no VAR has the placeholder's name.
+/// Fails with `InvalidStringOffset` if the search comes to a DATASEC or VAR whose name can't be read, and with
+/// `UnknownBtfTypeName` if no VAR has the placeholder's name.
 pub fn ksyms_of(btf: &Btf, placeholder: Option<&str>) -> Result<Option<KsymsIds>, BtfError>
     ensures { MeetsOrNoMemory (λ ids. ids) result
         (FindsKsyms btf.now (option_map (λ name. name.now) placeholder.entry)) }

@@ -1,4 +1,4 @@
-//! What the rewrite of a table needs to know of an object.
+//! The data that the rewrite of a table needs from an object.
 
 ghost use Rattle.std.specs.Prelude.{◌≡◌, List, [], ℕ, unwrap_or, IfOk, IfSome, IfNone};
 ghost use Rattle.btf_elf_model.specs.Object as elf;
@@ -13,16 +13,17 @@ use std::alloc::{AllocError, Global};
 use std::collections::HashMap;
 use std::hash::{BuildHasher, BuildHasherDefault, FoldHasher};
 
-/// What the rewrite of a table needs of an object: the sizes of its sections, and the offsets of its symbols.
+/// The data that the rewrite of a table needs from an object: the sizes of its sections, and the offsets of its
+/// symbols.
 ///
-/// A name that is not UTF-8, or has 512 bytes or more, is left out, since no table that a kernel takes has it. The
-/// symbols are those that aya takes: all that are not local, and local ones of type `STT_OBJECT`; undefined ones are
-/// among them, with the value 0. libbpf takes those of type `STT_OBJECT` alone that are global or weak. It also gives
-/// `.kconfig` a size, which no section of an object has: the rewrite of a table with such a DATASEC is refused for
-/// `UnknownSectionSize` here.
+/// A name that is not UTF-8, or has 512 bytes or more, is left out, because no table that a kernel accepts has it. The
+/// symbols are the ones that aya uses: all that are not local, and local ones of type `STT_OBJECT`. Undefined symbols
+/// are included, with the value 0. libbpf uses only symbols of type `STT_OBJECT` that are global or weak. It also gives
+/// `.kconfig` a size, although no section of an object has this name. Here the rewrite of a table with such a DATASEC
+/// fails with `UnknownSectionSize`.
 ///
 /// Names are hashed by an `H`. The default has a fixed seed, so an attacker can choose names that collide, and n of them
-/// take time in proportion to n squared: for an untrusted object, pass a hasher with random keys, as `RandomState`.
+/// take time in proportion to n squared. For an untrusted object, pass a hasher with random keys, as `RandomState`.
 #[derive(Drop)]
 pub struct ObjectLayout<H: BuildHasher = BuildHasherDefault<FoldHasher>> {
     /// The index and `sh_size` of the last section of each name.
@@ -48,7 +49,7 @@ impl<H: BuildHasher> ObjectLayout<H> {
     }
 }
 
-/// `STB_LOCAL`: the binding of a symbol that no other object sees.
+/// `STB_LOCAL`: the binding of a symbol that is not visible in other objects.
 const STB_LOCAL: u8 = 0;
 
 /// `STT_OBJECT`: the type of a symbol of a variable.
@@ -61,7 +62,7 @@ fn is_read(symbol: &Symbol) -> bool
     symbol.binding != STB_LOCAL || symbol.kind == STT_OBJECT
 }
 
-/// The name and the value of the symbol of an index, where they are read. `names` is the string table of the symbols.
+/// The name and the value of the symbol of an index, if they are read. `names` is the string table of the symbols.
 fn read_symbol<'a>(object: &Object<'a>, names: &'a [u8], index: usize) -> Option<(&'a str, u64)>
     requires { names.now ≡ elf.symbol_names object.now }
     ensures some { IfSome result (λ named. IsReadSymbol object.now index named.0.now named.1) }
@@ -75,8 +76,8 @@ fn read_symbol<'a>(object: &Object<'a>, names: &'a [u8], index: usize) -> Option
     Some((name, symbol.value))
 }
 
-/// The name and the size of the section of an index, where a rewrite may ask for the name. `names` is the string table
-/// of the sections.
+/// The name and the size of the section of an index, if a rewrite may ask for the name. `names` is the string table of
+/// the sections.
 fn read_section<'a>(object: &Object<'a>, names: &'a [u8], index: usize) -> Option<(&'a str, u64)>
     requires { names.now ≡ unwrap_or (elf.name_table object.now) [] }
     ensures some { IfSome result (λ named. IsReadSection object.now index named.0.now named.1) }

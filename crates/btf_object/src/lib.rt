@@ -1,7 +1,7 @@
 //! The loader's step over an object file: the object with its BTF table rewritten for an old kernel.
 //!
 //! `sanitize_object` reads what a rewrite needs from the object, rewrites its table, and puts it back. The definitions
-//! are those of `btf_object_model`.
+//! are in `btf_object_model`.
 #![tactic(auto)]
 
 mod error;

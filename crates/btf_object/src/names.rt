@@ -1,4 +1,4 @@
-//! Names in the string tables of an object, of which no more is read than a name may have.
+//! Names in the string tables of an object. At most as many bytes are read as a name may have.
 
 ghost use Rattle.std.specs.Prelude.{◌≡◌, ◌<◌, ◌≤◌, length, position, take, drop, unwrap_or, [], true, false, IfSome, IfNone};
 ghost use Rattle.btf_elf_model.specs.Object as elf;
@@ -11,7 +11,7 @@ ghost use Rattle.std.specs.Option.{option_copied};
 use btf_elf::{Object, SectionHeader};
 use std::str;
 
-/// A name is shorter than this in bytes, or no kernel takes it (`KSYM_NAME_LEN`).
+/// No kernel accepts a name with this number of bytes or more (`KSYM_NAME_LEN`).
 const NAME_LIMIT: usize = 512;
 
 /// `SHN_XINDEX`: the header of section 0 has the index.
@@ -49,7 +49,7 @@ fn names_index(object: &Object<'_>) -> u32
 pub fn section_names<'a>(object: &Object<'a>) -> &'a [u8]
     ensures { result.now ≡ unwrap_or (elf.name_table object.now) [] }
 {
-    // The contract speaks of an object, which the file is.
+    // The contract is about an object, which the file represents.
     let _ = object.bytes();
     strings_at(object, names_index(object))
 }
@@ -75,26 +75,26 @@ fn table_link(object: &Object<'_>) -> u32
 pub fn symbol_names<'a>(object: &Object<'a>) -> &'a [u8]
     ensures { result.now ≡ elf.symbol_names object.now }
 {
-    // The contract speaks of an object, which the file is.
+    // The contract is about an object, which the file represents.
     let _ = object.bytes();
     strings_at(object, table_link(object))
 }
 
-/// Where the first zero byte is.
+/// The index of the first zero byte.
 fn first_zero(bytes: &[u8]) -> Option<usize>
     ensures { result ≡ position is_zero bytes.now }
 {
     bytes.iter().position(|&byte| byte == 0)
 }
 
-/// The bytes from an offset on; none where that is past the end.
+/// The bytes from an offset on; empty if the offset is after the end.
 fn tail(bytes: &[u8], offset: u32) -> &[u8]
     ensures { result.now ≡ drop offset bytes.now }
 {
     bytes.get(offset as usize..).unwrap_or(&[])
 }
 
-/// The first bytes, as many as a name may have.
+/// At most as many bytes from the front as a name may have.
 fn front(bytes: &[u8]) -> &[u8]
     ensures { result.now ≡ take 512 bytes.now }
 {
@@ -102,7 +102,7 @@ fn front(bytes: &[u8]) -> &[u8]
     &bytes[..len]
 }
 
-/// The name at an offset, unless it has as many bytes as no name may have.
+/// The name at an offset, unless it is too long.
 fn short_name(strings: &[u8], offset: u32) -> Option<&[u8]>
     ensures some { IfSome result (λ name. (name.now ≡ name_at strings.now offset)
         × (length name.now < 512)) }
@@ -116,7 +116,7 @@ fn short_name(strings: &[u8], offset: u32) -> Option<&[u8]>
     }
 }
 
-/// The text of the name at an offset, where a rewrite may ask for it.
+/// The text of the name at an offset, if a rewrite may ask for it.
 #[tactic(auto, using(crate::proofs::Short::askable_is, crate::proofs::Short::not_utf8, crate::proofs::Short::too_long))]
 pub fn askable(strings: &[u8], offset: u32) -> Option<&str>
     ensures some { IfSome result (λ text. (text.now ≡ name_at strings.now offset)

@@ -28,8 +28,8 @@ fn table_section<'a>(object: &Object<'a>) -> Option<(usize, &'a [u8])>
     Some((index, object.section_bytes(section)))
 }
 
-/// The object with its table rewritten for a kernel, and which features the rewrite asked for. It is
-/// `sanitize_object_with` without a placeholder, with the same errors, and with the default hasher.
+/// The object with its table rewritten for a kernel, and the features that the rewrite asked for. This is
+/// `sanitize_object_with` without a placeholder and with the default hasher, with the same errors.
 pub fn sanitize_object(
     alloc: Global,
     bytes: &[u8],
@@ -47,16 +47,17 @@ pub fn sanitize_object(
     sanitize_object_with(alloc, bytes, kernel, policy, None, hash_builder)
 }
 
-/// The object with its table rewritten for a kernel: the section `.BTF`, the first of that name, has the bytes of the
-/// rewritten table, and no other section changes. With it, the features that the rewrite asked for, and whether the
-/// kernel has them. The words of the table have the object's byte order. `placeholder` is the name of the variable that
-/// takes the place of functions in `.ksyms`; it is looked for only where the table has a DATASEC of that name.
+/// The object with its table rewritten for a kernel, and the features that the rewrite asked for, each with whether the
+/// kernel has it. The first section named `.BTF` has the bytes of the rewritten table, and no other section changes.
+/// The words of the table have the object's byte order. `placeholder` is the name of the variable that replaces
+/// functions in `.ksyms`; it is searched for only if the table has a DATASEC named `.ksyms`.
 ///
-/// `hash_builder` hashes the names of the object's sections and symbols. The default has a fixed seed: for an untrusted
-/// object, pass one with random keys, as `RandomState`, since n names that collide take time in proportion to n squared.
+/// `hash_builder` hashes the names of the object's sections and symbols. The default has a fixed seed, so an attacker
+/// can choose names that collide, and n of them take time in proportion to n squared. For an untrusted object, pass a
+/// hasher with random keys, as `RandomState`.
 ///
-/// The first cause is reported: `Object`, `NoTable`, `Table` with the errors of `Btf::parse`, of `ksyms_of` and of
-/// `Btf::fixup_and_sanitize_with`, and `Section`. Or `OutOfMemory`.
+/// Reports the first error, in this order: `Object`, `NoTable`, `Table` with the errors of `Btf::parse`, of `ksyms_of`
+/// and of `Btf::fixup_and_sanitize_with`, and `Section`. An allocation failure is reported as `OutOfMemory`.
 pub fn sanitize_object_with<H: BuildHasher + Clone + Drop>(
     alloc: Global,
     bytes: &[u8],
@@ -69,11 +70,11 @@ pub fn sanitize_object_with<H: BuildHasher + Clone + Drop>(
     ensures sanitized { IfOk result (λ r. IsSanitized bytes.now
         (target_of kernel.now policy (option_map (λ name. name.now) placeholder.entry))
         r.0.items r.1.items) }
-    // Its section `.BTF.ext` says under the new table what it said under the old.
+    // With the new table its section `.BTF.ext` has the same contents as with the old table.
     ensures ext { IfOk result (λ r. (o : elf.Object) (index : ℕ) (s : SectionHeader)
         → HasSection bytes.now ext_name o index s
         → (new : elf.Object) × KeepsExt bytes.now r.0.items o new index s) }
-    // It is refused for the first cause.
+    // An error is the first one in the stated order.
     ensures refused { IfErr result (IsCause bytes.now
         (target_of kernel.now policy (option_map (λ name. name.now) placeholder.entry))) }
 {

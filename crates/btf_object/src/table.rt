@@ -21,8 +21,9 @@ use btf_words::BtfError;
 use std::alloc::Global;
 use std::hash::BuildHasher;
 
-/// The bytes of a section of an object as a table that is rewritten for a kernel, in the object's order, with what the
-/// kernel was asked. `hash_builder` hashes the names of the object.
+/// Parses the bytes of a section of an object as a table, in the object's byte order, and rewrites the table for a
+/// kernel. Returns the bytes of the new table, and the features that the rewrite asked for, with the answers.
+/// `hash_builder` hashes the names of the object.
 pub fn rewritten<H: BuildHasher + Clone + Drop>(
     alloc: Global,
     object: &Object<'_>,

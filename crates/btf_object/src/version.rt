@@ -10,7 +10,7 @@ ghost use Rattle.btf_object_model.specs.declared.version.Version.{Version};
 use btf_object_model::Version;
 use btf_rewrite_model::BtfFeature;
 
-/// The first release with a feature. The commits are named at the definition.
+/// The first release with a feature. The definition names the commits.
 fn first_with(feature: BtfFeature) -> Version
     ensures { result ≡ model.first_with feature }
 {
@@ -40,7 +40,7 @@ fn read_number(text: &str) -> Option<u32>
     ensures some { IfSome result (IsNumber text.now) }
     ensures none { IfNone result ((n : ℕ) → IsNumber text.now n → ⊥) }
 {
-    // A sign is no digit, and `parse` would take it.
+    // A sign is no digit, but `parse` would accept it.
     if text.starts_with('+') {
         return None;
     }
@@ -57,14 +57,14 @@ fn ends_version(rest: &str) -> bool
     }
 }
 
-/// Where the first byte is that is no decimal digit.
+/// The index of the first byte that is no decimal digit.
 fn first_other(bytes: &[u8]) -> Option<usize>
     ensures { result ≡ position is_other bytes.now }
 {
     bytes.iter().position(|byte| !byte.is_ascii_digit())
 }
 
-/// How many bytes of a text come before the first that is no decimal digit.
+/// The number of decimal digits at the front of a text.
 fn digits_len(text: &str) -> usize
     ensures { result ≡ position_or_len is_other text.now }
 {
@@ -74,7 +74,7 @@ fn digits_len(text: &str) -> usize
     }
 }
 
-/// The decimal digits that a text begins with, and what follows them.
+/// The decimal digits that a text begins with, and the text after them.
 fn split_digits(text: &str) -> (&str, &str)
     ensures front { result.0.now ≡ take (position_or_len is_other text.now) text.now }
     ensures back { result.1.now ≡ drop (position_or_len is_other text.now) text.now }

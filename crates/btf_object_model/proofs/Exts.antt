@@ -1,4 +1,4 @@
--- What the bytes of `.BTF.ext` say stays, where texts that can be read stay.
+-- The contents of `.BTF.ext` do not change, if no readable text changes.
 use Rattle.std.proofs.Common.{◌≡◌, ◌≢◌, ℕ, List, [], ◌∷◌, Option, None, Some, Ok, Err, sym, ap, inl, inr}
 use Rattle.std.specs.Result.{result_ok}
 use Rattle.std.proofs.lemmas.Option.{none-some}
@@ -31,8 +31,8 @@ module _ (old new : List ℕ) (stays : (offset : ℕ) (text : List ℕ) → text
     ],
   )
 
-  pub says_ok : (order : Endianness) (bytes : List ℕ) (ext : Ext) → IsExt order bytes old (Ok ext) → IsExt order bytes new (Ok ext)
-  says_ok order bytes ext e =
+  pub contents_ok : (order : Endianness) (bytes : List ℕ) (ext : Ext) → IsExt order bytes old (Ok ext) → IsExt order bytes new (Ok ext)
+  contents_ok order bytes ext e =
       let h : Header = e.0 in
       let func = e.2 in
       let line = func.2 in
@@ -64,8 +64,8 @@ module _ (old new : List ℕ) (stays : (offset : ℕ) (text : List ℕ) → text
         ),
       )
 
-  pub says_err : (order : Endianness) (bytes : List ℕ) (refusal : Refusal) → ((offset : ℕ) → refusal ≢ InvalidStringOffset offset) → IsExt order bytes old (Err refusal) → IsExt order bytes new (Err refusal)
-  says_err order bytes refusal other e =
+  pub contents_err : (order : Endianness) (bytes : List ℕ) (refusal : Refusal) → ((offset : ℕ) → refusal ≢ InvalidStringOffset offset) → IsExt order bytes old (Err refusal) → IsExt order bytes new (Err refusal)
+  contents_err order bytes refusal other e =
       elim e [
         | inl cut ↦ inl cut
         | inr h ↦ inr (

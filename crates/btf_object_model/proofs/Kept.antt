@@ -1,4 +1,4 @@
--- What a rewritten object keeps of `.BTF.ext`.
+-- A rewritten object retains the contents of `.BTF.ext`.
 use Rattle.std.proofs.Common.{◌≡◌, ◌≢◌, ℕ, ◌<◌, List, [], length, Bool, true, Option, None, Some, refl, sym, ap, subst, ◌∙◌, arith}
 use Rattle.std.specs.Prelude.{position, slice_get, slice_set, unwrap_or, nat_lt, if◌then◌else◌}
 use Rattle.std.specs.List.{position_or_len}
@@ -24,30 +24,30 @@ use Rattle.btf_rewrite_model.specs.declared.feature.FillPolicy.{FillPolicy}
 use Rattle.btf_rewrite_model.specs.declared.ksyms_ids.KsymsIds.{KsymsIds}
 use Rattle.btf_object_model.specs.Kernel.{answers_of}
 use Rattle.btf_object_model.specs.Layout.{layout_of}
-use Rattle.btf_object_model.specs.Laws.{SaysTheSame, KeepsExt}
+use Rattle.btf_object_model.specs.Laws.{HasSameContents, KeepsExt}
 use Rattle.btf_object_model.specs.Sanitized.{Target, HasSection, IsSanitized, index_of, table_name, ext_name}
 use Rattle.btf_object_model.proofs.Appended.{texts_stay}
-use Rattle.btf_object_model.proofs.Exts.{says_ok, says_err}
+use Rattle.btf_object_model.proofs.Exts.{contents_ok, contents_err}
 
 pub ext_stays : (policy : FillPolicy) (old new : Table) (ids : Option KsymsIds) (layout : Layout) (answers : List FeatureAnswer) → Rewritten policy old ids layout answers new
-    → (order : Endianness) (bytes : List ℕ) → SaysTheSame order bytes old new
+    → (order : Endianness) (bytes : List ℕ) → HasSameContents order bytes old new
 ext_stays policy old new ids layout answers is order bytes =
     let stays = texts_stay policy old new ids layout answers is in
     record {
-      ok = says_ok old.strings new.strings stays order bytes;
-      err = says_err old.strings new.strings stays order bytes;
+      ok = contents_ok old.strings new.strings stays order bytes;
+      err = contents_err old.strings new.strings stays order bytes;
     }
 
 -- ---- names
 
--- the first place stays where an element is replaced by one that is tested alike
+-- the first place that passes a test does not change if an element is replaced by one with the same test result
 position_stays : {X : Type 0} (p : X → Bool) (xs : List X) (i : ℕ) (x y : X) → slice_get xs i ≡ Some x → p y ≡ p x → position p (slice_set xs i y) ≡ position p xs
 position_stays p xs i x y at alike =
     let place : position_or_len p (slice_set xs i y) ≡ position_or_len p xs = position_or_len-set p xs i y x (alike ∙ ap p (sym (get_or_from_slice_get xs i x x at))) in
     let len : length (slice_set xs i y) ≡ length xs = length-set xs i y in
     ap (λ (k : ℕ). if nat_lt k (length (slice_set xs i y)) then Some k else None) place ∙ ap (λ (n : ℕ). if nat_lt (position_or_len p xs) n then Some (position_or_len p xs) else None) len
 
--- one name is not another
+-- the two names are different
 not_both : (name a b : List ℕ) → bytes_eq name a ≡ true → bytes_eq name b ≡ true → a ≡ b
 not_both name a b is_a is_b = sym ((bytes_eq-Decides name a).0 is_a) ∙ (bytes_eq-Decides name b).0 is_b
 
@@ -83,14 +83,14 @@ module _ (bytes file : List ℕ) (target : Target) (answers : List FeatureAnswer
   abbrev written : ReplacesSection old z.index z.header (canon z.new) new
   written = z.replaced.2
 
-  -- each name is where it was
+  -- each name is at the same place
   index_stays : (name : List ℕ) → index_of new name ≡ index_of old name
   index_stays name =
       ap (λ (names : Option (List ℕ)). position (λ (s : SectionHeader). bytes_eq (name_at (unwrap_or names []) s.name) name) new.sections) written.names
       ∙ ap (position (λ (s : SectionHeader). bytes_eq (section_name old s) name)) written.sections
       ∙ position_stays (λ (s : SectionHeader). bytes_eq (section_name old s) name) old.sections z.index z.header changed z.section.header refl
 
-  -- the sections of other indices have the headers that they had
+  -- the headers of the sections of other indices are unchanged
   header_stays : (index : ℕ) (s : SectionHeader) → index ≢ z.index → slice_get old.sections index ≡ Some s → slice_get new.sections index ≡ Some s
   header_stays index s other at =
       let within : index < length old.sections = slice_get_within old.sections index s at in
@@ -112,9 +112,9 @@ module _ (bytes file : List ℕ) (target : Target) (answers : List FeatureAnswer
   new_section : HasSection file table_name new z.index changed
   new_section = record { object = z.replaced.1; first = index_stays table_name ∙ z.section.first; header = header_changes }
 
-  -- what `.BTF.ext` says under the new table
+  -- the contents of `.BTF.ext` with the new table
   says : (index : ℕ) (s : SectionHeader) (old_table new_table : Table) (at at' : ℕ) (t t' : SectionHeader) → HasSection bytes table_name old at t → IsTable old.header.order (section_bytes old t) old_table → HasSection file table_name new at' t'
-      → IsTable old.header.order (section_bytes new t') new_table → SaysTheSame old.header.order (section_bytes old s) old_table new_table
+      → IsTable old.header.order (section_bytes new t') new_table → HasSameContents old.header.order (section_bytes old s) old_table new_table
   says index s old_table new_table at at' t t' has is has' is' =
       let there = same_section bytes table_name old old at z.index t z.header has z.section in
       let there' = same_section file table_name new new at' z.index t' changed has' new_section in
@@ -124,11 +124,11 @@ module _ (bytes file : List ℕ) (target : Target) (answers : List FeatureAnswer
       let new_is : new_table ≡ strip z.new =
       same_table order (canon z.new) new_table (strip z.new)
       (subst (λ (b : List ℕ). IsTable order b new_table) written.replaced (subst (λ (h : SectionHeader). IsTable order (section_bytes new h) new_table) there'.2 is')) z.table.written in
-      let same : SaysTheSame order (section_bytes old s) z.old z.new =
+      let same : HasSameContents order (section_bytes old s) z.old z.new =
       ext_stays target.policy z.old z.new z.table.ids (layout_of old) (answers_of target.has) z.table.rewritten order (section_bytes old s) in
-      let stripped : SaysTheSame order (section_bytes old s) z.old (strip z.new) = record { ok = same.ok; err = same.err } in
-      subst (λ (u : Table). SaysTheSame order (section_bytes old s) u new_table) (sym old_is)
-      (subst (λ (u : Table). SaysTheSame order (section_bytes old s) z.old u) (sym new_is) stripped)
+      let stripped : HasSameContents order (section_bytes old s) z.old (strip z.new) = record { ok = same.ok; err = same.err } in
+      subst (λ (u : Table). HasSameContents order (section_bytes old s) u new_table) (sym old_is)
+      (subst (λ (u : Table). HasSameContents order (section_bytes old s) z.old u) (sym new_is) stripped)
 
   -- the section of another name is another section
   other_place : (index : ℕ) (s : SectionHeader) → HasSection bytes ext_name old index s → index ≢ z.index

@@ -7,11 +7,11 @@ use Rattle.btf_rewrite_model.specs.declared.feature.FeatureAnswer.{FeatureAnswer
 use Rattle.btf_object_model.specs.Layout.{last_named, is_read}
 use Rattle.btf_object_model.specs.Kernel.{version, is_up_to, has_by_version, answers_of}
 
--- names and numbers, of which two have one name
+-- names and numbers; two numbers have the same name
 numbers : List (List ℕ × ℕ)
 numbers = (codes ".data", 8) ∷ (codes ".bss", 4) ∷ (codes ".data", 16) ∷ []
 
--- of one name the last counts
+-- if several have the same name, the last counts
 last_of_a_name :
     (last_named (λ (n : List ℕ × ℕ). n.0) (λ (n : List ℕ × ℕ). n.1) numbers (codes ".data") ≡ Some 16)
     × (last_named (λ (n : List ℕ × ℕ). n.0) (λ (n : List ℕ × ℕ). n.1) numbers (codes ".rodata") ≡ None)

@@ -12,18 +12,18 @@ use Rattle.btf_rewrite_model.specs.declared.ksyms_ids.KsymsIds.{KsymsIds}
 abbrev pub ksyms_name : List ℕ
 ksyms_name = codes ".ksyms"
 
--- The search for that DATASEC finds its id, or why there is none.
+-- The result of the search for this DATASEC: its id, or why it is not found.
 abbrev pub FindsDataSec : Table → Result ℕ Refusal → Type 0
 FindsDataSec t found = FindsName t.strings t.records DataSec ksyms_name found
 
--- The search for the placeholder: the VAR of its name, if a name is given.
+-- The result of the search for the placeholder, which is the VAR with the given name, if a name is given.
 abbrev pub FindsPlaceholder : Table → Option (List ℕ) → Result (Option ℕ) Refusal → Type 0
 FindsPlaceholder t None found = found ≡ Ok None
 FindsPlaceholder t (Some name) (Ok None) = ⊥
 FindsPlaceholder t (Some name) (Ok (Some id)) = FindsName t.strings t.records Var name (Ok id)
 FindsPlaceholder t (Some name) (Err refusal) = FindsName t.strings t.records Var name (Err refusal)
 
--- The ids of `.ksyms`: none where no DATASEC has that name, and then no placeholder is looked for.
+-- The ids of `.ksyms`. There are none if no DATASEC has this name, and then the placeholder is not searched for.
 abbrev pub FindsKsyms : Table → Option (List ℕ) → Result (Option KsymsIds) Refusal → Type 0
 FindsKsyms t placeholder (Ok None) = FindsDataSec t (Err (UnknownBtfTypeName ksyms_name))
 FindsKsyms t placeholder (Ok (Some ids)) =

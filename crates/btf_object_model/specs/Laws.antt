@@ -15,38 +15,38 @@ use Rattle.btf_rewrite_model.specs.declared.feature.FillPolicy.{FillPolicy}
 use Rattle.btf_rewrite_model.specs.declared.ksyms_ids.KsymsIds.{KsymsIds}
 use Rattle.btf_object_model.specs.Sanitized.{Target, HasSection, IsSanitized, table_name, ext_name}
 
--- A text that can be read at an offset of a table's strings is read there in the rewritten one.
+-- A text that can be read at an offset of a table's strings is read at the same offset of the rewritten table.
 abbrev pub TextsStay : Type 0
 TextsStay =
     (policy : FillPolicy) (old new : Table) (ids : Option KsymsIds) (layout : Layout) (answers : List FeatureAnswer)
     → Rewritten policy old ids layout answers new
     → (offset : ℕ) (text : List ℕ) → text_at old.strings offset ≡ Ok text → text_at new.strings offset ≡ Ok text
 
--- What the bytes of `.BTF.ext` say under one table they say under another: each result, and each refusal but for a name
--- that cannot be read. Such a name may be one that the rewrite appends.
-pub record SaysTheSame (order : Endianness) (bytes : List ℕ) (old new : Table) : Type 0 where
+-- The bytes of `.BTF.ext` have the same contents with both tables. A refusal is the same too, unless its reason is a
+-- name that cannot be read, because the rewrite may append this name.
+pub record HasSameContents (order : Endianness) (bytes : List ℕ) (old new : Table) : Type 0 where
   pub ok : (ext : Ext) → IsExt order bytes old.strings (Ok ext) → IsExt order bytes new.strings (Ok ext)
   pub err : (refusal : Refusal) → ((offset : ℕ) → refusal ≢ InvalidStringOffset offset)
       → IsExt order bytes old.strings (Err refusal) → IsExt order bytes new.strings (Err refusal)
 
--- A rewrite changes nothing of what `.BTF.ext` says.
+-- A rewrite does not change the contents of `.BTF.ext`.
 abbrev pub ExtStays : Type 0
 ExtStays =
     (policy : FillPolicy) (old new : Table) (ids : Option KsymsIds) (layout : Layout) (answers : List FeatureAnswer)
     → Rewritten policy old ids layout answers new
-    → (order : Endianness) (bytes : List ℕ) → SaysTheSame order bytes old new
+    → (order : Endianness) (bytes : List ℕ) → HasSameContents order bytes old new
 
--- An object that was rewritten, and what its `.BTF.ext` says: it has the section where the old object has it, with the
--- same bytes, and these say under the table in the new `.BTF` what they said under that in the old.
+-- A rewritten object and its `.BTF.ext`: the section has the same index and the same bytes as in the old object. With
+-- the table in the new `.BTF` these bytes have the same contents as with the table in the old `.BTF`.
 pub record KeepsExt (bytes file : List ℕ) (o new : Object) (index : ℕ) (s : SectionHeader) : Type 0 where
   pub section : HasSection file ext_name new index s
   pub same_bytes : section_bytes new s ≡ section_bytes o s
   pub says : (old_table new_table : Table) (at at' : ℕ) (t t' : SectionHeader)
       → HasSection bytes table_name o at t → IsTable o.header.order (section_bytes o t) old_table
       → HasSection file table_name new at' t' → IsTable o.header.order (section_bytes new t') new_table
-      → SaysTheSame o.header.order (section_bytes o s) old_table new_table
+      → HasSameContents o.header.order (section_bytes o s) old_table new_table
 
--- The object that is written keeps the function, line and relocation records of the old one.
+-- The written object retains the function, line and relocation records of the old object.
 abbrev pub SanitizedKeepsExt : Type 0
 SanitizedKeepsExt =
     (bytes file : List ℕ) (target : Target) (answers : List FeatureAnswer) → IsSanitized bytes target file answers

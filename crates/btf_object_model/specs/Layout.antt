@@ -1,7 +1,9 @@
--- What the rewrite of a table reads of an object: the sizes of its sections and the offsets of its symbols, by name.
--- Source: ELF gABI, chapter 4, "Sections" (sh_size) and "Symbol Table" (st_info, st_value); which symbols count, and
--- that of one name the last counts, are aya-obj's `Object::parse`. libbpf takes symbols of type STT_OBJECT alone, global
--- or weak, and lays out `.kconfig` itself (`find_elf_var_offset`, `bpf_object__init_kconfig_map`).
+-- The data that the rewrite of a table reads from an object: the sizes of its sections and the offsets of its symbols,
+-- by name.
+-- Source: ELF gABI, chapter 4, "Sections" (sh_size) and "Symbol Table" (st_info, st_value); aya-obj's `Object::parse`
+-- determines which symbols count, and that the last of several with the same name counts. libbpf uses only symbols of
+-- type STT_OBJECT that are global or weak, and lays out `.kconfig` itself (`find_elf_var_offset`,
+-- `bpf_object__init_kconfig_map`).
 use Rattle.std.specs.Prelude.{ℕ, ◌==◌, ◌||◌, ◌&&◌, not, nat_lt, Bool, if◌then◌else◌, List, length, map, Option, None}
 use Rattle.std.specs.List.{filter, last_or}
 use Rattle.std.specs.Str.{bytes_eq, is_utf8}
@@ -10,16 +12,16 @@ use Rattle.btf_elf_model.specs.declared.section_header.SectionHeader.{SectionHea
 use Rattle.btf_elf_model.specs.declared.symbol.Symbol.{Symbol}
 use Rattle.btf_rewrite_model.specs.Pass.{Layout}
 
--- A name that a rewrite may ask for is shorter than this: KSYM_NAME_LEN of include/linux/kallsyms.h, beyond which
--- `__btf_name_valid` of kernel/bpf/btf.c looks at no name. So a kernel that takes DATASECs refuses a longer one.
+-- A name that a rewrite may ask for is shorter than this: KSYM_NAME_LEN of include/linux/kallsyms.h. `__btf_name_valid`
+-- of kernel/bpf/btf.c reads no name beyond this length, so a kernel that has DATASECs refuses a longer name.
 abbrev pub name_limit : ℕ
 name_limit = 512
 
--- A rewrite may ask for the name: it is UTF-8, as each text that is read in a table, and not too long.
+-- A rewrite may ask for the name: it is UTF-8, like each text that is read in a table, and not too long.
 abbrev pub is_askable : List ℕ → Bool
 is_askable name = is_utf8 name && nat_lt (length name) name_limit
 
--- the number of the last of these that has a name; none for a name that no rewrite asks for
+-- the number of the last pair that has this name; none for a name that no rewrite asks for
 abbrev pub last_named : {T : Type 0} → (T → List ℕ) → (T → ℕ) → List T → List ℕ → Option ℕ
 last_named name_of number all name =
     if is_askable name
@@ -38,7 +40,8 @@ stb_local = 0
 abbrev pub stt_object : ℕ
 stt_object = 1
 
--- The offset of a symbol is read: it is not local, or a variable's. Undefined symbols are among them, with the value 0.
+-- The offset of a symbol is read if the symbol is not local, or if it is a variable. This includes undefined symbols,
+-- which have the value 0.
 abbrev pub is_read : Symbol → Bool
 is_read s = not (s.binding == stb_local) || (s.kind == stt_object)
 
@@ -46,6 +49,6 @@ is_read s = not (s.binding == stb_local) || (s.kind == stt_object)
 abbrev pub offset_of : Object → List ℕ → Option ℕ
 offset_of o name = last_named (symbol_name o) (λ (s : Symbol). s.value) (filter is_read (symbols o)) name
 
--- what a rewrite reads of an object
+-- the layout that a rewrite reads from an object
 abbrev pub layout_of : Object → Layout
 layout_of o = record { sections = size_of o; symbols = offset_of o }

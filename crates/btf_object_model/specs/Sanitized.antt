@@ -1,6 +1,6 @@
 -- The object with its table rewritten for a kernel, or why there is none.
--- Source: the section `.BTF` is the kernel's BTF documentation, "ELF File Format Interface"; that a table is rewritten
--- for the kernel in place of it is aya's and libbpf's step before a load (`bpf_object__sanitize_btf`).
+-- Source: the kernel's BTF documentation, "ELF File Format Interface", for the section `.BTF`; aya and libbpf rewrite
+-- the table for the kernel before a load (`bpf_object__sanitize_btf`).
 use Rattle.std.specs.Prelude.{◌≡◌, ◌⊎◌, ℕ, Bool, List, position, slice_get, codes, Option, Some, Ok, Err}
 use Rattle.std.specs.List.{AllByRecursion}
 use Rattle.std.specs.Str.{bytes_eq}
@@ -21,7 +21,7 @@ use Rattle.btf_object_model.specs.Kernel.{answers_of}
 use Rattle.btf_object_model.specs.Ksyms.{FindsKsyms}
 use Rattle.btf_object_model.specs.Layout.{layout_of}
 
--- the names of the section with the table, and of the one with function, line and relocation records
+-- the name of the section with the table, and the name of the section with function, line and relocation records
 abbrev pub table_name : List ℕ
 table_name = codes ".BTF"
 
@@ -38,19 +38,19 @@ pub record HasSection (bytes name : List ℕ) (o : Object) (index : ℕ) (s : Se
   pub first : index_of o name ≡ Some index
   pub header : slice_get o.sections index ≡ Some s
 
--- What an object is rewritten for: which features the kernel has, what becomes of DATASECs that have a size and no
--- entries, and the name of the placeholder for functions of `.ksyms`, if there is one.
+-- The target of a rewrite: the features of the kernel, the policy for DATASECs that have a size and no entries, and the
+-- name of the placeholder for functions of `.ksyms`, if there is one.
 pub record Target : Type 0 where
   pub has : BtfFeature → Bool
   pub policy : FillPolicy
   pub placeholder : Option (List ℕ)
 
--- The kernel was asked for what the rewrite asks for, and each answer is whether it has the feature.
+-- The answers are to the features that the rewrite asks for, and each answer is whether the kernel has the feature.
 pub record AreAnswers (target : Target) (asked : List BtfFeature) (answers : List FeatureAnswer) : Type 0 where
   pub of_kernel : AllByRecursion (λ (a : FeatureAnswer). a.granted ≡ target.has a.feature) answers
   pub asked_for : features_of answers ≡ asked
 
--- The bytes of a section are a table, and its rewrite is the new one.
+-- The bytes of a section represent a table, and its rewrite is the new table.
 pub record RewritesTable (o : Object) (bytes : List ℕ) (target : Target) (old new : Table) (answers : List FeatureAnswer)
     : Type 0 where
   pub ids : Option KsymsIds
@@ -60,7 +60,7 @@ pub record RewritesTable (o : Object) (bytes : List ℕ) (target : Target) (old 
   pub answers_are : AreAnswers target (Asked (pass_of target.policy old ids (layout_of o) answers)) answers
   pub written : IsTable o.header.order (canon new) (strip new)
 
--- The bytes of a section are no table, or the ids of `.ksyms` are not found, or the rewrite is refused.
+-- The bytes of a section represent no table, or the search for the ids of `.ksyms` fails, or the rewrite is refused.
 abbrev pub RefusesTable : Object → List ℕ → Target → Refusal → Type 0
 RefusesTable o bytes target refusal =
     IsRefusal o.header.order bytes refusal

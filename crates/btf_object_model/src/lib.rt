@@ -1,5 +1,5 @@
-//! What becomes of an object file for an old kernel: what a rewrite of its table reads of it, the rewritten object, and
-//! the laws of that.
+//! What an object file becomes for an old kernel: the data that a rewrite of its table reads from it, the rewritten
+//! object, and the laws of both.
 //!
 //! The definitions are in `specs/`. Each law is the contract of a function here that does nothing.
 #![tactic(auto)]
@@ -10,19 +10,19 @@ mod version;
 
 pub use version::Version;
 
-/// A text that can be read in a table is read at the same offset of the rewritten one.
+/// A text that can be read in a table is read at the same offset of the rewritten table.
 pub fn texts_stay()
     ensures { TextsStay }
 {}
 
-/// What the bytes of `.BTF.ext` say under a table, they say under the rewritten one. So does each refusal, unless a name
-/// cannot be read: that name may be one that the rewrite appends.
+/// The bytes of `.BTF.ext` have the same contents with the rewritten table as with the old one. A refusal is the same
+/// too, unless its reason is a name that cannot be read, because the rewrite may append this name.
 pub fn ext_stays()
     ensures { ExtStays }
 {}
 
-/// The rewritten object has the section `.BTF.ext` of the old one, and it says under the new table what it said under
-/// the old: function, line and relocation records.
+/// The rewritten object has the section `.BTF.ext` of the old object. With the new table this section has the same
+/// function, line and relocation records as with the old table.
 pub fn sanitized_keeps_ext()
     ensures { SanitizedKeepsExt }
 {}

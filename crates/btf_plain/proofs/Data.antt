@@ -1,4 +1,4 @@
--- The data word of an INT, put together from its three parts.
+-- The data word of an INT, composed of its three parts.
 use Rattle.std.proofs.Common.{◌≡◌, ℕ, ◌+◌, ◌*◌, ◌%◌, ◌^◌, ◌<◌, ap, ◌∙◌, arith, bit_and, bit_or}
 use Rattle.std.proofs.lemmas.Nat.{and_mask, or_shifted, shl_whole}
 use Rattle.btf_plain.specs.declared.encoding.IntEncoding.{IntEncoding}

@@ -19,7 +19,7 @@ high_half info lt =
 pub new_low_half : (info n : ℕ) → info < 2 ^ 32 → n < 2 ^ 16 → bit_or (bit_and info 4294901760) n ≡ with_vlen info n
 new_low_half info n word lt = rw (high_half info word) (or_shifted (info / 2 ^ 16) 16 n lt)
 
--- the low half has no part in the kind
+-- the low half does not affect the kind
 pub same_kind : (info n : ℕ) → n < 2 ^ 16 → kind_of (with_vlen info n) ≡ kind_of info
 same_kind info n lt =
     let same : kind_number (with_vlen info n) ≡ kind_number info = omega (arith, lt) in

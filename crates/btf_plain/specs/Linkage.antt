@@ -13,7 +13,7 @@ func_linkage_number func.Global = 1
 func_linkage_number func.Extern = 2
 func_linkage_number func.Unknown = 3
 
--- the linkage of a function that a number has: each number but 0, 1 and 2 is Unknown
+-- the linkage of a function by its number: each number other than 0, 1 and 2 is Unknown
 abbrev pub func_linkage_of : ℕ → FuncLinkage
 func_linkage_of n =
     if n == 0 then func.Static else (if n == 1 then func.Global else (if n == 2 then func.Extern else func.Unknown))
@@ -25,7 +25,7 @@ var_linkage_number var.Global = 1
 var_linkage_number var.Extern = 2
 var_linkage_number var.Unknown = 3
 
--- the linkage of a variable that a number has: each number but 0, 1 and 2 is Unknown
+-- the linkage of a variable by its number: each number other than 0, 1 and 2 is Unknown
 abbrev pub var_linkage_of : ℕ → VarLinkage
 var_linkage_of n =
     if n == 0 then var.Static else (if n == 1 then var.Global else (if n == 2 then var.Extern else var.Unknown))

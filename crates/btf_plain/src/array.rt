@@ -8,7 +8,7 @@ use crate::btf_array::BtfArray;
 use btf_words::BtfKind;
 use std::marker::Model;
 
-/// An array (the kernel's documentation, "BTF_KIND_ARRAY"). Contracts see it as the record of its words.
+/// An array (the kernel's documentation, "BTF_KIND_ARRAY"). In contracts it is the record of its words.
 #[derive(Clone, Debug, Drop)]
 pub struct Array {
     name_offset: u32,

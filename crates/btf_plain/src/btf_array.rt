@@ -1,6 +1,7 @@
 //! The words of an array after the third.
 
-/// What an array is of, as in the kernel's documentation, "BTF_KIND_ARRAY", `struct btf_array`.
+/// The element type, the index type and the length of an array, as in the kernel's documentation, "BTF_KIND_ARRAY",
+/// `struct btf_array`.
 #[derive(Clone, Debug, Drop)]
 pub struct BtfArray {
     /// The id of the type of an element.

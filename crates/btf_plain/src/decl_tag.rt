@@ -8,7 +8,7 @@ ghost use Rattle.btf_model.specs.Record.{kind_of};
 use btf_words::BtfKind;
 use std::marker::Model;
 
-/// A tag of a declaration (the kernel's documentation, "BTF_KIND_DECL_TAG"). Contracts see it as the record of its
+/// A tag of a declaration (the kernel's documentation, "BTF_KIND_DECL_TAG"). In contracts it is the record of its
 /// words.
 #[derive(Clone, Debug, Drop)]
 pub struct DeclTag {
@@ -36,8 +36,8 @@ impl Model for DeclTag {
 }
 
 impl DeclTag {
-    /// A tag of the type of id `btf_type`: of its member or parameter of this index, or of all of it where the index is
-    /// -1.
+    /// A tag of the type of id `btf_type`: of its member or parameter with this index, or of the whole type if the
+    /// index is -1.
     pub fn new(name_offset: u32, btf_type: u32, component_index: i32) -> Self
         ensures { result ≡ record {
           name = name_offset;

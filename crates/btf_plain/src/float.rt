@@ -7,7 +7,7 @@ ghost use Rattle.btf_model.specs.Record.{kind_of};
 use btf_words::BtfKind;
 use std::marker::Model;
 
-/// A floating-point number (the kernel's documentation, "BTF_KIND_FLOAT"). Contracts see it as the record of its words.
+/// A floating-point number (the kernel's documentation, "BTF_KIND_FLOAT"). In contracts it is the record of its words.
 #[derive(Clone, Debug, Drop)]
 pub struct Float {
     name_offset: u32,

@@ -10,7 +10,7 @@ use crate::linkage::FuncLinkage;
 use btf_words::BtfKind;
 use std::marker::Model;
 
-/// A function (the kernel's documentation, "BTF_KIND_FUNC"). Contracts see it as the record of its words.
+/// A function (the kernel's documentation, "BTF_KIND_FUNC"). In contracts it is the record of its words.
 #[derive(Clone, Debug, Drop)]
 pub struct Func {
     name_offset: u32,
@@ -35,7 +35,7 @@ impl Model for Func {
 }
 
 impl Func {
-    /// A function whose prototype has the id `proto`. Its linkage stands in bits 0 to 15 of info.
+    /// A function whose prototype has the id `proto`. Its linkage is in bits 0 to 15 of info.
     pub fn new(name_offset: u32, proto: u32, linkage: FuncLinkage) -> Self
         ensures { result ≡ record {
           name = name_offset;
@@ -97,7 +97,7 @@ impl Func {
         FuncLinkage::from(self.info & 0xffff)
     }
 
-    /// Sets the linkage, and leaves the other bits of info as they are.
+    /// Sets the linkage, and does not change the other bits of info.
     pub fn set_linkage(&mut self, linkage: FuncLinkage)
         ensures { self.new ≡ record self.old {
           info = with_vlen self.old.info (func_linkage_number linkage);

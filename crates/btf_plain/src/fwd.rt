@@ -8,8 +8,8 @@ ghost use Rattle.btf_model.specs.Info.{flag_bit};
 use btf_words::BtfKind;
 use std::marker::Model;
 
-/// A forward declaration of a structure or a union (the kernel's documentation, "BTF_KIND_FWD"). Contracts see it as
-/// the record of its words.
+/// A forward declaration of a structure or a union (the kernel's documentation, "BTF_KIND_FWD"). In contracts it is the
+/// record of its words.
 #[derive(Clone, Debug, Drop)]
 pub struct Fwd {
     name_offset: u32,
@@ -28,7 +28,7 @@ impl Model for Fwd {
 }
 
 impl Fwd {
-    /// A forward declaration. The kind flag says that a union is declared, and otherwise a structure.
+    /// A forward declaration. If the kind flag is set, it declares a union, else a structure.
     pub fn new(name_offset: u32, kind_flag: bool) -> Self
         ensures { result ≡ record {
           name = name_offset;

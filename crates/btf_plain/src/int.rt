@@ -9,7 +9,7 @@ use crate::encoding::IntEncoding;
 use btf_words::BtfKind;
 use std::marker::Model;
 
-/// An integer (the kernel's documentation, "BTF_KIND_INT"). Contracts see it as the record of its words.
+/// An integer (the kernel's documentation, "BTF_KIND_INT"). In contracts it is the record of its words.
 #[derive(Clone, Debug, Drop)]
 pub struct Int {
     name_offset: u32,
@@ -35,8 +35,8 @@ impl Model for Int {
 }
 
 impl Int {
-    /// An integer of `size` bytes, whose bits begin at bit `offset`. The bit offset is kept modulo 256, and so is
-    /// the number of bits, which is 8 times the size.
+    /// An integer of `size` bytes, whose bits begin at bit `offset`. The number of bits is 8 times the size. The bit
+    /// offset and the number of bits are stored modulo 256.
     pub fn new(name_offset: u32, size: u32, encoding: IntEncoding, offset: u32) -> Self
         ensures { result ≡ record {
           name = name_offset;

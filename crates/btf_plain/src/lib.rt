@@ -1,4 +1,4 @@
-//! The records of BTF that have no list, each a struct of its words; and what the crates below have, passed on.
+//! The records of BTF that have no list, each a struct of its words, and re-exports of the crates below.
 #![tactic(auto)]
 
 mod array;

@@ -1,4 +1,4 @@
-//! How functions and variables are seen from other object files.
+//! The linkages of functions and variables: whether other object files see them.
 
 ghost use Rattle.std.specs.Prelude.{◌≡◌};
 ghost use Rattle.btf_plain.specs.Linkage.{func_linkage_number, func_linkage_of, var_linkage_number, var_linkage_of};
@@ -6,9 +6,9 @@ ghost use Rattle.btf_plain.specs.Linkage.{func_linkage_number, func_linkage_of, 
 /// The linkage of a function, as in the kernel's documentation, "BTF_KIND_FUNC".
 #[derive(Clone, Debug, Eq, PartialEq, Drop)]
 pub enum FuncLinkage {
-    /// Seen in its own object file alone.
+    /// Visible only in its own object file.
     Static = 0,
-    /// Seen from other object files.
+    /// Visible in other object files.
     Global = 1,
     /// Defined in another object file.
     Extern = 2,
@@ -42,9 +42,9 @@ impl From<u32> for FuncLinkage {
 /// The linkage of a variable, as in the kernel's documentation, "BTF_KIND_VAR".
 #[derive(Clone, Debug, Eq, PartialEq, Drop)]
 pub enum VarLinkage {
-    /// Seen in its own object file alone.
+    /// Visible only in its own object file.
     Static = 0,
-    /// Seen from other object files.
+    /// Visible in other object files.
     Global = 1,
     /// Defined in another object file.
     Extern = 2,

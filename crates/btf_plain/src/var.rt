@@ -9,7 +9,7 @@ use crate::linkage::VarLinkage;
 use btf_words::BtfKind;
 use std::marker::Model;
 
-/// A variable (the kernel's documentation, "BTF_KIND_VAR"). Contracts see it as the record of its words.
+/// A variable (the kernel's documentation, "BTF_KIND_VAR"). In contracts it is the record of its words.
 #[derive(Clone, Debug, Drop)]
 pub struct Var {
     name_offset: u32,
@@ -104,7 +104,7 @@ impl Var {
         }
     }
 
-    /// Sets the type and the linkage. The name and info stay as they are.
+    /// Sets the type and the linkage. The name and info do not change.
     pub fn set_target(&mut self, btf_type: u32, linkage: VarLinkage)
         ensures { self.new ≡ record self.old {
           third = btf_type;

@@ -1,4 +1,4 @@
--- Reading a record whose head is read, and writing one.
+-- Reading a record after its head, and writing a record.
 use Rattle.std.proofs.Common.{inl, ◌≡◌, ℕ, ◌+◌, ◌^◌, ◌<◌, List, [], ◌∷◌, drop, length, Some, None, Result, Ok, Err, refl, sym, ap, subst, ◌∙◌, arith}
 use Rattle.std.specs.Prelude.{IsErrAnd, OnOk, slice_get, map, min}
 use Rattle.std.specs.List.{AllByRecursion}
@@ -22,23 +22,23 @@ use Rattle.btf_plain.specs.Linkage.{var_linkage_number}
 use Rattle.btf_words.specs.Error.{refusal_of}
 use Rattle.btf_records.specs.declared.btf_type.BtfType.{BtfType}
 use Rattle.btf_records.specs.declared.codec.Head.{Head}
-use Rattle.btf_records.specs.Head.{IsHead, record_behind, ReadsTail}
+use Rattle.btf_records.specs.Head.{IsHead, record_after, ReadsTail}
 use Rattle.btf_records.specs.Slot.{Puts, StaysOr}
 
-behind_is : (order : Endianness) (bytes : List ℕ) (head : Head) (rest : List ℕ) (n : ℕ) → IsHead order bytes head rest → record_at order n bytes ≡ record_behind order head n rest
-behind_is order bytes head rest n h = λ i. record { name = sym h.name i; info = sym h.info i; third = sym h.third i; tail = words_at order n (sym h.behind i) }
+after_is : (order : Endianness) (bytes : List ℕ) (head : Head) (rest : List ℕ) (n : ℕ) → IsHead order bytes head rest → record_at order n bytes ≡ record_after order head n rest
+after_is order bytes head rest n h = λ i. record { name = sym h.name i; info = sym h.info i; third = sym h.third i; tail = words_at order n (sym h.behind i) }
 
 length-behind : (order : Endianness) (bytes : List ℕ) (head : Head) (rest : List ℕ) → IsHead order bytes head rest → length bytes ≡ 12 + length rest
 length-behind order bytes head rest h =
     omega (arith, h.long, ap length h.behind, length-drop 4 (drop 4 (drop 4 bytes)), length-drop 4 (drop 4 bytes), length-drop 4 bytes)
 
--- a record whose tail is put is read from the front
+-- a record that was put in a slot is read from the front of the bytes
 pub front_put : {P : Type 0} (HasPut : P → BtfType → P → Type 0) (Stays : P → P → Type 0) (old new : P) (order : Endianness) (bytes : List ℕ) (head : Head) (rest : List ℕ) (k : Kind) (r : Result ℕ BtfError) → IsBytes bytes → IsHead order bytes head rest → kind_of head.info ≡ Some k → Puts HasPut Stays old new (ReadsTail order head k rest) r → Puts HasPut Stays old new (ReadsFront order bytes) r
 front_put HasPut Stays old new order bytes head rest k (Ok size) fits h kind given =
     let t = given.0 in
     let n = tail_words k (vlen head.info) in
     let found = reads order bytes k n fits (omega (arith, given.2.0, length-behind order bytes head rest h)) (ap kind_of (sym h.info) ∙ kind) (ap (λ (i : ℕ). tail_words k (vlen i)) h.info) in
-    (t, given.1, subst (λ (q : Record). ReadsFront order bytes (Ok q)) (ap (kept k) (behind_is order bytes head rest n h) ∙ sym given.2.1) found, given.3, given.4)
+    (t, given.1, subst (λ (q : Record). ReadsFront order bytes (Ok q)) (ap (kept k) (after_is order bytes head rest n h) ∙ sym given.2.1) found, given.3, given.4)
 front_put HasPut Stays old new order bytes head rest k (Err e) fits h kind given = (
   given.0,
   IfSome_then (refusal_of e) given.1 (λ f q.
@@ -58,7 +58,7 @@ kind_refused HasPut HasKept place order bytes head rest number r e err none is n
 
 -- ---- what is written
 
--- the words of a record that is kept as it is, in the kinds that have no list
+-- the words of a record that reading retains whole, for the kinds that have no list
 pub whole : (k : Kind) (r : Record) → kind_of r.info ≡ Some k → length r.tail ≡ tail_words k (vlen r.info) → AllByRecursion (λ w. w < 2 ^ 32) (words r) → kept k r ≡ r → IsWhole r
 whole k r kind tail fits stays = (k, record { kind = kind; tail = tail; words = fits }, stays)
 
@@ -74,7 +74,7 @@ pub always : {T E P : Type 0} (r : Result T E) → P → OnOk r P
 always (Ok x) p = p
 always (Err e) p = tt
 
--- a linkage has a small number, which stays
+-- a linkage has a small number, which reading does not change
 pub small_linkage : (l : VarLinkage) → var_linkage_number l < 2 ^ 32
 small_linkage linkages.Static = omega arith
 small_linkage linkages.Global = omega arith

@@ -1,4 +1,4 @@
--- The record that a `BtfType` stands for, its kind, and its fallback.
+-- The record that a `BtfType` represents, its kind, and its fallback.
 use Rattle.std.specs.Prelude.{Bool, true, false, Option, None}
 use Rattle.btf_model.specs.Record as model
 use Rattle.btf_model.specs.Record.{Kind, Record, unknown}
@@ -52,13 +52,13 @@ type_kind (DeclTag r) = model.DeclTag
 type_kind (TypeTag r) = model.TypeTag
 type_kind (Enum64 r) = model.Enum64
 
--- ARRAY and FWD use no third word
+-- ARRAY and FWD do not use the third word
 abbrev pub has_no_third : Kind → Bool
 has_no_third model.Array = true
 has_no_third model.Fwd = true
 has_no_third k = false
 
--- the fallback of a UNION that stands in for an ENUM64
+-- the fallback of a UNION that replaces an ENUM64
 abbrev pub fallback_of : BtfType → Option Fallback
 fallback_of (Union u) = u.fallback
 fallback_of t = None

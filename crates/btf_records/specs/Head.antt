@@ -1,4 +1,4 @@
--- What the readers of the head and of the tail of a record answer.
+-- What the functions that read the head and the tail of a record return.
 use Rattle.std.specs.Prelude.{◌≡◌, ℕ, ◌*◌, ◌<◌, ◌≤◌, List, length, take, drop, Result, Ok, Err}
 use Rattle.btf_model.specs.Word.{word_of, words_at}
 use Rattle.btf_model.specs.declared.endianness.Endianness.{Endianness}
@@ -7,7 +7,7 @@ use Rattle.btf_model.specs.Refusal.{Refusal, InvalidTypeInfo}
 use Rattle.btf_model.specs.Spelling.{kept}
 use Rattle.btf_records.specs.declared.codec.Head.{Head}
 
--- the head is the first three words of the bytes, and rest is what follows them
+-- the head is the first three words of the bytes, and rest is the bytes after them
 pub record IsHead (order : Endianness) (bytes : List ℕ) (head : Head) (rest : List ℕ) : Type 0 where
   pub long : 12 ≤ length bytes
   pub name : head.name ≡ word_of order (take 4 bytes)
@@ -15,15 +15,16 @@ pub record IsHead (order : Endianness) (bytes : List ℕ) (head : Head) (rest : 
   pub third : head.third ≡ word_of order (take 4 (drop 4 (drop 4 bytes)))
   pub behind : rest ≡ drop 4 (drop 4 (drop 4 bytes))
 
--- the record of the head and of the first words after it
-abbrev pub record_behind : Endianness → Head → ℕ → List ℕ → Record
-record_behind order head n rest =
+-- the record that consists of the head and the first words after it
+abbrev pub record_after : Endianness → Head → ℕ → List ℕ → Record
+record_after order head n rest =
     record { name = head.name; info = head.info; third = head.third; tail = words_at order n rest }
 
--- what is kept of the record of the head and of the words after it; refused where those words are cut
+-- what reading retains of the record that consists of the head and the words after it; refused if these words are
+-- truncated
 abbrev pub ReadsTail : Endianness → Head → Kind → List ℕ → Result Record Refusal → Type 0
 ReadsTail order head k rest (Ok r) =
     (4 * tail_words k (vlen head.info) ≤ length rest)
-    × (r ≡ kept k (record_behind order head (tail_words k (vlen head.info)) rest))
+    × (r ≡ kept k (record_after order head (tail_words k (vlen head.info)) rest))
 ReadsTail order head k rest (Err refusal) =
     (length rest < 4 * tail_words k (vlen head.info)) × (refusal ≡ InvalidTypeInfo)

@@ -1,4 +1,4 @@
--- What the private parts of a UNION stand for: its members, and what it keeps of an ENUM64.
+-- What the private parts of a UNION represent: its members, and its fallback.
 use Rattle.std.specs.Prelude.{List, Option, Some, None}
 use Rattle.btf_model.specs.Table.{Fallback}
 use Rattle.btf_items.specs.declared.items.BtfMember.{BtfMember}

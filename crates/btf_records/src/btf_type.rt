@@ -12,11 +12,11 @@ use btf_plain::{
 };
 use std::slice::Iter;
 
-/// One type of a table (the kernel's documentation, "Type Encoding"). Contracts see it as the record of its words, and
+/// One type of a table (the kernel's documentation, "Type Encoding"). In contracts it is the record of its words, and
 /// for a UNION also its fallback.
 #[derive(Debug, Drop)]
 pub enum BtfType {
-    /// The type of id 0, and a record that has been left out.
+    /// The type of id 0, and a record of kind 0.
     Unknown,
     /// An integer.
     Int(Int),
@@ -78,7 +78,7 @@ impl BtfType {
         ensures tail { length (record_of self.now).tail
             ≡ tail_words (type_kind self.now) (vlen (record_of self.now).info) }
     {
-        // Only a use of the info word shows what the other two clauses say of it.
+        // Only a use of the info word proves the other two clauses about it.
         let _ = self.info();
         match self {
             BtfType::Unknown => BtfKind::Unknown,
@@ -166,7 +166,7 @@ impl BtfType {
         }
     }
 
-    /// The size in bytes that the record itself says, 8 for a pointer; None for the kinds without a size.
+    /// The size in bytes that the record itself gives, which is 8 for a pointer; None for the kinds without a size.
     pub fn size(&self) -> Option<u32>
         ensures { result ≡ record_size (type_kind self.now) (record_of self.now) }
     {
@@ -183,8 +183,8 @@ impl BtfType {
         }
     }
 
-    /// The id of the one type that the record leads to, which is the return type for a prototype; None for the
-    /// kinds that lead to none or to many, and for a function.
+    /// The id of the one type that the record refers to, which is the return type for a prototype; None for the kinds
+    /// that refer to no type or to many, and for a function.
     pub fn btf_type(&self) -> Option<u32>
         ensures { result ≡ record_target (type_kind self.now) (record_of self.now) }
     {
@@ -285,7 +285,7 @@ impl BtfType {
         }
     }
 
-    /// An equal record, its fallback included. `OutOfMemory` is the only error.
+    /// A copy of the record and its fallback. `OutOfMemory` is the only error.
     pub fn try_clone(&self) -> Result<Self, BtfError>
         ensures record { IsOrNoMemory record_of result (Ok (record_of self.now)) }
         ensures fallback { IsOrNoMemory fallback_of result (Ok (fallback_of self.now)) }

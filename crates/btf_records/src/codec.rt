@@ -1,4 +1,4 @@
-//! Records read from bytes, and written.
+//! Reading records from bytes, and writing them.
 
 ghost use Rattle.std.specs.Prelude.{◌≡◌, ◌<◌, ◌++◌, [], ◌∷◌, length, Some, None, Ok, OnOk, IfOk, MatchResult};
 ghost use Rattle.btf_model.specs.Record as model;
@@ -30,7 +30,7 @@ struct Head {
 }
 
 impl Head {
-    /// The head of the record at the front of bytes, and what follows it.
+    /// The head of the record at the front of bytes, and the bytes after it.
     fn read(bytes: &[u8], endianness: Endianness) -> Result<(Head, &[u8]), BtfError>
         ensures { MatchResult result
             (λ x. IsHead endianness bytes.now x.0 x.1.now)
@@ -49,7 +49,7 @@ impl Head {
         self.info >> 24 & 0x1f
     }
 
-    /// The number of items, in the kinds that have a list.
+    /// The number of items, for the kinds that have a list.
     fn vlen(&self) -> usize
         ensures { result ≡ model.vlen self.now.info }
     {
@@ -57,7 +57,7 @@ impl Head {
     }
 }
 
-/// An INT of this head.
+/// An INT with this head.
 fn read_int(head: Head, rest: &[u8], endianness: Endianness) -> Result<Int, BtfError>
     requires { kind_of head.info ≡ Some model.Int }
     ensures { MeetsOrNoMemory (λ r. r) result
@@ -68,7 +68,7 @@ fn read_int(head: Head, rest: &[u8], endianness: Endianness) -> Result<Int, BtfE
     Ok(int.with_info(head.info).with_word(word))
 }
 
-/// A VAR of this head. A linkage that has no name is read as Unknown.
+/// A VAR with this head. A linkage that has no name is read as Unknown.
 fn read_var(head: Head, rest: &[u8], endianness: Endianness) -> Result<Var, BtfError>
     requires { kind_of head.info ≡ Some model.Var }
     ensures { MeetsOrNoMemory (λ r. r) result
@@ -78,7 +78,7 @@ fn read_var(head: Head, rest: &[u8], endianness: Endianness) -> Result<Var, BtfE
     Ok(Var::new(head.name, head.third, VarLinkage::from(linkage)).with_info(head.info))
 }
 
-/// A DECL_TAG of this head.
+/// A DECL_TAG with this head.
 fn read_decl_tag(head: Head, rest: &[u8], endianness: Endianness) -> Result<DeclTag, BtfError>
     requires { kind_of head.info ≡ Some model.DeclTag }
     ensures { MeetsOrNoMemory (λ r. r) result
@@ -88,7 +88,7 @@ fn read_decl_tag(head: Head, rest: &[u8], endianness: Endianness) -> Result<Decl
     Ok(DeclTag::new(head.name, head.third, index.cast_signed()).with_info(head.info))
 }
 
-/// An ARRAY of this head, whose third word is dropped.
+/// An ARRAY with this head, whose third word is dropped.
 fn read_array(head: Head, rest: &[u8], endianness: Endianness) -> Result<Array, BtfError>
     requires { kind_of head.info ≡ Some model.Array }
     ensures { MeetsOrNoMemory (λ r. r) result
@@ -100,7 +100,7 @@ fn read_array(head: Head, rest: &[u8], endianness: Endianness) -> Result<Array, 
     Ok(Array::new(head.name, element_type, index_type, len).with_info(head.info))
 }
 
-/// A record with a list of this head, with as many items as vlen says.
+/// A record with this head and a list, which has as many items as vlen gives.
 fn read_with_list<R: WithList>(
     alloc: Global,
     head: Head,
@@ -117,10 +117,10 @@ fn read_with_list<R: WithList>(
 }
 
 impl BtfType {
-    /// The record at the front of the data, whose words are in this order. Bytes may follow it.
+    /// The record at the front of the data, with words in this byte order. Bytes may follow it.
     ///
-    /// An error says why no record stands there: `InvalidTypeInfo` where the data ends before the record does,
-    /// and `InvalidTypeKind` where there is no such kind. The third word of FWD and ARRAY is dropped, a linkage of VAR
+    /// Fails if there is no record at the front: with `InvalidTypeInfo` if the data ends before the record does, and
+    /// with `InvalidTypeKind` if there is no such kind. The third word of FWD and ARRAY is dropped, a linkage of VAR
     /// above 2 is read as Unknown, and a record of kind 0 is Unknown whatever its other words are.
     pub fn read(alloc: Global, data: &[u8], endianness: Endianness) -> Result<BtfType, BtfError>
         ensures front { MeetsOrNoMemory record_of result
@@ -135,7 +135,7 @@ impl BtfType {
     }
 
     /// Reads the record at the front of the data as `read` does, and adds it to types. Returns its length in bytes. An
-    /// error leaves the types as they were.
+    /// error leaves the types unchanged.
     pub fn read_onto(
         types: &mut Vec<BtfType>,
         data: &[u8],
@@ -148,12 +148,12 @@ impl BtfType {
         read_to(types, alloc, data, endianness)
     }
 
-    /// Writes the record at the end of bytes, in this order. Only memory can be wanting, and then some of the
-    /// record's words may stand at the end.
+    /// Appends the record to bytes, in this byte order. Fails only if an allocation fails, and then some of the
+    /// record's words may already be appended.
     pub fn append_to(&self, out: &mut Vec<u8>, order: Endianness) -> Result<(), AllocError>
         ensures written { OnOk result (out.new.items ≡ out.old.items
             ++ spell order (record_of self.now)) }
-        // What is written is read as the record.
+        // The written bytes are read as the record.
         ensures whole { OnOk result (IsWhole (record_of self.now)) }
     {
         match self {
@@ -212,11 +212,11 @@ impl BtfType {
         }
     }
 
-    /// The bytes of the record, in this order. `OutOfMemory` is the only error.
+    /// The bytes of the record, in this byte order. `OutOfMemory` is the only error.
     pub fn to_bytes(&self, alloc: Global, endianness: Endianness) -> Result<Vec<u8>, BtfError>
         ensures written { IsOrNoMemory (λ v. v.items) result
             (Ok (spell endianness (record_of self.now))) }
-        // What is written is read as the record.
+        // The written bytes are read as the record.
         ensures read_again { IfOk result
             (λ v. IsRecord endianness v.items (record_of self.now)) }
     {
@@ -305,8 +305,8 @@ fn put_tail<S: Slot>(
     }
 }
 
-/// Puts a record with a list, of this head, in a slot. Returns its length in bytes. Its list is on the call stack until
-/// then, which takes a call of its own, as a function clears all that it has there when it is called.
+/// Puts a record with this head and a list in a slot. Returns its length in bytes. The list is on the call stack until
+/// then. This is a function of its own because a function clears its whole stack frame when it is called.
 fn put_with_list<S: Slot, R: WithList>(
     slot: &mut S,
     alloc: Global,
@@ -322,7 +322,7 @@ fn put_with_list<S: Slot, R: WithList>(
     put(slot, record.into_type())
 }
 
-/// Writes an ARRAY at the end of bytes, its third word as 0.
+/// Appends an ARRAY to bytes, with 0 as its third word.
 fn append_array(t: &Array, out: &mut Vec<u8>, endianness: Endianness) -> Result<(), AllocError>
     ensures written { OnOk result (out.new.items ≡ out.old.items
         ++ spell endianness t.now) }

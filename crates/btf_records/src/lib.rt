@@ -1,4 +1,4 @@
-//! Records of all kinds, and how they are read from bytes and written.
+//! Records of all kinds: reading them from bytes, and writing them.
 #![tactic(auto)]
 
 mod btf_type;

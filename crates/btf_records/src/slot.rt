@@ -1,4 +1,4 @@
-//! Where a record is put as it is read, so that it is not moved from place to place.
+//! The place in which a reader stores a record. It avoids moves of the record from one place to another.
 
 ghost use Rattle.std.specs.Prelude.{◌≡◌, ◌+◌, ◌*◌, length, OnOk, OnErr, IfOk, IfErr};
 ghost use Rattle.btf_records.specs.BtfType.{record_of};
@@ -12,10 +12,10 @@ pub trait Slot {
     ghost use Rattle.std.specs.Prelude.{OnOk, OnErr};
     ghost use Rattle.btf_records.specs.declared.btf_type.BtfType.{BtfType};
 
-    /// What the slot is after a record was put there.
+    /// The state of the slot after a record was put there.
     ghost has_put: { Self → BtfType → Self → Type 0 };
 
-    /// What the slot is after an allocation failed, so that no record was put there.
+    /// The state of the slot after an allocation failed and no record was put there.
     ghost has_kept: { Self → Self → Type 0 };
 
     /// Puts a record there.
@@ -24,7 +24,7 @@ pub trait Slot {
         ensures kept { OnErr result (has_kept self.old self.new) };
 }
 
-/// The end of a vector, which grows.
+/// The end of a growing vector.
 impl Slot for Vec<BtfType> {
     ghost use Rattle.std.specs.Prelude.{◌≡◌, ◌∷◌, [], ◌++◌};
 
@@ -61,7 +61,7 @@ impl Slot for One {
     }
 }
 
-/// Puts a record in a slot. Its length in bytes is returned.
+/// Puts a record in a slot, and returns its length in bytes.
 #[inline(always)]
 pub fn put<S: Slot>(slot: &mut S, btf_type: BtfType) -> Result<usize, BtfError>
     ensures put { OnOk result (S.has_put slot.old btf_type slot.new) }

@@ -7,7 +7,7 @@ ghost use Rattle.btf_model.specs.Record.{kind_of};
 use btf_words::BtfKind;
 use std::marker::Model;
 
-/// A constant type (the kernel's documentation, "BTF_KIND_CONST"). Contracts see it as the record of its words.
+/// A constant type (the kernel's documentation, "BTF_KIND_CONST"). In contracts it is the record of its words.
 #[derive(Clone, Debug, Drop)]
 pub struct Const {
     name_offset: u32,

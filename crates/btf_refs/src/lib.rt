@@ -1,4 +1,4 @@
-//! The records that name one other type and have nothing beside it: PTR, TYPEDEF, VOLATILE, CONST, RESTRICT, TYPE_TAG.
+//! The records that refer to one other type and have no other data: PTR, TYPEDEF, VOLATILE, CONST, RESTRICT, TYPE_TAG.
 #![tactic(auto)]
 
 mod constant;

@@ -7,7 +7,7 @@ ghost use Rattle.btf_model.specs.Record.{kind_of};
 use btf_words::BtfKind;
 use std::marker::Model;
 
-/// A pointer (the kernel's documentation, "BTF_KIND_PTR"). Contracts see it as the record of its words.
+/// A pointer (the kernel's documentation, "BTF_KIND_PTR"). In contracts it is the record of its words.
 #[derive(Clone, Debug, Drop)]
 pub struct Ptr {
     name_offset: u32,

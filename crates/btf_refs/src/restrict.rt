@@ -7,7 +7,7 @@ ghost use Rattle.btf_model.specs.Record.{kind_of};
 use btf_words::BtfKind;
 use std::marker::Model;
 
-/// A restricted pointer (the kernel's documentation, "BTF_KIND_RESTRICT"). Contracts see it as the record of its words.
+/// A restricted pointer (the kernel's documentation, "BTF_KIND_RESTRICT"). In contracts it is the record of its words.
 #[derive(Clone, Debug, Drop)]
 pub struct Restrict {
     name_offset: u32,

@@ -7,7 +7,7 @@ ghost use Rattle.btf_model.specs.Record.{kind_of};
 use btf_words::BtfKind;
 use std::marker::Model;
 
-/// A tag of a type (the kernel's documentation, "BTF_KIND_TYPE_TAG"). Contracts see it as the record of its words.
+/// A tag of a type (the kernel's documentation, "BTF_KIND_TYPE_TAG"). In contracts it is the record of its words.
 #[derive(Clone, Debug, Drop)]
 pub struct TypeTag {
     name_offset: u32,

@@ -7,7 +7,7 @@ ghost use Rattle.btf_model.specs.Record.{kind_of};
 use btf_words::BtfKind;
 use std::marker::Model;
 
-/// A name for a type (the kernel's documentation, "BTF_KIND_TYPEDEF"). Contracts see it as the record of its words.
+/// A name for a type (the kernel's documentation, "BTF_KIND_TYPEDEF"). In contracts it is the record of its words.
 #[derive(Clone, Debug, Drop)]
 pub struct Typedef {
     name_offset: u32,

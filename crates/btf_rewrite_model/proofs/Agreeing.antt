@@ -1,4 +1,4 @@
--- What a rewrite asks for, appends and makes under other answers that agree on what was asked for.
+-- What a rewrite asks for, appends and makes under other answers that agree on the features that were asked for.
 use Rattle.std.proofs.Common.{◌≡◌, ℕ, zero, suc, ◌+◌, ◌<◌, ◌≤◌, max, Bool, true, false, ◌&&◌, ◌||◌, not, List, [], ◌∷◌, ◌++◌, length, map, Option, None, Some, Result, Ok, Err, refl, sym, ap, subst, ◌∙◌, arith, inl, inr}
 use Rattle.std.specs.Prelude.{if◌then◌else◌, ◌==◌}
 use Rattle.std.specs.List.{list_any, flat_map, sum_by}
@@ -65,7 +65,7 @@ agree_at p answers (suc n) id lt agree =
 
 -- ---- the filler
 
--- of one of size 0
+-- for a DATASEC of size 0
 unsized_alike : (u e z y : Bool) (size : Option ℕ) → (u ≡ true → e ≡ true → is_positive size ≡ true → y ≡ z) → (u && e && is_zero_or (not y) size) ≡ (u && e && is_zero_or (not z) size)
 unsized_alike false e z y size same = refl
 unsized_alike true false z y size same = refl
@@ -73,13 +73,13 @@ unsized_alike true true z y None same = refl
 unsized_alike true true z y (Some size) same =
     elim (size == 0) as (λ (b : Bool). (not b ≡ true → y ≡ z) → (b || not y) ≡ (b || not z)) [ true ↦ λ is. refl | false ↦ λ is. ap not (is refl) ] (same refl refl)
 
--- of one that has a size
+-- for a DATASEC that has a size
 sized_alike : (s w z y : Bool) → (s ≡ true → w ≡ true → y ≡ z) → (s && w && not y) ≡ (s && w && not z)
 sized_alike false w z y same = refl
 sized_alike true false z y same = refl
 sized_alike true true z y same = ap not (same refl refl)
 
--- of both, where either is a DATASEC
+-- for both, if one of them is a DATASEC
 filler_alike : (d g s t u v : Bool) → (s ≡ true → g ≡ d) → (t ≡ true → g ≡ d) → (u ≡ true → g ≡ d) → (v ≡ true → g ≡ d) → (d ≡ true → s ≡ t) → (d ≡ true → u ≡ v) → (g && (s || u)) ≡ (d && (t || v))
 filler_alike true true s t u v is_s is_t is_u is_v same_s same_u = ap (λ (b : Bool). b || u) (same_s refl) ∙ ap (λ (b : Bool). t || b) (same_u refl)
 filler_alike true false s true u v is_s is_t is_u is_v same_s same_u = absurd (false≢true (is_t refl))
@@ -102,7 +102,7 @@ pub second_among : (c : Bool) → c ≡ true → IsAmong features.DataSecZero (i
 second_among true is = refl
 second_among false is = absurd (false≢true is)
 
--- the name of a section is read, and the new one has room
+-- the name of a section can be read, and the new name fits
 abbrev pub IsNamed : Pass → ℕ → Type 0
 IsNamed p id = first_fault (name_checks p id) ≡ None
 
@@ -243,7 +243,7 @@ asks_same p answers id k kind agree offset = refl
 
 -- ---- what records become
 
--- what a rule reads beside the record itself
+-- what a rule reads besides the record itself
 record Same (p : Pass) (answers : List FeatureAnswer) (id : ℕ) : Type 0 where
   agree : AgreeAt p answers id
   offset : offset_at (with_answers p answers) id ≡ offset_at p id
@@ -345,7 +345,7 @@ makes_same p answers id fillers = is_least_alike (gets_filler (with_answers p an
 free_same : (p : Pass) (answers : List FeatureAnswer) (id : ℕ) → IsSameBelow p answers id → free_id (with_answers p answers) id ≡ free_id p id
 free_same p answers id below = ap (λ (rs : List Record). length p.table.records + length rs) below.added
 
--- the id that the least one made, where all up to this one are alike
+-- the id that the least one made, if all ids up to this one are alike
 made_same : (p : Pass) (answers : List FeatureAnswer) (id : ℕ) (test other : ℕ → Bool) → ((j : ℕ) → j ≤ id → test j ≡ other j) → ((j : ℕ) → j ≤ id → IsSameBelow p answers j)
     → free_id (with_answers p answers) (least test id) ≡ free_id p (least other id)
 made_same p answers id test other alike below =
@@ -406,7 +406,7 @@ same_asked p answers id agree ruled =
 
 -- ---- refusals
 
--- tests of which the first part is alike, and the second where the first is passed
+-- two lists of tests whose first parts are equal, and whose second parts are equal if the first part passes
 both_parts : (before after other : List Check) → (first_fault before ≡ None → first_fault after ≡ first_fault other) → first_fault (before ++ after) ≡ first_fault (before ++ other)
 both_parts [] after other same = same refl
 both_parts (None ∷ before) after other same = both_parts before after other same

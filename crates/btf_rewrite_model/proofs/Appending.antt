@@ -1,4 +1,4 @@
--- Texts and records that are appended one after another, and the room that they have.
+-- Texts and records that are appended one after another, and whether they fit.
 use Rattle.std.proofs.Common.{◌≡◌, ℕ, suc, ◌+◌, Bool, true, false, List, [], ◌∷◌, ◌++◌, length, refl, sym, ap, ◌∙◌, arith}
 use Rattle.std.specs.Prelude.{if◌then◌else◌}
 use Rattle.std.specs.List.{flat_map, sum_by}
@@ -14,7 +14,7 @@ use Rattle.btf_rewrite_model.specs.Rewritten.{ended}
 
 -- ---- texts
 
--- the bytes that texts are, with their zero bytes
+-- the bytes of texts with their zero bytes
 pub ended_len : (ts : List (List ℕ)) → length (flat_map ended ts) ≡ texts_len ts
 ended_len [] = refl
 ended_len (t ∷ ts) =
@@ -23,7 +23,7 @@ ended_len (t ∷ ts) =
 pub texts_len_append : (ts us : List (List ℕ)) → texts_len (ts ++ us) ≡ texts_len ts + texts_len us
 texts_len_append ts us = sum_by-append (λ (text : List ℕ). length text + 1) ts us
 
--- the room of texts after others is that after their bytes
+-- whether texts fit after others depends only on the number of bytes of the others
 pub room_append : (offset : ℕ) (ts us : List (List ℕ)) → have_room offset (ts ++ us) ≡ have_room offset ts ++ have_room (offset + texts_len ts) us
 room_append offset [] us =
     let none : offset ≡ offset + 0 = omega arith in
@@ -66,7 +66,7 @@ param_texts_next k (q ∷ ps) p =
     ap (λ ts. here ++ ts) (param_texts_next (k + 1) ps p ∙ ap (λ (n : ℕ). param_texts (k + 1) (flat_map param_words ps) ++ (if wants p then param_text n ∷ [] else [])) behind)
     ∙ sym (append_assoc here (param_texts (k + 1) (flat_map param_words ps)) (if wants p then param_text (k + suc (length ps)) ∷ [] else []))
 
--- the words of one more parameter, which is named after the texts of those before
+-- the words of one more parameter, whose new name is after the texts of the parameters before it
 pub named_params_next : (k offset : ℕ) (ps : List Param) (p : Param)
     → named_params k offset (flat_map param_words (ps ++ p ∷ [])) ≡ named_params k offset (flat_map param_words ps) ++ (if wants p then offset + texts_len (param_texts k (flat_map param_words ps)) else p.name) ∷ p.type ∷ []
 named_params_next k offset [] p =

@@ -1,4 +1,4 @@
--- What a record asks for is among what it needs.
+-- A record asks only for features that it needs.
 use Rattle.std.proofs.Common.{◌≡◌, ℕ, Bool, true, false, ◌&&◌, ◌||◌, not, List, [], ◌∷◌, Option, Some, Result, Ok, Err, refl}
 use Rattle.std.specs.Prelude.{if◌then◌else◌, ◌==◌}
 use Rattle.std.proofs.lemmas.Bool.{false≢true}
@@ -13,11 +13,11 @@ use Rattle.btf_rewrite_model.specs.Checks.{first_fault, have_room}
 use Rattle.std.specs.Option.{is_none}
 use Rattle.btf_rewrite_model.specs.RewriteLaws.{IsAmong}
 
--- one is among two
+-- one feature is among two
 first_of_two : (f a b : BtfFeature) → IsAmong f (a ∷ []) → IsAmong f (a ∷ b ∷ [])
 first_of_two f a b is = elim (same_feature f a) as (λ (t : Bool). (t || false) ≡ true → (t || (same_feature f b || false)) ≡ true) [ true ↦ λ h. refl | false ↦ λ h. absurd (false≢true h) ] is
 
--- a second that is asked for on more tests than it is needed
+-- a second feature that is asked for under more conditions than it is needed
 fewer_tests : (f a b : BtfFeature) (h g n : Bool) → IsAmong f (if h && g && n then a ∷ b ∷ [] else a ∷ []) → IsAmong f (if g then a ∷ b ∷ [] else a ∷ [])
 fewer_tests f a b true true true is = is
 fewer_tests f a b true true false is = first_of_two f a b is
@@ -29,7 +29,7 @@ func_needed : (p : Pass) (f : BtfFeature) (r : Record) (name : Result (List ℕ)
 func_needed p f r (Ok name) is = fewer_tests f features.Func features.FuncGlobal (has p features.Func) (is_global r) (not (is_builtin name)) is
 func_needed p f r (Err refusal) is = absurd (false≢true is)
 
--- the second is needed without these, and asked for only on more tests
+-- the second feature is needed without these conditions, and asked for only under more of them
 among_more : (f a b : BtfFeature) (c : Bool) → IsAmong f (if c then a ∷ b ∷ [] else a ∷ []) → IsAmong f (a ∷ b ∷ [])
 among_more f a b true is = is
 among_more f a b false is = first_of_two f a b is

@@ -1,4 +1,4 @@
--- How many types a rewrite appends: what is made once counts once.
+-- The number of types that a rewrite appends: what is made once counts once.
 use Rattle.std.proofs.Common.{◌≡◌, ℕ, zero, suc, ◌+◌, ◌*◌, ◌≤◌, Bool, true, false, List, [], ◌∷◌, length, Option, None, Some, refl, ap, ◌∙◌, arith}
 use Rattle.std.specs.Prelude.{if◌then◌else◌}
 use Rattle.std.proofs.lemmas.List.{length-append}
@@ -20,7 +20,7 @@ use Rattle.btf_rewrite_model.proofs.Ruled.{length-ruled}
 
 -- ---- what is made once
 
--- 1 where this id is the least that passes the test
+-- 1 if this id is the least that passes the test, else 0
 abbrev once : (ℕ → Bool) → ℕ → ℕ
 once test n = if is_least test n then 1 else 0
 
@@ -32,7 +32,7 @@ seen (Some made) = 1
 abbrev itself : ℕ → ℕ
 itself k = k
 
--- What is made below n counts at most once, and so it does below the next.
+-- If what is made below n counts at most once, the same holds below n + 1.
 record NextSeen (test : ℕ → Bool) (n : ℕ) (m : Option ℕ) : Type 0 where
   made : Option ℕ
   below : MadeBelow test itself (suc n) made

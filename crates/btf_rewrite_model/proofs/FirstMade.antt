@@ -1,4 +1,4 @@
--- What a pass makes once, by the least id that wants it: the member_type of ENUM64s, and the filler.
+-- What a pass makes once, at the least id that needs it: the member type of ENUM64s, and the filler.
 use Rattle.std.proofs.Common.{◌≡◌, ◌==◌, ℕ, zero, suc, ◌<◌, ◌≤◌, Bool, true, false, not, ◌&&◌, List, Option, None, Some, refl, sym, ap, ◌∙◌, arith, inl, inr}
 use Rattle.std.specs.Prelude.{if◌then◌else◌}
 use Rattle.std.proofs.lemmas.Bool.{false≢true, eqb-true, eq-eqb, cases_order, false_from_ne_true}
@@ -46,7 +46,7 @@ least_of_first test k (suc n) first le =
 pub none_below_zero : (test : ℕ → Bool) (number : ℕ → ℕ) → MadeBelow test number 0 None
 none_below_zero test number j lt = absurd (omega (arith, lt))
 
--- where nothing is made yet, the next that passes makes it
+-- if nothing is made yet, the next id that passes the test makes it
 pub makes_first : (test : ℕ → Bool) (number : ℕ → ℕ) (n : ℕ) → MadeBelow test number n None → is_least test n ≡ test n
 makes_first test number n none =
     ap (λ (m : ℕ). test n && (m == n)) (least_of_none test n none) ∙ ap (λ (b : Bool). test n && b) (eq-eqb n n refl) ∙ and_true (test n)
@@ -65,7 +65,7 @@ none_next test number n none fails j lt =
       | inr other ↦ elim other as (λ c. test j ≡ false) [ inl less ↦ none j less | inr more ↦ absurd (omega (arith, lt, more)) ]
     ]
 
--- where it is made, no later one makes it, and it stays
+-- after it is made, no later id makes it, and its number does not change
 pub makes_no_second : (test : ℕ → Bool) (number : ℕ → ℕ) (n made : ℕ) → MadeBelow test number n (Some made) → is_least test n ≡ false
 makes_no_second test number n made m =
     let k : ℕ = m.0 in
@@ -80,11 +80,11 @@ makes_no_second test number n made m =
 pub made_next : (test : ℕ → Bool) (number : ℕ → ℕ) (n made : ℕ) → MadeBelow test number n (Some made) → MadeBelow test number (suc n) (Some made)
 made_next test number n made m = (m.0, omega (arith, m.1), m.2, m.3)
 
--- the number that it has, for all that come up to n
+-- its number, for all ids up to n
 pub made_is : (test : ℕ → Bool) (number : ℕ → ℕ) (n made : ℕ) → MadeBelow test number n (Some made) → number (least test n) ≡ made
 made_is test number n made m = ap number (least_of_first test m.0 n m.2 (omega (arith, m.1))) ∙ sym m.3
 
--- where tests and numbers are alike below n
+-- if tests and numbers are equal below n
 pub made_alike : (test other : ℕ → Bool) (number others : ℕ → ℕ) (n : ℕ) (made : Option ℕ) → ((j : ℕ) → j < n → other j ≡ test j) → ((j : ℕ) → j < n → others j ≡ number j) → MadeBelow test number n made → MadeBelow other others n made
 made_alike test other number others n None alike same none = λ j lt. alike j lt ∙ none j lt
 made_alike test other number others n (Some made) alike same m =
@@ -96,10 +96,10 @@ enum64_alike : (p : Pass) (answers : List FeatureAnswer) (id : ℕ) (k : Option 
 enum64_alike p answers id (Some kinds.Enum64) kind agree = ap not (agree_of p answers id (Some kinds.Enum64) features.Enum64 agree kind refl)
 enum64_alike p answers id k kind agree = refl
 
--- The ids below that want a member_type are the same.
+-- The lower ids that need the member type are the same.
 pub member_type_alike : (p : Pass) (answers : List FeatureAnswer) (n : ℕ) → Agree p answers n → (j : ℕ) → j < n → wants_member_type (with_answers p answers) j ≡ wants_member_type p j
 member_type_alike p answers n agree j lt = enum64_alike p answers j (kind_at p.table j) refl (agree_at p answers n j lt agree)
 
--- So are those that get a filler.
+-- So are the lower ids that get the filler.
 pub filler_alike_below : (p : Pass) (answers : List FeatureAnswer) (n : ℕ) → Agree p answers n → AreRuled p n → (j : ℕ) → j < n → gets_filler (with_answers p answers) j ≡ gets_filler p j
 filler_alike_below p answers n agree ruled j lt = filler_same p answers j (agree_at p answers n j lt agree) (named_of_ruled p j (ruled j lt))

@@ -1,4 +1,4 @@
--- What the kernel needs for a rewritten record was granted.
+-- The features that the kernel needs for a rewritten record were granted.
 use Rattle.std.proofs.Common.{◌≡◌, ℕ, ◌+◌, ◌*◌, ◌^◌, ◌<◌, Bool, true, false, ◌&&◌, ◌||◌, not, List, [], ◌∷◌, ◌++◌, map, take, Option, None, Some, Result, Ok, Err, refl, sym, ap, subst, ◌∙◌, arith, inl, inr}
 use Rattle.std.specs.Prelude.{max, if◌then◌else◌, ◌==◌, slice_get}
 use Rattle.std.specs.Option.{unwrap_or}
@@ -35,14 +35,14 @@ grants_alike : (answers : List FeatureAnswer) (f g : BtfFeature) → number f �
 grants_alike [] f g same = refl
 grants_alike (answer ∷ answers) f g same = ap (λ (n : ℕ). if number answer.feature == n then answer.granted else grants answers f) same ∙ ap (λ (b : Bool). if same_feature answer.feature g then answer.granted else b) (grants_alike answers f g same)
 
--- the one feature that is needed is granted
+-- the only feature that is needed is granted
 alone : (f g : BtfFeature) → IsAmong f (g ∷ []) → number f ≡ number g
 alone f g is = elim (or_cases (same_feature f g) false is) as (λ c. number f ≡ number g) [ inl same ↦ eqb-true (number f) (number g) same | inr never ↦ absurd (false≢true never) ]
 
 pub one_granted : (p : Pass) (f g : BtfFeature) → has p g ≡ true → IsAmong f (g ∷ []) → has p f ≡ true
 one_granted p f g granted is = grants_alike p.answers f g (alone f g is) ∙ granted
 
--- or each of two
+-- each of two features that are needed is granted
 two_granted : (p : Pass) (f g h : BtfFeature) → has p g ≡ true → has p h ≡ true → IsAmong f (g ∷ h ∷ []) → has p f ≡ true
 two_granted p f g h granted granted_too is =
     elim (or_cases (same_feature f g) (same_feature f h || false) is) as (λ c. has p f ≡ true)
@@ -54,7 +54,7 @@ two_granted p f g h granted granted_too is =
 abbrev Needs : Bool → BtfFeature → Record → Type 0
 Needs is_exempt f r = IsAmong f (needs_by is_exempt (kind_of r.info) r)
 
--- a record that is made or kept, by a test
+-- a record that is made or retained, depending on a test
 either : (P : Record → Type 0) (C : Type 0) (b : Bool) (x y : Record) → (b ≡ true → P x → C) → (b ≡ false → P y → C) → P (if b then x else y) → C
 either P C true x y f g h = f refl h
 either P C false x y f g h = g refl h
@@ -63,11 +63,11 @@ either P C false x y f g h = g refl h
 of_kind : (is_exempt : Bool) (f : BtfFeature) (r : Record) (k : Option Kind) → kind_of r.info ≡ k → Needs is_exempt f r → IsAmong f (needs_by is_exempt k r)
 of_kind is_exempt f r k kind is = subst (λ (j : Option Kind). IsAmong f (needs_by is_exempt j r)) kind is
 
--- none of no features
+-- if no features are needed
 none : {C : Type 0} (f : BtfFeature) → IsAmong f [] → C
 none f is = absurd (false≢true is)
 
--- a sign that stays is granted
+-- if a sign is retained, its feature is granted
 sign_granted : (f g : BtfFeature) (s h : Bool) → (s && not h) ≡ false → IsAmong f (if s then g ∷ [] else []) → (h ≡ true) × IsAmong f (g ∷ [])
 sign_granted f g true true stays is = (refl, is)
 sign_granted f g true false stays is = absurd (false≢true (sym stays))
@@ -104,7 +104,7 @@ static_needs is_exempt f r kind is =
     let same : kind_of (with_linkage 0 r).info ≡ Some kinds.Func = ap (λ (m : ℕ). slice_get (take 20 kinds.kinds) m) (static_number r.info) ∙ kind in
     subst (λ (n : ℕ). IsAmong f (if n == 1 then features.Func ∷ features.FuncGlobal ∷ [] else features.Func ∷ [])) (static_vlen r.info) (of_kind is_exempt f (with_linkage 0 r) (Some kinds.Func) same is)
 
--- a Global function that stays is granted
+-- if a Global function is retained, its features are granted
 global_granted : (p : Pass) (f : BtfFeature) (g b h : Bool) → has p features.Func ≡ true → has p features.FuncGlobal ≡ h → (g && (b || not h)) ≡ false
     → IsAmong f (if g then features.Func ∷ features.FuncGlobal ∷ [] else features.Func ∷ []) → has p f ≡ true
 global_granted p f true true h granted is_h stays is = absurd (false≢true (sym stays))
@@ -152,7 +152,7 @@ union_needs_none is_exempt f name size count words small is =
 made_vlen : (count : ℕ) → count < 2 ^ 16 → vlen (15 * 2 ^ 24 + count) ≡ count
 made_vlen count small = omega arith
 
--- a DATASEC that has entries, or is exempt, needs the one feature
+-- a DATASEC that has entries, or is exempt, needs only DataSec
 section_needs : (f : BtfFeature) (e x : Bool) → (e && not x) ≡ false → IsAmong f (if e && not x then features.DataSec ∷ features.DataSecZero ∷ [] else features.DataSec ∷ []) → IsAmong f (features.DataSec ∷ [])
 section_needs f e x one is = subst (λ (b : Bool). IsAmong f (if b then features.DataSec ∷ features.DataSecZero ∷ [] else features.DataSec ∷ [])) one is
 
@@ -160,7 +160,8 @@ or_true : (b : Bool) → (b || true) ≡ true
 or_true true = refl
 or_true false = refl
 
--- where the size of its section is known, one that gets no filler has entries, or its kernel takes it without
+-- if the size of its section is known, a DATASEC that gets no filler has entries, or the kernel accepts it without
+-- entries
 unfilled : (d s u e h : Bool) (size : ℕ) → d ≡ true → u ≡ true → (d && (s || (u && e && is_zero_or (not h) (Some size)))) ≡ false → (e && not h) ≡ false
 unfilled false s u e h size is_d is_u no_filler = absurd (false≢true is_d)
 unfilled true s false e h size is_d is_u no_filler = absurd (false≢true is_u)
@@ -169,7 +170,7 @@ unfilled true false true true true size is_d is_u no_filler = refl
 unfilled true false true true false size is_d is_u no_filler = absurd (false≢true (sym no_filler ∙ or_true (size == 0)))
 unfilled true false true false h size is_d is_u no_filler = refl
 
--- where one that has a size gets no filler, it has entries, or is exempt, or its kernel takes it without
+-- a DATASEC that has a size and gets no filler has entries, or is exempt, or the kernel accepts it without entries
 unfilled_sized : (p : Pass) (f : BtfFeature) (d s e z h u : Bool) → has p features.DataSec ≡ true → has p features.DataSecZero ≡ h → d ≡ true → z ≡ false
     → (d && ((s && (e && not z) && not h) || u)) ≡ false
     → IsAmong f (if e && not (not s && (e && not z)) then features.DataSec ∷ features.DataSecZero ∷ [] else features.DataSec ∷ []) → has p f ≡ true
@@ -187,7 +188,7 @@ zero_granted p f true false true granted is_h known is = two_granted p f feature
 zero_granted p f true false false granted is_h known is = absurd (false≢true (sym known))
 zero_granted p f false x h granted is_h known is = one_granted p f features.DataSec granted is
 
--- ---- tests that are passed
+-- ---- tests that pass
 
 pub passed_head : (check : Check) (checks : List Check) → first_fault (check ∷ checks) ≡ None → check ≡ None
 passed_head None checks passed = refl
@@ -207,7 +208,7 @@ passed_right [] after passed = passed
 passed_right (None ∷ before) after passed = passed_right before after passed
 passed_right (Some refusal ∷ before) after passed = absurd (none-some refusal (sym passed))
 
--- a section whose name is read and whose size is given is of a known size
+-- a section whose name is read and whose size test passes has a known size
 size_known : (size : Option ℕ) (name : Result (List ℕ) Refusal) → is_read name ≡ None → is_sized size name ≡ None → (n : ℕ) × (size ≡ Some n)
 size_known (Some n) name read sized = (n, refl)
 size_known None (Ok name) read sized = absurd (none-some (UnknownSectionSize name) (sym sized))
@@ -215,7 +216,7 @@ size_known None (Err refusal) read sized = absurd (none-some refusal (sym read))
 
 -- ---- a DATASEC
 
--- the tests of one that is completed
+-- the tests of a DATASEC that is completed
 module _ (p : Pass) (id : ℕ) (unsized : Bool) (others : List Check) (granted : has p features.DataSec ≡ true) where
   completing : unsized ≡ true → first_fault (name_checks p id ++ (if has p features.DataSec then (if unsized then completing_checks p id (record_at p.table id) else filling_checks p id) else others)) ≡ None
       → (n : ℕ) × (section_size p id ≡ Some n)
@@ -226,12 +227,12 @@ module _ (p : Pass) (id : ℕ) (unsized : Bool) (others : List Check) (granted :
       (subst (λ (b : Bool). first_fault (if b then (if unsized then completing_checks p id (record_at p.table id) else filling_checks p id) else others) ≡ None) granted rest) in
       size_known (section_size p id) (name_of p id) (passed_head _ _ (passed_left (name_checks p id) _ passed)) (passed_head _ _ inner)
 
--- one that gets the filler has an entry
+-- a DATASEC that gets the filler has an entry
 filled_granted : (p : Pass) (is_exempt : Bool) (f : BtfFeature) (id size : ℕ) (r : Record) → has p features.DataSec ≡ true → Needs is_exempt f (filled p id size r) → has p f ≡ true
 filled_granted p is_exempt f id size r granted is =
     one_granted p f features.DataSec granted (of_kind is_exempt f (filled p id size r) (Some kinds.DataSec) (kind_made 15 1 kinds.DataSec (omega arith) (omega arith) refl) is)
 
--- one that is completed: the entry of the filler, or entries of its own, or none where that was granted
+-- a completed DATASEC has the filler as its entry, or entries of its own, or none if this was granted
 
 laid_granted : (p : Pass) (is_exempt : Bool) (f : BtfFeature) (name size count : ℕ) (es : List Entry) → has p features.DataSec ≡ true → count < 2 ^ 16
     → ((count == 0) && not (has p features.DataSecZero)) ≡ false → Needs is_exempt f (data_sec name size count es) → has p f ≡ true
@@ -256,7 +257,7 @@ completed_granted p id is_exempt f size kind granted unsized known is =
 abbrev exempt : Pass → Record → Bool
 exempt p r = not (fills_sized p.policy) && (has_no_entries r && not (r.third == 0))
 
--- one that has a size: the entry of the filler, or as it was
+-- a DATASEC that has a size has the filler as its entry, or is unchanged
 sized_granted : (p : Pass) (id : ℕ) (f : BtfFeature) → kind_at p.table id ≡ Some kinds.DataSec → has p features.DataSec ≡ true → ((record_at p.table id).third == 0) ≡ false
     → Needs (exempt p (record_at p.table id)) f (sized p id (record_at p.table id)) → has p f ≡ true
 sized_granted p id f kind granted is_sized is =
@@ -290,7 +291,7 @@ section_granted p id f words kind passed is =
 abbrev none_exempt : Pass → Bool
 none_exempt p = not (fills_sized p.policy) && false
 
--- What the kernel needs for the new record of an id was granted, where the id is not refused.
+-- The features that the kernel needs for the new record of an id were granted, if the id is not refused.
 granted_by : (p : Pass) (lower : List Record) (id : ℕ) (f : BtfFeature) (k : Option Kind) → kind_at p.table id ≡ k → first_fault (checks_by p id k (record_at p.table id)) ≡ None
     → Needs (not (fills_sized p.policy) && is_sized_and_empty k (record_at p.table id)) f (becomes_by p lower id k (record_at p.table id)) → has p f ≡ true
 granted_by p lower id f (Some kinds.Var) kind passed is =

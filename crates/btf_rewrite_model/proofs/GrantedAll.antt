@@ -1,4 +1,4 @@
--- The features that a rewritten table needs were granted, those of appended records too.
+-- The features that a rewritten table needs were granted, including the features of appended records.
 use Rattle.std.proofs.Common.{◌≡◌, ℕ, zero, suc, ◌+◌, ◌<◌, Bool, true, false, ◌&&◌, List, [], ◌∷◌, ◌++◌, length, map, Option, None, Some, refl, sym, ap, subst, ◌∙◌, arith, inl, inr}
 use Rattle.std.specs.Prelude.{◌⊎◌, slice_get, if◌then◌else◌}
 use Rattle.std.specs.List.{AllByRecursion}
@@ -23,7 +23,7 @@ use Rattle.btf_rewrite_model.proofs.Ruled.{length-ruled, ruled_at}
 use Rattle.btf_rewrite_model.proofs.Granted.{one_granted, new_granted}
 use Rattle.btf_rewrite_model.proofs.GrantedOnce.{AreOnce, each_is_once, granted_once}
 
--- what the kernel needs for a record that is appended was granted
+-- the features that the kernel needs for an appended record were granted
 abbrev AddedGranted : Pass → Record → Type 0
 AddedGranted p r = (before : Record) (f : BtfFeature) → IsAmong f (needs p.policy before r) → has p f ≡ true
 
@@ -33,7 +33,7 @@ nothing_needed p name before f is = absurd (false≢true is)
 var_granted : (p : Pass) (name type : ℕ) → has p features.DataSec ≡ true → AddedGranted p (static_var name type)
 var_granted p name type granted before f is = one_granted p f features.DataSec granted is
 
--- a filler is made where sections are granted
+-- the filler is made only if DataSec is granted
 made_granted : (d x l : Bool) → ((d && x) && l) ≡ true → d ≡ true
 made_granted true x l is = refl
 made_granted false x l is = is
@@ -63,7 +63,7 @@ each_of P [] i r all at = absurd (omega (arith, slice_get_within [] i r at))
 each_of P (q ∷ rs) zero r all at = subst P (same_Some q r at) all.0
 each_of P (q ∷ rs) (suc i) r all at = each_of P rs i r all.1 at
 
--- an element of two lists is of the first or of the second
+-- an element of two joined lists is in the first or in the second
 pub of_either : (rs more : List Record) (i : ℕ) (r : Record) → slice_get (rs ++ more) i ≡ Some r → ((i < length rs) × (slice_get rs i ≡ Some r)) ⊎ ((j : ℕ) × (slice_get more j ≡ Some r))
 of_either [] more i r at = inr (i, at)
 of_either (q ∷ rs) more zero r at = inl (omega arith, at)

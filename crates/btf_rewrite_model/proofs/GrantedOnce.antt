@@ -1,4 +1,4 @@
--- A feature of which the answers were asked for once each is granted once.
+-- If each feature is asked for at most once, a granted feature is granted exactly once.
 use Rattle.std.proofs.Common.{◌≡◌, Bool, true, false, not, cond, List, [], ◌∷◌, map, refl, sym, ap, ◌∙◌}
 use Rattle.std.specs.Prelude.{if◌then◌else◌}
 use Rattle.std.specs.List.{list_any, filter}
@@ -9,19 +9,19 @@ use Rattle.btf_rewrite_model.specs.declared.feature.FeatureAnswer.{FeatureAnswer
 use Rattle.btf_rewrite_model.specs.Pass.{each_once}
 use Rattle.btf_rewrite_model.specs.RewriteLaws.{IsGrantedOnce}
 
--- no feature stands twice
+-- no feature is in the list twice
 abbrev pub AreOnce : List BtfFeature → Type 0
 AreOnce [] = Unit {0}
 AreOnce (f ∷ fs) = (list_any (same_feature f) fs ≡ false) × AreOnce fs
 
--- what is left out of a list is not there
+-- what is filtered out of a list is not in it
 left_out : (f : BtfFeature) (fs : List BtfFeature) → list_any (same_feature f) (filter (λ g. not (same_feature f g)) fs) ≡ false
 left_out f [] = refl
 left_out f (g ∷ fs) =
     elim (same_feature f g) as (λ (b : Bool). b ≡ same_feature f g → list_any (same_feature f) (cond (not b) (g ∷ filter (λ h. not (same_feature f h)) fs) (filter (λ h. not (same_feature f h)) fs)) ≡ false)
     [ true ↦ λ is. left_out f fs | false ↦ λ is. or_from (same_feature f g) (list_any (same_feature f) (filter (λ h. not (same_feature f h)) fs)) (sym is) (left_out f fs) ] refl
 
--- nor is what was not there before
+-- nor is what was not in the list before
 not_there : (f : BtfFeature) (test : BtfFeature → Bool) (fs : List BtfFeature) → list_any (same_feature f) fs ≡ false → list_any (same_feature f) (filter test fs) ≡ false
 not_there f test [] absent = refl
 not_there f test (g ∷ fs) absent =
@@ -41,7 +41,7 @@ each_is_once (f ∷ fs) = (left_out f (each_once fs), filtered_once (λ g. not (
 
 -- ---- answers
 
--- no answer is for a feature, where another one is the same
+-- no answer is for this feature if none is for an equal feature
 no_answer : (f g : BtfFeature) (answers : List FeatureAnswer) → number f ≡ number g → list_any (same_feature f) (map (λ (answer : FeatureAnswer). answer.feature) answers) ≡ false
     → filter (λ (answer : FeatureAnswer). same_feature answer.feature g) answers ≡ []
 no_answer f g [] same absent = refl

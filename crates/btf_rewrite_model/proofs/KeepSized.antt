@@ -1,4 +1,4 @@
--- What a policy that keeps DATASECs which have a size leaves as it is.
+-- The policy KeepSized does not change DATASECs that have a size.
 use Rattle.std.proofs.Common.{◌≡◌, ◌≢◌, ℕ, ◌+◌, Bool, true, false, ◌&&◌, ◌||◌, not, List, [], ◌∷◌, ◌++◌, Option, Some, refl, ap, ◌∙◌}
 use Rattle.std.specs.Prelude.{◌==◌, if◌then◌else◌}
 use Rattle.std.specs.Option.{is_none, unwrap_or}

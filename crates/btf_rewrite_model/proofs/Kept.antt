@@ -1,4 +1,4 @@
--- What a rewrite keeps of sizes and of what modifiers lead to.
+-- A rewrite retains sizes of types, and the types that ids resolve to.
 use Rattle.std.proofs.Common.{◌≡◌, ◌≢◌, ℕ, zero, suc, ◌+◌, ◌*◌, ◌^◌, ◌<◌, max, Bool, true, false, ◌&&◌, not, List, [], ◌∷◌, length, map, Option, None, Some, Ok, Err, refl, sym, ap, ◌∙◌, arith, inl, inr}
 use Rattle.std.specs.Prelude.{if◌then◌else◌, ◌==◌, slice_get}
 use Rattle.std.specs.Option.{unwrap_or}
@@ -10,7 +10,7 @@ use Rattle.btf_model.specs.Record as kinds
 use Rattle.btf_model.specs.Record.{Kind, Record, unknown, kind_of, kind_number, vlen}
 use Rattle.btf_model.specs.Refusal.{Refusal, UnknownBtfType, MaximumTypeDepthReached}
 use Rattle.btf_model.specs.Table.{Table}
-use Rattle.btf_model.specs.Walk.{Extent, Finding, Ends, GoesOn, Leads, WalkAnswers, By, Elements, size_in, size_by, extent, modified, modified_type, behind_modifier, unmodified_in, Resolves, HasSize}
+use Rattle.btf_model.specs.Walk.{Extent, Finding, Ends, GoesOn, Leads, WalkAnswers, By, Elements, size_in, size_by, extent, modified, modified_type, after_modifier, unmodified_in, Resolves, HasSize}
 use Rattle.btf_rewrite_model.specs.declared.feature.BtfFeature.TheVariants as features
 use Rattle.btf_rewrite_model.specs.Feature.{is_signed}
 use Rattle.btf_rewrite_model.specs.declared.feature.FeatureAnswer.{FeatureAnswer}
@@ -28,14 +28,14 @@ use Rattle.btf_rewrite_model.proofs.Lengths.{by_both}
 use Rattle.btf_rewrite_model.proofs.Ruled.{new_at}
 use Rattle.btf_model.proofs.Walks.{ends_there, not_both, same_answer, same_next}
 
--- ---- what a rule keeps
+-- ---- what a rule retains
 
 pub unsigned_kind : (r : Record) → kind_of r.info ≡ Some kinds.Enum → kind_of (unsigned r).info ≡ Some kinds.Enum
 unsigned_kind r kind =
     let same : kind_number (unsigned r).info ≡ kind_number r.info = omega arith in
     ap (λ (m : ℕ). slice_get kinds.kinds m) same ∙ kind
 
--- by what a record of this kind says of its size
+-- the size that a record of this kind gives
 sized_as : (q : Record) (k : Kind) → kind_of q.info ≡ Some k → extent (kind_of q.info) q ≡ extent (Some k) q
 sized_as q k kind = ap (λ (j : Option Kind). extent j q) kind
 
@@ -56,7 +56,7 @@ keeps_extent p lower id (Some kinds.Enum64) r kind keeps =
     (sized_as made kinds.Union (kind_made 5 (vlen r.info) kinds.Union (omega arith) (vlen_small r.info) refl))
 keeps_extent p lower id k r kind keeps = ap (λ (j : Option Kind). extent j r) kind
 
--- by what a record of this kind modifies
+-- the type that a record of this kind modifies
 modified_as : (q : Record) (k : Kind) → kind_of q.info ≡ Some k → modified_type q ≡ modified (Some k) q
 modified_as q k kind = ap (λ (j : Option Kind). modified j q) kind
 
@@ -94,9 +94,9 @@ keeps_modified p lower id (Some kinds.FuncProto) r kind other =
 keeps_modified p lower id (Some kinds.DataSec) r kind other = section_unmodified p lower id r kind
 keeps_modified p lower id k r kind other = ap (λ (j : Option Kind). modified j r) kind
 
--- ---- what the step of `.ksyms` keeps
+-- ---- what the step of `.ksyms` retains
 
--- the kind, but of a FUNC, which keeps its kind too, and here is left out
+-- the kind of a record that is no FUNC; a FUNC also retains its kind, but is not needed here
 step_info : (t : Table) (ids : KsymsIds) (id : ℕ) (k : Option Kind) (r : Record) → k ≢ Some kinds.Func → (stepped t ids id k r).info ≡ r.info
 step_info t ids id (Some kinds.Func) r other = absurd (other refl)
 step_info t ids id (Some kinds.Var) r other = by_both (λ q. q.info ≡ r.info) _ _ r refl refl
@@ -165,7 +165,7 @@ leads_too : {P A : Type 0} (Finds Found : P → Finding P A → Type 0) → ((at
 leads_too Finds Found on zero start end leads = leads
 leads_too Finds Found on (suc n) start end leads = (leads.0, on start leads.0 leads.1, leads_too Finds Found on n leads.0 end leads.2)
 
--- a walk that ends well does so where more is found alike
+-- a walk that succeeds also succeeds if at least the same is found
 answers_too : {P A : Type 0} (Finds Found : P → Finding P A → Type 0) (start : P) (too_deep : P → Refusal) (answer : A) → ((at next : P) → Finds at (GoesOn next) → Found at (GoesOn next))
     → ((at : P) → ((n : ℕ) × (n < 32) × Leads Finds n start at) → Finds at (Ends (Ok answer)) → Found at (Ends (Ok answer))) → WalkAnswers Finds start too_deep (Ok answer) → WalkAnswers Found start too_deep (Ok answer)
 answers_too Finds Found start too_deep answer on ends (inl walk) = inl (walk.0, walk.1, walk.2, leads_too Finds Found on walk.0 start walk.1 walk.3, ends walk.1 (walk.0, walk.2, walk.3) walk.4)
@@ -205,7 +205,7 @@ module _ (policy : FillPolicy) (old new : Table) (ids : Option KsymsIds) (layout
 
   -- ---- sizes
 
-  -- where a walk for a size finds this, which is no refusal
+  -- if a walk for a size finds this, and it is no refusal
   size_found : (at : Elements) (found : Finding Elements ℕ) → (found ≡ Ends (Err (UnknownBtfType at.type)) → ⊥) → FindsKept old at found → size_in at (slice_get new.records at.type) ≡ found
   size_found at found known finds =
       elim (slice_get old.records at.type) as (λ (o : Option Record). slice_get old.records at.type ≡ o → size_in at o ≡ found → size_in at (slice_get new.records at.type) ≡ found) [
@@ -227,14 +227,14 @@ module _ (policy : FillPolicy) (old new : Table) (ids : Option KsymsIds) (layout
   modifier_is_no_func : (k : Option Kind) (r : Record) (next : ℕ) → modified k r ≡ Some next → k ≢ Some kinds.Func
   modifier_is_no_func k r next modifies is_func = none-some next (sym (ap (λ (j : Option Kind). modified j r) is_func) ∙ modifies)
 
-  goes_on_by : (id next : ℕ) (o : Option ℕ) → ◌≡◌ {A = Finding ℕ ℕ} (behind_modifier id o) (GoesOn next) → o ≡ Some next
+  goes_on_by : (id next : ℕ) (o : Option ℕ) → ◌≡◌ {A = Finding ℕ ℕ} (after_modifier id o) (GoesOn next) → o ≡ Some next
   goes_on_by id next (Some other) is_next = ap (λ (n : ℕ). Some n) (same_next other next is_next)
   goes_on_by id next None is_next = absurd (not_both (Ends (Ok id)) (Ok id) next refl is_next)
 
-  unmodified_found : (id : ℕ) (r : Record) (found : Finding ℕ ℕ) → slice_get old.records id ≡ Some r → kind_of r.info ≢ Some kinds.Func → behind_modifier id (modified_type r) ≡ found → unmodified_in id (slice_get new.records id) ≡ found
+  unmodified_found : (id : ℕ) (r : Record) (found : Finding ℕ ℕ) → slice_get old.records id ≡ Some r → kind_of r.info ≢ Some kinds.Func → after_modifier id (modified_type r) ≡ found → unmodified_in id (slice_get new.records id) ≡ found
   unmodified_found id r found here other there =
       let same = same_modified id r here other in
-      ap (λ (o : Option Record). unmodified_in id o) same.1 ∙ ap (λ (o : Option ℕ). behind_modifier id o) same.2 ∙ there
+      ap (λ (o : Option Record). unmodified_in id o) same.1 ∙ ap (λ (o : Option ℕ). after_modifier id o) same.2 ∙ there
 
   on_too : (id next : ℕ) → By (λ at. unmodified_in at (slice_get old.records at)) id (GoesOn next) → By (λ at. unmodified_in at (slice_get new.records at)) id (GoesOn next)
   on_too id next finds =

@@ -1,5 +1,5 @@
--- What is rewritten, or refused, under the answers to what was asked is so under the answers to all features that agree
--- with them.
+-- A rewrite has the same outcome under the answers to what was asked and under answers to all features that agree with
+-- these.
 use Rattle.std.proofs.Common.{◌≡◌, ℕ, zero, suc, ◌+◌, ◌<◌, ◌≤◌, List, [], ◌∷◌, ◌++◌, map, Option, None, Some, refl, sym, ap, ◌∙◌, arith, inl, inr}
 use Rattle.std.specs.Prelude.{if◌then◌else◌, ◌⊎◌}
 use Rattle.std.specs.List.{list_any, flat_map, range_with_len}
@@ -25,7 +25,7 @@ use Rattle.btf_rewrite_model.proofs.Agreeing.{AgreeAt, agree_at, agree_of, same_
 use Rattle.btf_rewrite_model.specs.Passing.{features_of}
 use Rattle.btf_rewrite_model.proofs.Passing.{among_each, asks_begin}
 
--- Other answers say of each feature that was asked for what it was answered.
+-- The other answers agree with these answers on each feature that was asked for.
 abbrev pub AgreeWith : List FeatureAnswer → List FeatureAnswer → Type 0
 AgreeWith answers all = (f : BtfFeature) → IsAmong f (features_of answers) → grants all f ≡ grants answers f
 
@@ -41,7 +41,7 @@ agree_up_to p all end id le agree f among =
     (ap (list_any (same_feature f)) more.1 ∙ list_any-append (same_feature f) (asks_below p id) more.0
     ∙ or_left (list_any (same_feature f) (asks_below p id)) (list_any (same_feature f) more.0) among)
 
--- ids that are not refused are not refused under the others
+-- ids that are not refused are not refused under the other answers
 ruled_so : (p : Pass) (all : List FeatureAnswer) (end : ℕ) → Agree p all end → AreRuled p end → AreRuled (with_answers p all) end
 ruled_so p all end agree ruled id lt =
     same_refused p all id (agree_up_to p all end (suc id) (omega (arith, lt)) agree) (λ low below. ruled low (omega (arith, below, lt))) ∙ ruled id lt
@@ -74,7 +74,7 @@ rewritten_so p all agree ruled =
     ∙ ap (λ (rs : List Record). record (rewritten p) { records = ruled_below p n ++ rs; fallbacks = map (falls_back q) (table_ids p.table) ++ no_fallbacks rs }) same.added
     ∙ ap (λ (fs : List (Option Fallback)). record (rewritten p) { fallbacks = fs ++ no_fallbacks (added_below p n) }) fallbacks
 
--- what is rewritten is rewritten so under the others
+-- a rewrite that succeeds makes the same table under the other answers
 pub rewritten_alike : (policy : FillPolicy) (old new : Table) (ids : Option KsymsIds) (layout : Layout) (answers all : List FeatureAnswer) → Rewritten policy old ids layout answers new → features_of answers ≡ Asked (pass_of policy old ids layout answers) → AgreeWith answers all
     → Rewritten policy old ids layout all new
 rewritten_alike policy old new ids layout answers all is asked agree =
@@ -82,7 +82,7 @@ rewritten_alike policy old new ids layout answers all is asked agree =
     let agree_all : Agree p all (old_count p) = agree_by p all (old_count p) asked agree in
     record { step = is.step; ruled = ruled_so p all (old_count p) agree_all is.ruled; table = is.table ∙ sym (rewritten_so p all agree_all is.ruled) }
 
--- what is refused is refused so under the others
+-- a rewrite that is refused is refused for the same reason under the other answers
 pub refused_alike : (policy : FillPolicy) (old : Table) (ids : Option KsymsIds) (layout : Layout) (answers all : List FeatureAnswer) (refusal : Refusal)
     → ((step_fault old ids ≡ Some refusal) × (answers ≡ []))
     ⊎ ((step_fault old ids ≡ None) × ((id : ℕ) × FaultsAt (pass_of policy old ids layout answers) id refusal × (features_of answers ≡ each_once (asks_below (pass_of policy old ids layout answers) (suc id)))))
@@ -97,7 +97,7 @@ refused_alike policy old ids layout answers all refusal (inr pass) agree =
 
 -- ---- one outcome
 
--- what is rewritten is not refused
+-- a rewrite that succeeds is not refused
 pub rewritten_not_refused : (policy : FillPolicy) (old new : Table) (ids : Option KsymsIds) (layout : Layout) (answers : List FeatureAnswer) (refusal : Refusal) → Rewritten policy old ids layout answers new → IsRefused policy old ids layout answers refusal → ⊥
 rewritten_not_refused policy old new ids layout answers refusal is (inl step) = none-some refusal (sym is.step ∙ step)
 rewritten_not_refused policy old new ids layout answers refusal is (inr pass) = none-some refusal (sym (is.ruled pass.1.0 pass.1.1.0) ∙ pass.1.1.2)

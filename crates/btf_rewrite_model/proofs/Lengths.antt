@@ -1,4 +1,4 @@
--- How long rewritten records are.
+-- The lengths of rewritten records.
 use Rattle.std.proofs.Common.{◌≡◌, ℕ, zero, suc, ◌+◌, ◌*◌, max, Bool, true, false, ◌&&◌, ◌||◌, not, List, [], ◌∷◌, length, map, length-append, Option, Some, Result, Ok, Err, refl, sym, ap, ◌∙◌, arith}
 use Rattle.std.specs.Prelude.{if◌then◌else◌, ◌==◌}
 use Rattle.std.specs.List.{flat_map}
@@ -46,7 +46,7 @@ members_len type (suc n) (a ∷ b ∷ c ∷ words) is = ap (λ (m : ℕ). suc (s
 
 -- ---- kinds
 
--- a record that is made or kept, by a test
+-- a record that is made or retained, depending on a test
 pub by_both : (P : Record → Type 0) (b : Bool) (x y : Record) → P x → P y → P (if b then x else y)
 by_both P true x y px py = px
 by_both P false x y px py = py
@@ -107,7 +107,7 @@ pub sized_section : (k : Option Kind) (r : Record) → is_sized_and_empty k r �
 sized_section (Some kinds.DataSec) r is = (refl, (sized_parts (has_no_entries r) (r.third == 0) is).0, (sized_parts (has_no_entries r) (r.third == 0) is).1)
 sized_section k r is = absurd (false≢true is)
 
--- What gets the filler is a DATASEC, and has no entries.
+-- An id that gets the filler is a DATASEC without entries.
 pub record IsFilled (p : Pass) (id : ℕ) : Type 0 where
   pub granted : has p features.DataSec ≡ true
   pub kind : kind_at p.table id ≡ Some kinds.DataSec

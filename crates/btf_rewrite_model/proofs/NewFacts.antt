@@ -1,4 +1,4 @@
--- What a rewrite leaves in its new records, by which a second one changes nothing in them.
+-- Facts about the new records of a rewrite, by which a second rewrite does not change them.
 use Rattle.std.proofs.Common.{◌≡◌, ◌==◌, ℕ, zero, suc, ◌+◌, ◌<◌, Bool, true, false, ◌&&◌, ◌||◌, not, List, [], ◌∷◌, ◌++◌, length, take, drop, get_or, map, max, Option, None, Some, Result, Ok, Err, refl, sym, ap, subst, ◌∙◌, arith, inl, inr}
 use Rattle.std.specs.Prelude.{if◌then◌else◌, slice_get, position}
 use Rattle.std.specs.Option.{unwrap_or}
@@ -27,12 +27,12 @@ use Rattle.btf_model.proofs.Texts.{text_stays, has_bytes, some_mapped}
 use Rattle.btf_rewrite_model.proofs.Appending.{ended_len}
 use Rattle.btf_rewrite_model.proofs.Renaming.{NoZero, renamed_reads_back, replaced_twice}
 
--- no parameter among these words wants a name
+-- each parameter in these words that has a type has a name
 abbrev pub NoneWants : List ℕ → Type 0
 NoneWants (name ∷ type ∷ words) = (wants_name name type ≡ false) × NoneWants words
 NoneWants words = Unit {0}
 
--- What a new record of this kind is, where p is the pass that made it, and strings are the new ones.
+-- The fact about a new record of this kind; p is the pass that made it, and strings are the new strings.
 abbrev pub FactOf : Pass → List ℕ → Option Kind → Record → Type 0
 FactOf p strings (Some kinds.Ptr) r = r.name ≡ 0
 FactOf p strings (Some kinds.Func) r = (name : List ℕ) × (text_at strings r.name ≡ Ok name) × ((is_global r && (is_builtin name || not (has p features.FuncGlobal))) ≡ false)
@@ -46,7 +46,7 @@ Fact p strings r = FactOf p strings (kind_of r.info) r
 of_kind : (p : Pass) (strings : List ℕ) (r : Record) (k : Option Kind) → kind_of r.info ≡ k → FactOf p strings k r → Fact p strings r
 of_kind p strings r k kind fact = subst (λ (j : Option Kind). FactOf p strings j r) (sym kind) fact
 
--- one of two
+-- one of two facts
 one_of : (P : Record → Type 0) (b : Bool) (x y : Record) → (b ≡ true → P x) → (b ≡ false → P y) → P (if b then x else y)
 one_of P true x y f g = f refl
 one_of P false x y f g = g refl
@@ -94,7 +94,7 @@ no_zero_bytes strings offset bytes is =
     let below : k < end = omega (arith, lt, length-take end rest) in
     ap (λ (n : ℕ). n == 0) (get_or-take end rest k 0 below) ∙ at.2 k below))
 
--- the texts up to an id, its own, and those after it
+-- the texts of lower ids, of this id, and of higher ids
 texts_split : (p : Pass) (n id : ℕ) → id < n → (later : List (List ℕ)) × (texts_below p n ≡ texts_below p id ++ (texts p id ++ later))
 texts_split p zero id lt = absurd (omega (arith, lt))
 texts_split p (suc n) id lt =
@@ -110,7 +110,7 @@ texts_split p (suc n) id lt =
       ]
     ]
 
--- a text that is appended stands at its offset
+-- an appended text is at its offset
 module _ (p : Pass) (n id : ℕ) (lt : id < n) (bytes : List ℕ) (fillers : List (List ℕ)) (none : NoZero bytes) (own : texts p id ≡ replaced slash dot (lossy bytes) ∷ fillers) where
   pub appended_reads : text_at (p.table.strings ++ flat_map ended (texts_below p n)) (offset_at p id) ≡ Ok (replaced slash dot (lossy bytes))
   appended_reads =

@@ -45,7 +45,7 @@ same_sym f g =
 abbrev pushed : Bool → List BtfFeature → BtfFeature → List BtfFeature
 pushed known fs f = if known then fs else fs ++ f ∷ []
 
--- one more feature is new, or stands there
+-- one more feature is new, or is already in the list
 pub each_once_push : (fs : List BtfFeature) (f : BtfFeature) → each_once (fs ++ f ∷ []) ≡ pushed (list_any (same_feature f) fs) (each_once fs) f
 each_once_push [] f = refl
 each_once_push (g ∷ fs) f =
@@ -59,7 +59,7 @@ each_once_push (g ∷ fs) f =
           ∙ elim (same_feature f g) as (λ (b : Bool). g ∷ (others rest ++ cond (not b) (f ∷ []) []) ≡ pushed (b || false) (g ∷ others rest) f) [ true ↦ ap (λ xs. g ∷ xs) (append-nil (others rest)) | false ↦ refl ]
     ]
 
--- what is among features is among them, each once
+-- what is among features is among the features each once
 left_in : (f g : BtfFeature) (fs : List BtfFeature) → same_feature g f ≡ false → IsAmong f fs → IsAmong f (filter (λ h. not (same_feature g h)) fs)
 left_in f g [] other among = among
 left_in f g (h ∷ fs) other among =
@@ -79,7 +79,7 @@ among_each f (g ∷ fs) among =
 
 -- ---- answers
 
--- further answers do not change those to features that were answered
+-- further answers do not change the answers to features that were answered
 pub grants_append : (answers more : List FeatureAnswer) (f : BtfFeature) → IsAmong f (features_of answers) → grants (answers ++ more) f ≡ grants answers f
 grants_append [] more f among = absurd (false≢true among)
 grants_append (answer ∷ answers) more f among =
@@ -95,7 +95,7 @@ grants_new (answer ∷ answers) f granted absent =
     let parts = or_parts (same_feature f answer.feature) (list_any (same_feature f) (features_of answers)) absent in
     ap (λ (b : Bool). if b then answer.granted else grants (answers ++ record { feature = f; granted = granted } ∷ []) f) (same_sym answer.feature f ∙ parts.0) ∙ grants_new answers f granted parts.1
 
--- Asking for one more feature: the old answer, or a new one after the others.
+-- Asking for one more feature gives the old answer, or appends a new one.
 abbrev pub AnswersWith : Option Bool → List FeatureAnswer → BtfFeature → Bool → List FeatureAnswer → Type 0
 AnswersWith (Some was) answers f granted new = (granted ≡ was) × (new ≡ answers)
 AnswersWith None answers f granted new = new ≡ answers ++ record { feature = f; granted = granted } ∷ []
@@ -165,7 +165,7 @@ asked_next fs answers new f granted asked next =
     absent_from_each g gs absent =
         elim (list_any (same_feature g) gs) as (λ (b : Bool). list_any (same_feature g) gs ≡ b → b ≡ false) [ true ↦ λ is. absurd (true≢false (sym (among_each g gs is) ∙ absent)) | false ↦ λ is. refl ] refl
 
--- features that come after others change nothing of what is there once
+-- features that come after others do not change the list of each once before them
 pub each_once_begins : (fs gs : List BtfFeature) → (rest : List BtfFeature) × (each_once (fs ++ gs) ≡ each_once fs ++ rest)
 each_once_begins [] gs = (each_once gs, refl)
 each_once_begins (f ∷ fs) gs =
@@ -173,7 +173,7 @@ each_once_begins (f ∷ fs) gs =
     let inner = each_once_begins fs gs in
     (others inner.0, ap (λ xs. f ∷ others xs) inner.1 ∙ ap (λ xs. f ∷ xs) (filter-append (λ h. not (same_feature f h)) (each_once fs) inner.0))
 
--- what ids ask for begins with what lower ones do
+-- what ids ask for begins with what lower ids ask for
 pub asks_begin : (p : Pass) (id count : ℕ) → id ≤ count → (rest : List BtfFeature) × (asks_below p count ≡ asks_below p id ++ rest)
 asks_begin p id zero le =
     let none : 0 ≡ id = omega (arith, le) in
@@ -219,11 +219,11 @@ pub further_ruled : (p : Pass) (id : ℕ) (more : List FeatureAnswer) → IsAt p
 further_ruled p id more at j less =
     same_refused p (p.answers ++ more) j (λ f among. further_agree p id more at.asked f (among_up_to p id j f less among)) (λ k below. at.ruled k (omega (arith, below, less))) ∙ at.ruled j less
 
--- the answers to what the ids up to one ask for
+-- the answers to what this id and lower ids ask for
 pub asked_to : (p : Pass) (id : ℕ) (more : List FeatureAnswer) → IsAt p id → AreAnswersTo (asks_below p id ++ asks (with_answers p (p.answers ++ more)) id) (p.answers ++ more) → AreAnswersTo (asks_below (with_answers p (p.answers ++ more)) (suc id)) (p.answers ++ more)
 asked_to p id more at asked = asked ∙ ap (λ (fs : List BtfFeature). each_once (fs ++ asks (with_answers p (p.answers ++ more)) id)) (sym (further_same p id more at).asks)
 
--- One more id is gone past: its asks are answered after the others, and it is not refused.
+-- The pass completes one more id: what it asks for is answered after the others, and it is not refused.
 pub goes_on : (p : Pass) (id : ℕ) (more : List FeatureAnswer) → IsAt p id → AreAnswersTo (asks_below p id ++ asks (with_answers p (p.answers ++ more)) id) (p.answers ++ more) → fault (with_answers p (p.answers ++ more)) id ≡ None
     → IsAt (with_answers p (p.answers ++ more)) (suc id)
 goes_on p id more at asked passed =
@@ -240,7 +240,7 @@ goes_on p id more at asked passed =
           ];
     }
 
--- What the ids up to one append and become, where those below are gone past.
+-- What this id and lower ids append and become, after the pass has completed the lower ids.
 pub record Grows (p : Pass) (more : List FeatureAnswer) (id : ℕ) : Type 0 where
   pub texts : texts_below (with_answers p (p.answers ++ more)) (suc id) ≡ texts_below p id ++ texts (with_answers p (p.answers ++ more)) id
   pub added : added_below (with_answers p (p.answers ++ more)) (suc id) ≡ added_below p id ++ added (with_answers p (p.answers ++ more)) id
@@ -266,23 +266,23 @@ grows p more id at =
 
 -- ---- the end
 
--- A pass that has gone past all ids is a rewrite, and the answers are those to what it asks for.
+-- A pass that has completed all ids is a rewrite, and the answers are to what it asks for.
 pub passes : (policy : FillPolicy) (old : Table) (ids : Option KsymsIds) (layout : Layout) (answers : List FeatureAnswer) → step_fault old ids ≡ None → IsAt (pass_of policy old ids layout answers) (old_count (pass_of policy old ids layout answers))
     → Rewritten policy old ids layout answers (rewritten (pass_of policy old ids layout answers)) × (features_of answers ≡ Asked (pass_of policy old ids layout answers))
 passes policy old ids layout answers step at = (record { step = step; ruled = at.ruled; table = refl }, at.asked)
 
--- One that is refused at an id is refused for that.
+-- A pass that is refused at an id is a rewrite that is refused for this reason.
 pub is_refused_at : (policy : FillPolicy) (old : Table) (ids : Option KsymsIds) (layout : Layout) (answers : List FeatureAnswer) (id : ℕ) (refusal : Refusal) → step_fault old ids ≡ None → id < old_count (pass_of policy old ids layout answers)
     → AreRuled (pass_of policy old ids layout answers) id → fault (pass_of policy old ids layout answers) id ≡ Some refusal → IsRefused policy old ids layout answers refusal
 is_refused_at policy old ids layout answers id refusal step lt ruled faults = inr (step, (id, (lt, ruled, faults)))
 
 -- ---- what is made
 
--- nothing, at first
+-- at first nothing is made
 pub made_at_first : (p : Pass) → HasMade p 0 [] [] [] (length (type_bytes p.table))
 made_at_first p = record { strings_are = refl; types_are = refl; new_are = refl; type_len_is = omega arith }
 
--- One more id adds its own.
+-- One more id adds what it appends.
 pub made_next : (p : Pass) (id : ℕ) (more : List FeatureAnswer) (strings : List ℕ) (types new : List Record) (type_len : ℕ) → IsAt p id → HasMade p id strings types new type_len
     → HasMade (with_answers p (p.answers ++ more)) (suc id) (strings ++ flat_map ended (texts (with_answers p (p.answers ++ more)) id)) (types ++ added (with_answers p (p.answers ++ more)) id)
     (new ++ becomes (with_answers p (p.answers ++ more)) id ∷ [])

@@ -1,4 +1,4 @@
--- A name with one byte in place of another reads back as it is: it is UTF-8, and has no zero byte.
+-- A name in which one byte is replaced by another is read back unchanged: it is UTF-8, and has no zero byte.
 use Rattle.std.proofs.Common.{◌≡◌, ◌==◌, ℕ, zero, suc, ◌+◌, ◌<◌, ◌≤◌, Bool, true, false, List, [], ◌∷◌, ◌++◌, length, take, drop, get_or, Option, None, Some, Ok, refl, sym, ap, subst, ◌∙◌, arith, ⊎_elim}
 use Rattle.std.specs.Prelude.{if◌then◌else◌, nat_lt, Contains}
 use Rattle.std.specs.Option.{unwrap_or}
@@ -54,7 +54,7 @@ no_zero_lossy bs none = subst NoZero (sym (lossy_chars-utf8_lossy bs)) (no_zero_
 
 -- ---- UTF-8
 
--- a number that is there is at least 1
+-- a number in this list is at least 1
 abbrev IsPositive : Option ℕ → Type 0
 IsPositive None = Unit {0}
 IsPositive (Some n) = 1 ≤ n
@@ -84,7 +84,7 @@ positive_or : (o : Option ℕ) (n : ℕ) → IsPositive o → 1 ≤ n → 1 ≤ 
 positive_or None n p some = some
 positive_or (Some k) n p some = p
 
--- after the first piece that is no text there is less
+-- the bytes after the first invalid piece are fewer
 shorter : (bs : List ℕ) → utf8_valid_len bs < length bs → length (after_first_chunk bs) < length bs
 shorter bs lt =
     let n : ℕ = utf8_valid_len bs in
@@ -113,9 +113,9 @@ utf8_within (suc k) bs le =
 pub lossy_is_utf8 : (bs : List ℕ) → IsUtf8 (lossy bs)
 lossy_is_utf8 bs = subst IsUtf8 (sym (lossy_chars-utf8_lossy bs)) (utf8_within (length bs) bs (omega arith))
 
--- ---- one byte in place of another
+-- ---- one byte replaced by another
 
--- where the byte is not there, nothing is replaced
+-- if the byte does not occur, nothing is replaced
 replaced_none : (byte other : ℕ) (bs : List ℕ) → ((k : ℕ) → k < length bs → (get_or bs k 0 == byte) ≡ false) → replaced byte other bs ≡ bs
 replaced_none byte other [] none = refl
 replaced_none byte other (b ∷ bs) none =
@@ -133,7 +133,7 @@ one_byte byte other c ascii small =
     ascii_one : (d : ℕ) → d < 128 → IsUtf8 (d ∷ [])
     ascii_one d lt = IsUtf8-from_ascii (d ∷ []) (ascii_at d lt)
 
--- a character with one ASCII byte in place of another is text
+-- a character in which one ASCII byte is replaced by another is text
 one_char : (byte other c : ℕ) → byte < 128 → other < 128 → scalar c ≡ true → IsUtf8 (replaced byte other (encode_utf8 c))
 one_char byte other c ascii ascii_too is =
     ⊎_elim
@@ -151,7 +151,7 @@ all_chars byte other (c ∷ cs) ascii ascii_too is =
     subst IsUtf8 (sym (map-append (λ (b : ℕ). if b == byte then other else b) (encode_utf8 c) (encode_utf8_all cs)))
     (IsUtf8-append (replaced byte other (encode_utf8 c)) (replaced byte other (encode_utf8_all cs)) (one_char byte other c ascii ascii_too parts.0) (all_chars byte other cs ascii ascii_too parts.1))
 
--- Text with one ASCII byte in place of another is text.
+-- Text in which one ASCII byte is replaced by another is text.
 pub replaced_is_utf8 : (byte other : ℕ) (bs : List ℕ) → byte < 128 → other < 128 → IsUtf8 bs → IsUtf8 (replaced byte other bs)
 replaced_is_utf8 byte other bs ascii ascii_too is = subst (λ xs. IsUtf8 (replaced byte other xs)) is.1.1 (all_chars byte other is.0 ascii ascii_too is.1.0)
 
@@ -170,14 +170,14 @@ not_contained bs none at = go bs at.0 none at.1 at.2
 
 -- ---- the name
 
--- A name of bytes without a zero, with one ASCII byte in place of another, reads back after other strings.
+-- A name without zero bytes, in which one ASCII byte is replaced by another, is read back after other strings.
 pub renamed_reads_back : (strings bytes : List ℕ) (byte other : ℕ) → byte < 128 → other < 128 → (other == 0) ≡ false → NoZero bytes
     → text_at (strings ++ replaced byte other (lossy bytes) ++ 0 ∷ []) (length strings) ≡ Ok (replaced byte other (lossy bytes))
 renamed_reads_back strings bytes byte other ascii ascii_too some none =
     let text : List ℕ = replaced byte other (lossy bytes) in
     added_text strings text (replaced_is_utf8 byte other (lossy bytes) ascii ascii_too (lossy_is_utf8 bytes)) (not_contained text (no_zero_replaced byte other (lossy bytes) some (no_zero_lossy bytes none)))
 
--- Replacing a byte that is not there any more changes nothing.
+-- Replacing a byte that does not occur any more changes nothing.
 pub replaced_twice : (byte other : ℕ) (bs : List ℕ) → (other == byte) ≡ false → replaced byte other (replaced byte other bs) ≡ replaced byte other bs
 replaced_twice byte other [] differ = refl
 replaced_twice byte other (b ∷ bs) differ =

@@ -25,7 +25,7 @@ pub length-ruled : (p : Pass) (n : ℕ) → length (ruled_below p n) ≡ n
 length-ruled p zero = refl
 length-ruled p (suc n) = omega (arith, length-append (ruled_below p n) (becomes p n ∷ []), length-ruled p n)
 
--- one more record at the end of the new ones
+-- one more record at the end of the new records
 last_ruled : (p : Pass) (n : ℕ) → slice_get (ruled_below p (suc n)) n ≡ Some (becomes p n)
 last_ruled p n = subst (λ (i : ℕ). slice_get (ruled_below p (suc n)) i ≡ Some (becomes p n)) (length-ruled p n) (slice_get-push (ruled_below p n) (becomes p n))
 
@@ -34,7 +34,7 @@ ruled_among p n id lt below (inl same) = subst (λ (i : ℕ). slice_get (ruled_b
 ruled_among p n id lt below (inr (inl less)) = slice_get-append_left (ruled_below p n) (becomes p n ∷ []) id (omega (arith, less, length-ruled p n)) ∙ below less
 ruled_among p n id lt below (inr (inr more)) = absurd (omega (arith, lt, more))
 
--- the new record of an id stays as higher ids get theirs
+-- the new record of an id does not change when higher ids get their records
 pub ruled_at : (p : Pass) (n id : ℕ) → id < n → slice_get (ruled_below p n) id ≡ Some (becomes p id)
 ruled_at p zero id lt = absurd (omega (arith, lt))
 ruled_at p (suc n) id lt = ruled_among p n id lt (ruled_at p n id) (cases_order id n)
@@ -68,7 +68,7 @@ module _ (policy : FillPolicy) (old new : Table) (ids : Option KsymsIds) (layout
 
 -- ---- ENUM64
 
--- one that is denied becomes a UNION, and leaves a fallback
+-- an ENUM64 that is not granted becomes a UNION, and leaves a fallback
 union_kind : (p : Pass) (lower : List Record) (id : ℕ) (k : Option Kind) (r : Record) → k ≡ Some kinds.Enum64 → has p features.Enum64 ≡ false → kind_of (becomes_by p lower id k r).info ≡ Some kinds.Union
 union_kind p lower id k r is denied =
     let made : becomes_by p lower id k r ≡ union r.name r.third (vlen r.info) (variant_members (member_type_id p id) (variants r.tail)) =

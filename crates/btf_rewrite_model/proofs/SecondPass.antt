@@ -1,4 +1,4 @@
--- A second rewrite changes nothing: each rule leaves a new record as it is, where what it asks for was granted.
+-- A second rewrite changes nothing: a rule does not change a new record if the features that it asks for were granted.
 use Rattle.std.proofs.Common.{◌≡◌, ◌==◌, ℕ, ◌+◌, Bool, true, false, ◌&&◌, ◌||◌, not, List, [], ◌∷◌, ◌++◌, length, Option, None, Some, Ok, refl, sym, ap, subst, ◌∙◌}
 use Rattle.std.specs.Prelude.{if◌then◌else◌}
 use Rattle.std.specs.Option.{is_none, unwrap_or}
@@ -29,7 +29,7 @@ one_in_both f true among = ap (λ (b : Bool). b || (same_feature f features.Data
     or_false true is = refl
     or_false false is = is
 
--- one that has a size asks for the second where it has no entries, and is never exempt then
+-- a DATASEC that has a size asks for DataSecZero if it has no entries, and is never exempt then
 zero_asked : (f : BtfFeature) (d s x z e named room size : Bool) → z ≡ false → IsAmong f (if d && ((s && not z && e && named) || (z && e && room && size)) then features.DataSec ∷ features.DataSecZero ∷ [] else features.DataSec ∷ [])
     → IsAmong f (if e && not (not s && x) then features.DataSec ∷ features.DataSecZero ∷ [] else features.DataSec ∷ [])
 zero_asked f d s x true e named room size sized among = absurd (false≢true (sym sized))
@@ -44,7 +44,7 @@ zero_asked f true true x false false named room size sized among = among
 zero_asked f true false x false false named room size sized among = among
 zero_asked f false s x false false named room size sized among = among
 
--- what a record asks for is needed for it, whatever stood there before
+-- what a record asks for is needed for it, whatever the record was before
 pub asks_need : (q : Pass) (id : ℕ) (x : Bool) (f : BtfFeature) (k : Option Kind) (r : Record) → (k ≡ Some kinds.DataSec → (r.third == 0) ≡ false) → IsAmong f (asks_by q id k r)
     → IsAmong f (needs_by (not (fills_sized q.policy) && x) k r)
 asks_need q id x f (Some kinds.DataSec) r sized among =
@@ -54,7 +54,7 @@ asks_need q id x f k r sized among = needed_by q id f k r among
 
 -- ---- each rule
 
--- The rule of this kind leaves the record of an id, appends nothing, and does not refuse it.
+-- The rule of this kind does not change the record of an id, appends nothing, and does not refuse it.
 pub record Stays (q : Pass) (id : ℕ) (k : Option Kind) : Type 0 where
   pub becomes : (lower : List Record) → becomes_by q lower id k (record_at q.table id) ≡ record_at q.table id
   pub texts : texts_by q id k (record_at q.table id) ≡ []
@@ -62,7 +62,7 @@ pub record Stays (q : Pass) (id : ℕ) (k : Option Kind) : Type 0 where
   pub falls_back : (old : Option Fallback) → falls_back_by q k (record_at q.table id) old ≡ old
   pub passes : first_fault (checks_by q id k (record_at q.table id)) ≡ None
 
--- one of which only the record may change
+-- a rule that may change only the record
 kept : (q : Pass) (id : ℕ) (k : Option Kind) → ((lower : List Record) → becomes_by q lower id k (record_at q.table id) ≡ record_at q.table id) → texts_by q id k (record_at q.table id) ≡ []
     → ((free : ℕ) → added_by q free id k ≡ []) → ((old : Option Fallback) → falls_back_by q k (record_at q.table id) old ≡ old) → first_fault (checks_by q id k (record_at q.table id)) ≡ None → Stays q id k
 kept q id k becomes texts added falls_back passes = record { becomes = becomes; texts = texts; added = added; falls_back = falls_back; passes = passes }
@@ -100,7 +100,7 @@ module _ (p q : Pass) (id : ℕ) where
       let wants_none : wants_member_type q id ≡ false = ap (λ (b : Bool). is_enum64 (kind_at q.table id) && not b) granted ∙ and_false (is_enum64 (kind_at q.table id)) in
       ap (λ (b : Bool). b && (least (wants_member_type q) id == id)) wants_none
 
-  -- one that has a size gets no filler where what it asks for is granted
+  -- a DATASEC that has a size gets no filler if what it asks for is granted
   no_filler : kind_at q.table id ≡ Some kinds.DataSec → ((record_at q.table id).third == 0) ≡ false → has q features.DataSec ≡ true → first_fault (name_checks q id) ≡ None
       → ((f : BtfFeature) → IsAmong f (data_sec_asks q id (record_at q.table id)) → has q f ≡ true) → gets_filler q id ≡ false
   no_filler kind sized is_granted named granted =

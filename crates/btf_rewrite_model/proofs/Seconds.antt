@@ -24,7 +24,7 @@ use Rattle.btf_rewrite_model.proofs.GrantedAll.{has_granted, of_either, each_of,
 use Rattle.btf_rewrite_model.proofs.NewFacts.{Fact, after, new_fact}
 use Rattle.btf_rewrite_model.proofs.SecondPass.{Stays, stays, asks_need}
 
--- ---- where each id stays
+-- ---- if no id changes
 
 module _ (q : Pass) (each : (id : ℕ) → id < old_count q → Stays q id (kind_at q.table id)) where
   no_texts : (n : ℕ) → n ≤ old_count q → texts_below q n ≡ []
@@ -50,7 +50,7 @@ module _ (q : Pass) (each : (id : ℕ) → id < old_count q → Stays q id (kind
       let there : slice_get q.table.fallbacks k ≡ Some (get_or q.table.fallbacks k None) = slice_get-get_or q.table.fallbacks k None (omega (arith, lt, many)) in
       sym (ap (λ (o : Option (Option Fallback)). unwrap_or o None) there) ∙ sym ((each k lt).falls_back (unwrap_or (slice_get q.table.fallbacks k) None))))
 
-  -- the pass gives its table back
+  -- the pass returns its own table
   pub gives_back : length q.table.fallbacks ≡ old_count q → rewritten q ≡ q.table
   gives_back many =
       let n : ℕ = old_count q in
@@ -76,12 +76,12 @@ one_adds P int var p free id (Some kinds.DataSec) =
     member_type_has P (makes_filler p id) (filler (filler_offset p id) free) (int (filler_offset p id), (var (filler_offset p id + length filler_type_text + 1) free, tt))
 one_adds P int var p free id k = tt
 
--- what holds of the records that may be appended holds of all that are
+-- a fact about all records that may be appended holds for all appended records
 all_added : (P : Record → Type 0) → ((name : ℕ) → P (byte_int name)) → ((name type : ℕ) → P (static_var name type)) → (p : Pass) (n : ℕ) → AllByRecursion P (added_below p n)
 all_added P int var p zero = tt
 all_added P int var p (suc n) = all_of_both P (added_below p n) _ (all_added P int var p n) (one_adds P int var p _ n (kind_at p.table n))
 
--- a new record has the fact of its kind, an old id's and one that was appended
+-- each new record has the fact of its kind, for old ids and for appended records
 either_fact : (p : Pass) (id : ℕ) (r : Record) → 0 < length p.table.strings → AreRuled p (old_count p)
     → ((id < length (ruled_below p (old_count p))) × (slice_get (ruled_below p (old_count p)) id ≡ Some r)) ⊎ ((j : ℕ) × (slice_get (added_below p (old_count p)) j ≡ Some r)) → Fact p (after p (old_count p)) r
 either_fact p id r some ruled (inl old) =
@@ -91,7 +91,7 @@ either_fact p id r some ruled (inl old) =
 either_fact p id r some ruled (inr added) =
     each_of (Fact p (after p (old_count p))) (added_below p (old_count p)) added.0 r (all_added (Fact p (after p (old_count p))) (λ name. tt) (λ name type. tt) p (old_count p)) added.1
 
--- what one id asks for is among what all do
+-- what one id asks for is among what all ids ask for
 asks_up_to : (q : Pass) (n id : ℕ) (f : BtfFeature) → id < n → IsAmong f (asks q id) → IsAmong f (asks_below q n)
 asks_up_to q zero id f lt among = absurd (omega (arith, lt))
 asks_up_to q (suc n) id f lt among =

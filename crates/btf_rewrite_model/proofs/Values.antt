@@ -1,4 +1,4 @@
--- What a rewrite keeps of the values of variants.
+-- A rewrite retains the values of variants.
 use Rattle.std.proofs.Common.{◌≡◌, ◌≢◌, ℕ, ◌<◌, Bool, true, false, ◌&&◌, not, List, [], ◌∷◌, ◌++◌, Option, None, Some, Ok, Err, refl, sym, ap, subst, ◌∙◌, arith, append_assoc}
 use Rattle.std.specs.Prelude.{if◌then◌else◌, slice_get}
 use Rattle.std.specs.List.{flat_map}
@@ -31,16 +31,16 @@ use Rattle.btf_rewrite_model.proofs.Kept.{by_table, unsigned_kind, begun_record,
 use Rattle.btf_rewrite_model.proofs.Lengths.{by_both}
 use Rattle.btf_rewrite_model.proofs.Ruled.{new_at, fallback_new}
 
--- ---- what a rule keeps
+-- ---- what a rule retains
 
 no_variants : (vs : List Variant) (refusal : Refusal) → Ok vs ≡ Err refusal → ⊥
 no_variants vs refusal is = false≢true (sym (ap is_ok is))
 
--- by the variants of a record of this kind
+-- the variants of a record of this kind
 variants_as : (id : ℕ) (vs : List Variant) (q : Record) (k : Kind) (fallback : Option Fallback) → kind_of q.info ≡ Some k → Ok vs ≡ variants_by id (Some k) q fallback → Ok vs ≡ variants_by id (kind_of q.info) q fallback
 variants_as id vs q k fallback kind is = is ∙ ap (λ (j : Option Kind). variants_by id j q fallback) (sym kind)
 
--- a type that has variants is none of those that the step of `.ksyms` changes
+-- the step of `.ksyms` changes no type that has variants
 variants_keep : (id : ℕ) (vs : List Variant) (k : Option Kind) (r : Record) (fallback : Option Fallback) → Ok vs ≡ variants_by id k r fallback → keeps_size k ≡ true
 variants_keep id vs (Some kinds.Var) r fallback is = absurd (no_variants vs _ is)
 variants_keep id vs (Some kinds.Func) r fallback is = absurd (no_variants vs _ is)
@@ -65,7 +65,7 @@ rule_keeps p lower id vs (Some kinds.Enum64) r fallback kind is =
 rule_keeps p lower id vs (Some kinds.Union) r fallback kind is = variants_as id vs r kinds.Union fallback kind is
 rule_keeps p lower id vs k r fallback kind is = absurd (no_variants vs _ is)
 
--- ---- what the step of `.ksyms` keeps
+-- ---- what the step of `.ksyms` retains
 
 begun_strings : (t : Table) (ids : Option KsymsIds) → (more : List ℕ) × ((begun t ids).strings ≡ t.strings ++ more)
 begun_strings t None = ([], sym (append-nil t.strings))

@@ -1,16 +1,16 @@
--- The tests of a rewrite: each is passed, or says why not, and the first that is not passed counts. Source: aya-obj's
--- `fixup_and_sanitize`, in whose order they stand; the limits of both sections are the kernel's, whose header has 32
--- bits for a length.
+-- The tests of a rewrite: each one passes or gives a refusal, and the first refusal counts. Source: aya-obj's
+-- `fixup_and_sanitize`, whose order the tests have. The limits of both sections are the kernel's, because its header
+-- has 32 bits for a length.
 use Rattle.std.specs.Prelude.{ℕ, ◌+◌, ◌*◌, ◌^◌, nat_le, nat_lt, if◌then◌else◌, List, [], ◌∷◌, length, slice_get, Option, Some, None, Result, Ok, Err}
 use Rattle.btf_model.specs.Record.{Record}
 use Rattle.btf_model.specs.Refusal.{Refusal, InvalidTypeInfo, InvalidStringOffset, UnknownBtfType}
 use Rattle.btf_model.specs.Table.{Table, section_limit}
 
--- passed, or why not
+-- none if the test passes, else the refusal
 abbrev pub Check : Type 0
 Check = Option Refusal
 
--- the first test that is not passed
+-- the first refusal of these tests
 abbrev pub first_fault : List Check → Option Refusal
 first_fault [] = None
 first_fault (None ∷ checks) = first_fault checks
@@ -30,17 +30,17 @@ is_record id None = Some (UnknownBtfType id)
 abbrev pub is_known : Table → ℕ → Check
 is_known t id = is_record id (slice_get t.records id)
 
--- a text has room, with its zero byte, after so many bytes of strings
+-- a text and its zero byte fit after this number of string bytes
 abbrev pub has_room : ℕ → List ℕ → Check
 has_room offset text =
     if nat_le (offset + length text + 1) section_limit then None else Some (InvalidStringOffset offset)
 
--- texts have room, one after the other
+-- the texts fit, one after the other
 abbrev pub have_room : ℕ → List (List ℕ) → List Check
 have_room offset [] = []
 have_room offset (text ∷ texts) = has_room offset text ∷ have_room (offset + length text + 1) texts
 
--- so many bytes of records have room after others
+-- this number of bytes of records fits after the bytes that are used
 abbrev pub fits : ℕ → ℕ → Check
 fits used bytes = if nat_le (used + bytes) section_limit then None else Some InvalidTypeInfo
 
@@ -48,7 +48,7 @@ fits used bytes = if nat_le (used + bytes) section_limit then None else Some Inv
 abbrev pub record_len : Record → ℕ
 record_len r = 4 * (3 + length r.tail)
 
--- a number of at most 32 bits
+-- a number, if it has at most 32 bits
 abbrev pub in_a_word : Option ℕ → Option ℕ
 in_a_word (Some n) = if nat_lt n (2 ^ 32) then Some n else None
 in_a_word None = None

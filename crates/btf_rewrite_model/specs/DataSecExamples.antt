@@ -18,7 +18,7 @@ use Rattle.btf_rewrite_model.specs.Rewritten.{rewritten}
 use Rattle.btf_model.specs.CompatExamples.{table_of}
 use Rattle.btf_rewrite_model.specs.RewriteExamples.{no_layout, only, named_table, granted, int}
 
--- a DATASEC of this name and size, with so many entries, by their words
+-- a DATASEC of this name and size, with this number of entries, by their words
 abbrev data_sec : ℕ → ℕ → ℕ → List ℕ → Record
 data_sec name size count words = record { name = name; info = 0x0f000000 + count; third = size; tail = words }
 
@@ -52,8 +52,8 @@ unknown_section = refl
 
 -- ---- sections without entries
 
--- ".a" at 1, ".b" at 4: DATASECs 1 and 2 of size 0 without entries, of sections of 0 and 5 bytes, where the kernel
--- takes none such
+-- ".a" at 1, ".b" at 4: DATASECs 1 and 2 of size 0 without entries, of sections of 0 and 5 bytes, for a kernel that
+-- does not accept a DATASEC without entries
 abbrev empty_sections : Pass
 empty_sections = record {
   table = named_table (codes ".a" ∷ codes ".b" ∷ []) (data_sec 1 0 0 [] ∷ data_sec 4 0 0 [] ∷ []);
@@ -74,7 +74,7 @@ strings_of_the_filler : length (rewritten empty_sections).strings ≡ 54
 unfolding pieces_from encode
 strings_of_the_filler = refl
 
--- the second is asked about apart, and not the first, whose section is empty
+-- the second asks for DataSecZero; the first does not, because its section is empty
 empty_section_is_asked_about : (asks empty_sections 1 ≡ features.DataSec ∷ []) × (asks empty_sections 2 ≡ features.DataSec ∷ features.DataSecZero ∷ [])
 unfolding pieces_from encode
 empty_section_is_asked_about = (refl, refl)
@@ -83,18 +83,18 @@ empty_section_is_asked_about = (refl, refl)
 abbrev sized_section : FillPolicy → List BtfFeature → Pass
 sized_section policy fs = record { table = named_table (codes ".a" ∷ []) (data_sec 1 9 0 [] ∷ []); layout = no_layout; policy = policy; answers = granted fs }
 
--- it stays, is not asked about, and needs nothing more
+-- it is unchanged, does not ask for DataSecZero, and needs nothing more
 sized_section_stays : (becomes (sized_section KeepSized (features.DataSec ∷ [])) 1 ≡ data_sec 1 9 0 []) × (Asked (sized_section KeepSized (features.DataSec ∷ [])) ≡ features.DataSec ∷ [])
     × (needs KeepSized (data_sec 1 9 0 []) (data_sec 1 9 0 []) ≡ features.DataSec ∷ [])
 unfolding pieces_from encode
 sized_section_stays = (refl, refl, refl)
 
--- under the other policy it is asked about, and gets the filler with its own size
+-- under the other policy it asks for DataSecZero, and gets the filler with its own size
 sized_section_is_filled : (becomes (sized_section FillSized (features.DataSec ∷ [])) 1 ≡ data_sec 1 9 1 (3 ∷ 0 ∷ 9 ∷ [])) × (Asked (sized_section FillSized (features.DataSec ∷ [])) ≡ features.DataSec ∷ features.DataSecZero ∷ [])
 unfolding pieces_from encode
 sized_section_is_filled = (refl, refl)
 
--- or it stays, where the kernel takes it
+-- or it is unchanged, if the kernel accepts it
 sized_section_is_taken : (becomes (sized_section FillSized (features.DataSec ∷ features.DataSecZero ∷ [])) 1 ≡ data_sec 1 9 0 []) × (needs FillSized (data_sec 1 9 0 []) (data_sec 1 9 0 []) ≡ features.DataSec ∷ features.DataSecZero ∷ [])
 unfolding pieces_from encode
 sized_section_is_taken = (refl, refl)
@@ -120,8 +120,8 @@ filled_by_the_third = refl
 
 -- ---- sections that become structures
 
--- "p" at 1, "d" at 3: PTR 1 of name 1, DATASEC 2 of name 3 with 1 and 3 as entries, PTR 3 of name 1: the member of the
--- lower id has its new name
+-- "p" at 1, "d" at 3: PTR 1 of name 1, DATASEC 2 of name 3 with 1 and 3 as entries, PTR 3 of name 1: only the member of
+-- the lower id has its type's new name
 abbrev no_sections : Pass
 no_sections = record {
   table = named_table (codes "p" ∷ codes "d" ∷ [])
@@ -135,7 +135,7 @@ members_have_new_names : becomes no_sections 2 ≡ record { name = 3; info = 0x0
 unfolding pieces_from encode
 members_have_new_names = refl
 
--- ".d" at 1: a DATASEC that is its own entry is named as before
+-- ".d" at 1: if a DATASEC is its own entry, the member has the old name
 abbrev own_entry : List BtfFeature → Pass
 own_entry fs = record { table = named_table (codes ".d" ∷ []) (data_sec 1 0 1 (1 ∷ 0 ∷ 4 ∷ []) ∷ []); layout = record { sections = only (codes ".d") 8; symbols = λ name. None }; policy = KeepSized; answers = granted fs }
 
@@ -147,7 +147,7 @@ own_entry_is_no_variable : fault (own_entry (features.DataSec ∷ [])) 1 ≡ Som
 unfolding pieces_from encode
 own_entry_is_no_variable = refl
 
--- ".x" at 1: one of 5 bytes without entries becomes a STRUCT of size 0, since that is the number of its entries
+-- ".x" at 1: one of 5 bytes without entries becomes a STRUCT of size 0, because its size is the number of its entries
 abbrev sized_structure : Pass
 sized_structure = record { table = named_table (codes ".x" ∷ []) (data_sec 1 5 0 [] ∷ []); layout = no_layout; policy = KeepSized; answers = [] }
 
@@ -155,7 +155,7 @@ sized_section_becomes_struct : (becomes sized_structure 1 ≡ record { name = 4;
 unfolding pieces_from encode
 sized_section_becomes_struct = (refl, refl, refl)
 
--- bits past 32 bits, and the last that are not
+-- an offset in bits that exceeds 32 bits, and the last offset that does not
 abbrev member_at : ℕ → Pass
 member_at offset = record { table = named_table (codes "d" ∷ []) (data_sec 1 0 1 (0 ∷ offset ∷ 4 ∷ []) ∷ []); layout = no_layout; policy = KeepSized; answers = [] }
 
@@ -178,15 +178,15 @@ appended_type_is_unknown = refl
 
 -- ---- texts that are appended are not read
 
--- INT 1, FUNC_PROTO 2 with a parameter without a name, FUNC 3 of the name 1, which is past all strings
-abbrev behind_all_strings : Pass
-behind_all_strings = record {
+-- INT 1, FUNC_PROTO 2 with a parameter without a name, FUNC 3 of the name 1, an offset after all strings
+abbrev after_all_strings : Pass
+after_all_strings = record {
   table = table_of (int 0 ∷ record { name = 0; info = 0x0d000001; third = 0; tail = 0 ∷ 1 ∷ [] } ∷ record { name = 1; info = 0x0c000000; third = 2; tail = [] } ∷ []);
   layout = no_layout;
   policy = KeepSized;
   answers = granted (features.Func ∷ []);
 }
 
-appended_text_is_not_read : fault behind_all_strings 3 ≡ Some (InvalidStringOffset 1)
+appended_text_is_not_read : fault after_all_strings 3 ≡ Some (InvalidStringOffset 1)
 unfolding digits
 appended_text_is_not_read = refl

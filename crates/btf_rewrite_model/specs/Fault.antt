@@ -1,5 +1,5 @@
--- Why a rewrite is refused at an id. Source: aya-obj's `fixup_and_sanitize`, in whose order the tests stand; the limits
--- are tested where a text or a record is appended.
+-- Why a rewrite is refused at an id. Source: aya-obj's `fixup_and_sanitize`, whose order the tests have; the limits are
+-- tested where a text or a record is appended.
 use Rattle.std.specs.Prelude.{ℕ, ◌+◌, ◌*◌, ◌^◌, nat_lt, ◌==◌, if◌then◌else◌, List, [], ◌∷◌, ◌++◌, length, Option, Some, None, Result, Ok}
 use Rattle.std.specs.List.{flat_map, sum_by}
 use Rattle.btf_model.specs.Record as kinds
@@ -13,49 +13,50 @@ use Rattle.btf_rewrite_model.specs.Pass.{Pass, has, name_of, name_checks, sectio
 
 -- ---- DATASEC
 
--- an entry that becomes a member: its type is there, and its bit has 32 bits
+-- an entry that becomes a member: its type exists, and its offset in bits has 32 bits
 abbrev pub member_checks : Pass → Entry → List Check
 member_checks p e =
     is_known p.table e.type ∷ (if nat_lt (e.offset * 8) (2 ^ 32) then None else Some InvalidTypeInfo) ∷ []
 
--- the size of its section is known, by a name that can be read
+-- the size of its section is known; the refusal for an unknown size needs a name that can be read
 abbrev pub is_sized : Option ℕ → Result (List ℕ) Refusal → Check
 is_sized None (Ok name) = Some (UnknownSectionSize name)
 is_sized size name = None
 
--- the symbol of a variable is known, by a name that can be read
+-- the symbol of a variable is known; the refusal for an unknown symbol needs a name that can be read
 abbrev pub is_placed : Option ℕ → Result (List ℕ) Refusal → Check
 is_placed None (Ok name) = Some (SymbolOffsetNotFound name)
 is_placed offset name = None
 
--- an entry that is completed: its type is there, is a VAR, has a name, and a symbol, but for a Static one
+-- an entry that is completed: its type exists, is a VAR, has a name, and has a symbol unless it is Static
 abbrev pub entry_checks : Pass → Entry → List Check
 entry_checks p e =
     is_known p.table e.type ∷ is_var (kind_at p.table e.type) ∷ is_read (name_of p e.type)
     ∷ (if is_static (record_at p.table e.type) then None else is_placed (symbol_offset p e.type) (name_of p e.type))
     ∷ []
 
--- room for the filler, its texts from this offset on, its records after so many bytes: for each text and its record
+-- the filler fits, with its texts from this offset on and its records after the bytes that are used: each text, then
+-- its record
 abbrev pub filler_has_room : ℕ → ℕ → List Check
 filler_has_room offset used =
     has_room offset filler_type_text ∷ fits used (record_len (byte_int 0))
     ∷ has_room (offset + length filler_type_text + 1) filler_text
     ∷ fits (used + record_len (byte_int 0)) (record_len (static_var 0 0)) ∷ []
 
--- room for the filler that an id appends
+-- the filler that an id appends fits
 abbrev pub filler_checks : Pass → ℕ → List Check
 filler_checks p id = filler_has_room (filler_offset p id) (type_len_at p id)
 
--- room for the entry of the filler, after what was added
+-- the entry of the filler fits, after what was appended
 abbrev pub growth_checks : Pass → ℕ → List Check
 growth_checks p id = if gets_filler p id then fits (type_len_at p id + sum_by record_len (added p id)) 12 ∷ [] else []
 
--- the tests of a DATASEC that has a size, once its name is read: room for the filler, where this id makes it, and for
--- its entry
+-- the tests of a DATASEC that has a size, after the tests of its name: the filler fits, if this id makes it, and the
+-- filler's entry fits
 abbrev pub filling_checks : Pass → ℕ → List Check
 filling_checks p id = (if makes_filler p id then filler_checks p id else []) ++ growth_checks p id
 
--- the tests of a DATASEC of size 0, once its name is read
+-- the tests of a DATASEC of size 0, after the tests of its name
 abbrev pub completing_checks : Pass → ℕ → Record → List Check
 completing_checks p id r =
     is_sized (section_size p id) (name_of p id) ∷ (if makes_filler p id then filler_checks p id else [])
@@ -63,12 +64,12 @@ completing_checks p id r =
 
 -- ---- the tests of each kind
 
--- records have room, one after the other
+-- records fit, one after the other
 abbrev pub all_fit : ℕ → List Record → List Check
 all_fit used [] = []
 all_fit used (r ∷ rs) = fits used (record_len r) ∷ all_fit (used + record_len r) rs
 
--- room for the member type, its text at this offset, its record after so many bytes
+-- the member type fits, with its text at this offset and its record after the bytes that are used
 abbrev pub member_type_has_room : ℕ → ℕ → List Check
 member_type_has_room offset used = have_room offset (member_type_text ∷ []) ++ all_fit used (byte_int offset ∷ [])
 

@@ -1,6 +1,7 @@
--- The features of a kernel's BTF that a rewrite asks for, and those that a record needs. Source: aya-obj's
--- `BtfFeatures`, and which kind came with which in the kernel's BTF documentation; when the lack of a DATASEC without
--- entries is asked for, and that a caller may have those filled that have a size, is this project's profile.
+-- The features of a kernel's BTF that a rewrite asks for, and the features that a record needs. Source: aya-obj's
+-- `BtfFeatures`, and the kernel's BTF documentation for the kinds that each feature includes. Two things are this
+-- project's profile: when a rewrite asks for DataSecZero, and the policy by which a caller can have a DATASEC filled
+-- that has a size and no entries.
 use Rattle.std.specs.Prelude.{ℕ, ◌==◌, ◌&&◌, not, Bool, true, false, if◌then◌else◌, List, [], ◌∷◌, Option, Some, None}
 use Rattle.btf_model.specs.Record as kinds
 use Rattle.btf_model.specs.Record.{Kind, Record, kind_of, vlen, kind_flag}
@@ -10,7 +11,7 @@ use Rattle.btf_rewrite_model.specs.declared.feature.FeatureAnswer.{FeatureAnswer
 use Rattle.btf_rewrite_model.specs.declared.feature.FillPolicy.{FillPolicy}
 use Rattle.btf_rewrite_model.specs.declared.feature.FillPolicy.TheVariants.{KeepSized, FillSized}
 
--- the place of a feature among the eight
+-- the number of a feature among the eight
 abbrev pub number : BtfFeature → ℕ
 number Func = 0
 number FuncGlobal = 1
@@ -21,22 +22,21 @@ number DeclTag = 5
 number TypeTag = 6
 number Enum64 = 7
 
--- the two features are one
+-- the two features are the same
 abbrev pub same_feature : BtfFeature → BtfFeature → Bool
 same_feature f g = number f == number g
 
--- Whether the answers grant a feature: one of them is for it, and the first such is yes. What they do not grant is
--- denied.
+-- The answers grant a feature if the first answer for this feature is yes. A feature without an answer is not granted.
 abbrev pub grants : List FeatureAnswer → BtfFeature → Bool
 grants [] f = false
 grants (answer ∷ answers) f = if same_feature answer.feature f then answer.granted else grants answers f
 
--- the answer to a feature: what the first answer that is for it says
+-- the answer to a feature: the first answer for this feature
 abbrev pub answer_to : List FeatureAnswer → BtfFeature → Option Bool
 answer_to [] f = None
 answer_to (answer ∷ answers) f = if same_feature answer.feature f then Some answer.granted else answer_to answers f
 
--- a DATASEC that has a size and no entries is filled
+-- the policy fills a DATASEC that has a size and no entries
 abbrev pub fills_sized : FillPolicy → Bool
 fills_sized KeepSized = false
 fills_sized FillSized = true
@@ -53,8 +53,8 @@ is_signed r = kind_flag r.info == 1
 abbrev pub has_no_entries : Record → Bool
 has_no_entries r = vlen r.info == 0
 
--- The features that a kernel needs to take a record of this kind. A DATASEC without entries needs DataSecZero too,
--- unless it is exempt.
+-- The features that a kernel must have to accept a record of this kind. A DATASEC without entries also needs
+-- DataSecZero, unless it is exempt.
 abbrev pub needs_by : Bool → Option Kind → Record → List BtfFeature
 needs_by is_exempt (Some kinds.Func) r = if is_global r then Func ∷ FuncGlobal ∷ [] else Func ∷ []
 needs_by is_exempt (Some kinds.FuncProto) r = Func ∷ []
@@ -73,7 +73,7 @@ abbrev pub is_sized_and_empty : Option Kind → Record → Bool
 is_sized_and_empty (Some kinds.DataSec) r = has_no_entries r && not (r.third == 0)
 is_sized_and_empty k r = false
 
--- The features that a record needs, by the record that its id had before the pass. A DATASEC that had a size and no
--- entries is exempt, where the policy keeps it.
+-- The features that a record needs. `before` is the record that its id had before the pass: if it was a DATASEC with a
+-- size and no entries, and the policy leaves such a DATASEC as it is, then the record is exempt from DataSecZero.
 abbrev pub needs : FillPolicy → Record → Record → List BtfFeature
 needs policy before r = needs_by (not (fills_sized policy) && is_sized_and_empty (kind_of before.info) before) (kind_of r.info) r

@@ -1,6 +1,6 @@
--- The first step of a rewrite: what stands for the kernel's symbols, the entries of `.ksyms`, becomes ordinary
--- variables. Source: aya-obj's `fixup_ksyms_datasec`, after libbpf's `bpf_object__fixup_btf`; that names and ids are
--- read in the table as the step began is this project's profile.
+-- The first step of a rewrite: the entries of `.ksyms`, which represent symbols of the kernel, become ordinary
+-- variables. Source: aya-obj's `fixup_ksyms_datasec`, after libbpf's `bpf_object__fixup_btf`. This project's profile
+-- reads names and ids in the table as the step began.
 use Rattle.std.specs.Prelude.{ℕ, ◌+◌, ◌*◌, ◌==◌, ◌&&◌, Bool, true, false, if◌then◌else◌, List, [], ◌∷◌, ◌++◌, length, map, codes, Option, Some, None}
 use Rattle.std.specs.List.{flat_map, list_any, position_or_len}
 use Rattle.std.specs.Option.{is_some}
@@ -23,7 +23,7 @@ is_int_of_4 k r = false
 abbrev pub int_of_4 : Table → ℕ
 int_of_4 t = position_or_len (λ r. is_int_of_4 (kind_of r.info) r) t.records
 
--- The INT of 4 bytes is appended where it is wanted, and is not there.
+-- The step appends an INT of 4 bytes if there is no placeholder and the table has no such INT.
 abbrev pub appends_int : Table → Option ℕ → Bool
 appends_int t (Some placeholder) = false
 appends_int t None = int_of_4 t == length t.records
@@ -32,7 +32,7 @@ appends_int t None = int_of_4 t == length t.records
 abbrev pub int_text : List ℕ
 int_text = codes "int"
 
--- the type that each variable of the symbols gets: the placeholder's, or an INT of 4 bytes
+-- the type that each variable of the symbols gets: the type of the placeholder, or an INT of 4 bytes
 abbrev pub symbol_type : Table → Option ℕ → ℕ
 symbol_type t (Some placeholder) = (record_at t placeholder).third
 symbol_type t None = int_of_4 t
@@ -41,7 +41,7 @@ symbol_type t None = int_of_4 t
 abbrev pub symbols : Table → KsymsIds → List Entry
 symbols t ids = entries (record_at t ids.datasec_id).tail
 
--- an entry is of this id
+-- an entry has this id as its type
 abbrev pub names : Table → KsymsIds → ℕ → Bool
 names t ids id = list_any (λ e. e.type == id) (symbols t ids)
 
@@ -56,28 +56,28 @@ is_prototype t ids id = list_any (λ e. is_func (kind_at t e.type) && (record_at
 
 -- ---- what becomes of a record
 
--- the parameters that want a name get this one
+-- the parameters that have a type and no name get this name
 abbrev pub named : ℕ → List ℕ → List ℕ
 named new (name ∷ type ∷ words) = (if wants_name name type then new else name) ∷ type ∷ named new words
 named new words = words
 
--- the parameters of a prototype, where there is a placeholder, whose name they get
+-- the parameters of a prototype: if there is a placeholder, they get its name
 abbrev pub with_names : Table → Option ℕ → List ℕ → List ℕ
 with_names t (Some placeholder) words = named (record_at t placeholder).name words
 with_names t None words = words
 
--- the type of an entry: the placeholder, where there is one, in place of a FUNC
+-- the type of an entry: the placeholder, if there is one, replaces a FUNC
 abbrev pub entry_type : Table → Option ℕ → ℕ → ℕ
 entry_type t (Some placeholder) type = if is_func (kind_at t type) then placeholder else type
 entry_type t None type = type
 
--- the entries one after the other, with 4 bytes for each, from this offset on
+-- the entries one after the other from this offset on, with 4 bytes for each
 abbrev pub laid_out : Table → Option ℕ → ℕ → List Entry → List Entry
 laid_out t placeholder offset [] = []
 laid_out t placeholder offset (e ∷ es) = record { type = entry_type t placeholder e.type; offset = offset; size = 4 } ∷ laid_out t placeholder (offset + 4) es
 
--- By the kind: a FUNC or VAR of the entries is Global, and a VAR has the type of the symbols; the parameters of such a
--- FUNC get names; the DATASEC is laid out anew; all others stay.
+-- What a record becomes, by its kind. A FUNC or VAR among the entries becomes Global, and such a VAR gets the type of
+-- the symbols. The parameters of such a FUNC get names. The DATASEC gets a new layout. All other records are unchanged.
 abbrev pub stepped : Table → KsymsIds → ℕ → Option Kind → Record → Record
 stepped t ids id (Some Func) r = if names t ids id then with_linkage 1 r else r
 stepped t ids id (Some Var) r =
@@ -93,7 +93,7 @@ stepped t ids id k r = r
 
 -- ---- the tests, in order
 
--- a record of this id is a VAR, or a DATASEC
+-- the kind is VAR
 abbrev pub is_var : Option Kind → Check
 is_var (Some Var) = None
 is_var k = Some InvalidDatasec
@@ -103,26 +103,27 @@ abbrev pub is_data_sec : Option Kind → Check
 is_data_sec (Some DataSec) = None
 is_data_sec k = Some InvalidDatasec
 
--- the placeholder, or else room for the INT
+-- the placeholder exists and is a VAR; without a placeholder, the INT fits if it is appended
 abbrev pub placeholder_checks : Table → Option ℕ → List Check
 placeholder_checks t (Some id) = is_known t id ∷ is_var (kind_at t id) ∷ []
 placeholder_checks t None =
     if appends_int t None then has_room (length t.strings) int_text
     ∷ fits (length (type_bytes t)) (record_len (c_int 0)) ∷ [] else []
 
--- the id has a type, a DATASEC, whose name can be read
+-- the id is a DATASEC whose name can be read
 abbrev pub data_sec_checks : Table → ℕ → List Check
 data_sec_checks t id =
     is_known t id ∷ is_data_sec (kind_at t id) ∷ is_read (text_at t.strings (record_at t id).name) ∷ []
 
--- what is wanted of an entry's type, by its kind: a name, and of a FUNC that a placeholder stands for a prototype
+-- the tests of an entry's type, by its kind: its name can be read, and the prototype of a FUNC exists if there is a
+-- placeholder
 abbrev pub symbol_checks : Table → Option ℕ → Option Kind → Record → List Check
 symbol_checks t placeholder (Some Func) r =
     is_read (text_at t.strings r.name) ∷ (if is_some placeholder then is_known t r.third ∷ [] else [])
 symbol_checks t placeholder (Some Var) r = is_read (text_at t.strings r.name) ∷ []
 symbol_checks t placeholder k r = Some InvalidDatasec ∷ []
 
--- the checks of an entry: its type is there, and is a symbol
+-- the tests of an entry: its type exists, and is a symbol
 abbrev pub ksyms_entry_checks : Table → Option ℕ → Entry → List Check
 ksyms_entry_checks t placeholder e = is_known t e.type ∷ symbol_checks t placeholder (kind_at t e.type) (record_at t e.type)
 
@@ -134,11 +135,11 @@ ksyms_fault t ids =
 
 -- ---- the table
 
--- each record by itself
+-- the table with each record changed, without the appended INT
 abbrev pub each_stepped : Table → KsymsIds → Table
 each_stepped t ids = record t { records = map (λ id. stepped t ids id (kind_at t id) (record_at t id)) (table_ids t) }
 
--- The table after the step, where it is not refused: each record by itself, and then the INT, if it is appended.
+-- The table after the step, if it is not refused: each record is changed, and then the INT is appended if it is needed.
 abbrev pub ksyms_table : Table → KsymsIds → Table
 ksyms_table t ids =
     if appends_int t ids.placeholder_id

@@ -27,7 +27,8 @@ ids datasec placeholder = record { datasec_id = datasec; placeholder_id = placeh
 
 -- ---- without a placeholder
 
--- "init_task" at 1, ".ksyms" at 11: an Extern VAR 1 without a type, and DATASEC 2 with it as its entry; no INT is there
+-- "init_task" at 1, ".ksyms" at 11: an Extern VAR 1 without a type, and DATASEC 2 with it as its entry; the table has
+-- no INT
 abbrev extern_variable : Table
 extern_variable = named_table (codes "init_task" ∷ codes ".ksyms" ∷ []) (var 1 0 2 ∷ one_entry 11 0 1 0 0 ∷ [])
 
@@ -37,7 +38,7 @@ variable_gets_a_type = refl
 int_is_named : (ksyms_table extern_variable (ids 2 None)).strings ≡ extern_variable.strings ++ codes "int" ++ 0 ∷ []
 int_is_named = refl
 
--- "int" at 1, "a" at 5, "b" at 7: INT 1, Extern VARs 2 and 3, and DATASEC 4 with both as entries: they are laid out 4
+-- "int" at 1, "a" at 5, "b" at 7: INT 1, Extern VARs 2 and 3, and DATASEC 4 with both as entries: their offsets are 4
 -- bytes apart
 abbrev two_variables : Table
 two_variables = named_table (codes "int" ∷ codes "a" ∷ codes "b" ∷ []) (int 1 ∷ var 5 0 2 ∷ var 7 0 2 ∷ record { name = 0; info = 0x0f000002; third = 0; tail = 2 ∷ 0 ∷ 0 ∷ 3 ∷ 0 ∷ 8 ∷ [] } ∷ [])
@@ -45,7 +46,7 @@ two_variables = named_table (codes "int" ∷ codes "a" ∷ codes "b" ∷ []) (in
 entries_are_laid_out : (ksyms_table two_variables (ids 4 None)).records ≡ unknown ∷ int 1 ∷ var 5 1 1 ∷ var 7 1 1 ∷ record { name = 0; info = 0x0f000002; third = 8; tail = 2 ∷ 0 ∷ 4 ∷ 3 ∷ 4 ∷ 4 ∷ [] } ∷ []
 entries_are_laid_out = refl
 
--- the INT is appended, and is no type of the table as the step began
+-- the INT is appended, and is not a type of the table as the step began
 appended_int_is_unknown : ksyms_fault extern_variable (ids 3 None) ≡ Some (UnknownBtfType 3)
 appended_int_is_unknown = refl
 
@@ -57,11 +58,11 @@ abbrev extern_function : Table
 extern_function = named_table (codes "f" ∷ codes "ph" ∷ codes ".ksyms" ∷ codes "int" ∷ [])
     (int 13 ∷ record { name = 0; info = 0x0d000001; third = 1; tail = 0 ∷ 1 ∷ [] } ∷ func 1 2 2 ∷ var 3 1 1 ∷ one_entry 6 0 3 0 0 ∷ [])
 
-placeholder_stands_for_it : ksyms_table extern_function (ids 5 (Some 4))
+placeholder_replaces_it : ksyms_table extern_function (ids 5 (Some 4))
     ≡ record extern_function { records = unknown ∷ int 13 ∷ record { name = 0; info = 0x0d000001; third = 1; tail = 3 ∷ 1 ∷ [] } ∷ func 1 1 2 ∷ var 3 1 1 ∷ one_entry 6 4 4 0 4 ∷ [] }
-placeholder_stands_for_it = refl
+placeholder_replaces_it = refl
 
--- a placeholder that is no VAR, one that is not there, and a DATASEC that is none
+-- a placeholder that is no VAR, one that does not exist, and a DATASEC id that is no DATASEC
 wrong_ids : (ksyms_fault extern_function (ids 5 (Some 1)) ≡ Some InvalidDatasec) × (ksyms_fault extern_function (ids 5 (Some 9)) ≡ Some (UnknownBtfType 9)) × (ksyms_fault extern_function (ids 2 None) ≡ Some InvalidDatasec)
 unfolding pieces_from encode
 wrong_ids = (refl, refl, refl)
@@ -70,7 +71,7 @@ no_fault : ksyms_fault extern_function (ids 5 (Some 4)) ≡ None
 unfolding pieces_from encode
 no_fault = refl
 
--- a DATASEC of ".d" at 1 that is its own entry: no variable, and no INT is appended for it
+-- a DATASEC ".d" at 1 that is its own entry: it is no variable, and no INT is appended for it
 abbrev own_entry : Table
 own_entry = named_table (codes ".d" ∷ []) (one_entry 1 0 1 0 4 ∷ [])
 
@@ -85,11 +86,11 @@ abbrev open_ended : Option KsymsIds → Pass
 open_ended given = pass_of KeepSized (record (table_of (record { name = 0; info = 0x0f000000; third = 0; tail = [] } ∷ func 1 0 0 ∷ [])) { strings = 0 ∷ 0x66 ∷ [] }) given no_layout []
 
 -- after the step the name of FUNC 2 is "fint"
-read_behind_the_step : (fault (open_ended (Some (ids 1 None))) 2 ≡ None)
+read_after_the_step : (fault (open_ended (Some (ids 1 None))) 2 ≡ None)
     × ((rewritten (open_ended (Some (ids 1 None)))).records
     ≡ unknown ∷ record { name = 0; info = 0x04000000; third = 0; tail = [] } ∷ record { name = 1; info = 0x08000000; third = 0; tail = [] } ∷ record { name = 2; info = 0x01000000; third = 4; tail = 0x01000020 ∷ [] } ∷ [])
 unfolding pieces_from encode
-read_behind_the_step = (refl, refl)
+read_after_the_step = (refl, refl)
 
 both_are_asked_for : Asked (open_ended (Some (ids 1 None))) ≡ features.DataSec ∷ features.Func ∷ []
 unfolding pieces_from encode

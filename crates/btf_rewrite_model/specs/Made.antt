@@ -1,5 +1,5 @@
 -- Records that a rewrite makes, and the items of the records that it reads. Source: the kernel's BTF documentation,
--- "Type Encoding"; which record stands in for which is aya-obj's `fixup_and_sanitize`.
+-- "Type Encoding"; aya-obj's `fixup_and_sanitize` determines which record replaces which.
 use Rattle.std.specs.Prelude.{ℕ, ◌+◌, ◌*◌, ◌^◌, ◌==◌, ◌&&◌, not, Bool, false, List, [], ◌∷◌, length, slice_index, slice_get, unwrap_or, Option}
 use Rattle.std.specs.List.{flat_map, range_with_len}
 use Rattle.btf_model.specs.Record.{Kind, Record, unknown, kind_of}
@@ -8,7 +8,7 @@ use Rattle.btf_model.specs.Table.{Table, Fallback}
 pub use Rattle.btf_model.specs.Value.{enum64_variants as variants}
 use Rattle.btf_rewrite_model.specs.Feature.{is_signed}
 
--- the record of an id: Unknown, where it has none
+-- the record of an id, or Unknown if it has none
 abbrev pub record_at : Table → ℕ → Record
 record_at t id = unwrap_or (slice_get t.records id) unknown
 
@@ -22,13 +22,13 @@ table_ids t = range_with_len 0 (length t.records)
 
 -- ---- items
 
--- an entry of a DATASEC: a VAR or FUNC, and where it lies
+-- an entry of a DATASEC: a VAR or FUNC, its offset and its size
 pub record Entry : Type 0 where
   pub type : ℕ
   pub offset : ℕ
   pub size : ℕ
 
--- the entries that the words of a DATASEC are
+-- the entries in the words of a DATASEC
 abbrev pub entries : List ℕ → List Entry
 entries (type ∷ offset ∷ size ∷ words) = record { type = type; offset = offset; size = size } ∷ entries words
 entries words = []
@@ -37,11 +37,11 @@ entries words = []
 abbrev pub entry_words : Entry → List ℕ
 entry_words e = e.type ∷ e.offset ∷ e.size ∷ []
 
--- a variable's linkage, its one word after the third, is Static
+-- a variable's linkage, which is its only word after the third, is Static
 abbrev pub is_static : Record → Bool
 is_static r = slice_index r.tail 0 == 0
 
--- a parameter that has a type and no name: all that have none but the `...` of a variadic function
+-- a parameter that has a type and no name; the `...` of a variadic function has no type
 abbrev pub wants_name : ℕ → ℕ → Bool
 wants_name name type = name == 0 && not (type == 0)
 
@@ -67,19 +67,19 @@ const type = record { name = 0; info = 10 * 2 ^ 24; third = type; tail = [] }
 abbrev pub typedef : ℕ → ℕ → Record
 typedef name type = record { name = name; info = 8 * 2 ^ 24; third = type; tail = [] }
 
--- a STRUCT of so many members, by their words
+-- a STRUCT with this number of members, by their words
 abbrev pub struct : ℕ → ℕ → ℕ → List ℕ → Record
 struct name size count members = record { name = name; info = 4 * 2 ^ 24 + count; third = size; tail = members }
 
--- a UNION of so many members, by their words
+-- a UNION with this number of members, by their words
 abbrev pub union : ℕ → ℕ → ℕ → List ℕ → Record
 union name size count members = record { name = name; info = 5 * 2 ^ 24 + count; third = size; tail = members }
 
--- an ENUM of 4 bytes, without sign, of so many variants, by their words
+-- an unsigned ENUM of 4 bytes with this number of variants, by their words
 abbrev pub enum : ℕ → ℕ → List ℕ → Record
 enum name count variants = record { name = name; info = 6 * 2 ^ 24 + count; third = 4; tail = variants }
 
--- a DATASEC of so many entries
+-- a DATASEC with this number of entries
 abbrev pub data_sec : ℕ → ℕ → ℕ → List Entry → Record
 data_sec name size count es = record {
   name = name;
@@ -96,6 +96,6 @@ with_linkage n r = record r { info = with_vlen r.info n }
 abbrev pub unsigned : Record → Record
 unsigned r = record r { info = with_flag r.info false }
 
--- what an ENUM64 says that a UNION does not
+-- what an ENUM64 records and a UNION does not
 abbrev pub fallback_of : Record → Fallback
 fallback_of r = record { signed = is_signed r; variants = variants r.tail }

@@ -1,4 +1,4 @@
--- How far a pass has come: what has been asked, and what has been made.
+-- The progress of a pass: the features that it has asked for, and what it has made.
 use Rattle.std.specs.Prelude.{◌≡◌, ℕ, ◌<◌, Bool, true, false, List, map, Option, Some, None}
 use Rattle.std.specs.List.{flat_map}
 use Rattle.btf_model.specs.Record as kinds
@@ -9,7 +9,7 @@ use Rattle.btf_rewrite_model.specs.Pass.{Pass, asks_below, each_once, texts_belo
 use Rattle.btf_rewrite_model.specs.Rule.{ruled_below}
 use Rattle.btf_rewrite_model.specs.Rewritten.{AreRuled, ended}
 
--- the features that were answered
+-- the features of these answers
 abbrev pub features_of : List FeatureAnswer → List BtfFeature
 features_of answers = map (λ (answer : FeatureAnswer). answer.feature) answers
 
@@ -17,12 +17,12 @@ features_of answers = map (λ (answer : FeatureAnswer). answer.feature) answers
 abbrev pub AreAnswersTo : List BtfFeature → List FeatureAnswer → Type 0
 AreAnswersTo fs answers = features_of answers ≡ each_once fs
 
--- The answers of a pass are those to what the ids below this one ask for, and none of these is refused.
+-- When a pass comes to an id, its answers are the answers to what the lower ids ask for, and no lower id is refused.
 pub record IsAt (p : Pass) (id : ℕ) : Type 0 where
   pub asked : AreAnswersTo (asks_below p id) p.answers
   pub ruled : AreRuled p id
 
--- What a pass has made when it comes to an id: the bytes and records that are appended, the new records, and the length
+-- What a pass has made when it comes to an id: the appended string bytes and records, the new records, and the length
 -- of all records.
 pub record HasMade (p : Pass) (id : ℕ) (strings : List ℕ) (types new : List Record) (type_len : ℕ) : Type 0 where
   pub strings_are : strings ≡ flat_map ended (texts_below p id)
@@ -30,7 +30,7 @@ pub record HasMade (p : Pass) (id : ℕ) (strings : List ℕ) (types new : List 
   pub new_are : new ≡ ruled_below p id
   pub type_len_is : type_len ≡ type_len_at p id
 
--- a kind whose rule appends no text and no record, and can't be refused
+-- a kind whose rule appends no text and no record, and is never refused
 abbrev pub is_quiet : Option Kind → Bool
 is_quiet (Some kinds.Func) = false
 is_quiet (Some kinds.FuncProto) = false
@@ -38,7 +38,7 @@ is_quiet (Some kinds.Enum64) = false
 is_quiet (Some kinds.DataSec) = false
 is_quiet k = true
 
--- Below n nothing that passes the test is there, or the least that does has made this number.
+-- No number below n passes the test; or the least one that passes it has made this number.
 abbrev pub MadeBelow : (ℕ → Bool) → (ℕ → ℕ) → ℕ → Option ℕ → Type 0
 MadeBelow test number n None = (j : ℕ) → j < n → test j ≡ false
 MadeBelow test number n (Some made) = (k : ℕ) × (k < n) × (is_least test k ≡ true) × (made ≡ number k)

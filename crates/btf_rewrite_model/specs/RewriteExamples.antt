@@ -23,7 +23,7 @@ use Rattle.btf_model.specs.CompatExamples.{table_of}
 abbrev pub no_layout : Layout
 no_layout = record { sections = λ name. None; symbols = λ name. None }
 
--- nothing but this number of this name
+-- only this name is known, with this number
 abbrev pub only : List ℕ → ℕ → List ℕ → Option ℕ
 only known number name = if bytes_eq name known then Some number else None
 
@@ -105,7 +105,7 @@ unsigned_enum_asks_nothing = refl
 
 -- ---- FUNC and FUNC_PROTO
 
--- "int" at 1; INT 1, and FUNC_PROTO 2 with two parameters of it that have no names
+-- "int" at 1; INT 1, and FUNC_PROTO 2 with two parameters of type 1 that have no names
 abbrev nameless : Pass
 nameless = record {
   table = named_table (codes "int" ∷ []) (int 1 ∷ record { name = 0; info = 0x0d000002; third = 1; tail = 0 ∷ 1 ∷ 0 ∷ 1 ∷ [] } ∷ []);
@@ -144,7 +144,7 @@ denied_global_becomes_static : becomes (three_funcs (features.Func ∷ [])) 3 �
 unfolding pieces_from encode
 denied_global_becomes_static = refl
 
--- a name that cannot be read: nothing is asked, and the rewrite is refused
+-- a name that cannot be read: the rewrite asks for nothing, and is refused
 abbrev unreadable : Pass
 unreadable = record { table = table_of (func 1 1 0 ∷ []); layout = no_layout; policy = KeepSized; answers = [] }
 

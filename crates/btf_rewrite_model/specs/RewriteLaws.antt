@@ -26,20 +26,20 @@ use Rattle.btf_rewrite_model.specs.Rewritten.{begun, pass_of, AreRuled, Rewritte
 abbrev pub IsAmong : BtfFeature → List BtfFeature → Type 0
 IsAmong f fs = list_any (same_feature f) fs ≡ true
 
--- A feature is asked for of a record only if the kernel needs it for that record.
+-- A rewrite asks for a feature at a record only if the kernel needs the feature for this record.
 abbrev pub AskedOnlyIfNeeded : Type 0
 AskedOnlyIfNeeded =
     (p : Pass) (id : ℕ) (f : BtfFeature) → IsAmong f (asks p id)
     → IsAmong f (needs p.policy (record_at p.table id) (record_at p.table id))
 
--- one of the answers is for this feature, and it is yes
+-- exactly one of the answers is for this feature, and it is yes
 abbrev pub IsGrantedOnce : List FeatureAnswer → BtfFeature → Type 0
 IsGrantedOnce answers f =
     map (λ (answer : FeatureAnswer). answer.granted)
     (filter (λ (answer : FeatureAnswer). same_feature answer.feature f) answers) ≡ true ∷ []
 
--- Where the answers are those to what the pass asks for, the features that the kernel needs for a record of the new
--- table, one that was appended among them, were asked for once each, and granted.
+-- Suppose that the answers are exactly the answers to what the pass asks for. Then each feature that the kernel needs
+-- for a record of the new table, including appended records, was asked for once and granted.
 abbrev pub GrantedFeaturesSuffice : Type 0
 GrantedFeaturesSuffice =
     (policy : FillPolicy) (old new : Table) (ids : Option KsymsIds) (layout : Layout) (answers : List FeatureAnswer)
@@ -48,14 +48,15 @@ GrantedFeaturesSuffice =
     → (id : ℕ) (r : Record) → slice_get new.records id ≡ Some r → (f : BtfFeature)
     → IsAmong f (needs policy (record_at (begun old ids) id) r) → IsGrantedOnce answers f
 
--- The record of an id keeps its length in bytes, but for a DATASEC that gets a filler.
+-- The record of an id retains its length in bytes, except for a DATASEC that gets the filler.
 pub record RecordLengthsStay : Type 0 where
   pub others : (p : Pass) (id : ℕ) (k : Kind) → HasKind k (record_at p.table id) → gets_filler p id ≡ false
       → record_len (becomes p id) ≡ record_len (record_at p.table id)
   pub filled : (p : Pass) (id : ℕ) (k : Kind) → HasKind k (record_at p.table id) → gets_filler p id ≡ true
       → (record_len (record_at p.table id) ≡ 12) × (record_len (becomes p id) ≡ 24)
 
--- An ENUM64 that becomes a UNION leaves its sign, and of each variant in order its name and its value.
+-- An ENUM64 that becomes a UNION leaves a fallback with its sign, and with the name and the value of each variant in
+-- order.
 abbrev pub Enum64KeepsItsValues : Type 0
 Enum64KeepsItsValues =
     (policy : FillPolicy) (old new : Table) (ids : Option KsymsIds) (layout : Layout) (answers : List FeatureAnswer)
@@ -65,7 +66,8 @@ Enum64KeepsItsValues =
     → (kind_at new id ≡ Some kinds.Union)
     × (slice_get new.fallbacks id ≡ Some (Some (fallback_of (record_at (begun old ids) id))))
 
--- Records of these kinds may change their size, or what they lead to.
+-- The rewrite does not change the size of a record of this kind. A VAR, FUNC, FUNC_PROTO, DATASEC or DECL_TAG may
+-- change its size, or the type that it refers to.
 abbrev pub keeps_size : Option Kind → Bool
 keeps_size (Some kinds.Var) = false
 keeps_size (Some kinds.Func) = false
@@ -74,11 +76,11 @@ keeps_size (Some kinds.DataSec) = false
 keeps_size (Some kinds.DeclTag) = false
 keeps_size k = true
 
--- what a walk for a size finds, where it meets none of those
+-- what a walk for a size finds, if it meets only kinds that retain their size
 abbrev pub FindsKept : Table → Elements → Finding Elements ℕ → Type 0
 FindsKept t at found = (keeps_size (kind_at t at.type) ≡ true) × (size_in at (slice_get t.records at.type) ≡ found)
 
--- The size of a type, by such a walk, is its size in the new table.
+-- If such a walk gives the size of a type, the type has the same size in the new table.
 abbrev pub SizesStay : Type 0
 SizesStay =
     (policy : FillPolicy) (old new : Table) (ids : Option KsymsIds) (layout : Layout) (answers : List FeatureAnswer)
@@ -86,7 +88,7 @@ SizesStay =
     → (id size : ℕ) → WalkAnswers (FindsKept old) (record { count = 1; type = id }) (λ _. MaximumTypeDepthReached id)
     (Ok size) → HasSize new.records id (Ok size)
 
--- What an id resolves to, but for a FUNC, it resolves to in the new table.
+-- If an id resolves to a type that is no FUNC, it resolves to the same type in the new table.
 abbrev pub ResolutionsStay : Type 0
 ResolutionsStay =
     (policy : FillPolicy) (old new : Table) (ids : Option KsymsIds) (layout : Layout) (answers : List FeatureAnswer)
@@ -94,15 +96,15 @@ ResolutionsStay =
     → (id end : ℕ) → Resolves old.records id (Ok end) → kind_at old end ≢ Some kinds.Func
     → Resolves new.records id (Ok end)
 
--- The value of a variant that is found by a name, or that none has the name, is found in the new table.
+-- If the search for a variant's name succeeds, with a value or with none, it returns the same in the new table.
 abbrev pub VariantValueStays : Type 0
 VariantValueStays =
     (policy : FillPolicy) (old new : Table) (ids : Option KsymsIds) (layout : Layout) (answers : List FeatureAnswer)
     → Rewritten policy old ids layout answers new
     → (id : ℕ) (name : List ℕ) (found : Option ℕ) → Value old id name (Ok found) → Value new id name (Ok found)
 
--- A pass appends three types at most: that of the members of UNIONs which were ENUM64s, and the two of the filler. The
--- step of `.ksyms` appends one at most, so a rewrite four. None is taken away.
+-- A pass appends at most three types: the member type of the UNIONs that replace ENUM64s, and the two types of the
+-- filler. The step of `.ksyms` appends at most one, so a rewrite appends at most four. No type is removed.
 pub record FewTypesAreAppended : Type 0 where
   pub in_a_pass : (p : Pass) (id : ℕ) → length (added_below p id) ≤ 3
   pub in_the_step : (t : Table) (ids : Option KsymsIds) → (length t.records ≤ length (begun t ids).records)
@@ -115,11 +117,11 @@ pub record FewTypesAreAppended : Type 0 where
 abbrev pub with_answers : Pass → List FeatureAnswer → Pass
 with_answers p answers = record p { answers = answers }
 
--- Other answers agree with those of a pass on what the ids below this one ask for.
+-- These answers agree with the answers of the pass on all features that the ids below this one ask for.
 abbrev pub Agree : Pass → List FeatureAnswer → ℕ → Type 0
 Agree p answers id = (f : BtfFeature) → IsAmong f (asks_below p id) → grants answers f ≡ has p f
 
--- What the ids below ask for, append and become under other answers.
+-- Under these other answers the ids below this one ask for the same features, append the same, and become the same.
 pub record IsSameBelow (p : Pass) (answers : List FeatureAnswer) (id : ℕ) : Type 0 where
   pub asks : asks_below (with_answers p answers) id ≡ asks_below p id
   pub texts : texts_below (with_answers p answers) id ≡ texts_below p id
@@ -127,8 +129,8 @@ pub record IsSameBelow (p : Pass) (answers : List FeatureAnswer) (id : ℕ) : Ty
   pub growth : growth_below (with_answers p answers) id ≡ growth_below p id
   pub ruled : ruled_below (with_answers p answers) id ≡ ruled_below p id
 
--- What ids ask for, append and become, and why they are refused, depends on the answers to what they and lower ids ask
--- for, and on no others.
+-- What an id asks for, appends and becomes, and why it is refused, depends only on the answers to what this id and
+-- lower ids ask for.
 pub record OtherAnswersChangeNothing : Type 0 where
   pub below : (p : Pass) (answers : List FeatureAnswer) (id : ℕ) → Agree p answers id → AreRuled p id
       → IsSameBelow p answers id
@@ -137,8 +139,9 @@ pub record OtherAnswersChangeNothing : Type 0 where
   pub refused : (p : Pass) (answers : List FeatureAnswer) (id : ℕ) → Agree p answers (suc id) → AreRuled p id
       → fault (with_answers p answers) id ≡ fault p id
 
--- Where a rewrite without symbols of the kernel succeeds, of a table that has strings, and leaves no DATASEC of size 0,
--- a second rewrite changes nothing, under the same policy and a kernel that grants again what it granted.
+-- A second rewrite changes nothing if these conditions hold: the first rewrite succeeds without kernel symbols
+-- (`.ksyms`); the table has strings; the first rewrite leaves no DATASEC of size 0; the policy is the same; and the
+-- kernel grants again what it granted.
 abbrev pub SecondRewriteChangesNothing : Type 0
 SecondRewriteChangesNothing =
     (policy : FillPolicy) (old new : Table) (layout : Layout) (answers again : List FeatureAnswer) → 0 < length old.strings
@@ -148,9 +151,9 @@ SecondRewriteChangesNothing =
     → grants answers f ≡ true → grants again f ≡ true)
     → Rewritten policy new None layout again new
 
--- Where DATASECs that have a size are kept, each definition says what it says without the policy: one that has a size
--- needs and asks for the one feature, gets no filler, and keeps all but its name, if that can be read and the new one
--- has room.
+-- Under the policy KeepSized, each definition is the same as without a policy. A DATASEC that has a size needs and asks
+-- for DataSec only, and gets no filler. It retains everything but its name, if its name can be read and the new name
+-- fits.
 pub record SizedSectionsAreKept : Type 0 where
   pub needed : (before r : Record)
       → needs KeepSized before r ≡ needs_by (is_sized_and_empty (kind_of before.info) before) (kind_of r.info) r

@@ -1,6 +1,6 @@
--- The whole rewrite: what it makes of a table for a kernel that gave these answers, or why it is refused. Source:
--- aya-obj's `fixup_and_sanitize`; that a refused rewrite leaves the table as it was, and that names and ids are read as
--- the pass began, is this project's profile (docs/DIFFERENCES.md).
+-- The whole rewrite: the table that it makes for a kernel with these answers, or why it is refused. Source: aya-obj's
+-- `fixup_and_sanitize`. This project's profile leaves the table unchanged if the rewrite is refused, and reads names
+-- and ids in the table as the pass began (docs/DIFFERENCES.md).
 use Rattle.std.specs.Prelude.{◌≡◌, ◌⊎◌, ℕ, ◌<◌, List, [], ◌∷◌, ◌++◌, length, map, Option, Some, None}
 use Rattle.std.specs.List.{flat_map}
 use Rattle.btf_model.specs.Refusal.{Refusal}
@@ -14,7 +14,7 @@ use Rattle.btf_rewrite_model.specs.Made.{table_ids}
 use Rattle.btf_rewrite_model.specs.Rule.{ruled_below, falls_back}
 use Rattle.btf_rewrite_model.specs.Fault.{fault}
 
--- the table as the pass begins: after the step of `.ksyms`, where its ids are given
+-- the table as the pass begins: after the step of `.ksyms`, if the ids of `.ksyms` are given
 abbrev pub begun : Table → Option KsymsIds → Table
 begun t (Some ids) = ksyms_table t ids
 begun t None = t
@@ -29,7 +29,7 @@ abbrev pub pass_of : FillPolicy → Table → Option KsymsIds → Layout → Lis
 pass_of policy t ids layout answers =
     record { table = begun t ids; layout = layout; policy = policy; answers = answers }
 
--- the number of ids that a pass goes over
+-- the number of ids that a pass visits
 abbrev pub old_count : Pass → ℕ
 old_count p = length p.table.records
 
@@ -37,7 +37,7 @@ old_count p = length p.table.records
 abbrev pub ended : List ℕ → List ℕ
 ended text = text ++ 0 ∷ []
 
--- What a pass makes of its table: each id has the record and the fallback of its rule, and strings and records are
+-- The table that a pass makes: each id has the record and the fallback that its rule gives, and strings and records are
 -- appended.
 abbrev pub rewritten : Pass → Table
 rewritten p = record p.table {
@@ -50,14 +50,14 @@ rewritten p = record p.table {
 abbrev pub AreRuled : Pass → ℕ → Type 0
 AreRuled p end = (id : ℕ) → id < end → fault p id ≡ None
 
--- The table is rewritten as the new one, under this policy.
+-- The rewrite of the old table under this policy succeeds, and makes the new table.
 pub record Rewritten (policy : FillPolicy) (old : Table) (ids : Option KsymsIds) (layout : Layout)
     (answers : List FeatureAnswer) (new : Table) : Type 0 where
   pub step : step_fault old ids ≡ None
   pub ruled : AreRuled (pass_of policy old ids layout answers) (old_count (pass_of policy old ids layout answers))
   pub table : new ≡ rewritten (pass_of policy old ids layout answers)
 
--- The pass is refused at the least id that has a fault.
+-- The pass is refused at this id, which is the least id that has a fault.
 abbrev pub FaultsAt : Pass → ℕ → Refusal → Type 0
 FaultsAt p id refusal = (id < old_count p) × AreRuled p id × (fault p id ≡ Some refusal)
 

@@ -1,5 +1,5 @@
--- What a rewrite makes of each record. Source: aya-obj's `fixup_and_sanitize`, kind by kind; that a member is named by
--- the new name of a lower id is as there.
+-- What a rewrite changes each record to. Source: aya-obj's `fixup_and_sanitize`, kind by kind. As in aya-obj, a member
+-- gets the new name of its type if the type has a lower id.
 use Rattle.std.specs.Prelude.{ℕ, zero, suc, ◌+◌, ◌*◌, nat_lt, max, ◌==◌, ◌&&◌, ◌||◌, not, if◌then◌else◌, List, [], ◌∷◌, ◌++◌, length, map, slice_get, Option, Some, None, Result, Ok, Err}
 use Rattle.std.specs.List.{flat_map}
 use Rattle.std.specs.Option.{unwrap_or}
@@ -14,12 +14,14 @@ use Rattle.btf_rewrite_model.specs.Pass.{Pass, has, name_of, least, renaming, se
 
 -- ---- functions
 
--- a function that the kernel knows: a Global builtin becomes Static, and any Global one where it takes none
+-- a FUNC for a kernel that has Func: a Global builtin becomes Static, and every Global function becomes Static if the
+-- kernel does not have FuncGlobal
 abbrev pub known_func : Pass → Record → Result (List ℕ) Refusal → Record
 known_func p r (Ok name) = if is_global r && (is_builtin name || not (has p features.FuncGlobal)) then with_linkage 0 r else r
 known_func p r (Err refusal) = r
 
--- the parameters, those without names named by texts one after the other from this offset on; they count from k
+-- the parameters of a prototype, counted from k: each one that has a type and no name gets the next of the texts that
+-- begin at this offset
 abbrev pub named_params : ℕ → ℕ → List ℕ → List ℕ
 named_params k offset (name ∷ type ∷ words) =
     if wants_name name type then offset ∷ type ∷ named_params (k + 1) (offset + length (param_text k) + 1) words
@@ -28,17 +30,17 @@ named_params k offset words = words
 
 -- ---- ENUM64
 
--- the id of the member type, which the lowest ENUM64 that becomes a UNION appends
+-- the id of the member type, which is appended by the lowest ENUM64 that becomes a UNION
 abbrev pub member_type_id : Pass → ℕ → ℕ
 member_type_id p id = free_id p (least (wants_member_type p) id)
 
--- a member for each variant, of its name and of this type, all at bit 0
+-- a member for each variant, with the variant's name and this type, at bit 0
 abbrev pub variant_members : ℕ → List Variant → List ℕ
 variant_members type vs = flat_map (λ (v : Variant). v.name ∷ type ∷ 0 ∷ []) vs
 
 -- ---- DATASEC
 
--- the new name: the text that is appended for it at this offset, or the old one
+-- the new name: this offset if a text is appended for it, else the old name
 abbrev pub name_or : ℕ → ℕ → List (List ℕ) → ℕ
 name_or old offset [] = old
 name_or old offset (text ∷ texts) = offset
@@ -47,42 +49,42 @@ name_or old offset (text ∷ texts) = offset
 abbrev pub new_name : Pass → ℕ → Record → ℕ
 new_name p id r = name_or r.name (offset_at p id) (renaming p (name_of p id))
 
--- the name of an entry's type, where the entry becomes a member of this id: its new one where it is lower
+-- the name of an entry's type for the member of this id: the new name if the type has a lower id, else the old name
 abbrev pub member_name : Pass → List Record → ℕ → ℕ → ℕ
 member_name p lower id type = if nat_lt type id then (unwrap_or (slice_get lower type) unknown).name else (record_at p.table type).name
 
--- a member for each entry, at the bit of its offset
+-- a member for each entry, at its offset in bits
 abbrev pub entry_members : Pass → List Record → ℕ → List Entry → List ℕ
 entry_members p lower id es = flat_map (λ (e : Entry). member_name p lower id e.type ∷ e.type ∷ e.offset * 8 ∷ []) es
 
--- the VAR of the filler, which stands after its INT
+-- the id of the filler's VAR, which is after the filler's INT
 abbrev pub filler_id : Pass → ℕ → ℕ
 filler_id p id = free_id p (least (gets_filler p) id) + 1
 
--- the entry of a variable, at the offset of its symbol, but for a Static one
+-- the entry of a variable at the offset of its symbol; the entry of a Static variable is unchanged
 abbrev pub placed : Pass → Entry → Entry
 placed p e =
     if is_static (record_at p.table e.type) then e
     else record e { offset = unwrap_or (symbol_offset p e.type) e.offset }
 
--- a DATASEC of this size with the filler as its one entry
+-- a DATASEC of this size whose only entry is the filler
 abbrev pub filled : Pass → ℕ → ℕ → Record → Record
 filled p id size r = data_sec (new_name p id r) size 1 (record { type = filler_id p id; offset = 0; size = size } ∷ [])
 
--- A DATASEC of size 0 is completed: it gets the size of its section, and each entry its place; or the filler as its one
--- entry.
+-- A DATASEC of size 0 is completed: it gets the size of its section, and each entry gets its offset; or the filler
+-- becomes its only entry.
 abbrev pub completed : Pass → ℕ → ℕ → Record → Record
 completed p id size r =
     if gets_filler p id then filled p id (max size 1) r
     else data_sec (new_name p id r) size (vlen r.info) (map (placed p) (entries r.tail))
 
--- One that has a size stays, but for its name; or it keeps its size, and gets the filler.
+-- A DATASEC that has a size retains it: it only gets its new name, or also the filler.
 abbrev pub sized : Pass → ℕ → Record → Record
 sized p id r = if gets_filler p id then filled p id r.third r else record r { name = new_name p id r }
 
 -- ---- the rule of each kind
 
--- What the record of an id becomes, by its kind, where these are the new records of all lower ids.
+-- What the record of an id becomes, by its kind; `lower` has the new records of all lower ids.
 abbrev pub becomes_by : Pass → List Record → ℕ → Option Kind → Record → Record
 becomes_by p lower id (Some kinds.Ptr) r = record r { name = 0 }
 becomes_by p lower id (Some kinds.Var) r = if has p features.DataSec then r else byte_int r.name
@@ -104,7 +106,7 @@ becomes_by p lower id (Some kinds.DataSec) r =
     else struct (new_name p id r) (vlen r.info) (vlen r.info) (entry_members p lower id (entries r.tail))
 becomes_by p lower id k r = r
 
--- the new records of this id and all lower ones, by those of the lower ones
+-- the new records of this id and all lower ids, given the new records of the lower ids
 abbrev pub with_ruled : Pass → ℕ → List Record → List Record
 with_ruled p id lower = lower ++ becomes_by p lower id (kind_at p.table id) (record_at p.table id) ∷ []
 
@@ -117,7 +119,8 @@ ruled_below p (suc id) = with_ruled p id (ruled_below p id)
 abbrev pub becomes : Pass → ℕ → Record
 becomes p id = becomes_by p (ruled_below p id) id (kind_at p.table id) (record_at p.table id)
 
--- The fallback that an id has then: an ENUM64 that becomes a UNION leaves one, and an older one stays.
+-- The fallback of an id after the pass: an ENUM64 that becomes a UNION leaves a fallback; otherwise the old one is
+-- retained.
 abbrev pub falls_back_by : Pass → Option Kind → Record → Option Fallback → Option Fallback
 falls_back_by p (Some kinds.Enum64) r old = if has p features.Enum64 then old else Some (fallback_of r)
 falls_back_by p k r old = old

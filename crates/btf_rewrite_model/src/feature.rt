@@ -1,6 +1,6 @@
-//! The features of a kernel's BTF, what it has of them, and what a rewrite does with DATASECs that have a size.
+//! The features of a kernel's BTF, the kernel's answers, and what a rewrite does with a DATASEC that has a size.
 
-/// What older kernels refuse in BTF: a kind, or a use of one.
+/// A feature of BTF that older kernels refuse: a kind, or a use of a kind.
 #[derive(Clone, Copy, Debug, Default, Eq, Hash, PartialEq)]
 pub enum BtfFeature {
     /// FUNC and FUNC_PROTO.
@@ -22,14 +22,14 @@ pub enum BtfFeature {
     Enum64,
 }
 
-/// What a rewrite does with a DATASEC that has a size and no entries, for a kernel that takes no DATASEC without
-/// entries.
+/// What a rewrite does with a DATASEC that has a size and no entries, for a kernel that does not accept a DATASEC
+/// without entries.
 #[derive(Clone, Copy, Debug, Default, Eq, PartialEq)]
 pub enum FillPolicy {
-    /// It stays without entries, and the kernel is not asked about it, as in aya.
+    /// It stays without entries, and the rewrite does not ask for DataSecZero because of it, as in aya.
     #[default]
     KeepSized,
-    /// It gets an entry of its own, of its size, as one of size 0 does.
+    /// It gets one entry of its own size, as a DATASEC of size 0 does.
     FillSized,
 }
 

@@ -59,7 +59,7 @@ distinct_with answers a distinct none =
     subst (λ (ns : List ℕ). IsDistinct eqb ns) (sym (map-append (λ (b : FeatureAnswer). number b.feature) answers (a ∷ [])))
     (with_new (numbers answers) (number a.feature) distinct (new_of_none answers a.feature none))
 
--- Where a feature has no answer, there are fewer than eight.
+-- If a feature has no answer, there are fewer than eight answers.
 pub has_room : (answers : List FeatureAnswer) (a : FeatureAnswer) → AreDistinct answers → answer_to answers a.feature ≡ None → length answers < 8
 has_room answers a distinct none =
     let all : List FeatureAnswer = answers ++ a ∷ [] in

@@ -1,4 +1,4 @@
--- Variants of an ENUM64 that become members, and those that are kept.
+-- Variants of an ENUM64 that become members, and variants that the fallback retains.
 use Rattle.std.proofs.Common.{◌≡◌, ℕ, ◌+◌, ◌*◌, ◌^◌, ◌≤◌, List, [], ◌∷◌, length, take, map, refl, sym, ap, ◌∙◌}
 use Rattle.std.specs.List.{flat_map}
 use Rattle.std.proofs.lemmas.List.{take_all}
@@ -11,7 +11,7 @@ use Rattle.btf_items.specs.declared.items.BtfEnum64.{BtfEnum64}
 use Rattle.btf_items.specs.declared.items.BtfMember.{BtfMember}
 use Rattle.btf_items.specs.declared.fallback.Enum64VariantFallback.{Enum64VariantFallback}
 
--- a variant with its value whole
+-- a variant with its 64-bit value in one number
 abbrev pub variant : BtfEnum64 → Variant
 variant v = record { name = v.name_offset; value = v.value_high * 2 ^ 32 + v.value_low }
 
@@ -20,7 +20,7 @@ pub variants_of_words : (vs : List BtfEnum64) → variants (flat_map enum64_word
 variants_of_words [] = refl
 variants_of_words (v ∷ vs) = ap (λ (rest : List Variant). variant v ∷ rest) (variants_of_words vs)
 
--- after the last variant, all are kept
+-- after the last variant, all are retained
 pub kept_all : (kept : List Enum64VariantFallback) (vs : List BtfEnum64) (i : ℕ) → length vs ≤ i → map variant_of kept ≡ map variant (take i vs) → map variant_of kept ≡ variants (flat_map enum64_words vs)
 kept_all kept vs i end is = is ∙ ap (map variant) (take_all i vs end) ∙ sym (variants_of_words vs)
 

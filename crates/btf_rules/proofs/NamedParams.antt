@@ -9,7 +9,7 @@ use Rattle.btf_rewrite_model.specs.Ksyms.{named}
 use Rattle.btf_items.specs.Items.{param_words}
 use Rattle.btf_items.specs.declared.items.BtfParam.{BtfParam}
 
--- words in the place of others
+-- words that replace others
 pub put_at : (before old rest new : List ℕ) (n m : ℕ) → length before ≡ n → n + length old ≡ m → take n (before ++ (old ++ rest)) ++ (new ++ drop m (before ++ (old ++ rest))) ≡ before ++ (new ++ rest)
 put_at before old rest new n m at past =
     let long : length (before ++ old) ≡ m = omega (arith, length-append before old, at, past) in
@@ -18,7 +18,7 @@ put_at before old rest new n m at past =
 
 -- ---- parameters
 
--- the words of parameters, those in front of a place with their names
+-- the words of parameters, with new names before a place
 abbrev pub named_to : ℕ → ℕ → List BtfParam → List ℕ
 named_to name i params = named name (flat_map param_words (take i params)) ++ flat_map param_words (drop i params)
 
@@ -51,7 +51,7 @@ named_next name params i new lt is =
     ∙ ap (λ (n : ℕ). front ++ n ∷ p.btf_type ∷ rest) (sym is) in
     put ∙ sym then_named
 
--- all have
+-- all parameters have their names
 pub named_all : (name i : ℕ) (params : List BtfParam) → length params ≤ i → named_to name i params ≡ named name (flat_map param_words params)
 named_all name i params end =
     ap (λ (xs : List BtfParam). named name (flat_map param_words xs) ++ flat_map param_words (drop i params)) (take_all i params end)

@@ -1,4 +1,4 @@
--- What `replace` makes of a name, where an ASCII character stands for another.
+-- The result of `replace` for a name, if one ASCII character replaces another.
 use Rattle.std.proofs.Common.{◌≡◌, ◌==◌, ℕ, zero, suc, ◌+◌, ◌<◌, Bool, false, List, [], ◌∷◌, ◌++◌, length, get_or, take, drop, sym, ap, ◌∙◌, refl, arith, ⊎_elim}
 use Rattle.std.specs.Prelude.{if◌then◌else◌}
 use Rattle.std.specs.Str.{NoCharPasses}
@@ -10,7 +10,7 @@ use Rattle.std.proofs.lemmas.Str.{len_utf8_ascii}
 use Rattle.std.proofs.lemmas.Str.Pattern.{NoCharPasses-char, drop_at_char}
 use Rattle.btf_rewrite_model.specs.Pass.{replaced}
 
--- where the byte is not there, nothing is replaced
+-- if the byte does not occur, nothing is replaced
 replaced_none : (byte other : ℕ) (bs : List ℕ) → ((k : ℕ) → k < length bs → (get_or bs k 0 == byte) ≡ false) → replaced byte other bs ≡ bs
 replaced_none byte other [] none = refl
 replaced_none byte other (b ∷ bs) none =
@@ -20,7 +20,7 @@ replaced_none byte other (b ∷ bs) none =
 stays : (c other : ℕ) (bs : List ℕ) → c < 128 → NoCharPasses (λ d. d == c) bs → replaced c other bs ≡ bs
 stays c other bs ascii none = replaced_none c other bs (λ k lt. ne_eqb (get_or bs k 0) c (NoCharPasses-char c bs k none ascii lt))
 
--- `replace` of an ASCII character by another puts a byte in place of another
+-- `replace` of an ASCII character by another replaces one byte by another
 pub replaces_byte : (other n c : ℕ) (s out : List ℕ) → c < 128 → ReplacesMatches FindsChar (λ a b. b ≡ a) (other ∷ []) n c s out → out ≡ replaced c other s
 replaces_byte other zero c s out ascii none = none.1 ∙ sym (stays c other s ascii none.0)
 replaces_byte other (suc n) c s out ascii m =

@@ -1,4 +1,5 @@
--- The names of functions that compilers make Global, and kernels want Static, as they stand among strings.
+-- The names of functions that compilers emit as Global, and that kernels require to be Static, as bytes of a string
+-- section.
 use Rattle.std.specs.Prelude.{◌==◌, ℕ, Bool, List, [], ◌∷◌, ◌++◌}
 use Rattle.std.specs.List.{list_any, starts_with}
 use Rattle.btf_rewrite_model.specs.Pass.{builtins}

@@ -1,11 +1,11 @@
--- Features and answers as the definitions name them, and what it is to ask for a feature.
+-- Features and answers of the code as values of the definitions, and what a call that asks for a feature does.
 use Rattle.std.specs.Prelude.{◌≡◌, ℕ, eqb, Bool, List, [], ◌∷◌, ◌++◌, map, Option, Some, None}
 use Rattle.std.specs.List.{IsDistinct}
 use Rattle.btf_rewrite_model.specs.Feature.{number, answer_to}
 use Rattle.btf_rewrite_model.specs.declared.feature.BtfFeature.{BtfFeature}
 use Rattle.btf_rewrite_model.specs.declared.feature.FeatureAnswer.{FeatureAnswer}
 
--- the places of the features that are answered
+-- the numbers of the features that are answered
 abbrev pub numbers : List FeatureAnswer → List ℕ
 numbers answers = map (λ (a : FeatureAnswer). number a.feature) answers
 
@@ -13,8 +13,8 @@ numbers answers = map (λ (a : FeatureAnswer). number a.feature) answers
 abbrev pub AreDistinct : List FeatureAnswer → Type 0
 AreDistinct answers = IsDistinct eqb (numbers answers)
 
--- Asking for a feature: one that was answered has that answer, and nothing changes; another is one call of the
--- predicate as it is now, whose answer is put after the others.
+-- A call that asks for a feature: if the feature was answered, the call returns this answer, and nothing changes.
+-- Otherwise the call makes one call of the predicate in its current state, and appends the answer to the others.
 abbrev pub AsksFor : {F : Type 0} → (F → BtfFeature → Bool → F → Type 0) → BtfFeature → Option Bool → F
     × List FeatureAnswer → Bool → F × List FeatureAnswer → Type 0
 AsksFor step feature (Some was) old answer new = (answer ≡ was) × (new ≡ old)
@@ -26,13 +26,13 @@ abbrev pub Asks : {F : Type 0} → (F → BtfFeature → Bool → F → Type 0) 
     × List FeatureAnswer → Type 0
 Asks step feature old answer new = AsksFor step feature (answer_to old.1 feature) old answer new
 
--- The predicate was called for these features, in order, and gave these answers; that and nothing else led from one
--- state to the other.
+-- The predicate was called for these features in order, and gave these answers. Only these calls changed its state from
+-- the first to the last one.
 abbrev pub Called : {F : Type 0} → (F → BtfFeature → Bool → F → Type 0) → F → List FeatureAnswer → F → Type 0
 Called step before [] after = after ≡ before
 Called {F} step before (a ∷ answers) after =
     (mid : F) × step before a.feature a.granted mid × Called step mid answers after
 
--- these answers, and others after them
+-- these answers, followed by others
 abbrev pub IsFurther : List FeatureAnswer → List FeatureAnswer → Type 0
 IsFurther old new = (more : List FeatureAnswer) × (new ≡ old ++ more)

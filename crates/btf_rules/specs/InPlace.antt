@@ -1,5 +1,5 @@
--- What a type becomes in place, for a kernel that lacks the feature which its kind asks for: its rule appends nothing,
--- and can't be refused. Source: aya-obj's `fixup_and_sanitize`.
+-- What a type becomes in place, for a kernel that lacks the feature that its kind asks for. Such a rule appends
+-- nothing, and is never refused. Source: aya-obj's `fixup_and_sanitize`.
 use Rattle.std.specs.Prelude.{Option, Some, []}
 use Rattle.btf_model.specs.Record as kinds
 use Rattle.btf_model.specs.Record.{Kind, Record, kind_of}
@@ -18,7 +18,7 @@ denied_by (Some kinds.Enum) r = unsigned r
 denied_by (Some kinds.Func) r = typedef r.name r.third
 denied_by k r = r
 
--- the record that a record becomes where the kernel lacks its one feature
+-- the record that a record becomes if the kernel lacks its one feature
 abbrev pub denied : Record → Record
 denied r = denied_by (kind_of r.info) r
 

@@ -1,4 +1,4 @@
--- The feature that a type asks for, where it asks for one at most.
+-- The feature that a type asks for, if it asks for at most one.
 use Rattle.std.specs.Prelude.{◌≡◌, if◌then◌else◌, Bool, true, false, Option, Some, None}
 use Rattle.btf_model.specs.Record as kinds
 use Rattle.btf_model.specs.Record.{Kind, Record, kind_of}
@@ -7,7 +7,7 @@ use Rattle.btf_rewrite_model.specs.Feature.{is_signed}
 use Rattle.btf_rewrite_model.specs.declared.feature.BtfFeature.{BtfFeature}
 use Rattle.btf_rewrite_model.specs.Pass.{Pass, has}
 
--- the feature that a record of this kind asks for, where it asks for one alone
+-- the feature that a record of this kind asks for, if it asks for exactly one
 abbrev pub sole_feature : Option Kind → Record → Option BtfFeature
 sole_feature (Some kinds.Var) r = Some features.DataSec
 sole_feature (Some kinds.Float) r = Some features.Float
@@ -28,7 +28,7 @@ asks_one (Some kinds.Func) = false
 asks_one (Some kinds.DataSec) = false
 asks_one k = true
 
--- whether the kernel has this feature, where there is one
+-- whether the kernel has this feature; true if there is none
 abbrev pub IsGranted : Pass → Option BtfFeature → Bool → Type 0
 IsGranted p (Some f) granted = has p f ≡ granted
 IsGranted p None granted = granted ≡ true

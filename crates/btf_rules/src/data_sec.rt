@@ -1,4 +1,4 @@
-//! What becomes of a DATASEC's name, and what the caller's maps say of its section and its symbols.
+//! The new name of a DATASEC, and what the caller's maps have for its section and its symbols.
 
 ghost use Rattle.std.specs.Prelude.{◌≡◌, if◌then◌else◌, None, Some, Ok, IfOk, string_bytes};
 ghost use Rattle.std.specs.Option.{unwrap_or};
@@ -16,8 +16,8 @@ use std::alloc::{AllocError, Global};
 use std::collections::HashMap;
 use std::hash::BuildHasher;
 
-/// The name that a DATASEC of this name gets: as a DATASEC, where the kernel takes one, with `.` for each `/`, which
-/// kernels refuse there; or else as a STRUCT, with `_` for each `.`, which is in no C name.
+/// The new name of a DATASEC of this name. On a kernel that has DATASECs, `.` replaces each `/`, because kernels refuse
+/// `/` there. Otherwise the DATASEC becomes a STRUCT, and `_` replaces each `.`, because no C name has a `.`.
 pub fn section_name(alloc: Global, name: &str, granted: bool) -> Result<String, AllocError>
     ensures { IfOk result (λ text. string_bytes text ≡ if granted then replaced slash dot name.now
         else replaced dot underscore name.now) }
@@ -29,7 +29,7 @@ pub fn section_name(alloc: Global, name: &str, granted: bool) -> Result<String, 
     }
 }
 
-/// The DATASEC with this name; None where it has it.
+/// The DATASEC with this name; None if it already has this name.
 pub fn renamed(data_sec: &DataSec, name_offset: u32) -> Result<Option<BtfType>, BtfError>
     ensures answer { IsOrNoMemory
         (λ new. record_of (unwrap_or new (BtfType.DataSec data_sec.now))) result
@@ -45,14 +45,14 @@ pub fn renamed(data_sec: &DataSec, name_offset: u32) -> Result<Option<BtfType>, 
     Ok(Some(BtfType::DataSec(renamed)))
 }
 
-/// A number, where it has at most 32 bits.
+/// A number, if it has at most 32 bits.
 fn to_word(number: u64) -> Option<u32>
     ensures { result ≡ in_a_word (Some number) }
 {
     u32::try_from(number).ok()
 }
 
-/// The size of the section of this name, where it is known and has at most 32 bits.
+/// The size of the section of this name, if it is known and has at most 32 bits.
 fn known_size<G: BuildHasher>(
     sections: &HashMap<String, (SectionIndex, u64), G>,
     name: &str,
@@ -63,8 +63,8 @@ fn known_size<G: BuildHasher>(
     to_word(*size)
 }
 
-/// The size of the section of this name; `UnknownSectionSize` of the name where it isn't known or has more than 32
-/// bits.
+/// The size of the section of this name. Fails with `UnknownSectionSize` of the name if the size isn't known or has
+/// more than 32 bits.
 pub fn section_size<G: BuildHasher>(
     alloc: Global,
     sections: &HashMap<String, (SectionIndex, u64), G>,
@@ -82,7 +82,7 @@ pub fn section_size<G: BuildHasher>(
     Ok(size)
 }
 
-/// The offset of the symbol of this name, where it is known and has at most 32 bits.
+/// The offset of the symbol of this name, if it is known and has at most 32 bits.
 pub fn known_offset<H: BuildHasher>(symbols: &HashMap<String, u64, H>, name: &str) -> Option<u32>
     ensures { result ≡ in_a_word (offsets_of symbols.now name.now) }
 {

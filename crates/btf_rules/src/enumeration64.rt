@@ -1,4 +1,4 @@
-//! An ENUM64 as a UNION, with its values kept beside it.
+//! An ENUM64 as a UNION that retains the ENUM64's values in its fallback.
 
 ghost use Rattle.std.specs.Prelude.{◌≡◌, ◌+◌, ◌*◌, ◌^◌, length, map, IfOk, Ok, Some};
 ghost use Rattle.std.specs.List.{flat_map};
@@ -14,7 +14,7 @@ use btf_plain::BtfError;
 use btf_records::{BtfEnum64, BtfMember, Enum64, Enum64Fallback, Enum64VariantFallback, Union};
 use std::alloc::{AllocError, Global};
 
-/// A member for each variant, of its name and of this type, all at bit 0.
+/// A member for each variant, with the variant's name and this type, at bit 0.
 fn variant_members(
     alloc: Global,
     variants: &[BtfEnum64],
@@ -35,14 +35,14 @@ fn variant_members(
     Ok(members)
 }
 
-/// The value of a variant, as two's complement where the ENUM64 is signed.
+/// The value of a variant, in two's complement if the ENUM64 is signed.
 fn variant_value(variant: &BtfEnum64) -> u64
     ensures { result ≡ variant.now.value_high * 2 ^ 32 + variant.now.value_low }
 {
     (variant.value_high as u64) << 32 | variant.value_low as u64
 }
 
-/// The variants, each with its value whole.
+/// The variants, each with its 64-bit value in one number.
 fn kept_variants(
     alloc: Global,
     variants: &[BtfEnum64],
@@ -60,7 +60,8 @@ fn kept_variants(
     Ok(kept)
 }
 
-/// The ENUM64 as a UNION with a member for each variant, all of one type, and the variants' values kept beside it.
+/// The ENUM64 as a UNION with a member for each variant, all of one type. The UNION's fallback retains the variants'
+/// values.
 pub fn as_union(alloc: Global, enum64: &Enum64, member_type: u32) -> Result<Union, BtfError>
     ensures { IsOrNoMemory (λ u. u) result
         (Ok (record {

@@ -1,4 +1,4 @@
-//! What a kernel's BTF may hold, as a caller's predicate says.
+//! The features of a kernel's BTF, as a caller's predicate reports them.
 
 ghost use Rattle.std.specs.Prelude.{◌≡◌, IfOk};
 ghost use Rattle.btf_rewrite_model.specs.Feature.{answer_to as answer_of};
@@ -9,7 +9,7 @@ use btf_rewrite_model::{BtfFeature, FeatureAnswer};
 use std::alloc::AllocError;
 use std::marker::Model;
 
-/// A predicate that tells which features a kernel has, and what it has said so far. It is called once for a
+/// A predicate that reports whether a kernel has a feature, and its answers so far. It is called at most once for each
 /// feature.
 #[derive(Drop)]
 pub struct BtfFeatureResolver<F> {
@@ -44,7 +44,7 @@ impl<F: FnMut(BtfFeature) -> bool> BtfFeatureResolver<F> {
         }
     }
 
-    /// Whether the kernel has a feature: what the predicate said when it was asked for this feature first.
+    /// Whether the kernel has a feature. The predicate is called for the first such question, and its answer is cached.
     pub fn is_supported(&mut self, feature: BtfFeature) -> bool
         requires { F.IsAlwaysCallable self.old.0 }
         ensures asks { Asks F.step feature self.old result self.new }
@@ -58,7 +58,7 @@ impl<F: FnMut(BtfFeature) -> bool> BtfFeatureResolver<F> {
         granted
     }
 
-    /// What the predicate has said so far, in the order in which it was asked. No feature is asked for twice.
+    /// The predicate's answers so far, in the order of the calls. It is not called twice for a feature.
     pub fn answers(&self) -> &[FeatureAnswer]
         ensures answers { result.now ≡ self.now.1 }
         ensures distinct { AreDistinct result.now }
@@ -67,8 +67,7 @@ impl<F: FnMut(BtfFeature) -> bool> BtfFeatureResolver<F> {
     }
 }
 
-/// A copy of what the predicate has said a resolver so far. It stands on its own, and takes no memory but its eight
-/// places.
+/// A copy of a resolver's answers so far. It does not borrow the resolver, and allocates only room for eight answers.
 pub fn copied_answers<F>(
     resolver: &BtfFeatureResolver<F>,
 ) -> Result<ArrayVec<FeatureAnswer, 8>, AllocError>
@@ -77,7 +76,7 @@ pub fn copied_answers<F>(
     resolver.answers.clone()
 }
 
-/// The answer for a feature; None where it was not asked for.
+/// The answer for a feature; None if the feature was not asked for.
 fn answer_to(answers: &[FeatureAnswer], feature: BtfFeature) -> Option<bool>
     ensures { result ≡ answer_of answers.now feature }
 {

@@ -7,8 +7,8 @@ ghost use Rattle.btf_rules.specs.Builtins.{begins_builtin};
 use btf_plain::{Func, FuncLinkage};
 use std::alloc::AllocError;
 
-/// Whether the name at the front of these strings is that of a function that compilers make Global, and kernels want
-/// Static. No byte after such a name and its zero byte is read, however long the strings are.
+/// Whether the name at the front of these strings is the name of a function that compilers emit as Global, and that
+/// kernels require to be Static. No byte after such a name and its zero byte is read, however long the strings are.
 pub fn is_builtin(strings: &[u8]) -> bool
     ensures { result ≡ begins_builtin strings.now }
 {
@@ -18,7 +18,7 @@ pub fn is_builtin(strings: &[u8]) -> bool
         || strings.starts_with(b"memcmp\0")
 }
 
-/// The function, with Static for its linkage.
+/// The function with Static linkage.
 pub fn made_static(func: &Func) -> Result<Func, AllocError>
     ensures { IfOk result (λ r. r ≡ with_linkage 0 func.now) }
 {
@@ -27,7 +27,7 @@ pub fn made_static(func: &Func) -> Result<Func, AllocError>
     Ok(func)
 }
 
-/// The function, with Global for its linkage.
+/// The function with Global linkage.
 pub fn global(func: &Func) -> Result<Func, AllocError>
     ensures { IfOk result (λ r. r ≡ with_linkage 1 func.now) }
 {

@@ -13,14 +13,14 @@ use btf_plain::BtfError;
 use btf_records::{BtfEnum, BtfParam, Enum, FuncProto};
 use std::alloc::{AllocError, Global};
 
-/// The text that names the parameter at a place.
+/// The name of the parameter at an index.
 pub fn param_text(alloc: Global, index: usize) -> Result<String, AllocError>
     ensures { IfOk result (λ text. string_bytes text ≡ model.param_text index) }
 {
     format!(in alloc; "param{index}")
 }
 
-/// A variant for each parameter, of its name, whose value is its type.
+/// A variant for each parameter: it has the parameter's name, and its value is the parameter's type.
 fn param_variants(alloc: Global, params: &[BtfParam]) -> Result<Vec<BtfEnum>, AllocError>
     ensures words { IfOk result (λ v. flat_map enum_words v.items
         ≡ flat_map param_words params.now) }
@@ -33,7 +33,8 @@ fn param_variants(alloc: Global, params: &[BtfParam]) -> Result<Vec<BtfEnum>, Al
     Ok(variants)
 }
 
-/// The prototype as an ENUM without sign: each parameter a variant, of its name, whose value is its type.
+/// The prototype as an unsigned ENUM: each parameter becomes a variant with the parameter's name, whose value is the
+/// parameter's type.
 pub fn as_enum(alloc: Global, proto: &FuncProto) -> Result<Enum, BtfError>
     ensures { IsOrNoMemory (λ r. r) result
         (Ok (enum proto.now.name (vlen proto.now.info) proto.now.tail)) }
@@ -42,7 +43,7 @@ pub fn as_enum(alloc: Global, proto: &FuncProto) -> Result<Enum, BtfError>
     Ok(Enum::new(proto.name_offset(), false, variants))
 }
 
-/// The string offset of the name that a parameter gets: this one, where it has a type and no name.
+/// The string offset of a parameter's new name: this offset if it has a type and no name, else its old name.
 fn param_name(param: &BtfParam, name_offset: u32) -> u32
     ensures { result ≡ if wants_name param.now.name_offset param.now.btf_type then name_offset
         else param.now.name_offset }

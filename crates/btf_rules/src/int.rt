@@ -1,4 +1,4 @@
-//! The INT that stands for C's `int`.
+//! The INT that represents C's `int`.
 
 ghost use Rattle.std.specs.Prelude.{◌≡◌, ◌≤◌, length, map};
 ghost use Rattle.std.specs.List.{position_or_len};
@@ -17,7 +17,7 @@ fn is_int_of_4(btf_type: &BtfType) -> bool
     btf_type.kind() == BtfKind::Int && btf_type.size() == Some(4)
 }
 
-/// The id of the first INT of 4 bytes, or the number of types where there is none.
+/// The id of the first INT of 4 bytes, or the number of types if there is none.
 pub fn int_of_4(types: &[BtfType]) -> usize
     ensures bound { result ≤ length types.now }
     ensures first { result ≡ position_or_len (λ r. model.is_int_of_4 (kind_of r.info) r)

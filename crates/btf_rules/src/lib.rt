@@ -1,4 +1,4 @@
-//! What a rewrite asks of a kernel, and what it makes of a single type.
+//! The features that a rewrite asks a kernel for, and what it changes a single type to.
 #![tactic(auto)]
 
 mod data_sec;

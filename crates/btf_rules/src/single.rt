@@ -1,4 +1,4 @@
-//! Types that ask for one feature at most, and change in place: their rule appends nothing, and takes no memory.
+//! Types that ask for at most one feature and change in place: their rule appends nothing and allocates no memory.
 
 ghost use Rattle.std.specs.Prelude.{◌≡◌, ℕ, List, Option, None, Some, length, true, if◌then◌else◌};
 ghost use Rattle.btf_model.specs.Record as kinds;
@@ -17,8 +17,8 @@ use btf_records::{BtfType, Struct};
 use btf_rewrite_model::BtfFeature;
 use std::alloc::Global;
 
-/// The feature that a type asks for, where it asks for one alone: all but FUNC and DATASEC. None where it asks for
-/// none.
+/// The feature that a type asks for, if it asks for exactly one. None if it asks for none, and for a FUNC or a DATASEC,
+/// which may ask for more than one.
 pub fn sole_feature(btf_type: &BtfType) -> Option<BtfFeature>
     ensures { result ≡ feature_of (record_of btf_type.now) }
 {
@@ -44,7 +44,7 @@ fn is_signed_enum(btf_type: &BtfType) -> bool
     }
 }
 
-/// An INT of one byte, of this name.
+/// An INT of one byte with this name.
 fn byte_int(name_offset: u32) -> BtfType
     ensures words { record_of result ≡ model.byte_int name_offset }
     ensures fallback { fallback_of result ≡ None }
@@ -65,7 +65,7 @@ pub fn denied_name_offset(btf_type: &BtfType) -> u32
 }
 
 /// Whether a type changes in place, as `deny` changes it: a PTR that has a name does, and so does a type that asks for
-/// a feature which is not granted. Not for a FUNC, whose rule asks for more.
+/// a feature that is not granted. Not for a FUNC, because its rule asks for more.
 pub fn changes_in_place(btf_type: &BtfType, granted: bool) -> bool
     ensures words { (p : Pass) (lower : List Record) (id : ℕ)
         → IsGranted p (feature_of (record_of btf_type.now)) granted
@@ -88,14 +88,14 @@ pub fn changes_in_place(btf_type: &BtfType, granted: bool) -> bool
 
 /// Changes a type in place, for a kernel that lacks its feature: a PTR loses its name, a VAR and a DECL_TAG become an
 /// INT of one byte, a FLOAT a STRUCT without members, a TYPE_TAG a CONST, a FUNC a TYPEDEF, and an ENUM loses its sign.
-/// Others stay.
+/// Other types are unchanged.
 pub fn deny(alloc: Global, btf_type: &mut BtfType)
     ensures words { record_of btf_type.new ≡ denied (record_of btf_type.old) }
     ensures fallback { fallback_of btf_type.new ≡ fallback_of btf_type.old }
     ensures len { length (record_of btf_type.new).tail ≡ length (record_of btf_type.old).tail }
     ensures kind { kind_of (record_of btf_type.new).info ≡ Some (type_kind btf_type.new) }
 {
-    // The contract speaks of the kind in the info word, and of the length of the tail, which this shows.
+    // The contract is about the kind in the info word and the length of the tail, which this shows.
     let _ = btf_type.kind();
     let new_type = match btf_type {
         BtfType::Ptr(ptr) => {

@@ -1,4 +1,4 @@
--- What is appended in turn.
+-- What is appended in several steps.
 use Rattle.std.proofs.Common.{ℕ, List, [], ◌++◌, map, refl, sym, ap, ◌∙◌, arith}
 use Rattle.std.specs.List.{flat_map}
 use Rattle.std.proofs.lemmas.List.{map-append, append_assoc, append-nil}

@@ -1,4 +1,4 @@
--- Texts of ASCII alone, found 16 bytes at a time.
+-- Pure ASCII texts, whose end is found 16 bytes at a time.
 use Rattle.std.proofs.Common.{◌≡◌, ◌≢◌, ℕ, suc, ◌+◌, ◌-◌, ◌<◌, ◌≤◌, zero, leb, not, List, length, take, drop, get_or, Some, None, true, false, Ok, inl, inr, sym, ap, subst, ◌∙◌, arith}
 use Rattle.std.specs.Str.{IsUtf8, IsCharBoundary}
 use Rattle.std.specs.List.{prefix_len}
@@ -18,7 +18,7 @@ abbrev pub AreAscii : List ℕ → ℕ → Type 0
 AreAscii bytes at = (k : ℕ) → k < at → (get_or bytes k 0 ≢ 0) × (get_or bytes k 0 < 128)
 
 module _ (bytes : List ℕ) (at zero other : ℕ) (room : at + 16 ≤ length bytes) (zeros : zero ≡ prefix_len (λ b. not (is_zero b)) (chunk at 16 bytes)) (others : other ≡ prefix_len (λ b. not (leb 128 b)) (chunk at 16 bytes)) (before : AreAscii bytes at) where
-  -- nor below what comes before the first of both
+  -- the same below the smaller of the two counts
   pub ascii_on : (end : ℕ) → end ≤ at + zero → end ≤ at + other → AreAscii bytes end
   ascii_on end below_zero below_other k lt =
       elim (cases_lt k at) [
@@ -37,7 +37,7 @@ module _ (bytes : List ℕ) (at zero other : ℕ) (room : at + 16 ≤ length byt
     ascii = ascii_on (at + zero) (omega arith) (omega arith);
   }
 
-  -- what comes before the first byte that is not ASCII, where no zero byte comes first
+  -- the bytes before the first byte that is not ASCII, if no zero byte is before it
   pub few_before : other < zero → other < 16
   few_before lt = omega (arith, lt, run_in_chunk_le is_zero bytes at 16 zero 0 room zeros)
 
@@ -47,7 +47,7 @@ module _ (bytes : List ℕ) (at zero other : ℕ) (room : at + 16 ≤ length byt
     each = ascii_on (at + other) (omega (arith, lt)) (omega arith);
   }
 
-  -- what is not ASCII, before any zero byte, leaves no end
+  -- if a byte that is not ASCII is before any zero byte, there is no end
   pub none_ends : other < zero → (end : ℕ) → ¬ (IsAsciiEnd bytes end)
   none_ends lt end h =
       let few : other < 16 = few_before lt in
@@ -63,7 +63,7 @@ module _ (bytes : List ℕ) (at zero other : ℕ) (room : at + 16 ≤ length byt
             ]
       ]
 
-  -- where the bytes end after these 16, and none of them is zero, no text ends
+  -- if the bytes end after these 16, and none of them is zero, no text ends
   pub nothing_ends : 16 ≤ zero → length bytes ≤ at + 16 → (end : ℕ) → ¬ (IsAsciiEnd bytes end)
   nothing_ends whole last end h =
       elim (cases_lt end at) [
@@ -80,7 +80,7 @@ end_is_utf8 bytes end h =
 pub utf8_text_at : (strings : List ℕ) (offset : ℕ) (bytes text : List ℕ) → Some bytes ≡ bytes_at strings offset → text ≡ bytes → IsUtf8 bytes → Ok text ≡ text_at strings offset
 utf8_text_at strings offset bytes text found is whole = ap (λ (xs : List ℕ). Ok xs) (is ∙ sym (lossy_chars-utf8 bytes whole)) ∙ ap (text_of offset) found
 
--- and it is the text that is read there
+-- and it is the text that is read at this place
 pub ascii_text_at : (strings : List ℕ) (offset : ℕ) (rest text : List ℕ) → rest ≡ drop offset strings → IsAsciiText rest text → Ok text ≡ text_at strings offset
 ascii_text_at strings offset rest text is h =
     let end = h.0 in
@@ -88,9 +88,9 @@ ascii_text_at strings offset rest text is h =
     bytes_are strings offset rest end is h.1.within (λ k lt. ne_eqb (get_or rest k 0) 0 (h.1.ascii k lt).0) (ap is_zero h.1.stops) in
     utf8_text_at strings offset (take end rest) text (sym found) h.2 (end_is_utf8 rest end h.1)
 
--- ---- bytes of which the first are ASCII
+-- ---- bytes that begin with ASCII
 
--- no byte before an index is zero, where none of the first is, and none between these and the index
+-- no byte before an index is zero, if none of the first bytes is, and none between these and the index
 module _ (rest after : List ℕ) (ascii : ℕ) (begins : BeginsAscii rest ascii) (after-is : after ≡ drop ascii rest) where
   none_before : (n : ℕ) → ((k : ℕ) → k < n → is_zero (get_or after k 0) ≡ false) → (k : ℕ) → k < ascii + n → is_zero (get_or rest k 0) ≡ false
   none_before n none k lt =
@@ -113,20 +113,20 @@ bytes_after strings rest after offset ascii n is begins after-is lt none zero-th
     let at : get_or after n 0 ≡ get_or rest (ascii + n) 0 = ap (λ (xs : List ℕ). get_or xs n 0) after-is ∙ get_or-drop ascii rest n 0 in
     bytes_are strings offset rest (ascii + n) is (omega (arith, lt, length-after rest after ascii here after-is)) (none_before rest after ascii here after-is n none) (subst (λ b. is_zero b ≡ true) at zero-there)
 
--- none where none is found after the first
+-- none if none is found after the first bytes
 pub no_bytes_after : (strings rest after : List ℕ) (offset ascii : ℕ) → rest ≡ drop offset strings → BeginsAscii (drop offset strings) ascii → after ≡ drop ascii rest → ((k : ℕ) → k < length after → is_zero (get_or after k 0) ≡ false) → bytes_at strings offset ≡ None
 no_bytes_after strings rest after offset ascii is begins after-is none =
     let here : BeginsAscii rest ascii = subst (λ (xs : List ℕ). BeginsAscii xs ascii) (sym is) begins in
     no_bytes strings offset rest is (λ k lt. none_before rest after ascii here after-is (length after) none k (omega (arith, lt, length-after rest after ascii here after-is)))
 
--- ASCII, and then UTF-8, is UTF-8
+-- ASCII followed by UTF-8 is UTF-8
 pub utf8_with_ascii : (bytes : List ℕ) (ascii : ℕ) → BeginsAscii bytes ascii → IsUtf8 (drop ascii bytes) → IsUtf8 bytes
 utf8_with_ascii bytes ascii begins after =
     let front : IsUtf8 (take ascii bytes) =
     IsUtf8-from_ascii (take ascii bytes) (IsAscii-from_reads (take ascii bytes) ascii (omega (arith, length-take-le ascii bytes begins.within)) (λ k lt. subst (λ b. b < 128) (sym (get_or-take ascii bytes k 0 lt)) (begins.each k lt).1)) in
     subst IsUtf8 (take-append-drop ascii bytes) (IsUtf8-append (take ascii bytes) (drop ascii bytes) front after)
 
--- and what follows ASCII in UTF-8 is UTF-8
+-- and the bytes after ASCII in UTF-8 are UTF-8
 pub utf8_after_ascii : (bytes : List ℕ) (ascii : ℕ) → BeginsAscii bytes ascii → IsUtf8 bytes → IsUtf8 (drop ascii bytes)
 utf8_after_ascii bytes zero begins whole = whole
 utf8_after_ascii bytes (suc k) begins whole =

@@ -1,4 +1,4 @@
--- Types that are denied where they stand.
+-- Types that are denied in place.
 use Rattle.std.proofs.Common.{◌≡◌, ℕ, zero, suc, ◌+◌, ◌<◌, ◌≤◌, List, [], ◌∷◌, ◌++◌, length, get_or, set, take, map, Some, refl, sym, ap, subst, ◌∙◌, arith, Vec, Global}
 use Rattle.std.specs.List.{sum_by}
 use Rattle.std.proofs.lemmas.List.{length-append, length-set, length-map, map-set, set-append_left, get_or_append_left, get_or-map, take_more}
@@ -16,19 +16,19 @@ use Rattle.btf_table.specs.Btf.{table_of, IsKept}
 use Rattle.btf_table.specs.Changes.{put_all, each, changed}
 use Rattle.btf_table.specs.declared.table.changes.Changes.{Changes}
 use Rattle.btf_table.proofs.Put.{length-put}
-use Rattle.btf_table.proofs.Spelled.{behind_len}
+use Rattle.btf_table.proofs.Spelled.{after_len}
 use Rattle.btf_table.specs.Denied.{AllHaveKinds, AreIds, AreDenied, deny_all}
 
 pub length-deny : (ids : List ℕ) (rs : List Record) → length (deny_all ids rs) ≡ length rs
 length-deny [] rs = refl
 length-deny (id ∷ ids) rs = length-deny ids (set rs id (denied (get_or rs id unknown))) ∙ length-set rs id (denied (get_or rs id unknown))
 
--- in turn
+-- denying ids in order
 pub deny_append : (ids more : List ℕ) (rs : List Record) → deny_all (ids ++ more) rs ≡ deny_all more (deny_all ids rs)
 deny_append [] more rs = refl
 deny_append (id ∷ ids) more rs = deny_append ids more (set rs id (denied (get_or rs id unknown)))
 
--- what stands after the ids stays
+-- records after these ids do not change
 pub deny_front : (ids : List ℕ) (xs ys : List Record) → AreIds (length xs) ids → deny_all ids (xs ++ ys) ≡ deny_all ids xs ++ ys
 deny_front [] xs ys inside = refl
 deny_front (id ∷ ids) xs ys inside =
@@ -36,13 +36,13 @@ deny_front (id ∷ ids) xs ys inside =
     ap (λ y. deny_all ids (set (xs ++ ys) id (denied y))) (get_or_append_left xs ys unknown id inside.0.1) ∙ ap (deny_all ids) (set-append_left xs ys id x inside.0.1)
     ∙ deny_front ids (set xs id x) ys (subst (λ (n : ℕ). AreIds n ids) (sym (length-set xs id x)) inside.1)
 
--- and so does what stands at id 0
+-- nor does the record of id 0
 pub deny_first : (count : ℕ) (ids : List ℕ) (x : Record) (xs : List Record) → AreIds count ids → (rest : List Record) × (deny_all ids (x ∷ xs) ≡ x ∷ rest)
 deny_first count [] x xs inside = (xs, refl)
 deny_first count (zero ∷ ids) x xs inside = absurd (omega (arith, inside.0.0))
 deny_first count (suc id ∷ ids) x xs inside = deny_first count ids x (set xs id (denied (get_or xs id unknown))) inside.1
 
--- the last of all is denied
+-- the last id is denied
 pub deny_last : (ids : List ℕ) (xs : List Record) (x : Record) (id : ℕ) → AreIds (length xs) ids → length xs ≡ id → deny_all (ids ++ id ∷ []) (xs ++ x ∷ []) ≡ deny_all ids xs ++ denied x ∷ []
 deny_last ids xs x id inside at =
     let front : List Record = deny_all ids xs in
@@ -93,14 +93,14 @@ one_denied ids k id old types d new lt id_is inside before words fallback tail k
       kinds = λ have. subst AllHaveKinds (sym set_is) (kinds_set rs id (record_of new) (type_kind new) (before.kinds have) kind);
     }
 
--- A table keeps what it kept.
+-- A table retains its invariant.
 pub kept_denied : (b : Inside) (types : Vec BtfType Global) (ids : List ℕ) → IsKept b → AreIds (length b.types.items) ids → AreDenied ids b.types.items types.items → IsKept (record b { types = types })
 kept_denied b types ids kept inside d =
     let rs : List Record = map record_of types.items in
     let head = deny_first (length b.types.items) ids unknown kept.first.0 inside in
     let first : rs ≡ unknown ∷ head.0 = d.records ∙ ap (deny_all ids) kept.first.1 ∙ head.1 in
-    let old_len : sum_by record_len (map record_of b.types.items) ≡ 12 + length (type_bytes (table_of b)) = behind_len b.endianness kept.first.0 (map record_of b.types.items) kept.first.1 in
-    let new_len : sum_by record_len rs ≡ 12 + length (type_bytes (table_of (record b { types = types }))) = behind_len b.endianness head.0 rs first in
+    let old_len : sum_by record_len (map record_of b.types.items) ≡ 12 + length (type_bytes (table_of b)) = after_len b.endianness kept.first.0 (map record_of b.types.items) kept.first.1 in
+    let new_len : sum_by record_len rs ≡ 12 + length (type_bytes (table_of (record b { types = types }))) = after_len b.endianness head.0 rs first in
     record {
       magic = kept.magic;
       version = kept.version;
@@ -112,7 +112,7 @@ kept_denied b types ids kept inside d =
       kinds = d.kinds kept.kinds;
     }
 
--- ids of a table are those of it with changes in it
+-- the ids of a table are ids of the table with changes
 pub ids_changed : (t : Table) (c : Changes) (ids : List ℕ) → AreIds (length t.records) ids → AreIds (length (changed t c).records) ids
 ids_changed t c ids inside =
     let front : List Record = put_all (each record_of c.types.items) t.records in

@@ -50,7 +50,7 @@ module _ (p : Pass) (id : ℕ) (b : BtfType) (there : IsType p.table id b) (kind
   pub func_unread : (refusal : Refusal) → Err refusal ≡ text_at p.table.strings r.name → (asks p id ≡ []) × (fault p id ≡ Some refusal)
   func_unread refusal is = (asks_are (Err refusal) (sym is), fault_there p id b (Some kinds.Func) there kind ∙ ap (λ n. first_fault (is_read n ∷ [])) (func_name ∙ sym is))
 
-  -- what it asks for, where its name is read
+  -- what it asks for after its name is read
   pub asks_func : (name : List ℕ) → Ok name ≡ text_at p.table.strings r.name → (has p features.Func && is_global r && not (is_builtin name)) ≡ false → asks p id ≡ features.Func ∷ []
   asks_func name is not_both = asks_are (Ok name) (sym is) ∙ ap (λ (c : Bool). if c then features.Func ∷ features.FuncGlobal ∷ [] else features.Func ∷ []) not_both
 
@@ -118,7 +118,7 @@ module _ (t : Table) (given : Given) (id : ℕ) (b : BtfType) (there : IsType t 
 
 -- ---- the name
 
--- a name that is checked can be read,
+-- a checked name can be read
 pub read_name : (strings : List ℕ) (offset name : ℕ) → ◌≡◌ {A = Result ⊤ Refusal} (Ok tt) (checked (is_read (text_at strings offset)) tt) → offset ≡ name → (text : List ℕ) × (Ok text ≡ text_at strings name)
 read_name strings offset name passed is = let found = there (text_at strings offset) passed in (found.0, found.1 ∙ ap (text_at strings) is)
   where
@@ -126,7 +126,7 @@ read_name strings offset name passed is = let found = there (text_at strings off
     there (Ok text) passed = (text, refl)
     there (Err refusal) passed = absurd (none-some tt (sym (ap (result_ok {T = ⊤} {E = Refusal}) passed)))
 
--- or why it can't,
+-- or why it can't be read
 pub unread_name : (strings : List ℕ) (offset name : ℕ) (refusal : Refusal) → ◌≡◌ {A = Result ⊤ Refusal} (Err refusal) (checked (is_read (text_at strings offset)) tt) → offset ≡ name → Err refusal ≡ text_at strings name
 unread_name strings offset name refusal refused is = there (text_at strings offset) refused ∙ ap (text_at strings) is
   where
@@ -134,7 +134,7 @@ unread_name strings offset name refusal refused is = there (text_at strings offs
     there (Ok text) refused = absurd (none-some tt (ap (result_ok {T = ⊤} {E = Refusal}) refused))
     there (Err other) refused = ap (λ (f : Refusal). Err f) (same_Some refusal other (ap (result_err {T = ⊤} {E = Refusal}) refused))
 
--- and is known where the strings from its offset on begin with a known name
+-- the name is a builtin's if the strings from its offset on begin with a builtin's name
 pub is_known : (strings rest text : List ℕ) (offset name : ℕ) (known : Bool) → rest ≡ drop offset strings → offset ≡ name → Ok text ≡ text_at strings name → known ≡ begins_builtin rest → is_builtin text ≡ known
 is_known strings rest text offset name known rest_is offset_is text_is known_is =
     sym (known_is ∙ ap begins_builtin rest_is ∙ builtin_is strings offset text (ap (text_at strings) offset_is ∙ sym text_is))

@@ -40,17 +40,17 @@ read_have_kinds order bytes [] h id r is = absurd (omega (arith, slice_get_withi
 read_have_kinds order bytes (x ∷ rs) h zero r is = subst (λ (y : Record). (k : Kind) × (kind_of y.info ≡ Some k)) (same_Some x r is) (read_has_kind order h.0 x h.3)
 read_have_kinds order bytes (x ∷ rs) h (suc id) r is = read_have_kinds order h.1 rs h.4 id r is
 
--- where Unknown comes first
-pub behind_unknown : (rs : List Record) → AllHaveKinds rs → AllHaveKinds (unknown ∷ rs)
-behind_unknown rs h zero r is = (Unknown, ap (λ (y : Record). kind_of y.info) (sym (same_Some unknown r is)))
-behind_unknown rs h (suc id) r is = h id r is
+-- if Unknown comes first
+pub after_unknown : (rs : List Record) → AllHaveKinds rs → AllHaveKinds (unknown ∷ rs)
+after_unknown rs h zero r is = (Unknown, ap (λ (y : Record). kind_of y.info) (sym (same_Some unknown r is)))
+after_unknown rs h (suc id) r is = h id r is
 
 pub only_unknown : AllHaveKinds (unknown ∷ [])
-only_unknown = behind_unknown [] (λ id r is. absurd (omega (arith, slice_get_within [] id r is)))
+only_unknown = after_unknown [] (λ id r is. absurd (omega (arith, slice_get_within [] id r is)))
 
 -- the records of a type section
 pub section_has_kinds : (order : Endianness) (bytes : List ℕ) (rs records : List Record) → records ≡ unknown ∷ rs → AreRecords order bytes rs → AllHaveKinds records
-section_has_kinds order bytes rs records is h = subst AllHaveKinds (sym is) (behind_unknown rs (read_have_kinds order bytes rs h))
+section_has_kinds order bytes rs records is h = subst AllHaveKinds (sym is) (after_unknown rs (read_have_kinds order bytes rs h))
 
 -- one more
 pub one_more_kind : (rs : List Record) (x : Record) (k : Kind) → AllHaveKinds rs → kind_of x.info ≡ Some k → AllHaveKinds (rs ++ x ∷ [])

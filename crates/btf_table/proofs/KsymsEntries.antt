@@ -15,7 +15,7 @@ use Rattle.btf_items.specs.Items.{entry_words}
 use Rattle.btf_items.specs.declared.items.DataSecEntry.{DataSecEntry}
 use Rattle.btf_table.specs.KsymsStep.{entry, has, is_this, prototype_of, HasSymbols, FindsSymbols}
 use Rattle.btf_table.specs.declared.sanitize.ksyms.Symbols.{Symbols}
-use Rattle.btf_rules.proofs.Checks.{fault_behind, fault_before}
+use Rattle.btf_rules.proofs.Checks.{fault_after, fault_before}
 
 -- the words of entries are read as these
 pub entries_of_words : (es : List DataSecEntry) → entries (flat_map entry_words es) ≡ map entry es
@@ -28,7 +28,7 @@ pub one_more_passes : (t : Table) (placeholder : Option ℕ) (es : List DataSecE
 one_more_passes t placeholder es e before passed =
     let checks : Entry → List Check = ksyms_entry_checks t placeholder in
     ap (λ (xs : List Entry). first_fault (flat_map checks xs)) (map-append entry es (e ∷ [])) ∙ ap first_fault (flat_map-append checks (map entry es) (entry e ∷ []))
-    ∙ fault_behind (flat_map checks (map entry es)) (checks (entry e) ++ []) before ∙ ap first_fault (append-nil (checks (entry e))) ∙ passed
+    ∙ fault_after (flat_map checks (map entry es)) (checks (entry e) ++ []) before ∙ ap first_fault (append-nil (checks (entry e))) ∙ passed
 
 -- the first entry that does not pass counts
 pub one_faults : (t : Table) (placeholder : Option ℕ) (es : List DataSecEntry) (e : DataSecEntry) (rest : List DataSecEntry) (refusal : Refusal) → first_fault (flat_map (ksyms_entry_checks t placeholder) (map entry es)) ≡ None
@@ -36,7 +36,7 @@ pub one_faults : (t : Table) (placeholder : Option ℕ) (es : List DataSecEntry)
 one_faults t placeholder es e rest refusal before faults =
     let checks : Entry → List Check = ksyms_entry_checks t placeholder in
     ap (λ (xs : List Entry). first_fault (flat_map checks xs)) (map-append entry es (e ∷ rest)) ∙ ap first_fault (flat_map-append checks (map entry es) (map entry (e ∷ rest)))
-    ∙ fault_behind (flat_map checks (map entry es)) (checks (entry e) ++ flat_map checks (map entry rest)) before ∙ fault_before (checks (entry e)) (flat_map checks (map entry rest)) refusal faults
+    ∙ fault_after (flat_map checks (map entry es)) (checks (entry e) ++ flat_map checks (map entry rest)) before ∙ fault_before (checks (entry e)) (flat_map checks (map entry rest)) refusal faults
 
 -- a test of one more entry
 pub any_more : (test : Entry → Bool) (es : List DataSecEntry) (e : DataSecEntry) → list_any test (map entry (es ++ e ∷ [])) ≡ cond (test (entry e)) true (list_any test (map entry es))
@@ -56,7 +56,7 @@ zero_entry = record { btf_type = 0; offset = 0; size = 0 }
 abbrev pub at : List DataSecEntry → ℕ → DataSecEntry
 at es i = get_or es i zero_entry
 
--- the entries up to a place, and the one there
+-- the entries before a place, and the entry at it
 up_to : (es : List DataSecEntry) (i : ℕ) → i < length es → take (i + 1) es ≡ take i es ++ at es i ∷ []
 up_to es i lt =
     let more : i + 1 ≡ suc i = omega arith in
@@ -76,7 +76,7 @@ faults_at t placeholder es i refusal lt before faults =
 any_up_to : (test : Entry → Bool) (es : List DataSecEntry) (i : ℕ) → i < length es → list_any test (map entry (take (i + 1) es)) ≡ cond (test (entry (at es i))) true (list_any test (map entry (take i es)))
 any_up_to test es i lt = ap (λ (xs : List DataSecEntry). list_any test (map entry xs)) (up_to es i lt) ∙ any_more test (take i es) (at es i)
 
--- an entry that does not pass is what the search returns
+-- the refusal of an entry that does not pass is what the search returns
 pub fault_found : (t : Table) (placeholder : Option ℕ) (tail : List ℕ) (es : List DataSecEntry) (i : ℕ) (refusal : Refusal) → tail ≡ flat_map entry_words es → i < length es
     → first_fault (flat_map (ksyms_entry_checks t placeholder) (map entry (take i es))) ≡ None → first_fault (ksyms_entry_checks t placeholder (entry (at es i))) ≡ Some refusal → FindsSymbols t placeholder (entries tail) (Err refusal)
 fault_found t placeholder tail es i refusal words lt before faults =
@@ -92,7 +92,7 @@ this_or_not : (f : Bool) (prototype id : ℕ) → is_this (if f then Some protot
 this_or_not true prototype id = refl
 this_or_not false prototype id = refl
 
--- one more entry adds what it names
+-- one more entry adds its id and its prototype
 pub symbols_up_to : (t : Table) (es : List DataSecEntry) (i : ℕ) (old new : Symbols) (prototype : Option ℕ) → i < length es → HasSymbols t (map entry (take i es)) old
     → prototype ≡ prototype_of t (at es i).btf_type → ((q : ℕ) → has new.ids q ≡ cond ((at es i).btf_type == q) true (has old.ids q)) → ((q : ℕ) → has new.prototypes q ≡ cond (is_this prototype q) true (has old.prototypes q))
     → HasSymbols t (map entry (take (i + 1) es)) new

@@ -1,4 +1,4 @@
--- Entries that are laid out, one after another.
+-- The layout of entries, one after another.
 use Rattle.std.proofs.Common.{◌≡◌, ℕ, suc, ◌+◌, ◌*◌, ◌<◌, ◌≤◌, List, [], ◌∷◌, ◌++◌, length, get_or, take, drop, map, Option, refl, sym, ap, ◌∙◌, arith}
 use Rattle.std.specs.List.{flat_map}
 use Rattle.std.proofs.lemmas.List.{map-append, length-take, length-map, append_assoc, append-nil, take_all, drop_all}
@@ -17,7 +17,7 @@ use Rattle.btf_table.proofs.KsymsEntries.{entries_of_words}
 
 -- ---- entries
 
--- the words of entries, those in front of a place laid out
+-- the words of entries, laid out before a place
 abbrev pub laid_to : Table → Option ℕ → ℕ → List DataSecEntry → List ℕ
 laid_to t placeholder i es = flat_map model.entry_words (laid_out t placeholder 0 (map entry (take i es))) ++ flat_map entry_words (drop i es)
 
@@ -64,7 +64,7 @@ laid_next t placeholder es i new lt is =
     ∙ append_assoc front (new ∷ 4 * i ∷ 4 ∷ []) rest in
     put ∙ sym then_laid
 
--- all are
+-- all entries are laid out
 pub laid_all : (t : Table) (placeholder : Option ℕ) (r : Record) (i : ℕ) (es fs : List DataSecEntry) → r.tail ≡ flat_map entry_words es → r.tail ≡ flat_map entry_words fs → length es ≤ i
     → record r { third = 4 * length fs; tail = laid_to t placeholder i es } ≡ laid_out_anew t placeholder r
 laid_all t placeholder r i es fs words others end =
@@ -76,9 +76,9 @@ laid_all t placeholder r i es fs words others end =
     ∙ append-nil (flat_map model.entry_words (laid_out t placeholder 0 (map entry es))) ∙ ap (λ (xs : List Entry). flat_map model.entry_words (laid_out t placeholder 0 xs)) items in
     ap (λ (n : ℕ). record r { third = 4 * n; tail = laid_to t placeholder i es }) count ∙ ap (λ (xs : List ℕ). record r { third = 4 * length (entries r.tail); tail = xs }) tail
 
--- ---- what stays
+-- ---- what does not change
 
--- names for parameters leave their number
+-- new names of parameters do not change their number
 pub named_same_len : (name : ℕ) (words : List ℕ) → length (named name words) ≡ length words
 named_same_len name [] = refl
 named_same_len name (n ∷ []) = refl

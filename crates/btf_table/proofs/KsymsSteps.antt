@@ -1,4 +1,4 @@
--- What the step of `.ksyms` makes of each id, and of all.
+-- What the step of `.ksyms` changes each id to, and all ids.
 use Rattle.std.proofs.Common.{◌≡◌, ℕ, ◌+◌, ◌*◌, ◌<◌, ◌≤◌, Bool, true, false, List, [], ◌∷◌, ◌++◌, length, get_or, take, drop, suc, map, Option, None, Some, refl, sym, ap, subst, ◌∙◌, arith}
 use Rattle.std.specs.Prelude.{if◌then◌else◌, ◌==◌, nat_le, slice_get}
 use Rattle.std.specs.Option.{unwrap_or}
@@ -48,7 +48,7 @@ section_becomes t ids id r kind at same =
 
 -- ---- all ids
 
--- a list up to one more place, by the types that it is of
+-- a list up to one more place, by the list of types that it is mapped from
 take_next : {X : Type 0} (f : BtfType → X) (ts : List BtfType) (xs : List X) (i : ℕ) (t : BtfType) → map f ts ≡ xs → i < length ts → t ≡ get_or ts i t → take (i + 1) xs ≡ take i xs ++ f t ∷ []
 take_next f ts xs i t is lt at =
     let more : i + 1 ≡ suc i = omega arith in
@@ -75,7 +75,7 @@ module _ (t : Table) (ids : KsymsIds) (ts : List BtfType) (records : map record_
   inside_of : {X : Type 0} (i : ℕ) (xs : List X) (cs : List (ℕ × BtfType)) → length xs ≡ i → AreInside i cs → AreInside (length xs) cs
   inside_of i xs cs is inside = subst (λ (n : ℕ). AreInside n cs) (sym is) inside
 
-  -- one more type stays
+  -- one more type is unchanged
   pub kept_next : (i : ℕ) (cs : List (ℕ × BtfType)) (b : BtfType) → i < length ts → b ≡ get_or ts i b → AreStepped t ids i cs → record_of b ≡ becomes t ids i (record_of b) → AreStepped t ids (i + 1) cs
   kept_next i cs b lt at before stays =
       let rs : List Record = put_all (each record_of cs) (take i t.records) in
@@ -113,7 +113,7 @@ module _ (t : Table) (ids : KsymsIds) (ts : List BtfType) (records : map record_
             ∙ sym (map-append shape (take i t.records) (record_of b ∷ [])) ∙ ap (map shape) (sym (take_next record_of ts t.records i b records lt at));
       }
 
--- id 0 is Unknown, which stays
+-- id 0 is Unknown, which does not change
 pub stepped_first : (t : Table) (ids : KsymsIds) (rs : List Record) → t.records ≡ unknown ∷ rs → AreStepped t ids 1 []
 stepped_first t ids rs first = record {
   inside = tt;
@@ -122,7 +122,7 @@ stepped_first t ids rs first = record {
   shapes = refl;
 }
 
--- all ids are gone past
+-- the step has completed all ids
 pub stepped_all : (t : Table) (ids : KsymsIds) (ts : List BtfType) (i : ℕ) (cs : List (ℕ × BtfType)) → map record_of ts ≡ t.records → length ts ≤ i → i ≤ length ts → AreStepped t ids i cs → AreStepped t ids (length t.records) cs
 stepped_all t ids ts i cs records low high stepped =
     let end : i ≡ length t.records = omega (arith, low, high, ap length (sym records), length-map ts record_of) in
@@ -139,7 +139,7 @@ spelled_len order (r ∷ rs) =
     let here : sizes (map shape (r ∷ rs)) ≡ 12 + 4 * length r.tail + sizes (map shape rs) = sum_by-cons (λ (s : Option Kind × ℕ). 12 + 4 * s.1) (shape r) (map shape rs) in
     omega (arith, here, length-append (spell order r) (flat_map (spell order) rs), length-spell order r, spelled_len order rs)
 
--- records of the same shapes are as long
+-- records of the same shapes have the same length
 same_len : (order : Endianness) (rs qs : List Record) → map shape rs ≡ map shape qs → length (flat_map (spell order) (drop 1 rs)) ≡ length (flat_map (spell order) (drop 1 qs))
 same_len order rs qs same = spelled_len order (drop 1 rs) ∙ ap sizes (sym (drop-map shape 1 rs) ∙ ap (drop 1) same ∙ drop-map shape 1 qs) ∙ sym (spelled_len order (drop 1 qs))
 
@@ -223,13 +223,13 @@ module _ (t : Table) (ids : KsymsIds) (c : Changes) (stepped : AreStepped t ids 
         table ∙ ap (λ (b : Bool). if b then with_type new None (with_string int_text (each_stepped t ids)) else each_stepped t ids) (sym there),
       )
 
--- ---- the room for the INT
+-- ---- whether the INT fits
 
 le_of_room : (a b : ℕ) (refusal : Refusal) → (if nat_le a b then None else Some refusal) ≡ None → a ≤ b
 le_of_room a b refusal passed =
     elim (nat_le a b) as (λ (c : Bool). nat_le a b ≡ c → (if c then None else Some refusal) ≡ None → a ≤ b) [ true ↦ λ is _. leb-true a b is | false ↦ λ _ some. absurd (none-some refusal (sym some)) ] refl passed
 
--- The tests of the step have found room.
+-- If the tests of the step pass, the INT fits.
 pub int_has_room : (t : Table) (ids : KsymsIds) → ksyms_fault t ids ≡ None → appends_int t ids.placeholder_id ≡ true → (length t.strings + 4 ≤ section_limit) × (length (type_bytes t) + 16 ≤ section_limit)
 int_has_room t ids passed there = room ids.placeholder_id (passed_left (placeholder_checks t ids.placeholder_id) (data_sec_checks t ids.datasec_id) (passed_left (placeholder_checks t ids.placeholder_id ++ data_sec_checks t ids.datasec_id) _ passed)) there
   where

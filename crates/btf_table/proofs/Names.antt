@@ -16,7 +16,7 @@ pub named : (strings : List ℕ) (k : Kind) (name text : List ℕ) (r : Record) 
 named strings k name text r true kind is same = (kind, sym is ∙ ap (λ (x : List ℕ). Ok x) ((bytes_eq-Decides text name).0 (sym same)))
 named strings k name text r false kind is same = inr (text, sym is, λ e. true≢false (sym ((bytes_eq-Decides text name).1 e) ∙ sym same))
 
--- one more type is gone past
+-- the search skips one more type
 pub passed_one : (strings : List ℕ) (records : List Record) (k : Kind) (name : List ℕ) (id : ℕ) (r : Record) → ArePassed strings records k name id → slice_get records id ≡ Some r → IsPassed strings k name r → ArePassed strings records k name (id + 1)
 passed_one strings records k name id r below is passed low q lt at =
     ⊎_elim
@@ -25,7 +25,7 @@ passed_one strings records k name id r below is passed low q lt at =
     ⊎_elim (λ (less : low < id). below low q less at) (λ (more : id < low). absurd (omega (arith, lt, more))) other)
     (cases_order low id)
 
--- a type of the kind at whose name's offset this name stands, or does not
+-- a type of the kind, whose name is this name or another one
 pub named_at : (strings : List ℕ) (k : Kind) (name : List ℕ) (r : Record) (offset end : ℕ) (same : Bool) → kind_of r.info ≡ Some k → offset ≡ r.name → IsReadableEnd strings end → IsUtf8 name → IsComparable name → offset < end
     → (same ≡ true → HasNameAt strings offset name) × (HasNameAt strings offset name → same ≡ true) → IsNamed strings k name r (Ok same)
 named_at strings k name r offset end same kind at readable utf8 comparable low decides = by_cases same refl

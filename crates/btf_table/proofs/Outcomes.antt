@@ -14,7 +14,7 @@ use Rattle.btf_table.specs.PassStep.{outcome_of, made_of, placed_of}
 use Rattle.btf_table.specs.declared.sanitize.outcome.Outcome.{Outcome}
 use Rattle.btf_table.specs.declared.sanitize.outcome.Outcome.TheVariants.{Same, Denied, Other}
 
--- what a rule that puts a type in the place meets, its outcome meets
+-- what holds for a rule that replaces a type holds for its outcome
 pub placed_meets : (b : BtfType) (made : Result (Option BtfType) BtfError) (P : Result BtfType Refusal → Type 0) → MeetsOrNoMemory (λ new. unwrap_or new b) made P → MeetsOrNoMemory (λ o. made_of o b) (result_map_both outcome_of (λ e. e) made) P
 placed_meets b (Ok (Some new)) P meets = meets
 placed_meets b (Ok None) P meets = meets
@@ -24,11 +24,11 @@ denied_kind : (b : BtfType) → record_of (denied_type b) ≡ denied_by (Some (t
 denied_kind (types.Ptr r) = refl
 denied_kind b = refl
 
--- the record of a denied type, where its info has its kind
+-- the record of a denied type, if its info has its kind
 pub denied_record : (b : BtfType) → kind_of (record_of b).info ≡ Some (type_kind b) → record_of (denied_type b) ≡ denied (record_of b)
 denied_record b kind = denied_kind b ∙ ap (λ k. denied_by k (record_of b)) (sym kind)
 
--- its fallback stays
+-- its fallback does not change
 denied_fallback : (b : BtfType) → fallback_of (denied_type b) ≡ fallback_of b
 denied_fallback (types.Union r) = refl
 denied_fallback b = refl

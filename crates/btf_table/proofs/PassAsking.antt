@@ -22,7 +22,7 @@ called_next : {F : Type 0} (step : F → BtfFeature → Bool → F → Type 0) (
 called_next step first before after [] f granted called now = (after, subst (λ s. step s f granted after) called now, refl)
 called_next step first before after (a ∷ answers) f granted called now = (called.0, called.1, called_next step called.0 before after answers f granted called.2 now)
 
--- asking is a call, or nothing
+-- asking for a feature is one call of the predicate, or nothing
 pub asks_called : {F : Type 0} (step : F → BtfFeature → Bool → F → Type 0) (first : F) (f : BtfFeature) (old new : F × List FeatureAnswer) (granted : Bool) → Asks step f old granted new → Called step first old.1 old.0 → Called step first new.1 new.0
 asks_called {F} step first f old new granted asks called =
     elim (answer_to old.1 f) as (λ (o : Option Bool). AsksFor step f o old granted new → Called step first new.1 new.0) [
@@ -30,7 +30,7 @@ asks_called {F} step first f old new granted asks called =
       | Some was ↦ λ same. subst (λ (s : F × List FeatureAnswer). Called step first s.1 s.0) (sym same.1) called
     ] asks
 
--- and puts an answer after the others, or none
+-- and appends one answer, or none
 pub asks_further : {F : Type 0} (step : F → BtfFeature → Bool → F → Type 0) (f : BtfFeature) (old new : F × List FeatureAnswer) (granted : Bool) → Asks step f old granted new → IsFurther old.1 new.1
 asks_further {F} step f old new granted asks =
     elim (answer_to old.1 f) as (λ (o : Option Bool). AsksFor step f o old granted new → IsFurther old.1 new.1) [
@@ -44,7 +44,7 @@ further_then old mid new one two = (one.0 ++ two.0, two.1 ∙ ap (λ xs. xs ++ t
 pub further_none : (old : List FeatureAnswer) → IsFurther old old
 further_none old = ([], sym (append-nil old))
 
--- as the definitions have answers
+-- the same for the answers of the definitions
 pub further_answers : (old new : List FeatureAnswer) (further : IsFurther old new) → new ≡ old ++ further.0
 further_answers old new further = further.1
 
@@ -67,7 +67,7 @@ asked_none p id asked = record {
   asked = subst (λ fs. AreAnswersTo fs p.answers) (sym (append-nil (asks_below p id))) asked;
 }
 
--- one more is asked for
+-- one more feature is asked for
 pub asked_more : (p : Pass) (id : ℕ) (some : List BtfFeature) (answers new : List FeatureAnswer) (f : BtfFeature) (granted : Bool) → HasAsked p id some answers → NextAnswers answers f granted new → HasAsked p id (some ++ f ∷ []) new × (grants new f ≡ granted)
 asked_more p id some answers new f granted has next =
     let n = asked_next (asks_below p id ++ some) answers new f granted has.asked next in (
@@ -88,7 +88,7 @@ asked_kept p id some answers new f g granted has next among =
 
 -- ---- the whole pass
 
--- what is asked of an id are the first features of all
+-- what is asked for at an id are the first features of the whole pass
 pub begins_at : (p : Pass) (id : ℕ) (answers : List FeatureAnswer) (left : List BtfFeature) → IsAt p id → id < length p.table.records → AsksUpTo p id answers left → BeginsAsked (record p { answers = answers })
 begins_at p id answers left at lt asks =
     let q : Pass = record p { answers = answers } in

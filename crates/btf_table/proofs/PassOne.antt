@@ -1,4 +1,4 @@
--- What a type asks for that asks for one feature at most.
+-- What a type asks for, if it asks for at most one feature.
 use Rattle.std.proofs.Common.{◌≡◌, ℕ, Bool, true, false, List, [], ◌∷◌, Option, None, Some, refl, sym, ap, subst, ◌∙◌}
 use Rattle.std.specs.Prelude.{if◌then◌else◌}
 use Rattle.std.proofs.lemmas.Bool.{false≢true}
@@ -42,7 +42,7 @@ module _ (t : Table) (given : Given) (id : ℕ) (b : BtfType) (old : List Featur
       ap (λ (j : Option Kind). asks_by (pass_on t given new) id j (record_at t id)) (kind_there t id b there) ∙ ap (asks_by (pass_on t given new) id k) (record_there t id b there)
       ∙ sole_asks (pass_on t given new) id k (record_of b) one
 
-  -- it asks for one
+  -- the type asks for one feature
   pub one_asked : (new : List FeatureAnswer) (f : BtfFeature) (granted : Bool) → NextAnswers old f granted new → sole_feature k (record_of b) ≡ Some f → IsType t id b → asks_one k ≡ true → AsksUpTo (pass_on t given old) id new []
   one_asked new f granted next is there one = (f ∷ [], (asked_more (pass_on t given old) id [] old new f granted (asked_none (pass_on t given old) id asked) next).0, asks_are new there one ∙ ap listed is)
 
@@ -50,7 +50,7 @@ module _ (t : Table) (given : Given) (id : ℕ) (b : BtfType) (old : List Featur
   one_granted new f granted next is =
       subst (λ (o : Option BtfFeature). IsGranted (pass_on t given new) o granted) (sym is) (asked_more (pass_on t given old) id [] old new f granted (asked_none (pass_on t given old) id asked) next).1
 
-  -- it asks for none
+  -- the type asks for no feature
   pub none_asked : sole_feature k (record_of b) ≡ None → IsType t id b → asks_one k ≡ true → AsksUpTo (pass_on t given old) id old []
   none_asked is there one = ([], asked_none (pass_on t given old) id asked, asks_are old there one ∙ ap listed is)
 

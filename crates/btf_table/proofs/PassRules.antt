@@ -1,4 +1,4 @@
--- That a type was rewritten by the rule of its kind.
+-- A type is rewritten by the rule of its kind.
 use Rattle.std.proofs.Common.{◌≡◌, ◌==◌, ℕ, suc, ◌+◌, ◌*◌, Bool, true, false, not, ◌&&◌, ◌||◌, List, [], ◌∷◌, ◌++◌, length, Option, None, Some, refl, sym, ap, subst, ◌∙◌, arith}
 use Rattle.std.specs.Prelude.{if◌then◌else◌, slice_get}
 use Rattle.std.specs.Option.{unwrap_or}
@@ -87,7 +87,7 @@ no_filler p id k kind other =
 
 -- ---- what is appended
 
--- what was appended is what the id appends, where it gets no filler
+-- what was appended is what the id appends, if it gets no filler
 pub grown_by : (p : Pass) (id : ℕ) (old new : Made) (ts : List (List ℕ)) (rs : List Record) → Adds p.table old.changes new.changes ts rs → texts p id ≡ ts → added p id ≡ rs → gets_filler p id ≡ false → new.names ≡ old.names
     → MadeBelow (wants_member_type p) (free_id p) (suc id) new.member_type → MadeBelow (gets_filler p) (λ k. free_id p k + 1) id old.filler → new.filler ≡ old.filler → IsGrown p id old new
 grown_by p id old new ts rs adds texts_are added_are unfilled names member_type filler stays =
@@ -107,7 +107,7 @@ grown_by p id old new ts rs adds texts_are added_are unfilled names member_type 
     plus_none : (n : ℕ) → n + 0 ≡ n
     plus_none n = omega arith
 
--- a record is as long, where its tail is
+-- two records have the same length if their tails have
 pub same_len : (p : Pass) (id : ℕ) (old new : Record) → length new.tail ≡ length old.tail → gets_filler p id ≡ false → record_len new ≡ record_len old + growth p id
 same_len p id old new is unfilled = ap (λ (n : ℕ). 4 * (3 + n)) is ∙ plus_none (record_len old) ∙ ap (λ (b : Bool). record_len old + (if b then 12 else 0)) (sym unfilled)
   where
@@ -139,7 +139,7 @@ quiet_ruled p id b new before there is_q here is tail fallback =
 
 -- ---- FUNC_PROTO
 
--- its fallback stays, and the filler is none of its
+-- its fallback does not change, and it does not make the filler
 loud_no_filler : (p : Pass) (id : ℕ) (b : BtfType) (k : Option Kind) → IsType p.table id b → kind_of (record_of b).info ≡ k → (is_unsized k (record_at p.table id) || is_sized_and_empty k (record_at p.table id)) ≡ false → gets_filler p id ≡ false
 loud_no_filler p id b k there kind other = no_filler p id k (kind_there p.table id b there ∙ kind) other
 
@@ -172,7 +172,7 @@ proto_named p id b new before after there kind here granted passed is none fallb
           (subst (MadeBelow (wants_member_type p) (free_id p) (suc id)) (sym member_type) (made_on (wants_member_type p) (free_id p) id before.member_type here.member_type wants)) here.filler filler;
     }
 
--- one whose parameters all have names stays
+-- a prototype whose parameters all have names is unchanged
 pub proto_stays : (p : Pass) (id : ℕ) (b : BtfType) (before : Made) → IsType p.table id b → kind_of (record_of b).info ≡ Some kinds.FuncProto → IsHere p id before → has p features.Func ≡ true
     → lack_a_name (record_of b).tail ≡ false → fallback_of b ≡ None → IsRuled p id b before before b
 proto_stays p id b before there kind here granted named none =
@@ -210,7 +210,7 @@ granted_wants p id granted = ap (λ (g : Bool). is_enum64 (kind_at p.table id) &
     and_false true = refl
     and_false false = refl
 
--- where the kernel has it, it stays
+-- if the kernel has ENUM64, the record is unchanged
 pub enum64_stays : (p : Pass) (id : ℕ) (b : BtfType) (before : Made) → IsType p.table id b → kind_of (record_of b).info ≡ Some kinds.Enum64 → IsHere p id before → has p features.Enum64 ≡ true → IsRuled p id b before before b
 enum64_stays p id b before there kind here granted =
     let unfilled : gets_filler p id ≡ false = loud_no_filler p id b (Some kinds.Enum64) there kind refl in
@@ -231,7 +231,7 @@ enum64_stays p id b before there kind here granted =
 pub wants_one : (p : Pass) (id : ℕ) (b : BtfType) → IsType p.table id b → kind_of (record_of b).info ≡ Some kinds.Enum64 → has p features.Enum64 ≡ false → wants_member_type p id ≡ true
 wants_one p id b there kind denied = ap (λ (g : Bool). is_enum64 (kind_at p.table id) && not g) denied ∙ ap (λ (k : Option Kind). is_enum64 k && true) (kind_there p.table id b there ∙ kind)
 
--- What the member_type is for an id that wants it: the one that is there, or a new one.
+-- The member type for an id that needs it: the existing one, or a new one.
 pub record HasMemberType (p : Pass) (id : ℕ) (before after : Made) (number : ℕ) : Type 0 where
   pub checks : first_fault (have_room (offset_at p id) (if makes_member_type p id then member_type_text ∷ [] else []) ++ all_fit (type_len_at p id) (if makes_member_type p id then byte_int (offset_at p id) ∷ [] else [])) ≡ None
   pub adds : Adds p.table before.changes after.changes (if makes_member_type p id then member_type_text ∷ [] else []) (if makes_member_type p id then byte_int (offset_at p id) ∷ [] else [])
@@ -288,7 +288,7 @@ enum64_as_union p id b new before after number there kind here denied member_typ
       grown = grown_by p id before after _ _ member_type.adds texts_are added_are unfilled names member_type.made here.filler filler;
     }
 
--- the tests of an ENUM64, where it makes the member_type
+-- the tests of an ENUM64 that makes the member type
 pub enum64_fault : (p : Pass) (id : ℕ) (b : BtfType) (before : Made) → IsType p.table id b → kind_of (record_of b).info ≡ Some kinds.Enum64 → IsHere p id before → has p features.Enum64 ≡ false → before.member_type ≡ None
     → fault p id ≡ first_fault (have_room (strings_end p.table before.changes) (member_type_text ∷ []) ++ all_fit before.changes.type_len (byte_int (strings_end p.table before.changes) ∷ []))
 enum64_fault p id b before there kind here denied none =
@@ -300,7 +300,7 @@ enum64_fault p id b before there kind here denied none =
     ∙ ap (λ rs. first_fault (have_room (offset_at p id) (member_type_text ∷ []) ++ all_fit (type_len_at p id) rs)) (added_there p id b (Some kinds.Enum64) there kind ∙ ap (λ (g : Bool). if g then byte_int (offset_at p id) ∷ [] else []) makes)
     ∙ ap (λ (o : ℕ). checks o (type_len_at p id)) here.offset ∙ ap (checks (strings_end p.table before.changes)) here.type_len
 
--- ---- kinds that ask for one feature at most
+-- ---- kinds that ask for at most one feature
 
 pub quiet_type : (b : BtfType) → asks_one (Some (type_kind b)) ≡ true → ((x : _) → b ≡ types.FuncProto x → ⊥) → ((x : _) → b ≡ types.Enum64 x → ⊥) → is_quiet (Some (type_kind b)) ≡ true
 quiet_type (types.FuncProto x) one no_proto no_enum64 = absurd (no_proto x refl)
@@ -309,7 +309,7 @@ quiet_type (types.Func x) one no_proto no_enum64 = absurd (false≢true one)
 quiet_type (types.DataSec x) one no_proto no_enum64 = absurd (false≢true one)
 quiet_type b one no_proto no_enum64 = refl
 
--- one whose rule appends nothing stays, or is denied
+-- a type whose rule appends nothing is unchanged, or denied
 pub quiet_outcome : (p : Pass) (id : ℕ) (b : BtfType) (before : Made) (changes : Bool) → IsType p.table id b → IsHere p id before → asks_one (kind_of (record_of b).info) ≡ true → kind_of (record_of b).info ≡ Some (type_kind b)
     → ((x : _) → b ≡ types.FuncProto x → ⊥) → ((x : _) → b ≡ types.Enum64 x → ⊥)
     → (is_quiet (kind_of (record_of b).info) ≡ true → record_of (if changes then denied_type b else b) ≡ becomes_by p (ruled_below p id) id (kind_of (record_of b).info) (record_of b))

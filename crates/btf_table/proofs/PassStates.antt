@@ -45,12 +45,12 @@ use Rattle.btf_table.specs.declared.sanitize.made.Made.{Made}
 use Rattle.btf_table.specs.declared.sanitize.outcome.Outcome.{Outcome}
 use Rattle.btf_table.specs.declared.sanitize.outcome.Outcome.TheVariants.{Same, Denied, Other}
 use Rattle.btf_table.proofs.Denials.{deny_front, deny_last, ids_more, ids_next}
-use Rattle.btf_table.proofs.Spelled.{behind_len}
+use Rattle.btf_table.proofs.Spelled.{after_len}
 use Rattle.btf_table.proofs.Outcomes.{denied_record, placed_fallback}
 use Rattle.btf_table.proofs.KnownKinds.{one_more_kind, only_unknown}
 use Rattle.btf_table.proofs.Put.{length-put, put_kept, put_new, inside_more, inside_next, first_stays}
 
--- ---- what agrees up to an id agrees up to lower ones
+-- ---- what agrees up to an id agrees up to lower ids
 
 among_lower : (p : Pass) (id j : ℕ) (f : BtfFeature) → j ≤ id → IsAmong f (asks_below p j) → IsAmong f (asks_below p id)
 among_lower p zero j f le among =
@@ -68,12 +68,12 @@ among_lower p (suc id) j f le among =
 agree_lower : (p : Pass) (answers : List FeatureAnswer) (id j : ℕ) → j ≤ id → Agree p answers id → Agree p answers j
 agree_lower p answers id j le agree f among = agree f (among_lower p id j f le among)
 
--- so the ids of lower ids stay
+-- so the free ids of lower ids do not change
 free_lower : (p : Pass) (answers : List FeatureAnswer) (id j : ℕ) → Agree p answers id → AreRuled p id → j < id → free_id (with_answers p answers) j ≡ free_id p j
 free_lower p answers id j agree ruled lt =
     ap (λ (rs : List Record). length p.table.records + length rs) (same_below p answers j (agree_lower p answers id j (omega (arith, lt)) agree) (λ k below. ruled k (omega (arith, below, lt)))).added
 
--- and what they fall back to
+-- nor do their fallbacks
 falls_back_alike : (p : Pass) (answers : List FeatureAnswer) (id : ℕ) (k : Option Kind) (r : Record) (old : Option Fallback) → kind_at p.table id ≡ k → AgreeAt p answers id → falls_back_by (with_answers p answers) k r old ≡ falls_back_by p k r old
 falls_back_alike p answers id (Some kinds.Enum64) r old kind agree = ap (λ (b : Bool). if b then old else Some (model.fallback_of r)) (agree_of p answers id (Some kinds.Enum64) features.Enum64 agree kind refl)
 falls_back_alike p answers id k r old kind agree = refl
@@ -93,9 +93,9 @@ range_alike f g zero alike = refl
 range_alike f g (suc n) alike =
     range_next f n ∙ ap (λ xs. xs ++ f n ∷ []) (range_alike f g n (λ j lt. alike j (omega (arith, lt)))) ∙ ap (λ x. map g (range_with_len 0 n) ++ x ∷ []) (alike n (omega arith)) ∙ sym (range_next g n)
 
--- ---- what is there at an id
+-- ---- the state at an id
 
--- Further answers change nothing of what was made.
+-- Further answers do not change what was made.
 pub here_of_made : (p : Pass) (id : ℕ) (m : Made) (ids : List ℕ) (answers more : List FeatureAnswer) → answers ≡ p.answers ++ more → IsAt p id → IsMade p id m ids → IsHere (record p { answers = answers }) id m
 here_of_made p id m ids answers more is at made = subst (λ (given : List FeatureAnswer). IsHere (with_answers p given) id m) (sym is) here
   where
@@ -120,7 +120,7 @@ here_of_made p id m ids answers more is at made = subst (λ (given : List Featur
 
 -- ---- from id to id
 
--- An id is gone past, where all that it asks for is answered and it is not refused.
+-- The pass completes an id if all that it asks for is answered and it is not refused.
 pub at_next : (p : Pass) (id : ℕ) (answers : List FeatureAnswer) → IsAt p id → AsksUpTo p id answers [] → fault (record p { answers = answers }) id ≡ None → IsAt (record p { answers = answers }) (suc id)
 at_next p id answers at asks_up passed =
     let some : List BtfFeature = asks_up.0 in
@@ -130,7 +130,7 @@ at_next p id answers at asks_up passed =
     subst (λ (given : List FeatureAnswer). AreAnswersTo (asks_below p id ++ asks (with_answers p given) id) given → fault (with_answers p given) id ≡ None → IsAt (with_answers p given) (suc id))
     (sym has.further) (goes_on p id has.more at) all_asked passed
 
--- What is kept of an id, with the ids that are to be denied before and after.
+-- What is recorded for an id; the ids that will be denied are given before and after it.
 pub record Keeps (id : ℕ) (b : BtfType) (o : Outcome) (old new : Made) (ids more : List ℕ) : Type 0 where
   pub types : new.changes.types.items ≡ kept_changes old.changes.types.items id o
   pub denied : more ≡ kept_ids ids id o
@@ -160,7 +160,7 @@ put_next f cs xs id b (Other new) inside at =
 put_next f cs xs id b o inside at =
     ap (put_all (each f cs)) (take_at xs id (f b) at) ∙ put_kept f cs (take id xs) (f b) (subst (λ (n : ℕ). AreInside n cs) (sym (many xs id (f b) at)) inside)
 
--- one more that is denied, or is not
+-- one more id that is denied, or is not
 deny_next : (ids : List ℕ) (xs : List Record) (id : ℕ) (b : BtfType) (o : Outcome) → AreIds id ids → length xs ≡ id → kind_of (record_of b).info ≡ Some (type_kind b)
     → deny_all (kept_ids ids id o) (xs ++ record_of (placed_of o b) ∷ []) ≡ deny_all ids xs ++ record_of (made_of o b) ∷ []
 deny_next ids xs id b Denied inside at kind =
@@ -236,14 +236,14 @@ one_more p id more b o before mid after ids more_ids low at made there keeps rul
       };
     }
 
--- What is made when the next id is come to: what its rule appends, and what it becomes.
+-- What is made when the pass comes to the next id: what the rule appends, and what the type becomes.
 pub made_on_next : (p : Pass) (id : ℕ) (answers more : List FeatureAnswer) → answers ≡ p.answers ++ more → (b : BtfType) (o : Outcome) (before mid after : Made) (ids more_ids : List ℕ) → 0 < id → IsAt p id → IsMade p id before ids → IsType p.table id b
     → IsRuled (record p { answers = answers }) id b before mid (made_of o b) → Keeps id b o mid after ids more_ids → IsMade (record p { answers = answers }) (suc id) after more_ids
 made_on_next p id answers more is b o before mid after ids more_ids low at made there ruled keeps =
     subst (λ (given : List FeatureAnswer). IsRuled (with_answers p given) id b before mid (made_of o b) → IsMade (with_answers p given) (suc id) after more_ids) (sym is)
     (one_more p id more b o before mid after ids more_ids low at made there keeps) ruled
 
--- An id whose asks are answered and whose rule is kept is gone past.
+-- The pass completes an id if what it asks for is answered and its rule holds.
 pub steps_on : (p : Pass) (id : ℕ) (answers : List FeatureAnswer) (b : BtfType) (o : Outcome) (before mid after : Made) (ids more_ids : List ℕ) → 0 < id → IsAt p id → IsMade p id before ids → IsType p.table id b
     → Steps p id answers b before mid (Ok (made_of o b)) → Keeps id b o mid after ids more_ids
     → IsAt (record p { answers = answers }) (suc id) × IsMade (record p { answers = answers }) (suc id) after more_ids
@@ -257,7 +257,7 @@ still_ruled p id more at j lt =
     let agree : Agree p (p.answers ++ more) id = further_agree p id more at.asked in
     same_refused p (p.answers ++ more) j (agree_lower p (p.answers ++ more) id (suc j) (omega (arith, lt)) agree) (λ k below. at.ruled k (omega (arith, below, lt))) ∙ at.ruled j lt
 
--- One whose asks are answered and that is refused ends the pass.
+-- An id that is refused after what it asks for is answered ends the pass.
 pub refused_at : (p : Pass) (id : ℕ) (answers : List FeatureAnswer) (refusal : Refusal) → id < length p.table.records → IsAt p id → AsksUpTo p id answers [] → fault (record p { answers = answers }) id ≡ Some refusal
     → Passes (record p { answers = answers }) (Err refusal)
 refused_at p id answers refusal lt at asks_up faults =
@@ -297,8 +297,8 @@ added_kinds p rs zero have = subst AllHaveKinds (sym (append-nil rs)) have
 added_kinds p rs (suc id) have =
     subst AllHaveKinds (append_assoc rs (added_below p id) (added p id)) (added_kind p (free_id p id) id (kind_at p.table id) (rs ++ added_below p id) (added_kinds p rs id have))
 
--- Where all ids are gone past, the changes are of the table, which is rewritten with them, and with the types denied that
--- are to be.
+-- If the pass has completed all ids, the changes are for the table. The rewritten table is the table after the changes
+-- are applied and the recorded types are denied.
 pub passed_all : (p : Pass) (n : ℕ) (m : Made) (ids : List ℕ) (rs : List Record) → n ≡ length p.table.records → length p.table.fallbacks ≡ length p.table.records → p.table.records ≡ unknown ∷ rs → IsMade p n m ids
     → AreOf p.table m.changes × AreIds (length p.table.records) ids × (with_denied ids (changed p.table m.changes) ≡ rewritten p)
 passed_all p n m ids rs is as_many first made_n = whole (subst (λ (i : ℕ). IsMade p i m ids) is made_n)
@@ -326,10 +326,10 @@ passed_all p n m ids rs is as_many first made_n = whole (subst (λ (i : ℕ). Is
         (ap (λ xs. xs ++ map fallback_of m.changes.new_types.items) fallen ∙ ap (λ xs. map (falls_back p) (range_with_len 0 count) ++ xs) (made.new_fallbacks ∙ ap no_fallbacks appended)) in
         let head : (rest : List Record) × (put_all (each record_of cs) (unknown ∷ rs) ≡ unknown ∷ rest) = first_stays record_of count cs unknown rs made.inside in
         let front_first : front ≡ unknown ∷ head.0 = ap (put_all (each record_of cs)) first ∙ head.1 in
-        let long : sum_by record_len (front ++ new) ≡ 12 + length (type_bytes (changed t m.changes)) = behind_len t.order (head.0 ++ new) (front ++ new) (ap (λ xs. xs ++ new) front_first) in
+        let long : sum_by record_len (front ++ new) ≡ 12 + length (type_bytes (changed t m.changes)) = after_len t.order (head.0 ++ new) (front ++ new) (ap (λ xs. xs ++ new) front_first) in
         let parts : sum_by record_len (front ++ new) ≡ sum_by record_len front + sum_by record_len (added_below p count) =
         sum_by-append record_len front new ∙ ap (λ rs. sum_by record_len front + sum_by record_len rs) appended in
-        let old_len : sum_by record_len t.records ≡ 12 + length (type_bytes t) = behind_len t.order rs t.records first in
+        let old_len : sum_by record_len t.records ≡ 12 + length (type_bytes t) = after_len t.order rs t.records first in
         let len : sum_by record_len front ≡ sum_by record_len t.records + growth_below p count =
         ap (sum_by record_len) (sym placed) ∙ made.len ∙ ap (λ xs. sum_by record_len xs + growth_below p count) all_records in
         let type_len : m.changes.type_len ≡ length (type_bytes t) + sum_by record_len (added_below p count) + growth_below p count = made.has_made.type_len_is in (
@@ -344,7 +344,7 @@ passed_all p n m ids rs is as_many first made_n = whole (subst (λ (i : ℕ). Is
           table,
         )
 
--- So the pass is whole.
+-- So this is a whole pass.
 pub passes_whole : (p : Pass) (n : ℕ) (m : Made) (denied : Vec ℕ Global) (rs : List Record) → n ≡ length p.table.records → length p.table.fallbacks ≡ length p.table.records → p.table.records ≡ unknown ∷ rs → IsAt p n → IsMade p n m denied.items
     → Passes p (Ok (record { changes = m.changes; denied = denied }))
 passes_whole p n m denied rs is as_many first at made =
@@ -364,7 +364,7 @@ pub record Begins (t : Table) (m : Made) : Type 0 where
   pub member_type : m.member_type ≡ None
   pub filler : m.filler ≡ None
 
--- id 0 is Unknown, which asks for nothing, appends nothing and stays
+-- id 0 is Unknown, which asks for nothing, appends nothing and does not change
 pub made_at_start : (p : Pass) (m : Made) (rs : List Record) (first_fallback : Option Fallback) → p.table.records ≡ unknown ∷ rs → slice_get p.table.fallbacks 0 ≡ Some first_fallback → p.answers ≡ [] → Begins p.table m → IsAt p 1 × IsMade p 1 m []
 made_at_start p m rs first_fallback first there none begins =
     let kind : kind_at p.table 0 ≡ Some kinds.Unknown = ap (λ (xs : List Record). kind_of (unwrap_or (slice_get xs 0) unknown).info) first in

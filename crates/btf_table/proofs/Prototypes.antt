@@ -20,12 +20,12 @@ use Rattle.btf_items.specs.declared.items.BtfParam.{BtfParam}
 use Rattle.btf_table.specs.declared.table.changes.Changes.{Changes}
 use Rattle.btf_table.specs.Adding.{strings_end, Adds}
 use Rattle.btf_table.specs.Params.{lack_a_name}
-use Rattle.btf_rules.proofs.Checks.{fault_behind, fault_before}
+use Rattle.btf_rules.proofs.Checks.{fault_after, fault_before}
 use Rattle.btf_rules.proofs.NamedParams.{put_at}
 
 -- ---- texts
 
--- the texts for parameters, and for those after them
+-- the texts for parameters, and for the parameters after them
 texts_append : (k : ℕ) (ps qs : List BtfParam) → param_texts k (flat_map param_words (ps ++ qs)) ≡ param_texts k (flat_map param_words ps) ++ param_texts (k + length ps) (flat_map param_words qs)
 texts_append k [] qs =
     let none : k ≡ k + 0 = omega arith in
@@ -43,7 +43,7 @@ zero_param = record { name_offset = 0; btf_type = 0 }
 abbrev pub at : List BtfParam → ℕ → BtfParam
 at ps i = get_or ps i zero_param
 
--- the texts for the parameters in front of a place
+-- the texts for the parameters before a place
 abbrev pub texts_to : ℕ → List BtfParam → List (List ℕ)
 texts_to i ps = param_texts 0 (flat_map param_words (take i ps))
 
@@ -59,16 +59,16 @@ texts_next ps i lt =
     ap (λ (qs : List BtfParam). param_texts 0 (flat_map param_words qs)) (up_to ps i lt) ∙ texts_append 0 (take i ps) (at ps i ∷ [])
     ∙ ap (λ (n : ℕ). texts_to i ps ++ param_texts n (param_words (at ps i))) many
 
--- ---- room
+-- ---- whether texts fit
 
--- one more text has room
+-- one more text fits
 pub room_next : (offset : ℕ) (ps : List BtfParam) (i : ℕ) → i < length ps → first_fault (have_room offset (texts_to i ps)) ≡ None
     → first_fault (have_room (offset + texts_len (texts_to i ps)) (param_texts i (param_words (at ps i)))) ≡ None → first_fault (have_room offset (texts_to (i + 1) ps)) ≡ None
 room_next offset ps i lt before passed =
     ap (λ (ts : List (List ℕ)). first_fault (have_room offset ts)) (texts_next ps i lt) ∙ ap first_fault (room_append offset (texts_to i ps) (param_texts i (param_words (at ps i))))
-    ∙ fault_behind (have_room offset (texts_to i ps)) (have_room (offset + texts_len (texts_to i ps)) (param_texts i (param_words (at ps i)))) before ∙ passed
+    ∙ fault_after (have_room offset (texts_to i ps)) (have_room (offset + texts_len (texts_to i ps)) (param_texts i (param_words (at ps i)))) before ∙ passed
 
--- the first text that has none counts
+-- the first text that does not fit counts
 pub room_fault : (offset : ℕ) (ps : List BtfParam) (i : ℕ) (refusal : Refusal) → i < length ps → first_fault (have_room offset (texts_to i ps)) ≡ None
     → first_fault (have_room (offset + texts_len (texts_to i ps)) (param_texts i (param_words (at ps i)))) ≡ Some refusal → first_fault (have_room offset (param_texts 0 (flat_map param_words ps))) ≡ Some refusal
 room_fault offset ps i refusal lt before faults =
@@ -80,16 +80,16 @@ room_fault offset ps i refusal lt before faults =
     ap (λ (qs : List BtfParam). param_texts 0 (flat_map param_words qs)) (sym (take-append-drop (i + 1) ps)) ∙ texts_append 0 (take (i + 1) ps) (drop (i + 1) ps) in
     let up : first_fault (have_room offset to) ≡ Some refusal =
     ap (λ (ts : List (List ℕ)). first_fault (have_room offset ts)) (texts_next ps i lt) ∙ ap first_fault (room_append offset front here)
-    ∙ fault_behind (have_room offset front) (have_room (offset + texts_len front) here) before ∙ faults in
+    ∙ fault_after (have_room offset front) (have_room (offset + texts_len front) here) before ∙ faults in
     ap (λ (ts : List (List ℕ)). first_fault (have_room offset ts)) parts ∙ ap first_fault (room_append offset to rest) ∙ fault_before (have_room offset to) (have_room (offset + texts_len to) rest) refusal up
 
 -- ---- names
 
--- the words of parameters, those in front of a place with their names
+-- the words of parameters, with new names before a place
 abbrev pub named_to : ℕ → ℕ → List BtfParam → List ℕ
 named_to offset i ps = named_params 0 offset (flat_map param_words (take i ps)) ++ flat_map param_words (drop i ps)
 
--- the names of parameters, and of those after them
+-- the names of parameters, and of the parameters after them
 named_append : (k offset : ℕ) (ps qs : List BtfParam)
     → named_params k offset (flat_map param_words (ps ++ qs))
     ≡ named_params k offset (flat_map param_words ps) ++ named_params (k + length ps) (offset + texts_len (param_texts k (flat_map param_words ps))) (flat_map param_words qs)
@@ -164,7 +164,7 @@ end_after t old new ts rs adds = omega (arith, ap length adds.strings, length-ap
 
 -- ---- prototypes whose parameters all have names
 
--- a parameter lacks its name where its words do
+-- a parameter lacks its name if its words do
 pub lacks_words : (ps : List BtfParam) → list_any (λ (p : BtfParam). wants_name p.name_offset p.btf_type) ps ≡ lack_a_name (flat_map param_words ps)
 lacks_words [] = refl
 lacks_words (p ∷ ps) = ap (λ (b : Bool). wants_name p.name_offset p.btf_type || b) (lacks_words ps)
@@ -173,7 +173,7 @@ or_false : (a b : Bool) → (a || b) ≡ false → (a ≡ false) × (b ≡ false
 or_false false b is = (refl, is)
 or_false true b is = absurd (true≢false is)
 
--- they need no texts,
+-- they need no texts
 pub no_texts : (k : ℕ) (words : List ℕ) → lack_a_name words ≡ false → param_texts k words ≡ []
 no_texts k [] none = refl
 no_texts k (name ∷ []) none = refl
@@ -181,7 +181,7 @@ no_texts k (name ∷ type ∷ words) none =
     let both = or_false (wants_name name type) (lack_a_name words) none in
     ap (λ (b : Bool). (if b then param_text k ∷ [] else []) ++ param_texts (k + 1) words) both.0 ∙ no_texts (k + 1) words both.1
 
--- and stay as they are
+-- and are unchanged
 pub names_stay : (k offset : ℕ) (words : List ℕ) → lack_a_name words ≡ false → named_params k offset words ≡ words
 names_stay k offset [] none = refl
 names_stay k offset (name ∷ []) none = refl

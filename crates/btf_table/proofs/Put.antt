@@ -1,4 +1,4 @@
--- Types in the place of others.
+-- Types that replace others.
 use Rattle.std.proofs.Common.{◌≡◌, ℕ, zero, suc, ◌+◌, ◌<◌, ◌≤◌, List, [], ◌∷◌, ◌++◌, length, get_or, take, drop, map, set, Option, refl, sym, ap, subst, ◌∙◌, arith, Vec, Global}
 use Rattle.std.proofs.lemmas.List.{map-append, length-append, length-map, length-set, map-set, set-append_left, get_or_default, get_or-drop, drop-drop, drop-set-lt, take_more, take_more_set, take-set, take-map, get_or-take, length-take}
 use Rattle.std.proofs.Math.Seq.{set-append_seam, take-append_seam, take-suc}
@@ -13,7 +13,7 @@ use Rattle.btf_table.specs.Btf.{table_of, IsKept}
 use Rattle.btf_table.specs.Changes.{put_all, put_back, replaced, each, AreInside, AreOf, changed, undone, Undoes}
 use Rattle.btf_table.specs.declared.table.changes.Undo.{Undo}
 
--- in turn
+-- replacing elements in order
 pub put_append : {X : Type 0} (cs ds : List (ℕ × X)) (xs : List X) → put_all (cs ++ ds) xs ≡ put_all ds (put_all cs xs)
 put_append [] ds xs = refl
 put_append (c ∷ cs) ds xs = put_append cs ds (set xs c.0 c.1)
@@ -22,24 +22,24 @@ pub length-put : {X : Type 0} (cs : List (ℕ × X)) (xs : List X) → length (p
 length-put [] xs = refl
 length-put (c ∷ cs) xs = length-put cs (set xs c.0 c.1) ∙ length-set xs c.0 c.1
 
--- what each of the types is
+-- what the function gives for each of the types
 pub map-put : {X : Type 0} (f : BtfType → X) (cs : List (ℕ × BtfType)) (ts : List BtfType) → map f (put_all cs ts) ≡ put_all (each f cs) (map f ts)
 map-put f [] ts = refl
 map-put f (c ∷ cs) ts = map-put f cs (set ts c.0 c.1) ∙ ap (put_all (each f cs)) (map-set f ts c.0 c.1)
 
--- what stands after the ids stays
+-- elements after these ids do not change
 pub put_front : {X : Type 0} (f : BtfType → X) (cs : List (ℕ × BtfType)) (xs ys : List X) → AreInside (length xs) cs → put_all (each f cs) (xs ++ ys) ≡ put_all (each f cs) xs ++ ys
 put_front f [] xs ys inside = refl
 put_front f (c ∷ cs) xs ys inside =
     ap (put_all (each f cs)) (set-append_left xs ys c.0 (f c.1) inside.0.1) ∙ put_front f cs (set xs c.0 (f c.1)) ys (subst (λ (n : ℕ). AreInside n cs) (sym (length-set xs c.0 (f c.1))) inside.1)
 
--- what stands at id 0 stays
+-- the element of id 0 does not change
 pub first_stays : {X : Type 0} (f : BtfType → X) (count : ℕ) (cs : List (ℕ × BtfType)) (x : X) (xs : List X) → AreInside count cs → (rest : List X) × (put_all (each f cs) (x ∷ xs) ≡ x ∷ rest)
 first_stays f count [] x xs inside = (xs, refl)
 first_stays f count ((zero, t) ∷ cs) x xs inside = absurd (omega (arith, inside.0.0))
 first_stays f count ((suc id, t) ∷ cs) x xs inside = first_stays f count cs x (set xs id (f t)) inside.1
 
--- one more id stays
+-- one more id is unchanged
 pub put_kept : {X : Type 0} (f : BtfType → X) (cs : List (ℕ × BtfType)) (xs : List X) (x : X) → AreInside (length xs) cs → put_all (each f cs) (xs ++ x ∷ []) ≡ put_all (each f cs) xs ++ x ∷ []
 put_kept f cs xs x inside = put_front f cs xs (x ∷ []) inside
 
@@ -68,13 +68,13 @@ inside_at count [] k d inside lt = absurd (omega (arith, lt))
 inside_at count (c ∷ cs) zero d inside lt = inside.0.1
 inside_at count (c ∷ cs) (suc k) d inside lt = inside_at count cs k d inside.1 (omega (arith, lt))
 
--- what stands at a place, where the rest from there on is the same
+-- the element at a place, if the rest from there on is the same
 pub same_at : {X : Type 0} (xs ys : List X) (k : ℕ) (d e : X) → drop k xs ≡ drop k ys → k < length xs → get_or xs k d ≡ get_or ys k e
 same_at xs ys k d e same lt =
     let here : k + 0 ≡ k = omega arith in
     get_or_default xs k d e lt ∙ ap (λ (n : ℕ). get_or xs n e) (sym here) ∙ sym (get_or-drop k xs 0 e) ∙ ap (λ zs. get_or zs 0 e) same ∙ get_or-drop k ys 0 e ∙ ap (λ (n : ℕ). get_or ys n e) here
 
--- one more type is put in
+-- one more type is swapped in
 pub put_next : (cs old : List (ℕ × BtfType)) (types before : List BtfType) (k : ℕ) (d e f : ℕ × BtfType) (new : BtfType) → k < length cs → length cs ≡ length old → types ≡ put_all (take k old) before → drop k cs ≡ drop k old
     → new ≡ (get_or cs k d).1 → (set types (get_or cs k e).0 new ≡ put_all (take (k + 1) old) before) × (drop (k + 1) (set cs k f) ≡ drop (k + 1) old)
 put_next cs old types before k d e f new lt long put rest is =
@@ -90,7 +90,7 @@ put_next cs old types before k d e f new lt long put rest is =
 
 -- ---- the whole table
 
--- what the types are, with changes
+-- the types after the changes are applied
 pub changed_each : {X : Type 0} (f : BtfType → X) (cs : List (ℕ × BtfType)) (xs ys : List BtfType) → AreInside (length xs) cs → map f (put_all cs (xs ++ ys)) ≡ put_all (each f cs) (map f xs) ++ map f ys
 changed_each f cs xs ys inside =
     map-put f cs (xs ++ ys) ∙ ap (put_all (each f cs)) (map-append f xs ys) ∙ put_front f cs (map f xs) (map f ys) (subst (λ (n : ℕ). AreInside n cs) (sym (length-map xs f)) inside)
@@ -130,13 +130,13 @@ module _ (b : Inside) (c : Changes) (strings : Vec ℕ Global) (types : Vec BtfT
         kinds = subst HaveKinds (sym view_changed) of.kinds;
       }
 
--- ---- what stood there before
+-- ---- the elements before the changes
 
 pub replaced_append : {X : Type 0} (cs : List (ℕ × X)) (c : ℕ × X) (xs : List X) → replaced (cs ++ c ∷ []) xs ≡ replaced cs xs ++ (c.0, get_or (put_all cs xs) c.0 c.1) ∷ []
 replaced_append [] c xs = refl
 replaced_append (b ∷ cs) c xs = ap (λ ds. (b.0, get_or xs b.0 b.1) ∷ ds) (replaced_append cs c (set xs b.0 b.1))
 
--- what took the place of others is taken back
+-- the replacements are reverted
 pub put_back_all : {X : Type 0} (cs : List (ℕ × X)) (xs : List X) → put_back (replaced cs xs) (put_all cs xs) ≡ xs
 put_back_all [] xs = refl
 put_back_all (c ∷ cs) xs = ap (λ ys. set ys c.0 (get_or xs c.0 c.1)) (put_back_all cs (set xs c.0 c.1)) ∙ set-set xs c.0 c.1 (get_or xs c.0 c.1) ∙ set-own xs c.0 c.1
@@ -173,12 +173,12 @@ pub inside_replaced : (count : ℕ) (cs : List (ℕ × BtfType)) (xs : List BtfT
 inside_replaced count [] xs within = tt
 inside_replaced count (c ∷ cs) xs within = (within.0, inside_replaced count cs (set xs c.0 c.1) within.1)
 
--- what each of the types is
+-- what the function gives for each of the types
 map-put_back : {X : Type 0} (f : BtfType → X) (cs : List (ℕ × BtfType)) (ts : List BtfType) → map f (put_back cs ts) ≡ put_back (each f cs) (map f ts)
 map-put_back f [] ts = refl
 map-put_back f (c ∷ cs) ts = map-set f (put_back cs ts) c.0 c.1 ∙ ap (λ xs. set xs c.0 (f c.1)) (map-put_back f cs ts)
 
--- the front of a list is what it was
+-- the front of a list is unchanged
 front_is : {X : Type 0} (xs ys : List X) (n : ℕ) → n ≡ length xs → take n (xs ++ ys) ≡ xs
 front_is xs ys n is = ap (λ (m : ℕ). take m (xs ++ ys)) is ∙ take-append_seam xs ys
 
@@ -186,7 +186,7 @@ taken_back : {X : Type 0} (f : BtfType → X) (cs : List (ℕ × BtfType)) (xs y
 taken_back f cs xs ys n is =
     ap (take n) (sym (map-put_back f (replaced cs (xs ++ ys)) (put_all cs (xs ++ ys))) ∙ ap (map f) (put_back_all cs (xs ++ ys))) ∙ take-map f n (xs ++ ys) ∙ ap (map f) (front_is xs ys n is)
 
--- With what stood there before, the changes can be taken out again.
+-- With the replaced elements the changes can be reverted.
 pub undoes : (b : Inside) (c : Changes) (strings : Vec ℕ Global) (types : Vec BtfType Global) → IsKept b → AreOf (table_of b) c → strings.items ≡ b.strings.items ++ c.new_strings.items → types.items ≡ put_all c.types.items (b.types.items ++ c.new_types.items)
     → (undo : Undo) → undo.types.items ≡ replaced c.types.items (b.types.items ++ c.new_types.items) → undo.string_len ≡ length b.strings.items → undo.count ≡ length b.types.items → undo.type_len ≡ b.type_len
     → Undoes undo (table_of (record b { strings = strings; types = types; type_len = c.type_len })) (table_of b)
@@ -213,9 +213,9 @@ undoes b c strings types kept of added put undo old string_len count type_len =
       kinds = kept.kinds;
     }
 
--- ---- taken out again
+-- ---- reverting
 
--- the table is the old one, and keeps what it kept
+-- the table is the old one, and has its invariant
 pub view_undone : (b : Inside) (undo : Undo) (old : Table) (strings : Vec ℕ Global) (types : Vec BtfType Global) → Undoes undo (table_of b) old → strings.items ≡ take undo.string_len b.strings.items → types.items ≡ take undo.count (put_back undo.types.items b.types.items)
     → table_of (record b { strings = strings; types = types; type_len = undo.type_len }) ≡ old
 view_undone b undo old strings types undoes cut put =

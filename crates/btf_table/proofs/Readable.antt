@@ -1,4 +1,4 @@
--- Where texts can be read, and the names of functions that kernels know.
+-- The offsets at which texts can be read, and the names of builtin functions of kernels.
 use Rattle.std.proofs.Common.{◌≡◌, ◌≢◌, ℕ, suc, ◌+◌, ◌-◌, ◌<◌, ◌≤◌, ◌==◌, ◌||◌, Bool, true, false, cond, nat_lt, List, [], ◌∷◌, ◌++◌, length, take, drop, get_or, Option, None, Some, Ok, Err, refl, sym, ap, ◌∙◌, arith, ◌⊎◌, ⊎_elim}
 use Rattle.std.specs.Prelude.{position, option_map, slice_get, Contains}
 use Rattle.std.proofs.lemmas.Option.{none-some, same_Some}
@@ -23,7 +23,7 @@ use Rattle.btf_rewrite_model.specs.Pass.{is_builtin, builtins}
 use Rattle.btf_rules.specs.Builtins.{begins_builtin}
 use Rattle.btf_table.specs.Readable.{HasNameAt, IsComparable}
 
--- ---- where a zero byte stands
+-- ---- the place of a zero byte
 
 -- the first zero byte is no later than any
 first_up_to : (xs : List ℕ) (k : ℕ) → is_zero (get_or xs k 0) ≡ true → position_or_len is_zero xs ≤ k
@@ -44,7 +44,7 @@ text_there strings offset last low lt zero_at =
     let found : position is_zero rest ≡ Some (position_or_len is_zero rest) = ap (λ (b : Bool). cond b (Some (position_or_len is_zero rest)) None) (lt-ltb (position_or_len is_zero rest) (length rest) within) in
     (lossy (take (position_or_len is_zero rest) rest), ap (λ (o : Option ℕ). text_of offset (option_map (λ end. take end rest) o)) found)
 
--- with none, there is none
+-- without a zero byte there is no text
 pub no_text : (strings : List ℕ) (offset end : ℕ) → end ≤ offset → ((k : ℕ) → end ≤ k → k < length strings → is_zero (get_or strings k 0) ≡ false) → text_at strings offset ≡ Err (InvalidStringOffset offset)
 no_text strings offset end high none =
     ap (text_of offset) (no_bytes strings offset (drop offset strings) refl
@@ -65,7 +65,7 @@ or_true : (a : Bool) → (a || true) ≡ true
 or_true true = refl
 or_true false = refl
 
--- what is read as a text without the first byte of U+FFFD is that text
+-- bytes that are read as a text without the first byte of U+FFFD are this text
 plain_text : (bs text : List ℕ) → has_mark text ≡ false → lossy bs ≡ text → bs ≡ text
 plain_text bs text unmarked is = by_cases (utf8_valid_len bs == length bs) refl
   where
@@ -83,7 +83,7 @@ plain_text bs text unmarked is = by_cases (utf8_valid_len bs == length bs) refl
 
 -- ---- names at the front of strings
 
--- a name that is read as itself, and without a zero byte
+-- a name that is read as itself and has no zero byte
 abbrev IsPlain : List ℕ → Type 0
 IsPlain name = (has_mark name ≡ false) × (list_all (λ b. nat_lt b 128) name ≡ true) × (list_any is_zero name ≡ false)
 
@@ -113,7 +113,7 @@ name_begins strings name text unmarked is equal =
     let cut : drop end strings ≡ 0 ∷ behind = drop_more strings end 0 at.0 ∙ ap (λ (n : ℕ). n ∷ behind) (eqb-true (get_or strings end 0) 0 at.1) in
     (behind, sym (take-append-drop end strings) ∙ ap (λ (xs : List ℕ). xs ++ drop end strings) front ∙ ap (λ (xs : List ℕ). name ++ xs) cut)
 
--- strings begin with a name and its zero byte where this is their text
+-- strings begin with a name and its zero byte if this name is their text
 begins_is : (strings name text : List ℕ) → IsPlain name → text_at strings 0 ≡ Ok text → starts_with ◌==◌ strings (name ++ 0 ∷ []) ≡ bytes_eq text name
 begins_is strings name text plain is = by_cases (starts_with ◌==◌ strings (name ++ 0 ∷ [])) (bytes_eq text name) refl refl
   where
@@ -135,14 +135,14 @@ begins_is strings name text plain is = by_cases (starts_with ◌==◌ strings (n
     by_cases true false one two = absurd (false≢true (sym two ∙ (bytes_eq-Decides text name).1 (same one)))
     by_cases false true one two = absurd (false≢true (sym one ∙ begins ((bytes_eq-Decides text name).0 two)))
 
--- strings begin with one of these names where their text is one
+-- strings begin with one of these names if their text is one of them
 begins_any : (strings text : List ℕ) (names : List (List ℕ)) → AllByRecursion IsPlain names → text_at strings 0 ≡ Ok text → list_any (λ name. starts_with ◌==◌ strings (name ++ 0 ∷ [])) names ≡ list_any (bytes_eq text) names
 begins_any strings text [] plain is = refl
 begins_any strings text (name ∷ names) plain is =
     ap (λ (b : Bool). b || list_any (λ n. starts_with ◌==◌ strings (n ++ 0 ∷ [])) names) (begins_is strings name text plain.0 is)
     ∙ ap (λ (b : Bool). bytes_eq text name || b) (begins_any strings text names plain.1 is)
 
--- the text at an offset is the one at the front of what stands from there on
+-- the text at an offset is the text at the front of the bytes from there on
 from_front : (strings : List ℕ) (offset : ℕ) (text : List ℕ) → text_at strings offset ≡ Ok text → text_at (drop offset strings) 0 ≡ Ok text
 from_front strings offset text is = let b = has_bytes offset (bytes_at strings offset) text is in ap (text_of 0) b.1 ∙ ap (λ (x : List ℕ). Ok x) b.2
 
@@ -152,7 +152,7 @@ none_marked (x ∷ xs) h =
     ap (λ (b : Bool). b || has_mark xs) (false_from_ne_true (x == 0xEF) (λ e. h 0 (omega arith) (eqb-true x 0xEF e)))
     ∙ none_marked xs (λ k lt. h (suc k) (omega (arith, lt)))
 
--- a name that bytes can be compared with stands at an offset exactly where it is the text there
+-- a comparable name is at an offset exactly if it is the text there
 pub text_is_name : (strings name text : List ℕ) (offset : ℕ) → IsUtf8 name → IsComparable name → text_at strings offset ≡ Ok text → HasNameAt strings offset name → text ≡ name
 text_is_name strings name text offset utf8 comparable is has =
     name_is (drop offset strings) name text has.0 utf8 (λ found. absurd ((comparable found.0 found.1).0 found.2)) (from_front strings offset text is) has.1
@@ -161,7 +161,7 @@ pub name_at_text : (strings name text : List ℕ) (offset : ℕ) → IsComparabl
 name_at_text strings name text offset comparable is equal =
     name_begins (drop offset strings) name text (none_marked name (λ k lt. (comparable k lt).1)) (from_front strings offset text is) equal
 
--- whether the byte after a name is zero decides that both stand there
+-- the bytes are a name and a zero byte if they are the name and the byte after it is zero
 pub name_and_zero : (rest name after : List ℕ) (byte : ℕ) → rest ≡ name ++ after → Some byte ≡ slice_get after 0 → ((byte == 0) ≡ true → (more : List ℕ) × (rest ≡ name ++ 0 ∷ more)) × ((more : List ℕ) × (rest ≡ name ++ 0 ∷ more) → (byte == 0) ≡ true)
 name_and_zero rest name [] byte is first = absurd (none-some byte (sym first))
 name_and_zero rest name (x ∷ after) byte is first =

@@ -1,4 +1,4 @@
--- What follows of a table that was rewritten.
+-- Consequences for a table that was rewritten.
 use Rattle.std.proofs.Common.{◌≡◌, ℕ, Bool, true, false, List, length, Option, None, Some, Result, Ok, Err, refl, ap, subst, ◌∙◌, inr}
 use Rattle.std.specs.Prelude.{if◌then◌else◌, OnOk, IfSome}
 use Rattle.btf_model.specs.Refusal.{Refusal}
@@ -29,7 +29,7 @@ sanitized old new k given answers (Err refusal) step s = inr (step, s)
 pub stepped_by : {X : Type 0} (old t new : Table) (k : Option KsymsIds) (given : Given) (answers : List FeatureAnswer) (r : Result X Refusal) → step_fault old k ≡ None → t ≡ begun old k → Sanitizes (pass_on t given answers) new r → Rewrites given.policy old k given.layout answers new r
 stepped_by old t new k given answers r step is s = sanitized old new k given answers r step (subst (λ u. Sanitizes (pass_on u given answers) new r) is s)
 
--- the same of what a call returns
+-- the same for the result of a call
 pub rewrites_by : {X Y : Type 0} (view : X → Y) (r : Result X BtfError) (old t new : Table) (k : Option KsymsIds) (given : Given) (answers : List FeatureAnswer) → step_fault old k ≡ None → t ≡ begun old k
     → MeetsOrNoMemory view r (Sanitizes (pass_on t given answers) new) → MeetsOrNoMemory view r (Rewrites given.policy old k given.layout answers new)
 rewrites_by view (Ok x) old t new k given answers step is told = stepped_by old t new k given answers (Ok (view x)) step is told
@@ -41,7 +41,7 @@ rewrites_by {X} {Y} view (Err e) old t new k given answers step is told = refuse
 
 -- ---- what follows
 
--- What a rewrite grants and keeps.
+-- What a rewrite guarantees: needed features are granted, and facts of the old table are retained.
 pub record Keeps (policy : FillPolicy) (old : Table) (k : Option KsymsIds) (answers : List FeatureAnswer) (new : Table) : Type 0 where
   pub granted : NeedsAreGranted policy old k answers new
   pub sizes : KeepsSizes old new
@@ -49,7 +49,7 @@ pub record Keeps (policy : FillPolicy) (old : Table) (k : Option KsymsIds) (answ
   pub values : KeepsValues old new
   pub appended : AppendsAtMost 4 old new
 
--- one that succeeds does
+-- a rewrite that succeeds guarantees this
 pub keeps_of : {X : Type 0} (old new : Table) (k : Option KsymsIds) (given : Given) (answers : List FeatureAnswer) (x : X) → Rewrites given.policy old k given.layout answers new (Ok x) → Keeps given.policy old k answers new
 keeps_of old new k given answers x h = record {
   granted = suffice given.policy old new k given.layout answers h.0 h.1;
@@ -59,7 +59,7 @@ keeps_of old new k given answers x h = record {
   appended = few_in_a_rewrite given.policy old new k given.layout answers h.0;
 }
 
--- of the tables that bytes stand for there is one each
+-- bytes represent at most one table each
 pub of_tables : (order : Endianness) (bytes written : List ℕ) (old new : Table) (P : Table → Table → Type 0) → IsTable order bytes old → IsTable order written (strip new) → P old (strip new) → OfTables order bytes written P
 of_tables order bytes written old new P parsed again holds = λ t u is_t is_u.
     subst (P t) (same_table order written (strip new) u again is_u) (subst (λ (x : Table). P x (strip new)) (same_table order bytes old t parsed is_t) holds)
@@ -78,7 +78,7 @@ begun_order old (Some ids) =
 pub rewritten_order : (old new : Table) (k : Option KsymsIds) (given : Given) (answers : List FeatureAnswer) → Rewritten given.policy old k given.layout answers new → new.order ≡ old.order
 rewritten_order old new k given answers h = ap (λ (t : Table). t.order) h.table ∙ begun_order old k
 
--- what is written stands for the new table in the order of the bytes that were parsed
+-- the written bytes represent the new table in the byte order of the parsed bytes
 pub written_again : (order : Endianness) (bytes written : List ℕ) (old new : Table) (k : Option KsymsIds) (given : Given) (answers : List FeatureAnswer) → IsTable order bytes old → Rewritten given.policy old k given.layout answers new
     → IsTable new.order written (strip new) → IsTable order written (strip new)
 written_again order bytes written old new k given answers parsed h again =

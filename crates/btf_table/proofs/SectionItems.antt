@@ -1,4 +1,4 @@
--- The entries of a DATASEC, one after another, and the filler that an empty one gets.
+-- The entries of a DATASEC, one after another, and the filler for a DATASEC without entries.
 use Rattle.std.proofs.Common.{◌≡◌, ℕ, suc, ◌+◌, ◌<◌, ◌≤◌, List, [], ◌∷◌, ◌++◌, length, take, drop, map, None, Some, sym, ap, subst, ◌∙◌, arith}
 use Rattle.std.specs.List.{flat_map}
 use Rattle.std.proofs.lemmas.List.{map-append, length-append, length-map, append-nil, take-append-drop, take_all}
@@ -17,12 +17,12 @@ use Rattle.btf_table.specs.Adding.{strings_end, next_id, Adds}
 use Rattle.btf_table.specs.KsymsStep.{entry}
 use Rattle.btf_table.specs.declared.table.changes.Changes.{Changes}
 use Rattle.btf_table.proofs.Adding.{adds_then}
-use Rattle.btf_rules.proofs.Checks.{fault_behind, fault_before}
+use Rattle.btf_rules.proofs.Checks.{fault_after, fault_before}
 use Rattle.btf_table.proofs.KsymsEntries.{at, zero_entry, entries_of_words}
 
 -- ---- the filler
 
--- after a text, strings end so many bytes later
+-- after a text is appended, the strings end later by its length and the zero byte
 end_behind : (t : Table) (old new : Changes) (text : List ℕ) (rs : List Record) → Adds t old new (text ∷ []) rs → strings_end t new ≡ strings_end t old + length text + 1
 end_behind t old new text rs adds =
     omega (arith, ap length adds.strings, length-append old.new_strings.items (flat_map ended (text ∷ [])), length-append (ended text) [], length-append text (0 ∷ []))
@@ -47,7 +47,7 @@ adds_int_and_var t c0 c1 c2 c3 c4 text other int_name name id int var first seco
 
 -- ---- entries one after another
 
--- the entries up to a place, and the one there
+-- the entries before a place, and the entry at it
 up_to : (es : List DataSecEntry) (i : ℕ) → i < length es → take (i + 1) es ≡ take i es ++ at es i ∷ []
 up_to es i lt =
     let more : i + 1 ≡ suc i = omega arith in
@@ -61,7 +61,7 @@ pub one_more_passes : (checks : Entry → List Check) (es : List DataSecEntry) (
     → first_fault (flat_map checks (map entry (take (i + 1) es))) ≡ None
 one_more_passes checks es i lt before passed =
     ap (λ (xs : List Entry). first_fault (flat_map checks xs)) (map_up_to es i lt) ∙ ap first_fault (flat_map-append checks (map entry (take i es)) (entry (at es i) ∷ []))
-    ∙ fault_behind (flat_map checks (map entry (take i es))) (checks (entry (at es i)) ++ []) before ∙ ap first_fault (append-nil (checks (entry (at es i)))) ∙ passed
+    ∙ fault_after (flat_map checks (map entry (take i es))) (checks (entry (at es i)) ++ []) before ∙ ap first_fault (append-nil (checks (entry (at es i)))) ∙ passed
 
 -- the first entry that does not pass counts
 pub this_one_faults : (checks : Entry → List Check) (tail : List ℕ) (es : List DataSecEntry) (i : ℕ) (refusal : Refusal) → tail ≡ flat_map entry_words es → i < length es
@@ -72,20 +72,20 @@ this_one_faults checks tail es i refusal words lt before faults =
     let split : es ≡ take i es ++ e ∷ rest = sym (take-append-drop i es) ∙ ap (λ (xs : List DataSecEntry). take i es ++ xs) (drop-cons es i zero_entry lt) in
     ap (λ (xs : List Entry). first_fault (flat_map checks xs)) (ap entries words ∙ entries_of_words es ∙ ap (map entry) split ∙ map-append entry (take i es) (e ∷ rest))
     ∙ ap first_fault (flat_map-append checks (map entry (take i es)) (map entry (e ∷ rest)))
-    ∙ fault_behind (flat_map checks (map entry (take i es))) (checks (entry e) ++ flat_map checks (map entry rest)) before ∙ fault_before (checks (entry e)) (flat_map checks (map entry rest)) refusal faults
+    ∙ fault_after (flat_map checks (map entry (take i es))) (checks (entry e) ++ flat_map checks (map entry rest)) before ∙ fault_before (checks (entry e)) (flat_map checks (map entry rest)) refusal faults
 
--- the words that entries become, up to a place and at it
+-- the words that entries become, before a place and at it
 pub one_more_becomes : {X : Type 0} (f : Entry → List X) (es : List DataSecEntry) (i : ℕ) (old new : List X) → i < length es → old ≡ flat_map f (map entry (take i es)) → new ≡ f (entry (at es i)) → old ++ new ≡ flat_map f (map entry (take (i + 1) es))
 one_more_becomes f es i old new lt before is =
     ap (λ xs. xs ++ new) before ∙ ap (λ xs. flat_map f (map entry (take i es)) ++ xs) (is ∙ sym (append-nil (f (entry (at es i)))))
     ∙ sym (ap (flat_map f) (map_up_to es i lt) ∙ flat_map-append f (map entry (take i es)) (entry (at es i) ∷ []))
 
--- the entries that others become, up to a place and at it
+-- the entries that others become, before a place and at it
 pub one_more_maps : (f : Entry → Entry) (es : List DataSecEntry) (i : ℕ) (old : List Entry) (new : Entry) → i < length es → old ≡ map f (map entry (take i es)) → new ≡ f (entry (at es i)) → old ++ new ∷ [] ≡ map f (map entry (take (i + 1) es))
 one_more_maps f es i old new lt before is =
     ap (λ (xs : List Entry). xs ++ new ∷ []) before ∙ ap (λ (x : Entry). map f (map entry (take i es)) ++ x ∷ []) is
     ∙ sym (ap (map f) (map_up_to es i lt) ∙ map-append f (map entry (take i es)) (entry (at es i) ∷ []))
 
--- after the last entry, all are there
+-- after the last entry, all are done
 pub all_entries : (tail : List ℕ) (es : List DataSecEntry) (i : ℕ) → tail ≡ flat_map entry_words es → length es ≤ i → map entry (take i es) ≡ entries tail
 all_entries tail es i words end = ap (map entry) (take_all i es end) ∙ sym (entries_of_words es) ∙ ap entries (sym words)

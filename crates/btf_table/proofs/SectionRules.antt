@@ -42,7 +42,7 @@ use Rattle.btf_table.specs.PassStep.{IsHere, IsRuled, Rules, growth, HasAsked, A
 use Rattle.btf_table.specs.SectionStep.{HasNewName, filled, final_size, is_fillable, asks_zero}
 use Rattle.btf_table.specs.declared.sanitize.made.Made.{Made}
 use Rattle.btf_table.proofs.Adding.{adds_none, adds_then}
-use Rattle.btf_rules.proofs.Checks.{fault_behind, fault_before, fault_third, checked_ok, checked_err}
+use Rattle.btf_rules.proofs.Checks.{fault_after, fault_before, fault_third, checked_ok, checked_err}
 use Rattle.btf_table.proofs.Prototypes.{end_after}
 use Rattle.btf_words.proofs.Refused.{handed_on}
 use Rattle.btf_table.proofs.SectionItems.{id_stays}
@@ -52,12 +52,12 @@ use Rattle.btf_table.proofs.PassRules.{record_there, kind_there, becomes_there, 
 
 -- ---- results
 
--- an error is passed on, and reported for the same tests
+-- an error is passed on, and is the refusal of the same tests
 pub told_on : {X Y U : Type 0} (view : X → Y) (e : BtfError) (r : Result X BtfError) (f : Option Refusal) (u : U) (y : Y) → IsErrAnd r (λ x. x ≡ e) → IfSome (refusal_of e) (λ refusal. ◌≡◌ {A = Result U Refusal} (Err refusal) (checked f u)) → IsOrNoMemory view r (checked f y)
 told_on view e r f u y err is =
     handed_on view e r (λ a. a ≡ checked f y) err (IfSome_then _ is (λ refusal same. sym (ap (λ (o : Option Refusal). checked o y) (checked_err f u refusal same))))
 
--- a type that is made, or refused by these tests
+-- a type that is made, or a refusal by these tests
 pub ruled_answer : (p : Pass) (id : ℕ) (b : BtfType) (before after : Made) (f : Option Refusal) (x : Record) (r : Result (Option BtfType) BtfError) → IsOrNoMemory (λ new. record_of (unwrap_or new b)) r (checked f x) → IfOk r (λ new. fallback_of (unwrap_or new b) ≡ None)
     → ((refusal : Refusal) → f ≡ Some refusal → fault p id ≡ Some refusal) → ((new : BtfType) → f ≡ None → record_of new ≡ x → fallback_of new ≡ None → IsRuled p id b before after new) → MeetsOrNoMemory (λ new. unwrap_or new b) r (Rules p id b before after)
 ruled_answer p id b before after f x (Ok new) words fallback refused rule =
@@ -71,7 +71,7 @@ read_name : (name : Result (List ℕ) Refusal) (rest : List Check) → first_fau
 read_name (Ok name) rest passed = (refl, passed)
 read_name (Err refusal) rest passed = absurd (none-some refusal (sym passed))
 
--- the size of a section is tested once its name is read
+-- the size of a section is tested after its name is read
 size_faults : (name : Result (List ℕ) Refusal) (size : Option ℕ) (rest : List Check) (refusal : Refusal) → is_read name ≡ None → first_fault (is_read name ∷ is_sized size name ∷ []) ≡ Some refusal
     → (first_fault (is_sized size name ∷ rest) ≡ Some refusal) × (is_positive size ≡ false)
 size_faults (Err other) size rest refusal read faults = absurd (none-some other (sym read))
@@ -133,7 +133,7 @@ module _ (p : Pass) (id : ℕ) (r : Record) (there : IsType p.table id (DataSec 
       never true false true n false = refl
       never true false false n room = refl
 
-  -- a name that can't be read, or has no room
+  -- a name that can't be read, or a new name that does not fit
   pub unnamed_asks : (refusal : Refusal) → first_fault (name_checks p id) ≡ Some refusal → asks p id ≡ features.DataSec ∷ []
   unnamed_asks refusal faults =
       let before : Bool = (r.third == 0) && has_no_entries r in
@@ -166,7 +166,7 @@ module _ (p : Pass) (id : ℕ) (r : Record) (there : IsType p.table id (DataSec 
   denied_unfilled denied =
       filler_there ∙ ap (λ (b : Bool). b && ((fills_sized p.policy && (has_no_entries r && not (r.third == 0)) && not (has p features.DataSecZero)) || ((r.third == 0) && has_no_entries r && is_zero_or (not (has p features.DataSecZero)) (section_size p id)))) denied
 
-  -- ---- its tests, once it has its name
+  -- ---- its tests, after it has its name
 
   pub unnamed_faults : (refusal : Refusal) → first_fault (name_checks p id) ≡ Some refusal → fault p id ≡ Some refusal
   unnamed_faults refusal faults = fault_there p id (DataSec r) (Some kinds.DataSec) there kind ∙ fault_before (name_checks p id) _ refusal faults
@@ -176,7 +176,7 @@ module _ (p : Pass) (id : ℕ) (r : Record) (there : IsType p.table id (DataSec 
 
   fault_by : (granted unsized : Bool) → first_fault (name_checks p id) ≡ None → has p features.DataSec ≡ granted → (r.third == 0) ≡ unsized → fault p id ≡ first_fault (rest_by granted unsized)
   fault_by granted unsized passed has_it is =
-      fault_there p id (DataSec r) (Some kinds.DataSec) there kind ∙ fault_behind (name_checks p id) (rest_by (has p features.DataSec) (r.third == 0)) passed
+      fault_there p id (DataSec r) (Some kinds.DataSec) there kind ∙ fault_after (name_checks p id) (rest_by (has p features.DataSec) (r.third == 0)) passed
       ∙ ap (λ (b : Bool). first_fault (rest_by b (r.third == 0))) has_it ∙ ap (λ (b : Bool). first_fault (rest_by granted b)) is
 
   pub size_fault : (refusal : Refusal) → first_fault (name_checks p id) ≡ None → has p features.DataSec ≡ true → (r.third == 0) ≡ true → first_fault (is_read (name_of p id) ∷ is_sized (section_size p id) (name_of p id) ∷ []) ≡ Some refusal
@@ -252,7 +252,7 @@ module _ (p : Pass) (id : ℕ) (r : Record) (name : ℕ) (before now : Made) (n 
   completed_if : (b : Bool) (size : ℕ) → gets_filler p id ≡ b → section_size p id ≡ Some size → completed_is ≡ completed_by size b
   completed_if b size fills known = ap (λ (o : Option ℕ). completed p id (unwrap_or o 0) r) known ∙ ap (completed_by size) fills
 
-  -- the tests of one whose size is known
+  -- the tests of a DATASEC whose size is known
   completing_if : (b : Bool) (size : ℕ) → gets_filler p id ≡ b → section_size p id ≡ Some size → has p features.DataSec ≡ true → (r.third == 0) ≡ true
       → fault p id ≡ first_fault ((if makes_filler p id then filler_checks p id else []) ++ flat_map (entry_checks p) (entries r.tail) ++ (if b then fits (type_len_at p id + sum_by record_len (added p id)) 12 ∷ [] else []))
   completing_if b size fills known granted unsized =
@@ -275,7 +275,7 @@ module _ (p : Pass) (id : ℕ) (r : Record) (name : ℕ) (before now : Made) (n 
 
 -- ---- one that gets the filler
 
--- What the filler is for an id that gets it: the one that is there, or a new one.
+-- The filler for an id that gets it: the existing filler, or a new one.
 pub record HasFiller (p : Pass) (id : ℕ) (now after : Made) (number : ℕ) : Type 0 where
   pub checks : first_fault (if makes_filler p id then filler_checks p id else []) ≡ None
   pub adds : Adds p.table now.changes after.changes (if makes_filler p id then filler_type_text ∷ filler_text ∷ [] else []) (if makes_filler p id then filler (filler_offset p id) (free_id p id) else [])
@@ -361,7 +361,7 @@ module _ (p : Pass) (id : ℕ) (r : Record) (name : ℕ) (before now : Made) (n 
       second true b both = both
       second false b both = absurd (false≢true both)
 
-  -- which of both it is
+  -- which of the two it is
   pub filler_is : (after : Made) (number : ℕ) → ((k : ℕ) → now.filler ≡ Some k → (k ≡ number) × (after ≡ now)) → (now.filler ≡ None → ◌≡◌ {A = Result ℕ Refusal} (Ok number) (checked (first_fault checks_now) (next_id p.table now.changes + 1)))
       → (now.filler ≡ None → Adds p.table now.changes after.changes (filler_type_text ∷ filler_text ∷ []) (filler (strings_end p.table now.changes) (next_id p.table now.changes))) → (now.filler ≡ None → after.filler ≡ Some (next_id p.table now.changes + 1))
       → HasFiller p id now after number
@@ -471,7 +471,7 @@ asked_fills true false y f is same = sym (ap not same ∙ not_not f)
 asked_fills true true y f is same = absurd (false≢true is)
 asked_fills false z y f is same = absurd (false≢true is)
 
--- whether one of size 0 gets the filler, and asks
+-- whether a DATASEC of size 0 gets the filler, and what it asks for
 fills_unsized_so : (s e h z : Bool) → ((s && (e && false) && not h) || (e && (z || not h))) ≡ ((s || true) && e && (z || not h))
 fills_unsized_so true true h z = refl
 fills_unsized_so true false h z = refl
@@ -484,7 +484,7 @@ asks_unsized_so true false n z = refl
 asks_unsized_so false true n z = refl
 asks_unsized_so false false n z = refl
 
--- and of one that has a size
+-- the same for a DATASEC that has a size
 fills_sized_so : (s e h x : Bool) → ((s && (e && true) && not h) || (false && x)) ≡ ((s || false) && e && (false || not h))
 fills_sized_so true true true x = refl
 fills_sized_so true true false x = refl

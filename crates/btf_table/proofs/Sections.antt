@@ -16,7 +16,7 @@ use Rattle.btf_records.specs.BtfType.{record_of, fallback_of}
 use Rattle.btf_records.specs.declared.btf_type.BtfType.{BtfType}
 use Rattle.btf_table.specs.Records.{ReadsTypes}
 
--- the data up to the rest is cut into the types so far
+-- the data up to the rest is the spellings of the types so far
 pub record CutInto (order : Endianness) (bytes : List ℕ) (types : List BtfType) (rest : List ℕ) : Type 0 where
   pub front : List ℕ
   pub records : List Record
@@ -36,7 +36,7 @@ cut_begins order bytes types t is r f = record {
   fallbacks = rw is (ap (λ x. x ∷ []) f);
 }
 
--- the record that is read lies in the rest
+-- the record that is read is within the rest
 pub record_within : (order : Endianness) (rest : List ℕ) (r : Record) (size : ℕ) → ReadsFront order rest (Ok r) → size ≡ 12 + 4 * length r.tail → size ≤ length rest
 record_within order rest r size p is = omega (arith, ap length p.2, length-append p.0 p.1, length-spelling order p.0 r p.3)
 

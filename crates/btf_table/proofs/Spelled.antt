@@ -1,4 +1,4 @@
--- How long the records of a table are, spelled one after the other.
+-- The length of the spellings of a table's records, one after the other.
 use Rattle.std.proofs.Common.{◌≡◌, ℕ, ◌+◌, List, [], ◌∷◌, length, drop, refl, sym, ap, ◌∙◌, arith}
 use Rattle.std.specs.List.{flat_map, sum_by}
 use Rattle.std.proofs.lemmas.List.{length-append}
@@ -17,7 +17,7 @@ spelled_len order (r ∷ rs) =
     omega (arith, here, length-append (spell order r) (flat_map (spell order) rs), length-spell order r, spelled_len order rs)
 
 -- without the first, which is Unknown
-pub behind_len : (order : Endianness) (rs xs : List Record) → xs ≡ unknown ∷ rs → sum_by record_len xs ≡ 12 + length (flat_map (spell order) (drop 1 xs))
-behind_len order rs xs is =
+pub after_len : (order : Endianness) (rs xs : List Record) → xs ≡ unknown ∷ rs → sum_by record_len xs ≡ 12 + length (flat_map (spell order) (drop 1 xs))
+after_len order rs xs is =
     let all : sum_by record_len xs ≡ 12 + sum_by record_len rs = ap (sum_by record_len) is ∙ sum_by-cons record_len unknown rs in
     all ∙ ap (λ (n : ℕ). 12 + n) (sym (spelled_len order rs)) ∙ ap (λ ys. 12 + length (flat_map (spell order) (drop 1 ys))) (sym is)

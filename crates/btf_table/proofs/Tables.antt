@@ -1,4 +1,4 @@
--- What a `Btf` keeps, and that its parsing is determined.
+-- The invariant of a `Btf`, and that the bytes determine the result of parsing.
 use Rattle.std.proofs.Common.{◌≡◌, ℕ, ◌+◌, ◌*◌, ◌^◌, ◌<◌, ◌≤◌, List, [], ◌∷◌, ◌++◌, length, drop, Some, Result, Ok, Err, refl, sym, ap, subst, ◌∙◌, arith, Vec, Global}
 use Rattle.std.specs.Prelude.{map}
 use Rattle.std.specs.List.{flat_map, AllByRecursion}
@@ -29,45 +29,44 @@ use Rattle.btf_table.specs.Header.{header}
 use Rattle.btf_table.specs.Btf.{table_of, IsKept}
 
 -- the type section without id 0
-types_behind : (order : Endianness) (types : List BtfType) (rs : List Record) → map record_of types ≡ unknown ∷ rs → flat_map (spell order) (drop 1 (map record_of types)) ≡ flat_map (spell order) rs
-types_behind order types rs h = ap (λ (xs : List Record). flat_map (spell order) (drop 1 xs)) h
+types_after : (order : Endianness) (types : List BtfType) (rs : List Record) → map record_of types ≡ unknown ∷ rs → flat_map (spell order) (drop 1 (map record_of types)) ≡ flat_map (spell order) rs
+types_after order types rs h = ap (λ (xs : List Record). flat_map (spell order) (drop 1 xs)) h
 
--- ids have 32 bits
--- each record but the first has at least 12 bytes
+-- ids have 32 bits each record except the first has at least 12 bytes
 pub long_types : (b : Inside) → IsKept b → 12 * length b.types.items ≤ length (type_bytes (table_of b)) + 12
 long_types b h =
     let rs = h.first.0 in
-    omega (arith, ap length (types_behind b.endianness b.types.items rs h.first.1), records_are_long b.endianness rs, ap length h.first.1, length-map b.types.items record_of)
+    omega (arith, ap length (types_after b.endianness b.types.items rs h.first.1), records_are_long b.endianness rs, ap length h.first.1, length-map b.types.items record_of)
 
 pub few_types : (b : Inside) → IsKept b → length b.types.items < 2 ^ 32
 few_types b h =
     let rs = h.first.0 in
-    omega (arith, h.limit, h.types, ap length (types_behind b.endianness b.types.items rs h.first.1), records_are_long b.endianness rs, ap length h.first.1, length-map b.types.items record_of)
+    omega (arith, h.limit, h.types, ap length (types_after b.endianness b.types.items rs h.first.1), records_are_long b.endianness rs, ap length h.first.1, length-map b.types.items record_of)
 
--- one more type is kept
+-- the invariant holds with one more type
 pub kept_push : (b : Inside) (types : Vec BtfType Global) (t : BtfType) (size : ℕ) (k : Kind) → IsKept b → kind_of (record_of t).info ≡ Some k → types.items ≡ b.types.items ++ t ∷ [] → size ≡ 12 + 4 * length (record_of t).tail → b.type_len + size ≤ section_limit → IsKept (record b { types = types; type_len = b.type_len + size })
 kept_push b types t size k h kind is size-is fits =
     let order = b.endianness in
     let rs = h.first.0 in
     let r = record_of t in
     let records : map record_of types.items ≡ unknown ∷ (rs ++ r ∷ []) = ap (map record_of) is ∙ map-append record_of b.types.items (t ∷ []) ∙ ap (λ (xs : List Record). xs ++ r ∷ []) h.first.1 in
-    let spelled : flat_map (spell order) (drop 1 (map record_of types.items)) ≡ flat_map (spell order) rs ++ (spell order r ++ []) = types_behind order types.items (rs ++ r ∷ []) records ∙ flat_map-append (spell order) rs (r ∷ []) in
+    let spelled : flat_map (spell order) (drop 1 (map record_of types.items)) ≡ flat_map (spell order) rs ++ (spell order r ++ []) = types_after order types.items (rs ++ r ∷ []) records ∙ flat_map-append (spell order) rs (r ∷ []) in
     record {
       magic = h.magic;
       version = h.version;
       flags = h.flags;
       limit = fits;
       strings = h.strings;
-      types = omega (arith, h.types, size-is, ap length spelled, length-append (flat_map (spell order) rs) (spell order r ++ []), ap length (append-nil (spell order r)), length-spell order r, ap length (types_behind order b.types.items rs h.first.1));
+      types = omega (arith, h.types, size-is, ap length spelled, length-append (flat_map (spell order) rs) (spell order r ++ []), ap length (append-nil (spell order r)), length-spell order r, ap length (types_after order b.types.items rs h.first.1));
       first = (rs ++ r ∷ [], records);
       kinds = subst AllHaveKinds (sym (ap (map record_of) is ∙ map-append record_of b.types.items (t ∷ []))) (one_more_kind (map record_of b.types.items) r k h.kinds kind);
     }
 
--- the type section that was read has the length that the header says
+-- the type section that was read has the length that the header gives
 pub read_len : (order : Endianness) (bytes : List ℕ) (types : List BtfType) (rs : List Record) → map record_of types ≡ unknown ∷ rs → AreRecords order bytes rs → length bytes ≡ length (flat_map (spell order) (drop 1 (map record_of types)))
-read_len order bytes types rs is h = sym (ap length (types_behind order types rs is) ∙ length-records order bytes rs h)
+read_len order bytes types rs is h = sym (ap length (types_after order types rs is) ∙ length-records order bytes rs h)
 
--- what is kept can be written
+-- a table with the invariant can be written
 pub kept_is_valid : (b : Inside) → IsKept b → AllByRecursion IsWhole (map record_of (drop 1 b.types.items)) → IsValid (table_of b)
 kept_is_valid b h whole =
     let rs = h.first.0 in
@@ -82,19 +81,19 @@ kept_is_valid b h whole =
       fallbacks = length-map b.types.items fallback_of ∙ sym (length-map b.types.items record_of);
     }
 
--- bytes that stand for a table give it
+-- bytes that represent a table are parsed as this table
 pub gives_table : (order : Endianness) (bytes : List ℕ) (r : Result Btf BtfError) → MeetsOrNoMemory (λ b. b) r (Parses order bytes) → (t : Table) → IsTable order bytes t → IsOrNoMemory (λ b. b) r (Ok t)
 gives_table order bytes (Ok b) h t p = ap (λ (x : Table). Ok x) (same_table order bytes b t h p)
 gives_table order bytes (Err e) h t p = IfSome_then (refusal_of e) h (λ f q. absurd (table_not_refused order bytes t f p q))
 
--- bytes that are refused give their one refusal
+-- bytes that are refused are refused for their one reason
 pub gives_refusal : (order : Endianness) (bytes : List ℕ) (r : Result Btf BtfError) → MeetsOrNoMemory (λ b. b) r (Parses order bytes) → (f : Refusal) → IsRefusal order bytes f → IsOrNoMemory (λ b. b) r (Err f)
 gives_refusal order bytes (Ok b) h f p = absurd (table_not_refused order bytes b f h p)
 gives_refusal order bytes (Err e) h f p = IfSome_then (refusal_of e) h (λ g q. ap (λ (x : Refusal). Err x) (same_refusal order bytes g f q p))
 
 -- ---- headers
 
--- the parts of a header fit their places
+-- the parts of a header fit their fields
 pub record HeaderFits (h : blob.Header) : Type 0 where
   pub magic : h.magic < 2 ^ 16
   pub version : h.version < 2 ^ 8
@@ -117,7 +116,7 @@ read_header_fits order bytes h fits is = subst HeaderFits (sym is) (header_of_fi
 pub length-slice : (at len : ℕ) (bytes : List ℕ) → at + len ≤ length bytes → length (slice at len bytes) ≡ len
 length-slice at len bytes le = omega (arith, length-take len (drop at bytes), length-drop at bytes)
 
--- ---- the room for a type
+-- ---- whether a type fits
 
 pub no_room : (t : Table) (r : Record) (size : ℕ) → size ≡ 12 + 4 * length r.tail → section_limit < length (type_bytes t) + size → Err InvalidTypeInfo ≡ type_place r t
 no_room t r size is lt = rw (lt-leb (length (type_bytes t) + length (spell t.order r)) section_limit (omega (arith, length-spell t.order r))) refl

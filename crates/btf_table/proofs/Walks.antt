@@ -15,7 +15,7 @@ use Rattle.btf_words.specs.declared.error.BtfError.TheVariants as errors
 use Rattle.btf_records.specs.BtfType.{record_of}
 use Rattle.btf_records.specs.declared.btf_type.BtfType.{BtfType}
 
--- the record of a type that is there
+-- the record of a type that exists
 pub found : (types : List BtfType) (id : ℕ) (t : BtfType) → true ≡ nat_lt id (length types) → t ≡ slice_index_or types id t → slice_get (map record_of types) id ≡ Some (record_of t)
 found types id t lt is = slice_get-map record_of types id ∙ ap (option_map record_of) (slice_get_read types (length types) id t refl (ltb-true id (length types) (sym lt)) is)
 
@@ -23,19 +23,19 @@ found types id t lt is = slice_get-map record_of types id ∙ ap (option_map rec
 pub missing : (types : List BtfType) (id : ℕ) → false ≡ nat_lt id (length types) → slice_get (map record_of types) id ≡ None
 missing types id lt = slice_get_past (map record_of types) id (omega (arith, length-map types record_of, ltb-false id (length types) (sym lt)))
 
--- a walk over as many places
+-- a walk over this number of places
 pub as_many : {P A : Type 0} (Finds : P → Finding P A → Type 0) (n m : ℕ) (start end : P) → n ≡ m → Leads Finds n start end → Leads Finds m start end
 as_many Finds n m start end is p = subst (λ (k : ℕ). Leads Finds k start end) is p
 
--- what the walk for a size finds at so many of a type
+-- what the walk for a size finds at a count of a type
 abbrev pub find_size : List BtfType → Elements → Finding Elements ℕ
 find_size types at = size_in at (slice_get (map record_of types) at.type)
 
--- one of a type
+-- a count of 1
 abbrev pub one : ℕ → Elements
 one id = record { count = 1; type = id }
 
--- it finds what the record there says
+-- it finds what the record gives
 pub size_found : (types : List BtfType) (at : Elements) (t : BtfType) (e : Extent) → slice_get (map record_of types) at.type ≡ Some (record_of t) → e ≡ extent (kind_of (record_of t).info) (record_of t) → find_size types at ≡ size_by at e
 size_found types at t e is said = ap (size_in at) is ∙ ap (size_by at) (sym said)
 

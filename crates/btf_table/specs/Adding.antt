@@ -1,4 +1,4 @@
--- What is appended to a table, by changes that are made apart from it.
+-- What changes append to a table. The changes are stored apart from the table.
 use Rattle.std.specs.Prelude.{◌≡◌, ℕ, ◌+◌, ◌*◌, ◌≤◌, List, ◌++◌, length, map}
 use Rattle.std.specs.List.{flat_map, sum_by}
 use Rattle.btf_model.specs.Record.{Record}
@@ -16,7 +16,7 @@ strings_end t c = length t.strings + length c.new_strings.items
 abbrev pub next_id : Table → Changes → ℕ
 next_id t c = length t.records + length c.new_types.items
 
--- Both sections keep to their limit. Each record but the first has at least 12 bytes, so ids have 32 bits.
+-- Both sections are within their limit. Each record except the first has at least 12 bytes, so ids have 32 bits.
 pub record HasRoom (t : Table) (c : Changes) : Type 0 where
   pub strings : strings_end t c ≤ section_limit
   pub types : c.type_len ≤ section_limit

@@ -1,4 +1,4 @@
--- The table that a `Btf` is seen as, and what it keeps beside that.
+-- The table that a `Btf` represents, and the invariant of its fields.
 use Rattle.std.specs.Prelude.{◌≡◌, ◌<◌, ◌≤◌, ◌^◌, ℕ, List, ◌∷◌, length, map, slice_get, Some}
 use Rattle.btf_model.specs.Record.{Record, unknown, kind_of, vlen, tail_words}
 use Rattle.btf_model.specs.Table.{Table, type_bytes, section_limit}
@@ -7,7 +7,7 @@ use Rattle.btf_records.specs.BtfType.{record_of, fallback_of, type_kind}
 use Rattle.btf_records.specs.declared.btf_type.BtfType.{BtfType}
 use Rattle.btf_table.specs.declared.table.Btf.TheInside.{Inside}
 
--- the table that the fields of a `Btf` are
+-- the table that the fields of a `Btf` represent
 abbrev pub table_of : Inside → Table
 table_of b = record {
   order = b.endianness;
@@ -19,8 +19,8 @@ table_of b = record {
   fallbacks = map fallback_of b.types.items;
 }
 
--- The numbers fit their types, both sections keep to their limit, the length of the type section is kept, record 0 is
--- Unknown, and each record has a kind.
+-- The invariant of a `Btf`: the header's numbers fit their types, both sections are within their limit, `type_len` is
+-- the length of the type section, record 0 is Unknown, and each record has a kind.
 pub record IsKept (b : Inside) : Type 0 where
   pub magic : b.magic < 2 ^ 16
   pub version : b.version < 2 ^ 8
@@ -31,7 +31,8 @@ pub record IsKept (b : Inside) : Type 0 where
   pub first : (rs : List Record) × (map record_of b.types.items ≡ unknown ∷ rs)
   pub kinds : HaveKinds (table_of b)
 
--- The table has this type at an id; its kind is the one in its info word, and its tail is as long as that word says.
+-- The table has this type at an id. The type's kind is the kind in its info word, and its tail has the length that the
+-- info word gives.
 pub record IsType (t : Table) (id : ℕ) (b : BtfType) : Type 0 where
   pub record_is : slice_get t.records id ≡ Some (record_of b)
   pub fallback_is : slice_get t.fallbacks id ≡ Some (fallback_of b)

@@ -1,4 +1,4 @@
--- The text that a `BtfStr` is, and what the search for a name finds at one type.
+-- The text of a `BtfStr`, and what the search for a name finds at one type.
 use Rattle.std.specs.Prelude.{◌≡◌, ℕ, List, Bool, true, false, Some, Result, Ok, Err, string_bytes}
 use Rattle.btf_model.specs.Record.{Kind, Record, kind_of}
 use Rattle.btf_model.specs.Refusal.{Refusal}
@@ -11,7 +11,7 @@ abbrev pub text_bytes : BtfStr → List ℕ
 text_bytes (Borrowed text) = text.now
 text_bytes (Owned text) = string_bytes text
 
--- whether a record has this kind and this name, or why the name of one of this kind can't be read
+-- whether a record has this kind and this name, or why its name can't be read if it has the kind
 abbrev pub IsNamed : List ℕ → Kind → List ℕ → Record → Result Bool Refusal → Type 0
 IsNamed strings k name r (Ok true) = (kind_of r.info ≡ Some k) × (text_at strings r.name ≡ Ok name)
 IsNamed strings k name r (Ok false) = IsPassed strings k name r

@@ -12,20 +12,21 @@ use Rattle.btf_rules.specs.InPlace.{denied}
 abbrev pub AllHaveKinds : List Record → Type 0
 AllHaveKinds rs = (id : ℕ) (r : Record) → slice_get rs id ≡ Some r → (k : Kind) × (kind_of r.info ≡ Some k)
 
--- ids of a table of so many types, and none is 0
+-- each id is above 0 and below this number of types
 abbrev pub AreIds : ℕ → List ℕ → Type 0
 AreIds count ids = AllByRecursion (λ (id : ℕ). (0 < id) × (id < count)) ids
 
--- the records, those of these ids denied, in turn
+-- the records, with the records of these ids denied in order
 abbrev pub deny_all : List ℕ → List Record → List Record
 deny_all [] rs = rs
 deny_all (id ∷ ids) rs = deny_all ids (set rs id (denied (get_or rs id unknown)))
 
--- the table, its types of these ids denied
+-- the table, with the types of these ids denied
 abbrev pub with_denied : List ℕ → Table → Table
 with_denied ids t = record t { records = deny_all ids t.records }
 
--- The types with those of these ids denied: their records and fallbacks; they are as long, and have kinds.
+-- The new types are the old types with the types of these ids denied. Their fallbacks and their total length are
+-- unchanged, and they still have kinds.
 pub record AreDenied (ids : List ℕ) (old new : List BtfType) : Type 0 where
   pub records : map record_of new ≡ deny_all ids (map record_of old)
   pub fallbacks : map fallback_of new ≡ map fallback_of old

@@ -2,7 +2,7 @@
 use Rattle.btf_model.specs.Blob as blob
 use Rattle.btf_table.specs.declared.table.header.Header.{Header}
 
--- the header as the definitions have it
+-- a header of the code as a header of the definitions
 abbrev pub header : Header → blob.Header
 header h = record {
   magic = h.magic;

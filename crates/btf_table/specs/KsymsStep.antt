@@ -1,4 +1,4 @@
--- What the parts of the step of `.ksyms` stand for.
+-- What the data structures of the step of `.ksyms` represent.
 use Rattle.std.specs.Prelude.{◌≡◌, ℕ, ◌*◌, ◌==◌, ◌&&◌, Bool, false, if◌then◌else◌, List, length, map, take, Option, Some, None, Result, Ok, Err}
 use Rattle.std.specs.List.{list_any, flat_map, range_with_len}
 use Rattle.std.specs.Option.{option_map}
@@ -25,7 +25,7 @@ use Rattle.btf_table.specs.declared.sanitize.ksyms.Symbols.{Symbols}
 abbrev pub ksyms_ids : ℕ → Option ℕ → KsymsIds
 ksyms_ids datasec placeholder = record { datasec_id = datasec; placeholder_id = placeholder }
 
--- what symbols become
+-- what the step changes symbols to
 abbrev pub target_of : Table → Option ℕ → Target
 target_of t placeholder = record {
   symbol_type = symbol_type t placeholder;
@@ -33,14 +33,14 @@ target_of t placeholder = record {
   placeholder = option_map (λ (id : ℕ). record { id = id; name_offset = (record_at t id).name }) placeholder;
 }
 
--- a DATASEC with its entries laid out anew
+-- a DATASEC with a new layout of its entries
 abbrev pub laid_out_anew : Table → Option ℕ → Record → Record
 laid_out_anew t placeholder r = record r {
   third = 4 * length (entries r.tail);
   tail = flat_map entry_words (laid_out t placeholder 0 (entries r.tail));
 }
 
--- an entry of the code, as the definitions have entries
+-- an entry of the code as an entry of the definitions
 abbrev pub entry : DataSecEntry → Entry
 entry e = record { type = e.btf_type; offset = e.offset; size = e.size }
 
@@ -57,25 +57,25 @@ is_this None id = false
 abbrev pub has : BTreeSet ℕ → ℕ → Bool
 has set id = ordered.contains nat_cmp set id
 
--- the sets have what these entries name, and the prototypes of the functions among them
+-- the sets have the ids of these entries, and the prototypes of the functions among them
 pub record HasSymbols (t : Table) (es : List Entry) (symbols : Symbols) : Type 0 where
   pub ids : (id : ℕ) → has symbols.ids id ≡ list_any (λ (e : Entry). e.type == id) es
   pub prototypes : (id : ℕ) → has symbols.prototypes id ≡ list_any
       (λ (e : Entry). is_func (kind_at t e.type) && ((record_at t e.type).third == id)) es
 
--- The entries pass their tests, and the sets have what they name; or they do not pass.
+-- The entries pass their tests, and the sets have their ids; or a test refuses an entry.
 abbrev pub FindsSymbols : Table → Option ℕ → List Entry → Result Symbols Refusal → Type 0
 FindsSymbols t placeholder es (Ok symbols) =
     (first_fault (flat_map (ksyms_entry_checks t placeholder) es) ≡ None) × HasSymbols t es symbols
 FindsSymbols t placeholder es (Err refusal) = first_fault (flat_map (ksyms_entry_checks t placeholder) es) ≡ Some refusal
 
--- the step is the one over this table: it knows what the symbols become, and which they are
+-- the step is for this table and these ids: it has the target of the symbols and their ids
 pub record IsStep (t : Table) (ids : KsymsIds) (step : Step) : Type 0 where
   pub target : step.target ≡ target_of t ids.placeholder_id
   pub symbols : HasSymbols t (symbols t ids) step.symbols
   pub datasec : step.datasec_id ≡ ids.datasec_id
 
--- The tests of the step are passed, and this is the step; or they are not.
+-- The tests of the step pass, and this is the step; or a test refuses it.
 abbrev pub StepsWith : Table → KsymsIds → Result Step Refusal → Type 0
 StepsWith t ids (Ok step) = (ksyms_fault t ids ≡ None) × IsStep t ids step
 StepsWith t ids (Err refusal) = ksyms_fault t ids ≡ Some refusal
@@ -84,18 +84,18 @@ StepsWith t ids (Err refusal) = ksyms_fault t ids ≡ Some refusal
 abbrev pub becomes : Table → KsymsIds → ℕ → Record → Record
 becomes t ids id r = stepped t ids id (kind_of r.info) r
 
--- one type like another: it has the kind and the length of the other, and the fallback
+-- the new type has the kind, the length and the fallback of the old type
 pub record IsLike (old new : BtfType) : Type 0 where
   pub kind : kind_of (record_of new).info ≡ kind_of (record_of old).info
   pub length : length (record_of new).tail ≡ length (record_of old).tail
   pub fallback : fallback_of new ≡ fallback_of old
 
--- what of a record the step leaves: its kind, and its length
+-- what the step does not change in a record: its kind and its length
 abbrev pub shape : Record → Option Kind × ℕ
 shape r = (kind_of r.info, length r.tail)
 
--- With these new types, the ids below a count have what they become in the step, fallbacks as they were, and their
--- shapes.
+-- With these new types, each id below a count has the record that the step gives it, with an unchanged fallback and
+-- shape.
 pub record AreStepped (t : Table) (ids : KsymsIds) (count : ℕ) (cs : List (ℕ × BtfType)) : Type 0 where
   pub inside : AreInside count cs
   pub records : put_all (each record_of cs) (take count t.records) ≡ map (λ id. becomes t ids id (record_at t id))
@@ -103,12 +103,12 @@ pub record AreStepped (t : Table) (ids : KsymsIds) (count : ℕ) (cs : List (ℕ
   pub fallbacks : put_all (each fallback_of cs) (take count t.fallbacks) ≡ take count t.fallbacks
   pub shapes : map shape (put_all (each record_of cs) (take count t.records)) ≡ map shape (take count t.records)
 
--- These are the new types of the whole table; nothing is refused here.
+-- These are the new types of the whole table. This part never fails.
 abbrev pub StepsAll : Table → KsymsIds → Result (List (ℕ × BtfType)) Refusal → Type 0
 StepsAll t ids (Ok cs) = AreStepped t ids (length t.records) cs
 StepsAll t ids (Err refusal) = ⊥
 
--- The tests of the step are passed, and with the changes the table is the one after it; or they are not.
+-- The tests of the step pass, and the changes make the table after the step; or a test refuses it.
 abbrev pub MakesKsyms : Table → KsymsIds → Result Changes Refusal → Type 0
 MakesKsyms t ids (Ok changes) = (ksyms_fault t ids ≡ None) × AreOf t changes × (changed t changes ≡ ksyms_table t ids)
 MakesKsyms t ids (Err refusal) = ksyms_fault t ids ≡ Some refusal

@@ -1,4 +1,4 @@
--- What the parts of a pass stand for.
+-- What the data structures of a pass represent.
 use Rattle.std.specs.Prelude.{◌≡◌, ℕ, suc, ◌+◌, ◌<◌, if◌then◌else◌, List, [], ◌∷◌, ◌++◌, length, map, take, slice_get, Option, Some, None, Result, Ok, Err}
 use Rattle.std.specs.List.{flat_map, sum_by, range_with_len}
 use Rattle.btf_model.specs.Record.{Kind, Record, kind_of}
@@ -28,7 +28,7 @@ use Rattle.btf_table.specs.declared.sanitize.outcome.Outcome.{Outcome}
 use Rattle.btf_table.specs.declared.sanitize.outcome.Outcome.TheVariants.{Same, Denied, Other}
 use Rattle.btf_table.specs.declared.sanitize.pass.PassChanges.{PassChanges}
 
--- what a pass is given beside its table
+-- the arguments of a pass besides its table
 pub record Given : Type 0 where
   pub layout : Layout
   pub policy : FillPolicy
@@ -41,7 +41,7 @@ under policy layout = record { layout = layout; policy = policy }
 abbrev pub pass_on : Table → Given → List FeatureAnswer → Pass
 pass_on t given answers = record { table = t; layout = given.layout; policy = given.policy; answers = answers }
 
--- what a rule makes of a type that puts another in its place, if one
+-- the outcome of a rule that may replace a type by another
 abbrev pub outcome_of : Option BtfType → Outcome
 outcome_of (Some new) = Other new
 outcome_of None = Same
@@ -52,22 +52,22 @@ made_of Same b = b
 made_of Denied b = denied_type b
 made_of (Other new) b = new
 
--- the type in its place, before types are denied
+-- the type of an id before types are denied
 abbrev pub placed_of : Outcome → BtfType → BtfType
 placed_of (Other new) b = new
 placed_of o b = b
 
--- the types that take the place of others, and that of one more id, if it has one
+-- the replaced types, with one more if this outcome replaces a type
 abbrev pub kept_changes : List (ℕ × BtfType) → ℕ → Outcome → List (ℕ × BtfType)
 kept_changes cs id (Other new) = cs ++ (id, new) ∷ []
 kept_changes cs id o = cs
 
--- the ids of types that are denied, and one more, if its type is
+-- the ids of denied types, with one more if this outcome denies a type
 abbrev pub kept_ids : List ℕ → ℕ → Outcome → List ℕ
 kept_ids ids id Denied = ids ++ id ∷ []
 kept_ids ids id o = ids
 
--- What is there when a pass comes to an id: where its texts and types are appended, and what lower ids have made.
+-- The state when a pass comes to an id: where its texts and types are appended, and what lower ids have made.
 pub record IsHere (p : Pass) (id : ℕ) (m : Made) : Type 0 where
   pub offset : offset_at p id ≡ strings_end p.table m.changes
   pub free : free_id p id ≡ next_id p.table m.changes
@@ -78,8 +78,8 @@ pub record IsHere (p : Pass) (id : ℕ) (m : Made) : Type 0 where
   pub filler : MadeBelow (gets_filler p) (λ k. free_id p k + 1) id m.filler
   pub room : HasRoom p.table m.changes
 
--- A pass over this table comes to an id that has this type: the first answers are to all that lower ids ask for, and
--- under the second, which go on from them, lower ids have made this.
+-- A pass over this table comes to an id that has this type. The first answers are the answers to all that lower ids ask
+-- for. The second answers extend them, and m is what lower ids have made under the second answers.
 pub record Comes (t : Table) (given : Given) (id : ℕ) (b : BtfType) (first second : List FeatureAnswer) (m : Made) : Type 0 where
   pub there : IsType t id b
   pub answered : AreAnswersTo (asks_below (pass_on t given first) id) first
@@ -89,7 +89,8 @@ pub record Comes (t : Table) (given : Given) (id : ℕ) (b : BtfType) (first sec
 abbrev pub growth : Pass → ℕ → ℕ
 growth p id = if gets_filler p id then 12 else 0
 
--- What an id appends is appended, and nothing else is changed but for the numbers of what is made once.
+-- The texts and records of an id are appended. Nothing else changes, except for the ids of the member type and the
+-- filler.
 pub record IsGrown (p : Pass) (id : ℕ) (old new : Made) : Type 0 where
   pub strings : new.changes.new_strings.items ≡ old.changes.new_strings.items ++ flat_map ended (texts p id)
   pub records : map record_of new.changes.new_types.items ≡ map record_of old.changes.new_types.items ++ added p id
@@ -102,7 +103,7 @@ pub record IsGrown (p : Pass) (id : ℕ) (old new : Made) : Type 0 where
   pub filler : MadeBelow (gets_filler p) (λ k. free_id p k + 1) (suc id) new.filler
   pub room : HasRoom p.table new.changes
 
--- The rule of an id: the type that it has then, or why it is refused.
+-- The rule of an id succeeds, and gives the new type.
 pub record IsRuled (p : Pass) (id : ℕ) (old : BtfType) (before after : Made) (new : BtfType) : Type 0 where
   pub passed : fault p id ≡ None
   pub record_is : record_of new ≡ becomes p id
@@ -115,8 +116,8 @@ abbrev pub Rules : Pass → ℕ → BtfType → Made → Made → Result BtfType
 Rules p id old before after (Ok new) = IsRuled p id old before after new
 Rules p id old before after (Err refusal) = fault p id ≡ Some refusal
 
--- Wherever a pass over this table comes to this type, on a kernel of which this holds, the rule of its id returns this
--- result, whose value stands for a type.
+-- Whenever a pass over this table comes to an id with this type, and its kernel satisfies `OnKernel`, the rule of the
+-- id returns this result, or allocation fails. `type_for` gives the type that the result's value represents.
 abbrev pub FollowsRule : {T : Type 0} → Table → BtfType → (Pass → Type 0) → Made → Made → (T → BtfType)
     → Result T BtfError → Type 0
 FollowsRule t b OnKernel before after type_for result =
@@ -124,27 +125,27 @@ FollowsRule t b OnKernel before after type_for result =
     → IsHere (pass_on t given answers) id before → OnKernel (pass_on t given answers)
     → MeetsOrNoMemory type_for result (Rules (pass_on t given answers) id b before after)
 
--- The answers are those that a pass had, and those to these features of an id.
+-- The answers are the answers that a pass had, followed by the answers to these features of an id.
 pub record HasAsked (p : Pass) (id : ℕ) (some : List BtfFeature) (answers : List FeatureAnswer) : Type 0 where
   pub more : List FeatureAnswer
   pub further : answers ≡ p.answers ++ more
   pub asked : AreAnswersTo (asks_below p id ++ some) answers
 
--- Some of what an id asks for is answered, the first of it, and then these are left.
+-- The first features that an id asks for are answered, and these features are left.
 abbrev pub AsksUpTo : Pass → ℕ → List FeatureAnswer → List BtfFeature → Type 0
 AsksUpTo p id answers left =
     (some : List BtfFeature) × HasAsked p id some answers × (asks (record p { answers = answers }) id ≡ some ++ left)
 
--- All that an id asks for is answered, and its rule is kept under all answers.
+-- All that an id asks for is answered, and its rule holds under all answers.
 abbrev pub Steps : Pass → ℕ → List FeatureAnswer → BtfType → Made → Made → Result BtfType Refusal → Type 0
 Steps p id answers old before after result =
     AsksUpTo p id answers [] × Rules (record p { answers = answers }) id old before after result
 
--- the records of the ids below one, with the types that take the place of others, before any is denied
+-- the records of the ids below this one, after types are replaced and before any is denied
 abbrev pub placed_below : Pass → ℕ → Made → List Record
 placed_below p id m = put_all (each record_of m.changes.types.items) (take id p.table.records)
 
--- What a pass has made when it comes to an id, where the types of these lower ids are to be denied.
+-- What a pass has made when it comes to an id. The types of these lower ids will be denied at the end.
 pub record IsMade (p : Pass) (id : ℕ) (m : Made) (ids : List ℕ) : Type 0 where
   pub has_made : HasMade p id m.changes.new_strings.items (map record_of m.changes.new_types.items)
       (deny_all ids (placed_below p id m)) m.changes.type_len
@@ -160,8 +161,8 @@ pub record IsMade (p : Pass) (id : ℕ) (m : Made) (ids : List ℕ) : Type 0 whe
   pub filler : MadeBelow (gets_filler p) (λ k. free_id p k + 1) id m.filler
   pub room : HasRoom p.table m.changes
 
--- A whole pass: with the changes, and then with the types of these ids denied, the table is the rewritten one; or it is
--- refused at an id, and all that this and lower ids ask for is answered.
+-- A whole pass: if the changes are applied and the types of these ids are then denied, the table is the rewritten one.
+-- Or the pass is refused at an id, and all that this id and lower ids ask for is answered.
 abbrev pub Passes : Pass → Result PassChanges Refusal → Type 0
 Passes p (Ok c) =
     IsAt p (length p.table.records) × AreOf p.table c.changes × AreIds (length p.table.records) c.denied.items
@@ -170,6 +171,6 @@ Passes p (Err refusal) =
     (id : ℕ) × (id < length p.table.records) × AreRuled p id × (fault p id ≡ Some refusal)
     × AreAnswersTo (asks_below p (suc id)) p.answers
 
--- The answers are those to the first features that a pass asks for.
+-- The answers are to the first features that a pass asks for, in order.
 abbrev pub BeginsAsked : Pass → Type 0
 BeginsAsked p = (left : List BtfFeature) × (Asked p ≡ map (λ (answer : FeatureAnswer). answer.feature) p.answers ++ left)

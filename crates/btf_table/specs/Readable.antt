@@ -12,7 +12,7 @@ pub record IsReadableEnd (strings : List ℕ) (end : ℕ) : Type 0 where
 abbrev pub HasNameAt : List ℕ → ℕ → List ℕ → Type 0
 HasNameAt strings offset name = (rest : List ℕ) × (drop offset strings ≡ name ++ 0 ∷ rest)
 
--- A name that bytes can be compared with: it has no zero byte, nor one with which U+FFFD begins, which stands for what
--- is not UTF-8.
+-- A name that can be compared with the bytes of a text: it has no zero byte, and no byte with which U+FFFD begins,
+-- because U+FFFD replaces bytes that are not UTF-8.
 abbrev pub IsComparable : List ℕ → Type 0
 IsComparable name = (k : ℕ) → k < length name → (get_or name k 0 ≢ 0) × (get_or name k 0 ≢ 0xEF)

@@ -23,15 +23,15 @@ use Rattle.btf_table.specs.PassStep.{BeginsAsked}
 abbrev pub features_asked : List FeatureAnswer → List BtfFeature
 features_asked answers = map (λ (answer : FeatureAnswer). answer.feature) answers
 
--- A rewrite is refused: in the step of `.ksyms`, before anything is asked; or at the least id that has a fault, where
--- this and all lower ids have been asked for.
+-- A rewrite is refused in the step of `.ksyms`, before it asks for anything; or at the least id that has a fault, after
+-- it has asked for the features of this id and of all lower ids.
 abbrev pub Refuses : FillPolicy → Table → Option KsymsIds → Layout → List FeatureAnswer → Refusal → Type 0
 Refuses policy old ids layout answers refusal =
     ((step_fault old ids ≡ Some refusal) × (answers ≡ []))
     ⊎ ((step_fault old ids ≡ None) × ((id : ℕ) × FaultsAt (pass_of policy old ids layout answers) id refusal
     × (features_asked answers ≡ each_once (asks_below (pass_of policy old ids layout answers) (suc id)))))
 
--- The table is rewritten, and what the rewrite asks for is answered; or it is refused.
+-- The table is rewritten, and the answers are to what the rewrite asks for; or the rewrite is refused.
 abbrev pub Rewrites : {X : Type 0} → FillPolicy → Table → Option KsymsIds → Layout → List FeatureAnswer → Table
     → Result X Refusal → Type 0
 Rewrites policy old ids layout answers new (Ok x) =
@@ -39,8 +39,8 @@ Rewrites policy old ids layout answers new (Ok x) =
     × (features_asked answers ≡ Asked (pass_of policy old ids layout answers))
 Rewrites policy old ids layout answers new (Err refusal) = Refuses policy old ids layout answers refusal
 
--- The bytes stand for a table; it is rewritten, and these bytes are the new table's, or its rewrite is refused. Or the
--- bytes stand for no table, and nothing is asked.
+-- If the bytes represent a table, it is rewritten and the result has the bytes of the new table, or its rewrite is
+-- refused. If the bytes represent no table, they are refused, and the rewrite asks for nothing.
 abbrev pub RewritesBytes : FillPolicy → Endianness → List ℕ → Option KsymsIds → Layout → List FeatureAnswer
     → Result (List ℕ × List FeatureAnswer) Refusal → Type 0
 RewritesBytes policy order bytes ids layout answers (Ok (written, listed)) =
@@ -51,45 +51,45 @@ RewritesBytes policy order bytes ids layout answers (Err refusal) =
     (IsRefusal order bytes refusal × (answers ≡ []))
     ⊎ ((old : Table) × IsTable order bytes old × Refuses policy old ids layout answers refusal)
 
--- A pass without the step: the rewritten table, or why it is refused.
+-- A pass without the step of `.ksyms`: the rewritten table, or why the pass is refused.
 abbrev pub Sanitizes : {X : Type 0} → Pass → Table → Result X Refusal → Type 0
 Sanitizes p new (Ok x) = AreRuled p (old_count p) × (new ≡ rewritten p) × (features_asked p.answers ≡ Asked p)
 Sanitizes p new (Err refusal) =
     (id : ℕ) × FaultsAt p id refusal × (features_asked p.answers ≡ each_once (asks_below p (suc id)))
 
--- What the kernel needs for the new table was asked for once each, and granted.
+-- Each feature that the kernel needs for the new table was asked for once and granted.
 abbrev pub NeedsAreGranted : FillPolicy → Table → Option KsymsIds → List FeatureAnswer → Table → Type 0
 NeedsAreGranted policy old ids answers new =
     (id : ℕ) (r : Record) → slice_get new.records id ≡ Some r → (f : BtfFeature)
     → IsAmong f (needs policy (record_at (begun old ids) id) r) → IsGrantedOnce answers f
 
--- Sizes of types, on walks that meet no VAR, FUNC, FUNC_PROTO, DATASEC or DECL_TAG, are those that they were.
+-- The size of a type is unchanged if the walk for it meets no VAR, FUNC, FUNC_PROTO, DATASEC or DECL_TAG.
 abbrev pub KeepsSizes : Table → Table → Type 0
 KeepsSizes old new =
     (id size : ℕ) → WalkAnswers (FindsKept old) (record { count = 1; type = id }) (λ _. MaximumTypeDepthReached id)
     (Ok size) → HasSize new.records id (Ok size)
 
--- What ids stand for, but for a FUNC, is what they stood for.
+-- If an id resolves to a type that is no FUNC, it still resolves to the same type.
 abbrev pub KeepsResolutions : Table → Table → Type 0
 KeepsResolutions old new =
     (id end : ℕ) → Resolves old.records id (Ok end) → kind_at old end ≢ Some kinds.Func
     → Resolves new.records id (Ok end)
 
--- The value of a variant that is found by a name, or that none has the name, is what it was.
+-- If the search for a variant's name succeeds, with a value or with none, its result is unchanged.
 abbrev pub KeepsValues : Table → Table → Type 0
 KeepsValues old new =
     (id : ℕ) (name : List ℕ) (found : Option ℕ) → Value old id name (Ok found) → Value new id name (Ok found)
 
--- No type is taken away, and at most so many are appended.
+-- No type is removed, and at most n are appended.
 abbrev pub AppendsAtMost : ℕ → Table → Table → Type 0
 AppendsAtMost n old new = (length old.records ≤ length new.records) × (length new.records ≤ length old.records + n)
 
--- Nothing was asked for; or the bytes stand for a table, and the answers are to the first features that its rewrite
--- asks for.
+-- There are no answers; or the bytes represent a table, and the answers are to the first features that its rewrite asks
+-- for.
 abbrev pub BeginsAskedOf : FillPolicy → Endianness → List ℕ → Option KsymsIds → Layout → List FeatureAnswer → Type 0
 BeginsAskedOf policy order bytes ids layout answers =
     (answers ≡ []) ⊎ ((old : Table) × IsTable order bytes old × BeginsAsked (pass_of policy old ids layout answers))
 
--- This holds of the table that bytes stand for, and of the one that the written bytes stand for.
+-- P holds for the table that the bytes represent and the table that the written bytes represent.
 abbrev pub OfTables : Endianness → List ℕ → List ℕ → (Table → Table → Type 0) → Type 0
 OfTables order bytes written P = (old new : Table) → IsTable order bytes old → IsTable order written new → P old new

@@ -1,4 +1,4 @@
--- A DATASEC that a pass comes to, once it has its new name.
+-- A DATASEC that a pass comes to, after its new name is made.
 use Rattle.std.specs.Prelude.{◌≡◌, ℕ, [], ◌∷◌, ◌==◌, ◌*◌, length, ◌&&◌, ◌||◌, not, Bool, if◌then◌else◌, Option, Some, None, max}
 use Rattle.btf_model.specs.Record as kinds
 use Rattle.btf_model.specs.Record.{Record, kind_of, vlen}
@@ -14,7 +14,7 @@ use Rattle.btf_table.specs.Btf.{IsType}
 use Rattle.btf_table.specs.PassStep.{IsHere}
 use Rattle.btf_table.specs.declared.sanitize.made.Made.{Made}
 
--- The id is this DATASEC, and its new name is read and appended: nothing else is made for it yet.
+-- The id is this DATASEC. Its name is read and its new name is appended; nothing else is made for it yet.
 pub record HasNewName (p : Pass) (id : ℕ) (r : Record) (name : ℕ) (before now : Made) : Type 0 where
   pub there : IsType p.table id (DataSec r)
   pub kind : kind_of r.info ≡ Some kinds.DataSec
@@ -27,19 +27,19 @@ pub record HasNewName (p : Pass) (id : ℕ) (r : Record) (name : ℕ) (before no
   pub member_type : now.member_type ≡ before.member_type
   pub filler : now.filler ≡ before.filler
 
--- a DATASEC of this name, whose one entry is the filler of this id
+-- a DATASEC of this name whose only entry is the filler with this id
 abbrev pub filled : ℕ → ℕ → ℕ → Record
 filled name size id = data_sec name (max size 1) 1 (record { type = id; offset = 0; size = max size 1 } ∷ [])
 
--- the size that a DATASEC has in the end, if it is known: its own, or that of its section where it has none
+-- the final size of a DATASEC, if it is known: its own size, or the size of its section if its own is 0
 abbrev pub final_size : Pass → ℕ → Record → Option ℕ
 final_size p id r = if r.third == 0 then section_size p id else Some r.third
 
--- a DATASEC that gets the filler where it needs an entry: it has none, and no size, but under a policy that fills
--- others too
+-- a DATASEC that gets the filler if it needs an entry: it has no entries, and its size is 0 unless the policy also
+-- fills DATASECs that have a size
 abbrev pub is_fillable : FillPolicy → Record → Bool
 is_fillable policy r = (fills_sized policy || (r.third == 0)) && has_no_entries r
 
--- such a one, of this size in the end, above 0: the kernel is asked whether it takes one without entries
+-- the rewrite asks for DataSecZero: the DATASEC is fillable, and its final size is above 0
 abbrev pub asks_zero : FillPolicy → Record → ℕ → Bool
 asks_zero policy r size = is_fillable policy r && not (size == 0)

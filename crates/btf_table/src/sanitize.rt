@@ -37,20 +37,21 @@ use std::collections::HashMap;
 use std::hash::BuildHasher;
 
 impl Btf {
-    /// Makes ordinary variables of the kernel's symbols: what the entries of the DATASEC of this id, `.ksyms`, stand
-    /// for.
+    /// Changes the kernel's symbols to ordinary variables. The symbols are the entries of the DATASEC of this id,
+    /// `.ksyms`.
     ///
-    /// Each FUNC and VAR that an entry names becomes Global. A VAR gets the type of the placeholder, a VAR too; without
-    /// one it gets the first INT of 4 bytes, and a string `int` and such an INT are appended where there is none. With
-    /// a placeholder, each entry of a FUNC names it instead, and each unnamed parameter of the FUNC's prototype gets
-    /// its name. The entries take 4 bytes each, one after the other.
+    /// Each FUNC and VAR that an entry names becomes Global. If there is a placeholder, which is a VAR, each VAR gets
+    /// the placeholder's type, each entry of a FUNC names the placeholder instead, and each unnamed parameter of the
+    /// FUNC's prototype gets the placeholder's name. Without a placeholder each VAR gets the first INT of 4 bytes as
+    /// its type; if there is none, a string `int` and such an INT are appended. The entries have 4 bytes each, one
+    /// after the other.
     ///
-    /// The first cause is reported. Of the placeholder: `UnknownBtfType`, and `InvalidDatasec` where it is no VAR; or,
-    /// without one, `InvalidStringOffset` and `InvalidTypeInfo` where strings or types have no room for the INT. Of the
-    /// DATASEC: `UnknownBtfType`, `InvalidDatasec` where it is another kind, and `InvalidStringOffset` where its name
-    /// can't be read. Of each entry in turn: `UnknownBtfType`, `InvalidDatasec` where it names neither a FUNC nor a
-    /// VAR, `InvalidStringOffset` where the name of that can't be read, and `UnknownBtfType` of a FUNC's prototype
-    /// where there is a placeholder. An error leaves the table as it was.
+    /// Reports the first error, in this order. For the placeholder: `UnknownBtfType`, and `InvalidDatasec` if it is no
+    /// VAR; without a placeholder: `InvalidStringOffset` or `InvalidTypeInfo` if the INT does not fit in the strings or
+    /// the types. For the DATASEC: `UnknownBtfType`, `InvalidDatasec` if it has another kind, and `InvalidStringOffset`
+    /// if its name can't be read. For each entry in order: `UnknownBtfType`, `InvalidDatasec` if it names neither a
+    /// FUNC nor a VAR, `InvalidStringOffset` if the name of this FUNC or VAR can't be read, and, with a placeholder,
+    /// `UnknownBtfType` of a FUNC's prototype. An error leaves the table unchanged.
     pub fn fixup_ksyms_datasec(
         &mut self,
         datasec_id: u32,
@@ -61,7 +62,7 @@ impl Btf {
         ensures ok { OnOk result (self.new ≡ ksyms_table self.old
             (ksyms_ids datasec_id placeholder_id)) }
         ensures err { OnErr result (self.new ≡ self.old) }
-        // No type is taken away, and the INT is the only one that may be appended.
+        // No type is removed, and at most the INT is appended.
         ensures appended { OnOk result (AppendsAtMost 1 self.old self.new) }
     {
         let changes = ksyms_changes(self, datasec_id, placeholder_id)?;
@@ -69,7 +70,7 @@ impl Btf {
         Ok(())
     }
 
-    /// The pass of a rewrite, without the step of `.ksyms`. An error leaves the table as it was.
+    /// The pass of a rewrite, without the step of `.ksyms`. An error leaves the table unchanged.
     fn sanitize<F: FnMut(BtfFeature) -> bool, G: BuildHasher, H: BuildHasher>(
         &mut self,
         sections: &HashMap<String, (SectionIndex, u64), G>,
@@ -96,19 +97,20 @@ impl Btf {
         Ok(answers)
     }
 
-    /// Rewrites the table for a kernel that has what the resolver's predicate says, and returns what it was asked.
+    /// Rewrites the table for a kernel whose features the resolver's predicate reports, and returns the features that
+    /// it asked for, with the answers.
     ///
-    /// `ksyms` makes ordinary variables of the kernel's symbols first, as `fixup_ksyms_datasec` does. Then each type
-    /// becomes what its kind's rule says: `sections` has the sizes of sections by name, beside an index that is not
-    /// read, and `symbols` the offsets of symbols by name. Ids stay, strings are only appended, and at most four types
-    /// are.
+    /// If `ksyms` is given, the kernel's symbols first become ordinary variables, as in `fixup_ksyms_datasec`. Then the
+    /// rule of its kind changes each type. `sections` has the sizes of sections by name, each with an index that is not
+    /// read; `symbols` has the offsets of symbols by name. Ids do not change, strings are only appended, and at most
+    /// four types are appended.
     ///
-    /// The first cause is reported: those of `fixup_ksyms_datasec`, and then of the least id that has one:
-    /// `InvalidStringOffset` where the name of a FUNC or a DATASEC, or of a variable that a DATASEC names, can't be
-    /// read, or strings have no room for a name; `UnknownBtfType` of an entry's id; `InvalidDatasec` where an entry
-    /// names no VAR; `UnknownSectionSize` and `SymbolOffsetNotFound` of a name that the maps don't have, or with more
-    /// than 32 bits; and `InvalidTypeInfo` where types have no room, or a bit offset has more than 32 bits. An error
-    /// leaves the table as it was.
+    /// Reports the first error: first the errors of `fixup_ksyms_datasec`, and then the error of the least id that has
+    /// one. This is `InvalidStringOffset` if the name of a FUNC or a DATASEC, or of a variable that a DATASEC names,
+    /// can't be read, or if a name does not fit in the strings; `UnknownBtfType` of an entry's id; `InvalidDatasec` if
+    /// an entry names no VAR; `UnknownSectionSize` or `SymbolOffsetNotFound` of a name that the maps don't have, or
+    /// whose value has more than 32 bits; and `InvalidTypeInfo` if a type does not fit in the types, or if a bit offset
+    /// has more than 32 bits. An error leaves the table unchanged.
     pub fn fixup_and_sanitize<F: FnMut(BtfFeature) -> bool>(
         &mut self,
         sections: &HashMap<String, (SectionIndex, u64)>,
@@ -119,28 +121,28 @@ impl Btf {
         requires callable { F.IsAlwaysCallable resolver.old.0 }
         requires unasked { resolver.old.1 ≡ [] }
         ensures callable { F.IsAlwaysCallable resolver.new.0 }
-        // One call of the predicate for each answer, in order, and no other.
+        // The predicate is called once for each answer, in order, and not otherwise.
         ensures called { Called F.step resolver.old.0 resolver.new.1 resolver.new.0 }
-        // In every outcome the answers are to the first features that the rewrite asks for.
+        // Whether the rewrite succeeds or fails, the answers are to the first features that it asks for.
         ensures asked { BeginsAsked (pass_of KeepSized self.old ksyms
             (layout_of sections.now symbols.now) resolver.new.1) }
-        // The table is the rewritten one, and all is asked for; or the first cause of refusal.
+        // On success the table is the rewritten one, and all features were asked for; otherwise the first error is
+        // returned.
         ensures rewrites { MeetsOrNoMemory (λ a. a.items) result
             (Rewrites KeepSized self.old ksyms (layout_of sections.now symbols.now)
             resolver.new.1 self.new) }
         ensures answers { IfOk result (λ a. a.items ≡ resolver.new.1) }
         ensures err { OnErr result (self.new ≡ self.old) }
-        // What the kernel needs for the new table was asked for once, and granted.
+        // Each feature that the kernel needs for the new table was asked for once and granted.
         ensures granted { OnOk result (NeedsAreGranted KeepSized self.old ksyms
             resolver.new.1 self.new) }
-        // A walk that meets no VAR, FUNC, FUNC_PROTO, DATASEC or DECL_TAG finds the size that it found.
+        // The size of a type is unchanged if the walk for it meets no VAR, FUNC, FUNC_PROTO, DATASEC or DECL_TAG.
         ensures sizes { OnOk result (KeepsSizes self.old self.new) }
-        // What an id stands for, but for a FUNC, it stands for still.
+        // If an id resolves to a type that is no FUNC, it still resolves to the same type.
         ensures resolutions { OnOk result (KeepsResolutions self.old self.new) }
-        // The value that a name stands for in an ENUM or ENUM64 it stands for still, in a UNION that took its place
-        // too.
+        // The value of a variant's name in an ENUM or ENUM64 is unchanged, also if a UNION replaced the ENUM64.
         ensures values { OnOk result (KeepsValues self.old self.new) }
-        // No type is taken away, and at most four are appended.
+        // No type is removed, and at most four are appended.
         ensures appended { OnOk result (AppendsAtMost 4 self.old self.new) }
     {
         self.fixup_and_sanitize_with(sections, symbols, ksyms, FillPolicy::KeepSized, resolver)
@@ -149,10 +151,11 @@ impl Btf {
     /// Rewrites the table as `fixup_and_sanitize` does, with the same errors, and with a policy for DATASECs that have
     /// a size and no entries.
     ///
-    /// Under `FillPolicy::FillSized` a kernel that takes DATASECs is asked whether it takes such a one; where it takes
-    /// none without entries, the DATASEC keeps its size, and its one entry is the variable that DATASECs of size 0
-    /// without entries get: `InvalidStringOffset` and `InvalidTypeInfo` where strings or types have no room for that
-    /// variable, and `InvalidTypeInfo` where types have none for the entry. `sections` is not asked for its size.
+    /// Under `FillPolicy::FillSized` the rewrite asks a kernel that has DATASECs whether it accepts such a DATASEC. If
+    /// the kernel does not, the DATASEC retains its size, and its only entry is the variable that DATASECs of size 0
+    /// without entries get. This fails with `InvalidStringOffset` or `InvalidTypeInfo` if the variable does not fit in
+    /// the strings or the types, and with `InvalidTypeInfo` if the entry does not fit in the types. The size of such a
+    /// DATASEC is not read from `sections`.
     pub fn fixup_and_sanitize_with<F: FnMut(BtfFeature) -> bool, G: BuildHasher, H: BuildHasher>(
         &mut self,
         sections: &HashMap<String, (SectionIndex, u64), G>,
@@ -164,28 +167,28 @@ impl Btf {
         requires callable { F.IsAlwaysCallable resolver.old.0 }
         requires unasked { resolver.old.1 ≡ [] }
         ensures callable { F.IsAlwaysCallable resolver.new.0 }
-        // One call of the predicate for each answer, in order, and no other.
+        // The predicate is called once for each answer, in order, and not otherwise.
         ensures called { Called F.step resolver.old.0 resolver.new.1 resolver.new.0 }
-        // In every outcome the answers are to the first features that the rewrite asks for.
+        // Whether the rewrite succeeds or fails, the answers are to the first features that it asks for.
         ensures asked { BeginsAsked (pass_of policy self.old ksyms
             (layout_of sections.now symbols.now) resolver.new.1) }
-        // The table is the rewritten one, and all is asked for; or the first cause of refusal.
+        // On success the table is the rewritten one, and all features were asked for; otherwise the first error is
+        // returned.
         ensures rewrites { MeetsOrNoMemory (λ a. a.items) result
             (Rewrites policy self.old ksyms
             (layout_of sections.now symbols.now) resolver.new.1 self.new) }
         ensures answers { IfOk result (λ a. a.items ≡ resolver.new.1) }
         ensures err { OnErr result (self.new ≡ self.old) }
-        // What the kernel needs for the new table was asked for once, and granted.
+        // Each feature that the kernel needs for the new table was asked for once and granted.
         ensures granted { OnOk result (NeedsAreGranted policy self.old
             ksyms resolver.new.1 self.new) }
-        // A walk that meets no VAR, FUNC, FUNC_PROTO, DATASEC or DECL_TAG finds the size that it found.
+        // The size of a type is unchanged if the walk for it meets no VAR, FUNC, FUNC_PROTO, DATASEC or DECL_TAG.
         ensures sizes { OnOk result (KeepsSizes self.old self.new) }
-        // What an id stands for, but for a FUNC, it stands for still.
+        // If an id resolves to a type that is no FUNC, it still resolves to the same type.
         ensures resolutions { OnOk result (KeepsResolutions self.old self.new) }
-        // The value that a name stands for in an ENUM or ENUM64 it stands for still, in a UNION that took its place
-        // too.
+        // The value of a variant's name in an ENUM or ENUM64 is unchanged, also if a UNION replaced the ENUM64.
         ensures values { OnOk result (KeepsValues self.old self.new) }
-        // No type is taken away, and at most four are appended.
+        // No type is removed, and at most four are appended.
         ensures appended { OnOk result (AppendsAtMost 4 self.old self.new) }
     {
         let Some(ids) = ksyms else {
@@ -203,8 +206,8 @@ impl Btf {
     }
 }
 
-/// The bytes of a table that is parsed, rewritten by `fixup_and_sanitize`, and written in its own order, with what the
-/// predicate was asked. The errors are those of `Btf::parse` and of `fixup_and_sanitize`.
+/// Parses a table, rewrites it by `fixup_and_sanitize`, and writes it in its own byte order. Returns the bytes, and the
+/// features that the predicate was asked for. Fails with the errors of `Btf::parse` and of `fixup_and_sanitize`.
 pub fn rewrite_bytes<F: FnMut(BtfFeature) -> bool>(
     alloc: Global,
     data: &[u8],
@@ -222,21 +225,21 @@ pub fn rewrite_bytes<F: FnMut(BtfFeature) -> bool>(
         (RewritesBytes KeepSized endianness «data».now ksyms
         (layout_of sections.now symbols.now) resolver.new.1) }
     ensures answers { IfOk result (λ r. r.1.items ≡ resolver.new.1) }
-    // In every outcome nothing was asked, or the bytes stand for a table, and the answers are to the first features
+    // In every outcome there are no answers, or the bytes represent a table and the answers are to the first features
     // that its rewrite asks for.
     ensures asked { BeginsAskedOf KeepSized endianness «data».now ksyms
         (layout_of sections.now symbols.now) resolver.new.1 }
-    // Of the table that the bytes stand for, and the one that the written bytes stand for: what the kernel needs for
-    // the new one was asked for once, and granted;
+    // For the table that the bytes represent and the table that the written bytes represent: each feature that the
+    // kernel needs for the new table was asked for once and granted;
     ensures granted { IfOk result (λ r. OfTables endianness «data».now r.0.items
         (λ old new. NeedsAreGranted KeepSized old ksyms resolver.new.1 new)) }
-    // sizes that are found without VAR, FUNC, FUNC_PROTO, DATASEC or DECL_TAG stay;
+    // the size of a type is unchanged if the walk for it meets no VAR, FUNC, FUNC_PROTO, DATASEC or DECL_TAG;
     ensures sizes { IfOk result (λ r. OfTables
         endianness «data».now r.0.items KeepsSizes) }
-    // what an id stands for, but for a FUNC, it stands for still;
+    // if an id resolves to a type that is no FUNC, it still resolves to the same type;
     ensures resolutions { IfOk result
         (λ r. OfTables endianness «data».now r.0.items KeepsResolutions) }
-    // and no type is taken away, and at most four are appended.
+    // no type is removed, and at most four are appended.
     ensures appended { IfOk result (λ r. OfTables endianness «data».now r.0.items
         (AppendsAtMost 4)) }
 {
@@ -246,8 +249,9 @@ pub fn rewrite_bytes<F: FnMut(BtfFeature) -> bool>(
     )
 }
 
-/// The bytes of a table that is parsed, rewritten by `fixup_and_sanitize_with`, and written in its own order, with what
-/// the predicate was asked. The errors are those of `Btf::parse` and of `fixup_and_sanitize_with`.
+/// Parses a table, rewrites it by `fixup_and_sanitize_with`, and writes it in its own byte order. Returns the bytes,
+/// and the features that the predicate was asked for. Fails with the errors of `Btf::parse` and of
+/// `fixup_and_sanitize_with`.
 pub fn rewrite_bytes_with<F: FnMut(BtfFeature) -> bool, G: BuildHasher, H: BuildHasher>(
     alloc: Global,
     data: &[u8],
@@ -266,23 +270,23 @@ pub fn rewrite_bytes_with<F: FnMut(BtfFeature) -> bool, G: BuildHasher, H: Build
         (RewritesBytes policy endianness «data».now ksyms
         (layout_of sections.now symbols.now) resolver.new.1) }
     ensures answers { IfOk result (λ r. r.1.items ≡ resolver.new.1) }
-    // In every outcome nothing was asked, or the bytes stand for a table, and the answers are to the first features
+    // In every outcome there are no answers, or the bytes represent a table and the answers are to the first features
     // that its rewrite asks for.
     ensures asked { BeginsAskedOf policy endianness «data».now
         ksyms
         (layout_of sections.now symbols.now) resolver.new.1 }
-    // Of the table that the bytes stand for, and the one that the written bytes stand for: what the kernel needs for
-    // the new one was asked for once, and granted;
+    // For the table that the bytes represent and the table that the written bytes represent: each feature that the
+    // kernel needs for the new table was asked for once and granted;
     ensures granted { IfOk result (λ r. OfTables endianness «data».now r.0.items
         (λ old new. NeedsAreGranted policy old ksyms
         resolver.new.1 new)) }
-    // sizes that are found without VAR, FUNC, FUNC_PROTO, DATASEC or DECL_TAG stay;
+    // the size of a type is unchanged if the walk for it meets no VAR, FUNC, FUNC_PROTO, DATASEC or DECL_TAG;
     ensures sizes { IfOk result (λ r. OfTables
         endianness «data».now r.0.items KeepsSizes) }
-    // what an id stands for, but for a FUNC, it stands for still;
+    // if an id resolves to a type that is no FUNC, it still resolves to the same type;
     ensures resolutions { IfOk result
         (λ r. OfTables endianness «data».now r.0.items KeepsResolutions) }
-    // and no type is taken away, and at most four are appended.
+    // no type is removed, and at most four are appended.
     ensures appended { IfOk result (λ r. OfTables endianness «data».now r.0.items
         (AppendsAtMost 4)) }
 {

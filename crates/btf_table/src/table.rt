@@ -46,12 +46,12 @@ use std::alloc::Global;
 use std::marker::Model;
 use std::slice::Iter;
 
-/// The length that the strings, or the records after id 0, have at most in bytes.
+/// The maximum length in bytes of the strings, and of the records after id 0.
 pub(crate) const SECTION_LIMIT: usize = 4294967295;
 
 /// A table of types: the byte order, the header's magic, version and flags, the strings, and the types by id.
 ///
-/// Id 0 is the type that has no bytes; the others have ids by their place in the type section, from 1 on.
+/// Id 0 is the type that has no bytes. The other types have ids from 1 on, by their place in the type section.
 #[derive(Debug, Drop)]
 pub struct Btf {
     endianness: Endianness,
@@ -96,11 +96,11 @@ impl Btf {
         })
     }
 
-    /// Adds a text and a zero byte to the strings, and returns the offset of the text. An equal text that is
-    /// there already is not used.
+    /// Adds a text and a zero byte to the strings, and returns the offset of the text. An equal text that the table
+    /// already has is not reused.
     ///
-    /// `InvalidStringOffset` with the length of the strings where they would pass 4,294,967,295 bytes. An error
-    /// leaves the table as it was.
+    /// Fails with `InvalidStringOffset` of the length of the strings if they would exceed 4,294,967,295 bytes. An error
+    /// leaves the table unchanged.
     pub fn add_string(&mut self, text: &str) -> Result<u32, BtfError>
         ensures answer { IsOrNoMemory (λ offset. offset) result (string_place text.now self.old) }
         ensures ok { OnOk result (self.new ≡ with_string text.now self.old) }
@@ -118,7 +118,8 @@ impl Btf {
 
     /// Adds a type, and returns its id.
     ///
-    /// `InvalidTypeInfo` where the records would pass 4,294,967,295 bytes. An error leaves the table as it was.
+    /// Fails with `InvalidTypeInfo` if the records would exceed 4,294,967,295 bytes. An error leaves the table
+    /// unchanged.
     pub fn add_type(&mut self, btf_type: BtfType) -> Result<u32, BtfError>
         ensures answer { IsOrNoMemory (λ id. id) result (type_place (record_of btf_type) self.old) }
         ensures ok { OnOk result (self.new ≡ with_type (record_of btf_type)
@@ -136,16 +137,16 @@ impl Btf {
         Ok(id)
     }
 
-    /// The table that a blob stands for, whose words are in this order.
+    /// The table that a blob represents, whose words are in this byte order.
     ///
-    /// The first cause of refusal is reported: `InvalidHeader` for fewer than 24 bytes, or strings that pass the
-    /// end; `InvalidTypeInfo` for types that pass the end; and, record after record, `InvalidTypeInfo` for one
-    /// that is cut and `InvalidTypeKind` for one of a kind that is not read. Magic, version and flags are kept
-    /// as they are, and not looked at.
+    /// Reports the first error, in this order: `InvalidHeader` for fewer than 24 bytes, or for strings that exceed the
+    /// data; `InvalidTypeInfo` for types that exceed the data; and, record after record, `InvalidTypeInfo` for a
+    /// truncated record and `InvalidTypeKind` for a kind that the library does not read. Magic, version and flags are
+    /// retained as they are, and not checked.
     pub fn parse(alloc: Global, data: &[u8], endianness: Endianness) -> Result<Btf, BtfError>
-        // What the bytes stand for, or the first cause of refusal.
+        // The table that the bytes represent, or the first reason to refuse them.
         ensures parsed { MeetsOrNoMemory (λ b. b) result (Parses endianness «data».now) }
-        // Bytes that stand for a table are not refused, and no others stand for one.
+        // Parsing succeeds exactly for bytes that represent a table.
         ensures only_table { (t : Table) → IsTable endianness «data».now t
             → IsOrNoMemory (λ b. b) result (Ok t) }
         ensures only_refusal { (f : Refusal) → IsRefusal endianness «data».now f
@@ -157,7 +158,7 @@ impl Btf {
     /// The blob of the table, in the table's own order: the header, the records from id 1 on, the strings.
     pub fn to_bytes(&self) -> Result<Vec<u8>, BtfError>
         ensures written { IsOrNoMemory (λ v. v.items) result (Ok (canon self.now)) }
-        // Parsed in the table's order, the bytes give the table again, kept 64-bit enum values aside.
+        // Parsed in the table's order, the bytes give the table again, except for retained 64-bit enum values.
         ensures parses_back { IfOk result (λ v. IsTable self.now.order v.items (strip self.now)) }
     {
         let header = Header {
@@ -178,11 +179,11 @@ impl Btf {
         Ok(out)
     }
 
-    /// The text at a string offset, up to the first zero byte. Bytes that are not UTF-8 are read with U+FFFD in place
-    /// of each longest piece that is none.
+    /// The text at a string offset, up to the first zero byte. In bytes that are not UTF-8, U+FFFD replaces each
+    /// maximal invalid piece.
     ///
-    /// `InvalidStringOffset` of the offset where no zero byte stands at it or after it. Memory is taken only where
-    /// the bytes are not UTF-8.
+    /// Fails with `InvalidStringOffset` of the offset if there is no zero byte at the offset or after it. Allocates
+    /// memory only if the bytes are not UTF-8.
     pub fn string_at(&self, offset: u32) -> Result<BtfStr<'_>, BtfError>
         ensures text { IsOrNoMemory text_bytes result (model.text_at self.now.strings offset) }
         ensures no_memory { IfSome (model.bytes_at self.now.strings offset) IsUtf8
@@ -203,7 +204,7 @@ impl Btf {
         self.string_at(btf_type.name_offset())
     }
 
-    /// The name of a type for a message; None where it can't be read. `OutOfMemory` is the only error.
+    /// The name of a type for a message; None if it can't be read. `OutOfMemory` is the only error.
     pub fn err_type_name(&self, btf_type: &BtfType) -> Result<Option<String>, BtfError>
         ensures { IsOrNoMemory (option_map string_bytes) result
             (Ok (result_ok (model.text_at self.now.strings (record_of btf_type.now).name))) }
@@ -216,10 +217,10 @@ impl Btf {
         }
     }
 
-    /// The least id of a type of this kind and name, id 0 among them.
+    /// The least id of a type of this kind and name. Id 0 is searched too.
     ///
-    /// `InvalidStringOffset` where a type of this kind with a lower id has a name that can't be read, and
-    /// `UnknownBtfTypeName` where no type has the kind and the name.
+    /// Fails with `InvalidStringOffset` if a type of this kind with a lower id has a name that can't be read, and with
+    /// `UnknownBtfTypeName` if no type has the kind and the name.
     pub fn id_by_type_name_kind(&self, name: &str, kind: BtfKind) -> Result<u32, BtfError>
         ensures { MeetsOrNoMemory (λ id. id) result
             (FindsName self.now.strings self.now.records (kinds.kind kind) name.now) }
@@ -233,7 +234,8 @@ impl Btf {
         )
     }
 
-    /// The type of an id, whose kind is the one in its info word; or `UnknownBtfType` of the id where there is none.
+    /// The type of an id. Its kind is the kind in its info word. Fails with `UnknownBtfType` of the id if there is no
+    /// such type.
     pub fn type_by_id(&self, type_id: u32) -> Result<&BtfType, BtfError>
         ensures { MatchResult result
             (λ t. (slice_get self.now.records type_id ≡ Some (record_of t.now))
@@ -262,11 +264,11 @@ impl Btf {
         self.types.len() < 2
     }
 
-    /// The id of the type that an id stands for: the first that is no modifier, where TYPEDEF, VOLATILE, CONST,
-    /// RESTRICT and TYPE_TAG lead from each to the next.
+    /// The id of the type that an id resolves to: the first type that is no modifier, after the modifiers TYPEDEF,
+    /// VOLATILE, CONST, RESTRICT and TYPE_TAG.
     ///
-    /// `UnknownBtfType` of the id that has no type, and `MaximumTypeDepthReached` of `type_id` where the first 32
-    /// types are modifiers. No memory is taken.
+    /// Fails with `UnknownBtfType` of an id that has no type, and with `MaximumTypeDepthReached` of `type_id` if the
+    /// first 32 types are modifiers. Allocates no memory.
     #[inline(always)]
     pub fn resolve_type(&self, type_id: u32) -> Result<u32, BtfError>
         ensures { Meets (λ id. id) result (Resolves self.now.records type_id) }
@@ -274,13 +276,13 @@ impl Btf {
         resolve(&self.types, type_id)
     }
 
-    /// The size of a type in bytes: the size that the type itself says, 8 for a pointer, times the length of each
-    /// array, after types that lead to one other, which is the return type for a prototype.
+    /// The size of a type in bytes. The walk follows each type that refers to one other type, such as a modifier, the
+    /// element type of an array or the return type of a prototype, until a type gives a size; a pointer has size 8. The
+    /// size is multiplied by the length of each array on the walk.
     ///
-    /// The first cause of refusal on the walk is reported: `UnknownBtfType` of an id that has no type,
-    /// `UnexpectedBtfType` of the id of an Unknown, a FWD or a FUNC, `InvalidTypeInfo` for a product of lengths or a
-    /// size that passes 32 bits, and `MaximumTypeDepthReached` of `type_id` where the first 32 types lead on. No
-    /// memory is taken.
+    /// Reports the first error on the walk: `UnknownBtfType` of an id that has no type, `UnexpectedBtfType` of the id
+    /// of an Unknown, a FWD or a FUNC, `InvalidTypeInfo` for a product of lengths or a size that exceeds 32 bits, and
+    /// `MaximumTypeDepthReached` of `type_id` if the first 32 types give no size. Allocates no memory.
     pub fn type_size(&self, type_id: u32) -> Result<usize, BtfError>
         ensures { Meets (λ n. n) result (HasSize self.now.records type_id) }
     {
@@ -317,7 +319,7 @@ impl Btf {
         ensures { IsType self.now type_id result.now }
     {
         let btf_type = &self.types[type_id as usize];
-        // The contract speaks of the kind in the info word, and of the length of the tail, which this shows.
+        // The contract is about the kind in the info word and the length of the tail, which this shows.
         let _ = btf_type.kind();
         btf_type
     }
@@ -327,7 +329,7 @@ impl Btf {
         ensures records { map record_of result.now ≡ self.now.records }
         ensures fallbacks { map fallback_of result.now ≡ self.now.fallbacks }
         ensures ids { length result.now < 2 ^ 32 }
-        // Each record but the first has at least 12 bytes.
+        // Each record except the first has at least 12 bytes.
         ensures long { 12 * length result.now ≤ length (type_bytes self.now) + 12 }
         ensures first { (rs : List Record) × (self.now.records ≡ unknown ∷ rs) }
     {
@@ -341,8 +343,8 @@ impl Btf {
         readable_end(&self.strings)
     }
 
-    /// Whether a text can be read at an offset, where `readable_end` is the end of such offsets; or
-    /// `InvalidStringOffset` of it. The text is not read, however long it is.
+    /// Fails with `InvalidStringOffset` of an offset at which no text can be read; `readable_end` is the end of the
+    /// readable offsets. The text itself is not read, however long it is.
     pub(crate) fn check_name(&self, offset: u32, readable_end: usize) -> Result<(), BtfError>
         requires { IsReadableEnd self.now.strings readable_end }
         ensures { IsOrNoMemory (λ u. u) result
@@ -389,7 +391,7 @@ impl Btf {
     }
 }
 
-/// The allocator of a table's memory, for the crates that stand on this one.
+/// The allocator of a table's memory, for the crates that use this one.
 pub fn allocator_of(table: &Btf) -> Global
     // Each record has a kind.
     ensures { HaveKinds table.now }
@@ -397,8 +399,8 @@ pub fn allocator_of(table: &Btf) -> Global
     table.allocator()
 }
 
-/// The bytes of a type's name, which need not be UTF-8: those from its offset up to the first zero byte. None where no
-/// zero byte is at the offset or after it.
+/// The bytes of a type's name, from its offset up to the first zero byte; they need not be UTF-8. None if there is no
+/// zero byte at the offset or after it.
 pub fn name_bytes<'a>(table: &'a Btf, btf_type: &BtfType) -> Option<&'a [u8]>
     ensures { option_map (λ b. b.now) result
         ≡ model.bytes_at table.now.strings (record_of btf_type.now).name }
@@ -406,7 +408,7 @@ pub fn name_bytes<'a>(table: &'a Btf, btf_type: &BtfType) -> Option<&'a [u8]>
     bytes_at(&table.strings, btf_type.name_offset(), 0)
 }
 
-/// The table that a blob stands for, or the first cause of refusal.
+/// The table that a blob represents, or the first reason to refuse the blob.
 fn read_table(alloc: Global, data: &[u8], endianness: Endianness) -> Result<Btf, BtfError>
     ensures { MeetsOrNoMemory (λ b. b) result (Parses endianness «data».now) }
 {

@@ -1,4 +1,4 @@
--- Refusals that are handed on.
+-- Refusals that are passed on.
 use Rattle.std.proofs.Common.{◌≡◌, Option, None, Some, Result, Ok, Err, sym, ap, subst, ◌∙◌}
 use Rattle.std.specs.Prelude.{IfSome, IsErrAnd}
 use Rattle.std.proofs.lemmas.Result.{err_from_is_err_and}
@@ -6,7 +6,7 @@ use Rattle.btf_model.specs.Refusal.{Refusal}
 use Rattle.btf_words.specs.declared.error.BtfError.{BtfError}
 use Rattle.btf_words.specs.Error.{MeetsOrNoMemory, refusal_of}
 
--- an error is handed on by `?`
+-- `?` passes an error on
 pub handed_on : {X Y : Type 0} (view : X → Y) (e : BtfError) (r : Result X BtfError) (P : Result Y Refusal → Type 0) → IsErrAnd r (λ y. y ≡ e) → IfSome (refusal_of e) (λ f. P (Err f)) → MeetsOrNoMemory view r P
 handed_on view e r P err given =
     let p = err_from_is_err_and r err in
@@ -16,7 +16,7 @@ handed_on view e r P err given =
 pub known_refusal : (e : BtfError) (f : Refusal) (P : Refusal → Type 0) → refusal_of e ≡ Some f → P f → IfSome (refusal_of e) P
 known_refusal e f P is p = subst (λ (o : Option Refusal). IfSome o P) (sym is) p
 
--- a fact beside what is answered
+-- a fact besides the result
 pub with_fact : {X Y : Type 0} (view : X → Y) (r : Result X BtfError) (F : Type 0) (P : Result Y Refusal → Type 0) → F → MeetsOrNoMemory view r P → MeetsOrNoMemory view r (λ answer. F × P answer)
 with_fact view (Ok x) F P fact given = (fact, given)
 with_fact view (Err e) F P fact given = beside (refusal_of e) given

@@ -1,11 +1,11 @@
--- How the results of the crates are related to what the definitions say.
+-- The relation between the results of the crates and the results of the definitions.
 use Rattle.std.specs.Prelude.{◌≡◌, Result, Ok, Err, Option, Some, None, IfSome, string_bytes}
 use Rattle.btf_model.specs.Refusal as refusals
 use Rattle.btf_model.specs.Refusal.{Refusal}
 use Rattle.btf_words.specs.declared.error.BtfError.{BtfError}
 use Rattle.btf_words.specs.declared.error.BtfError.TheVariants as errors
 
--- The refusal that an error stands for: none, where memory was refused.
+-- The refusal that an error represents; none if an allocation failed.
 abbrev pub refusal_of : BtfError → Option Refusal
 refusal_of errors.InvalidHeader = Some refusals.InvalidHeader
 refusal_of errors.InvalidTypeInfo = Some refusals.InvalidTypeInfo
@@ -29,16 +29,16 @@ refusal_of (errors.MultiLevelMapInMapNotSupported name) =
 refusal_of (errors.InvalidValuesSpec name) = Some (refusals.InvalidValuesSpec (string_bytes name))
 refusal_of errors.OutOfMemory = None
 
--- The result, its value seen by view, meets P, or memory was refused.
+-- The result, with view applied to its value, satisfies P; or an allocation failed.
 abbrev pub MeetsOrNoMemory : {X Y : Type 0} → (X → Y) → Result X BtfError → (Result Y Refusal → Type 0) → Type 0
 MeetsOrNoMemory view (Ok x) P = P (Ok (view x))
 MeetsOrNoMemory view (Err e) P = IfSome (refusal_of e) (λ refusal. P (Err refusal))
 
--- The result is this one, or memory was refused.
+-- The result is this one, or an allocation failed.
 abbrev pub IsOrNoMemory : {X Y : Type 0} → (X → Y) → Result X BtfError → Result Y Refusal → Type 0
 IsOrNoMemory view result answer = MeetsOrNoMemory view result (λ a. a ≡ answer)
 
--- The same of a call that takes no memory: the result meets P.
+-- The same for a call that allocates no memory: the result satisfies P.
 abbrev pub Meets : {X Y : Type 0} → (X → Y) → Result X BtfError → (Result Y Refusal → Type 0) → Type 0
 Meets view (Ok x) P = P (Ok (view x))
 Meets view (Err e) P = (refusal : Refusal) × (refusal_of e ≡ Some refusal) × P (Err refusal)

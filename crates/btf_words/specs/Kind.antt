@@ -1,4 +1,4 @@
--- Kinds as the definitions and the tables number them.
+-- Kinds, as values of the definitions and as numbers in tables.
 use Rattle.std.specs.Prelude.{◌≡◌, ℕ, List, codes, Result, Ok, Err, None, Some, slice_get}
 use Rattle.btf_model.specs.Record as model
 use Rattle.btf_model.specs.Record.{Kind, kinds}
@@ -30,7 +30,7 @@ kind DeclTag = model.DeclTag
 kind TypeTag = model.TypeTag
 kind Enum64 = model.Enum64
 
--- Which kind has a number: those of the list, and no other.
+-- The result for a number: its kind if the list has one, else a refusal.
 abbrev pub KindOfNumber : ℕ → Result BtfKind BtfError → Type 0
 KindOfNumber n (Ok k) = slice_get kinds n ≡ Some (kind k)
 KindOfNumber n (Err e) = (slice_get kinds n ≡ None) × (e ≡ errors.InvalidTypeKind n)

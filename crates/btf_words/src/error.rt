@@ -6,21 +6,21 @@ ghost use Rattle.btf_words.specs.declared.error.BtfError.TheVariants.{OutOfMemor
 use std::alloc::{AllocError, AllocFailed};
 use thiserror::Error;
 
-/// Why a BTF call was refused.
+/// Why a BTF call failed.
 ///
 /// Offsets of strings count bytes from the beginning of the string section. The ids of types count from 0,
 /// which is the type that has no bytes.
 #[derive(Debug, Drop, Error)]
 pub enum BtfError {
-    /// The header is cut, or the string section does not lie in the data.
+    /// The header is truncated, or the string section is not within the data.
     #[error("error parsing BTF header")]
     InvalidHeader,
 
-    /// The type section does not lie in the data, or a record is cut or too large.
+    /// The type section is not within the data, or a record is truncated or too large.
     #[error("invalid BTF type info segment")]
     InvalidTypeInfo,
 
-    /// A relocation record is cut. No call of these crates returns it.
+    /// A relocation record is truncated. No call of these crates returns it.
     #[error("invalid BTF relocation info segment")]
     InvalidRelocationInfo,
 
@@ -38,32 +38,32 @@ pub enum BtfError {
         kind: u32,
     },
 
-    /// No text stands at an offset, or a text would stand past the longest string section.
+    /// There is no text at an offset, or a text does not fit in the longest string section.
     #[error("invalid BTF string offset: {offset}")]
     InvalidStringOffset {
         /// The offset.
         offset: usize,
     },
 
-    /// A part of `.BTF.ext` does not lie where it should.
+    /// A part of `.BTF.ext` is outside its range, or truncated.
     #[error("invalid BTF info, offset: {offset} len: {len} section_len: {section_len}")]
     InvalidInfo {
         /// Where the part begins.
         offset: usize,
-        /// How many bytes it has.
+        /// The number of its bytes.
         len: usize,
-        /// How many bytes there are.
+        /// The number of bytes that there are.
         section_len: usize,
     },
 
-    /// A line record does not lie where it should. No call of these crates returns it.
+    /// A line record is outside its range. No call of these crates returns it.
     #[error("invalid BTF line info, offset: {offset} len: {len} section_len: {section_len}")]
     InvalidLineInfo {
         /// Where the part begins.
         offset: usize,
-        /// How many bytes it has.
+        /// The number of its bytes.
         len: usize,
-        /// How many bytes there are.
+        /// The number of bytes that there are.
         section_len: usize,
     },
 
@@ -74,7 +74,7 @@ pub enum BtfError {
         type_id: u32,
     },
 
-    /// A type is of a kind that has no place there.
+    /// A type has a kind that is not allowed there.
     #[error("unexpected BTF type id `{type_id}`")]
     UnexpectedBtfType {
         /// The id of the type.
@@ -88,14 +88,14 @@ pub enum BtfError {
         type_name: String,
     },
 
-    /// A walk through types passed its limit of 32.
+    /// A walk from type to type exceeded its limit of 32.
     #[error("maximum depth reached resolving BTF type")]
     MaximumTypeDepthReached {
-        /// The id of the type at which the walk began, or would go on.
+        /// The id of the type at which the walk began, or of the next type of the walk.
         type_id: u32,
     },
 
-    /// A symbol has no known offset, or one past 32 bits.
+    /// The offset of a symbol is unknown, or has more than 32 bits.
     #[error("Offset not found for symbol `{symbol_name}`")]
     SymbolOffsetNotFound {
         /// The name of the symbol.
@@ -106,7 +106,7 @@ pub enum BtfError {
     #[error("BTF type that is not VAR was found in DATASEC")]
     InvalidDatasec,
 
-    /// A section has no known size, or one past 32 bits.
+    /// The size of a section is unknown, or has more than 32 bits.
     #[error("Unable to determine the size of section `{section_name}`")]
     UnknownSectionSize {
         /// The name of the section.
@@ -124,7 +124,7 @@ pub enum BtfError {
         name: String,
     },
 
-    /// A map of maps holds maps of maps. No call of these crates returns it.
+    /// A map of maps contains maps of maps. No call of these crates returns it.
     #[error("BTF map `{name}`: multi-level map-in-map is not supported")]
     MultiLevelMapInMapNotSupported {
         /// The name of the map.
@@ -138,7 +138,7 @@ pub enum BtfError {
         name: String,
     },
 
-    /// Memory was refused. The value that was to change is as it was.
+    /// An allocation failed. The value that was to change is unchanged.
     #[error("out of memory")]
     OutOfMemory,
 }

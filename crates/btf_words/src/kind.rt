@@ -1,4 +1,4 @@
-//! What a record describes.
+//! The kinds of types that a record describes.
 
 ghost use Rattle.std.specs.Prelude.{Some};
 ghost use Rattle.btf_words.specs.Kind.{KindOfNumber, kind, kind_text};
@@ -9,7 +9,7 @@ use std::fmt;
 /// The kind of a record, numbered as in the kernel's documentation, "Type Encoding".
 #[derive(Copy, Clone, Debug, Eq, PartialEq, Default)]
 pub enum BtfKind {
-    /// The type of id 0, and a record that has been left out.
+    /// The type of id 0, and a record of kind 0.
     #[default]
     Unknown = 0,
     /// An integer.

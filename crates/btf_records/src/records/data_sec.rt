@@ -1,4 +1,4 @@
-//! DATASEC: a data section, the variables of which are its entries.
+//! DATASEC: a data section, with its variables as entries.
 
 ghost use Rattle.std.specs.Prelude.{◌≡◌, ◌+◌, ◌*◌, ◌^◌, ◌≤◌, ◌++◌, length, Some, Ok, vec_len, ◌<◌, take, drop};
 ghost use Rattle.std.specs.List.{flat_map};
@@ -14,8 +14,8 @@ use btf_plain::{BtfError, BtfKind, Endianness, MAX_VLEN};
 use std::alloc::Global;
 use std::marker::Model;
 
-/// A data section, the variables of which are its entries (the kernel's documentation, "BTF_KIND_DATASEC"). Contracts
-/// see it as the record of its words.
+/// A data section, with its variables as entries (the kernel's documentation, "BTF_KIND_DATASEC"). In contracts it is
+/// the record of its words.
 #[derive(Debug, Drop)]
 pub struct DataSec {
     name_offset: u32,
@@ -103,21 +103,21 @@ impl DataSec {
         self.items()
     }
 
-    /// Sets the string offset of the name, and leaves all else as it is.
+    /// Sets the string offset of the name, and changes nothing else.
     pub fn set_name_offset(&mut self, name_offset: u32)
         ensures { self.new ≡ record self.old { name = name_offset } }
     {
         self.name_offset = name_offset;
     }
 
-    /// Sets the size of the section in bytes, and leaves all else as it is.
+    /// Sets the size of the section in bytes, and changes nothing else.
     pub fn set_size(&mut self, size: u32)
         ensures { self.new ≡ record self.old { third = size } }
     {
         self.size = size;
     }
 
-    /// Puts an entry in the place of the one that is there.
+    /// Replaces the entry at an index.
     pub fn set_entry(&mut self, index: usize, entry: DataSecEntry)
         requires { index < vlen self.old.info }
         ensures { self.new ≡ record self.old {
@@ -136,7 +136,7 @@ impl DataSec {
         3 * size_of_val(&self.info) + 12 * self.items().len()
     }
 
-    /// An equal record. `OutOfMemory` is the only error.
+    /// A copy of the record. `OutOfMemory` is the only error.
     pub fn try_clone(&self) -> Result<Self, BtfError>
         ensures { IsOrNoMemory (λ r. r) result (Ok self.now) }
     {

@@ -16,7 +16,7 @@ use btf_plain::{BtfError, BtfKind, Endianness, MAX_VLEN};
 use std::alloc::Global;
 use std::marker::Model;
 
-/// An enumeration of 32-bit values (the kernel's documentation, "BTF_KIND_ENUM"). Contracts see it as the record of its
+/// An enumeration of 32-bit values (the kernel's documentation, "BTF_KIND_ENUM"). In contracts it is the record of its
 /// words.
 #[derive(Debug, Drop)]
 pub struct Enum {
@@ -112,7 +112,7 @@ impl Enum {
         self.info >> 31 == 1
     }
 
-    /// Says whether the values have a sign, and leaves all else as it is.
+    /// Sets whether the values have a sign, and changes nothing else.
     pub fn set_signed(&mut self, signed: bool)
         ensures { self.new ≡ record self.old { info = with_flag self.old.info signed } }
     {
@@ -127,7 +127,7 @@ impl Enum {
         3 * size_of_val(&self.info) + 8 * self.items().len()
     }
 
-    /// An equal record. `OutOfMemory` is the only error.
+    /// A copy of the record. `OutOfMemory` is the only error.
     pub fn try_clone(&self) -> Result<Self, BtfError>
         ensures { IsOrNoMemory (λ r. r) result (Ok self.now) }
     {

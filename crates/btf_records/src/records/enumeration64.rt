@@ -16,7 +16,7 @@ use btf_plain::{BtfError, BtfKind, Endianness, MAX_VLEN};
 use std::alloc::Global;
 use std::marker::Model;
 
-/// An enumeration of 64-bit values (the kernel's documentation, "BTF_KIND_ENUM64"). Contracts see it as the record of
+/// An enumeration of 64-bit values (the kernel's documentation, "BTF_KIND_ENUM64"). In contracts it is the record of
 /// its words.
 #[derive(Debug, Drop)]
 pub struct Enum64 {
@@ -120,7 +120,7 @@ impl Enum64 {
         3 * size_of_val(&self.info) + 12 * self.items().len()
     }
 
-    /// An equal record. `OutOfMemory` is the only error.
+    /// A copy of the record. `OutOfMemory` is the only error.
     pub fn try_clone(&self) -> Result<Self, BtfError>
         ensures { IsOrNoMemory (λ r. r) result (Ok self.now) }
     {

@@ -14,7 +14,7 @@ use btf_plain::{BtfError, BtfKind, Endianness, MAX_VLEN};
 use std::alloc::Global;
 use std::marker::Model;
 
-/// A function prototype (the kernel's documentation, "BTF_KIND_FUNC_PROTO"). Contracts see it as the record of its
+/// A function prototype (the kernel's documentation, "BTF_KIND_FUNC_PROTO"). In contracts it is the record of its
 /// words.
 #[derive(Debug, Drop)]
 pub struct FuncProto {
@@ -45,7 +45,7 @@ impl Model for FuncProto {
 }
 
 impl FuncProto {
-    /// A prototype with these parameters. It has no name. There are at most `MAX_VLEN` of them.
+    /// A prototype with these parameters and no name. There are at most `MAX_VLEN` parameters.
     pub fn new(params: Vec<BtfParam>, return_type: u32) -> Self
         requires { vec_len params ≤ MAX_VLEN }
         ensures { result ≡ record {
@@ -88,7 +88,7 @@ impl FuncProto {
         self.info
     }
 
-    /// The id of the type that is returned; 0 stands for none.
+    /// The id of the return type; 0 if the function returns nothing.
     pub fn return_type(&self) -> u32
         ensures { result ≡ self.now.third }
     {
@@ -103,7 +103,7 @@ impl FuncProto {
         self.items()
     }
 
-    /// Sets the string offset of a parameter's name, and leaves all else as it is.
+    /// Sets the string offset of a parameter's name, and changes nothing else.
     pub fn set_param_name(&mut self, index: usize, name_offset: u32)
         requires { index < vlen self.old.info }
         ensures { self.new ≡ record self.old {
@@ -126,7 +126,7 @@ impl FuncProto {
         3 * size_of_val(&self.info) + 8 * self.items().len()
     }
 
-    /// An equal record. `OutOfMemory` is the only error.
+    /// A copy of the record. `OutOfMemory` is the only error.
     pub fn try_clone(&self) -> Result<Self, BtfError>
         ensures { IsOrNoMemory (λ r. r) result (Ok self.now) }
     {

@@ -14,7 +14,7 @@ use btf_plain::{BtfError, BtfKind, Endianness, MAX_VLEN};
 use std::alloc::Global;
 use std::marker::Model;
 
-/// A structure (the kernel's documentation, "BTF_KIND_STRUCT"). Contracts see it as the record of its words.
+/// A structure (the kernel's documentation, "BTF_KIND_STRUCT"). In contracts it is the record of its words.
 #[derive(Debug, Drop)]
 pub struct Struct {
     name_offset: u32,
@@ -132,7 +132,7 @@ impl Struct {
         3 * size_of_val(&self.info) + 12 * self.items().len()
     }
 
-    /// An equal record. `OutOfMemory` is the only error.
+    /// A copy of the record. `OutOfMemory` is the only error.
     pub fn try_clone(&self) -> Result<Self, BtfError>
         ensures { IsOrNoMemory (λ r. r) result (Ok self.now) }
     {

@@ -17,15 +17,15 @@ use std::alloc::Global;
 use std::fmt;
 use std::marker::Model;
 
-/// The members of a union, and the ENUM64 that it stands in for, if it does. Most unions stand in for none, so the room
-/// that a fallback would take holds a few members.
+/// The members of a union, and the ENUM64 that it replaces, if there is one. Most unions replace none, and then the
+/// space for a fallback stores a few members.
 #[derive(Drop)]
 enum Members {
     Alone(ItemList<BtfMember, 3>),
     InsteadOf(Enum64Fallback, Vec<BtfMember>),
 }
 
-/// A union (the kernel's documentation, "BTF_KIND_UNION"). Contracts see it as the record of its words, and its
+/// A union (the kernel's documentation, "BTF_KIND_UNION"). In contracts it is the record of its words, and its
 /// fallback.
 #[derive(Drop)]
 pub struct Union {
@@ -60,7 +60,7 @@ impl Members {
         }
     }
 
-    /// Equal members, and an equal fallback.
+    /// A copy of the members and the fallback.
     fn try_clone(&self) -> Result<Self, BtfError>
         ensures members { IsOrNoMemory (λ m. flat_map member_words (members_of m)) result
             (Ok (flat_map member_words (members_of self.now))) }
@@ -103,8 +103,8 @@ impl Model for Union {
 }
 
 impl Union {
-    /// A union of `size` bytes with these members, and the ENUM64 that it stands in for, if it does. There are at most
-    /// `MAX_VLEN` of them.
+    /// A union of `size` bytes with these members, and the ENUM64 that it replaces, if there is one. There are at most
+    /// `MAX_VLEN` members.
     pub fn new(
         name_offset: u32,
         size: u32,
@@ -192,7 +192,7 @@ impl Union {
         }
     }
 
-    /// The ENUM64 that the union stands in for, if it does.
+    /// The ENUM64 that the union replaces, if there is one.
     pub fn enum64_fallback(&self) -> Option<&Enum64Fallback>
         ensures { self.now.fallback ≡ fallback_of_option (option_copied result) }
     {
@@ -210,7 +210,7 @@ impl Union {
         3 * size_of_val(&self.info) + 12 * self.items().len()
     }
 
-    /// An equal record. `OutOfMemory` is the only error.
+    /// A copy of the record. `OutOfMemory` is the only error.
     pub fn try_clone(&self) -> Result<Self, BtfError>
         ensures { IsOrNoMemory (λ r. r) result (Ok self.now) }
     {

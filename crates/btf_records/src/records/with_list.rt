@@ -1,4 +1,4 @@
-//! What the records with a list have in common: three words, and as many items as vlen says.
+//! The common parts of all records with a list: three words, and as many items as vlen gives.
 
 ghost use Rattle.std.specs.Prelude.{◌≡◌, ℕ, ◌*◌, ◌++◌, [], ◌∷◌, List, length, Some, None, OnOk};
 ghost use Rattle.std.specs.List.{flat_map};
@@ -18,7 +18,7 @@ pub trait WithList: Sized {
     /// An item of the list.
     type Element: Item;
 
-    /// The list, a few items of which lie in the record itself.
+    /// The list. A few items are stored in the record itself.
     type Items;
 
     /// The items of a list, in order.
@@ -30,10 +30,10 @@ pub trait WithList: Sized {
     /// The words of the record.
     ghost words: { Self → Record };
 
-    /// Nothing is kept beside the words.
+    /// The record has no data besides its words.
     ghost words_alone: { Self → Type 0 };
 
-    /// So many items from the front of bytes. `InvalidTypeInfo` where the bytes end before them.
+    /// Reads `count` items from the front of bytes. Fails with `InvalidTypeInfo` if the bytes are too few.
     fn read_list(
         alloc: Global,
         bytes: &[u8],
@@ -44,7 +44,7 @@ pub trait WithList: Sized {
             (ReadsItems Self.Element.width Self.Element.item_words endianness
             bytes.now count) };
 
-    /// The record of these words, for what is read.
+    /// The record of these words, for the reader.
     fn from_parts(name_offset: u32, info: u32, third: u32, items: Self::Items) -> Self
         requires kind { kind_of info ≡ Some kind }
         requires count { vlen info ≡ length (listed items) }
@@ -56,12 +56,12 @@ pub trait WithList: Sized {
         } }
         ensures alone { words_alone result };
 
-    /// The record as one of any kind.
+    /// The record as a `BtfType`.
     fn into_type(self) -> BtfType
         ensures words { record_of result ≡ words self }
         ensures alone { words_alone self → fallback_of result ≡ None };
 
-    /// The three words in front of the items.
+    /// The three words before the items.
     fn front(&self) -> [u32; 3]
         ensures words { result ≡ (words self.now).name ∷ (words self.now).info
             ∷ (words self.now).third ∷ [] }
@@ -80,11 +80,11 @@ pub trait WithList: Sized {
     /// The tail of a record of the kind is the words of its items.
     ghost tail_width: { (n : ℕ) → tail_words kind n ≡ Self.Element.width * n };
 
-    /// A record of the kind is kept as it is.
+    /// Reading retains all words of a record of this kind.
     ghost is_kept: { (r : Record) → kept kind r ≡ r };
 }
 
-/// Writes a record with a list at the end of bytes, in this order.
+/// Appends a record with a list to bytes, in this byte order.
 pub fn append_with_list<R: WithList>(
     list: &R,
     out: &mut Vec<u8>,

@@ -42,10 +42,11 @@ use std::hash::BuildHasher;
 /// The length of an entry in bytes.
 const ENTRY_LEN: usize = 12;
 
-/// The STRUCT of this name that a DATASEC becomes, with a member for each entry. `names` are the string offsets of the
-/// names that all lower ids have by now.
+/// The STRUCT of this name that a DATASEC becomes, with a member for each entry. `names` has the string offsets of the
+/// new names of all lower ids.
 ///
-/// `UnknownBtfType` of an entry's id that has no type; `InvalidTypeInfo` where an offset in bits has more than 32 bits.
+/// Fails with `UnknownBtfType` of an entry's id that has no type, and with `InvalidTypeInfo` if an offset in bits has
+/// more than 32 bits.
 fn as_struct(
     btf: &Btf,
     names: &[u32],
@@ -66,11 +67,12 @@ fn as_struct(
     Ok(Some(BtfType::Struct(Struct::new(name_offset, members, size))))
 }
 
-/// The DATASEC of this name and size, with each entry at the offset of its symbol, but for those of Static variables.
+/// The DATASEC of this name and size, with each entry at the offset of its symbol; entries of Static variables are
+/// unchanged.
 ///
-/// Of each entry in turn: `UnknownBtfType` of an id that has no type, and `InvalidDatasec` where it is no VAR;
-/// `InvalidStringOffset` where its name can't be read; `SymbolOffsetNotFound` where no symbol has that name, or its
-/// offset has more than 32 bits.
+/// Reports the first error of the entries in order: `UnknownBtfType` of an id that has no type, `InvalidDatasec` if the
+/// type is no VAR, `InvalidStringOffset` if its name can't be read, and `SymbolOffsetNotFound` if no symbol has the
+/// name, or if the symbol's offset has more than 32 bits.
 fn with_symbol_offsets<H: BuildHasher>(
     btf: &Btf,
     symbols: &HashMap<String, u64, H>,
@@ -98,11 +100,11 @@ fn with_symbol_offsets<H: BuildHasher>(
     Ok(Some(BtfType::DataSec(DataSec::new(name_offset, entries, size))))
 }
 
-/// The size that a DATASEC has in the end: its own, or that of its section, by its name, where it has none. The size of a
-/// section with a long name is remembered in `sizes`, so that such a name is read once.
+/// The final size of a DATASEC: its own size, or the size of its section, by its name, if its own size is 0. `sizes`
+/// caches the size of a section with a long name, so that such a name is read once.
 ///
-/// Of one of size 0: `InvalidStringOffset` where the name can't be read; `UnknownSectionSize` of the name where the
-/// size isn't known or has more than 32 bits.
+/// For a DATASEC of size 0: fails with `InvalidStringOffset` if the name can't be read, and with `UnknownSectionSize`
+/// of the name if the size isn't known or has more than 32 bits.
 fn final_size<G: BuildHasher>(
     btf: &Btf,
     sections: &HashMap<String, (SectionIndex, u64), G>,
@@ -136,8 +138,9 @@ fn final_size<G: BuildHasher>(
     Ok(size)
 }
 
-/// Whether a DATASEC of this size in the end gets the filler for its entry: it has none, and that size is 0, or the
-/// kernel takes no DATASEC without entries. One that has a size of its own gets it only under a policy that fills such.
+/// Whether a DATASEC of this final size gets the filler as its entry: it has no entries, and the final size is 0 or the
+/// kernel does not accept a DATASEC without entries. A DATASEC that has a size of its own gets the filler only under a
+/// policy that fills it.
 fn wants_filler<F: FnMut(BtfFeature) -> bool>(
     data_sec: &DataSec,
     size: u32,
@@ -161,10 +164,11 @@ fn wants_filler<F: FnMut(BtfFeature) -> bool>(
     size == 0 || !resolver.is_supported(BtfFeature::DataSecZero)
 }
 
-/// The DATASEC of this name and size whose one entry is the filler. It has 12 bytes more than one without entries.
+/// The DATASEC of this name and size whose only entry is the filler. It is 12 bytes longer than a DATASEC without
+/// entries.
 ///
-/// `InvalidStringOffset` and `InvalidTypeInfo` where strings or types have no room for the filler;
-/// `InvalidTypeInfo` where types have none for the entry.
+/// Fails with `InvalidStringOffset` or `InvalidTypeInfo` if the filler does not fit in the strings or the types, and
+/// with `InvalidTypeInfo` if the entry does not fit in the types.
 fn filled(
     made: &mut Made,
     btf: &Btf,
@@ -192,19 +196,19 @@ fn filled(
     Ok(Some(BtfType::DataSec(DataSec::new(name_offset, entries, size))))
 }
 
-/// The rule of a DATASEC; None where it stays. A kernel that takes none gets a STRUCT of its entries. For
-/// another, a DATASEC of size 0 gets the size of its section, and each entry the offset of its symbol; one that
-/// has no entries gets the filler for its entry, where its section has size 0, or where the kernel takes no
-/// DATASEC without entries. One that has a size keeps it, and gets the filler only under a policy that fills
-/// such, where the kernel takes none without entries. Its name becomes one that the kernel takes.
+/// The rule of a DATASEC; None if it is unchanged. For a kernel without DATASEC it becomes a STRUCT of its entries. For
+/// a kernel with DATASEC, its name becomes one that the kernel accepts. A DATASEC of size 0 gets the size of its
+/// section, and each entry gets the offset of its symbol; if it has no entries, it gets the filler if its section has
+/// size 0, or if the kernel does not accept a DATASEC without entries. A DATASEC that has a size retains it; if it has
+/// no entries, it gets the filler only if the policy fills it and the kernel does not accept a DATASEC without entries.
 ///
-/// The first cause is reported. `InvalidStringOffset` where the name can't be read or strings have no room
-/// for the new one. As a STRUCT: `UnknownBtfType` of an entry's id that has no type, and `InvalidTypeInfo` where
-/// its offset in bits has more than 32 bits. Of a DATASEC of size 0: `UnknownSectionSize` where the size of its
-/// section isn't known or has more than 32 bits. Of one that gets the filler: `InvalidStringOffset` and
-/// `InvalidTypeInfo` where strings or types have no room for it. Of each entry of a DATASEC of size 0 in turn:
-/// `UnknownBtfType`, `InvalidDatasec` where it names no VAR, `InvalidStringOffset` where the name of that can't
-/// be read, and `SymbolOffsetNotFound` where the offset of its symbol isn't known or has more than 32 bits.
+/// Reports the first error, in this order. `InvalidStringOffset` if the name can't be read or the new name does not fit
+/// in the strings. If it becomes a STRUCT: `UnknownBtfType` of an entry's id that has no type, and `InvalidTypeInfo` if
+/// the entry's offset in bits has more than 32 bits. For a DATASEC of size 0: `UnknownSectionSize` if the size of its
+/// section isn't known or has more than 32 bits. For a DATASEC that gets the filler: `InvalidStringOffset` or
+/// `InvalidTypeInfo` if the filler does not fit in the strings or the types. For each entry of a DATASEC of size 0, in
+/// order: `UnknownBtfType`, `InvalidDatasec` if the entry names no VAR, `InvalidStringOffset` if the VAR's name can't
+/// be read, and `SymbolOffsetNotFound` if the offset of its symbol isn't known or has more than 32 bits.
 pub fn rewrite_section<F: FnMut(BtfFeature) -> bool, G: BuildHasher, H: BuildHasher>(
     made: &mut Made,
     btf: &Btf,

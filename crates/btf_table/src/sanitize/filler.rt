@@ -20,7 +20,7 @@ const FILLER: &str = "__aya_datasec_filler";
 /// Appends the filler, which a DATASEC without entries gets: an INT of one byte and a Static VAR of it, each with a
 /// text for its name. Returns the id of the VAR.
 ///
-/// `InvalidStringOffset` and `InvalidTypeInfo` where strings or types have no room.
+/// Fails with `InvalidStringOffset` or `InvalidTypeInfo` if the filler does not fit in the strings or the types.
 pub fn append_filler(btf: &Btf, changes: &mut Changes) -> Result<u32, BtfError>
     requires { HasRoom btf.now changes.old }
     ensures answer { IsOrNoMemory (λ id. id) result (checked (first_fault

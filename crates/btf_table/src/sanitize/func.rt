@@ -17,11 +17,11 @@ use btf_plain::{BtfError, Func, FuncLinkage};
 use btf_records::BtfType;
 use btf_rules::{BtfFeature, BtfFeatureResolver, is_builtin, made_static};
 
-/// What a FUNC becomes. For a kernel that has no functions it changes in place, to a TYPEDEF of the prototype; for one
-/// that has no Global ones, or knows a Global one as its own, it becomes Static.
+/// What a FUNC becomes. For a kernel without FUNC it changes in place to a TYPEDEF of the prototype. A Global FUNC
+/// becomes Static if the kernel has no Global functions, or if the kernel has a builtin of this name.
 ///
-/// `InvalidStringOffset` where its name can't be read, which is where its offset isn't below `readable_end`. The name
-/// itself is not read, however long it is.
+/// Fails with `InvalidStringOffset` if its name can't be read, that is, if the name's offset isn't below
+/// `readable_end`. The name itself is not read, however long it is.
 pub fn rewrite_func<F: FnMut(BtfFeature) -> bool>(
     btf: &Btf,
     func: &Func,

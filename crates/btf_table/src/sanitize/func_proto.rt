@@ -38,8 +38,8 @@ pub fn has_unnamed(proto: &FuncProto) -> bool
     any_unnamed(proto.params())
 }
 
-/// The string offset of the name that the parameter at a place gets: that of a new text, where it has a type and no
-/// name. `InvalidStringOffset` where such a text has no room.
+/// The string offset of the new name of the parameter at an index: a new text is appended if the parameter has a type
+/// and no name. Fails with `InvalidStringOffset` if the text does not fit.
 fn param_name_offset(
     btf: &Btf,
     changes: &mut Changes,
@@ -63,8 +63,8 @@ fn param_name_offset(
     }
 }
 
-/// The prototype, with a new text for the name of each parameter that has a type and no name: `param` and its place
-/// among all in decimal. `InvalidStringOffset` where such a text has no room.
+/// The prototype, with a new text for the name of each parameter that has a type and no name: `param` and its index
+/// among all parameters in decimal. Fails with `InvalidStringOffset` if such a text does not fit.
 pub fn with_param_names(
     btf: &Btf,
     changes: &mut Changes,

@@ -24,7 +24,7 @@ const INT: &str = "int";
 
 const INT_LEN: usize = 16;
 
-/// What takes the place of functions: a VAR.
+/// The placeholder: a VAR that replaces functions.
 #[derive(Clone, Copy)]
 struct Placeholder {
     id: u32,
@@ -42,7 +42,8 @@ struct Target {
     placeholder: Option<Placeholder>,
 }
 
-/// The ids that the entries name, in sets that are ordered, since a stranger chose the ids.
+/// The ids that the entries name. The sets are ordered trees, because the ids are untrusted and could be chosen to
+/// collide in a hash table.
 #[derive(Drop)]
 struct Symbols {
     /// The functions and variables themselves.
@@ -55,7 +56,7 @@ impl Symbols {
     ghost use Rattle.std.specs.Prelude.{◌≡◌, ◌==◌, true, false, cond, OnOk};
     ghost use Rattle.btf_table.specs.KsymsStep.{has, is_this};
 
-    /// The ids of no entries.
+    /// Empty sets.
     fn new(alloc: Global) -> Symbols
         ensures ids { (q : _) → has result.ids q ≡ false }
         ensures prototypes { (q : _) → has result.prototypes q ≡ false }
@@ -66,7 +67,7 @@ impl Symbols {
         }
     }
 
-    /// Adds an id, and the prototype that it has if it is a function.
+    /// Adds an id, and its prototype if it is a function.
     fn add(&mut self, id: u32, prototype: Option<u32>) -> Result<(), AllocError>
         ensures ids { OnOk result ((q : _)
             → has self.new.ids q ≡ cond (id == q) true (has self.old.ids q)) }
@@ -138,7 +139,7 @@ fn named_data_sec(btf: &Btf, id: u32, readable_end: usize) -> Result<&DataSec, B
     Ok(data_sec)
 }
 
-/// The prototype of the FUNC of an id, where it is one. It is a FUNC or a VAR, whose name can be read.
+/// The prototype of an id that is a FUNC, or None if it is a VAR. Fails if it is neither, or if its name can't be read.
 fn symbol_prototype(
     btf: &Btf,
     id: u32,
@@ -194,7 +195,7 @@ impl Target {
     ghost use Rattle.btf_rewrite_model.specs.Ksyms.{entry_type};
     ghost use Rattle.btf_table.specs.KsymsStep.{IsLike};
 
-    /// The type that an entry of this one gets: the placeholder in place of a FUNC, where there is one.
+    /// The new type of an entry that has this type: the placeholder, if there is one, replaces a FUNC.
     fn entry_type(&self, btf: &Btf, type_id: u32) -> u32
         ensures { (placeholder : Option ℕ) → self.now ≡ target_of btf.now placeholder
             → result ≡ entry_type btf.now placeholder type_id }
@@ -211,7 +212,7 @@ impl Target {
         }
     }
 
-    /// What the prototype of a function among the symbols becomes; None where it stays.
+    /// What the prototype of a function among the symbols becomes; None if it is unchanged.
     fn new_proto(&self, proto: &FuncProto) -> Result<Option<BtfType>, BtfError>
         ensures words { (t : Table) (placeholder : Option ℕ) → self.now ≡ target_of t placeholder
             → IsOrNoMemory (λ new. record_of (unwrap_or new (BtfType.FuncProto proto.now))) result
@@ -246,7 +247,7 @@ impl Target {
     }
 }
 
-/// What the step does to each type.
+/// The step of `.ksyms`: what it changes each type to.
 #[derive(Drop)]
 struct Step {
     target: Target,
@@ -276,7 +277,7 @@ impl Step {
         })
     }
 
-    /// The type that the one of an id becomes; None where it stays.
+    /// The type that the type of an id becomes; None if it is unchanged.
     fn new_type(&self, btf: &Btf, id: u32, btf_type: &BtfType) -> Result<Option<BtfType>, BtfError>
         requires { slice_get btf.now.records id ≡ Some (record_of btf_type.now) }
         ensures words { (ids : KsymsIds) → IsStep btf.now ids self.now
@@ -285,7 +286,7 @@ impl Step {
         ensures like { (ids : KsymsIds) → IsStep btf.now ids self.now
             → IfOk result (λ new. IfSome new (IsLike btf_type.now)) }
     {
-        // The contract speaks of the kind in the info word, which a use of it shows.
+        // The contract is about the kind in the info word, which this use of it shows.
         let _ = btf_type.info();
         match btf_type {
             BtfType::Func(func) if self.symbols.ids.contains(&id) => {

@@ -20,15 +20,15 @@ use btf_records::BtfType;
 use btf_rules::denied_name_offset;
 use std::alloc::AllocError;
 
-/// What a pass has made of the ids below the one that it comes to.
+/// What a pass has made of the ids below the current one.
 #[derive(Drop)]
 pub struct Made {
     pub changes: Changes,
-    /// The string offset of the name that each of these ids has now.
+    /// The string offset of the new name of each of these ids.
     pub names: Vec<u32>,
-    /// The type of the members of UNIONs that were ENUM64s, once there is one.
+    /// The member type of the UNIONs that replace ENUM64s, after it is appended.
     pub member_type: Option<u32>,
-    /// The variable of DATASECs that have no other, once there is one.
+    /// The filler's variable, after it is appended.
     pub filler: Option<u32>,
 }
 
@@ -37,7 +37,7 @@ impl Made {
     ghost use Rattle.btf_records.specs.BtfType.{type_kind};
     ghost use Rattle.btf_table.specs.PassStep.{kept_changes, kept_ids, made_of, placed_of};
 
-    /// What a pass has made when it begins: nothing, and the type of id 0 stays.
+    /// What a pass has made when it begins: nothing. The type of id 0 never changes.
     pub fn new(btf: &Btf) -> Result<Made, AllocError>
         ensures types { IfOk result (λ m. m.changes.types.items ≡ []) }
         ensures strings { IfOk result (λ m. m.changes.new_strings.items ≡ []) }
@@ -58,8 +58,8 @@ impl Made {
         })
     }
 
-    /// The type of the members of UNIONs that were ENUM64s, which is appended where there is none yet.
-    /// `InvalidStringOffset` and `InvalidTypeInfo` where strings or types have no room for it.
+    /// The member type of the UNIONs that replace ENUM64s. It is appended if there is none yet. Fails with
+    /// `InvalidStringOffset` or `InvalidTypeInfo` if it does not fit in the strings or the types.
     pub fn member_type(&mut self, btf: &Btf) -> Result<u32, BtfError>
         requires { HasRoom btf.now self.old.changes }
         ensures there { (id : _) → self.old.member_type ≡ Some id → (result ≡ Ok id)
@@ -84,8 +84,8 @@ impl Made {
         Ok(id)
     }
 
-    /// The variable of DATASECs that have no other, which is appended where there is none yet. `InvalidStringOffset`
-    /// and `InvalidTypeInfo` where strings or types have no room for it.
+    /// The filler's variable. The filler is appended if there is none yet. Fails with `InvalidStringOffset` or
+    /// `InvalidTypeInfo` if it does not fit in the strings or the types.
     pub fn filler(&mut self, btf: &Btf) -> Result<u32, BtfError>
         requires { HasRoom btf.now self.old.changes }
         ensures there { (id : _) → self.old.filler ≡ Some id → (result ≡ Ok id)
@@ -111,7 +111,7 @@ impl Made {
         Ok(id)
     }
 
-    /// Keeps what a type becomes: the type that takes its place, or its id, where it is to change in place.
+    /// Records what a type becomes: the type that replaces it, or its id if it will change in place.
     #[inline(always)]
     pub fn keep(
         &mut self,

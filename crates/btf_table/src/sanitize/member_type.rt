@@ -16,8 +16,9 @@ use btf_records::BtfType;
 /// The name of the member type.
 const MEMBER_TYPE: &str = "enum64_placeholder";
 
-/// Appends the member type: an INT of one byte with a name of its own, which each UNION in place of an ENUM64 shares.
-/// Returns its id. `InvalidStringOffset` and `InvalidTypeInfo` where strings or types have no room for it.
+/// Appends the member type and returns its id. It is an INT of one byte with a name of its own, and all UNIONs that
+/// replace ENUM64s share it. Fails with `InvalidStringOffset` or `InvalidTypeInfo` if it does not fit in the strings or
+/// the types.
 pub fn append_member_type(btf: &Btf, changes: &mut Changes) -> Result<u32, BtfError>
     requires { HasRoom btf.now changes.old }
     ensures answer { IsOrNoMemory (λ id. id) result (checked (first_fault

@@ -1,4 +1,4 @@
-//! What the rule of a type makes of it.
+//! The outcome of a type's rule.
 
 ghost use Rattle.std.specs.Prelude.{◌≡◌};
 ghost use Rattle.std.specs.Result.{result_map_both};
@@ -10,15 +10,15 @@ use btf_records::BtfType;
 /// What a type becomes.
 #[derive(Drop)]
 pub enum Outcome {
-    /// It stays.
+    /// It is unchanged.
     Same,
     /// It changes in place, as `deny` changes it.
     Denied,
-    /// Another type takes its place.
+    /// Another type replaces it.
     Other(BtfType),
 }
 
-/// The outcome of a rule that puts another type in its place, or None, where it stays.
+/// The outcome of a rule that replaces the type, or leaves it unchanged if there is None.
 pub fn placed(made: Result<Option<BtfType>, BtfError>) -> Result<Outcome, BtfError>
     ensures { result ≡ result_map_both outcome_of (λ e. e) made }
 {

@@ -29,8 +29,8 @@ use btf_rules::{BtfFeature, BtfFeatureResolver, FillPolicy, sole_feature};
 use std::collections::HashMap;
 use std::hash::BuildHasher;
 
-/// Whether the kernel has the one feature that a type asks for; true where it asks for none. The type is neither a FUNC
-/// nor a DATASEC.
+/// Whether the kernel has the one feature that a type asks for; true if the type asks for none. The type is neither a
+/// FUNC nor a DATASEC.
 fn has_sole_feature<F: FnMut(BtfFeature) -> bool>(
     btf_type: &BtfType,
     resolver: &mut BtfFeatureResolver<F>,
@@ -56,11 +56,11 @@ fn has_sole_feature<F: FnMut(BtfFeature) -> bool>(
     }
 }
 
-/// The rule of a type, by its kind. `names` are those that the pass has read.
+/// The rule of a type, by its kind. `names` caches the names that the pass has read.
 ///
-/// `InvalidStringOffset` where the name of a FUNC or a DATASEC can't be read, or strings have no room for what is
-/// appended; `InvalidTypeInfo` where types have no room for it; and of a DATASEC, `UnknownBtfType`,
-/// `InvalidDatasec`, `UnknownSectionSize` and `SymbolOffsetNotFound`.
+/// Fails with `InvalidStringOffset` if the name of a FUNC or a DATASEC can't be read, or if an appended text does not
+/// fit in the strings; with `InvalidTypeInfo` if an appended type does not fit in the types; and for a DATASEC with
+/// `UnknownBtfType`, `InvalidDatasec`, `UnknownSectionSize` or `SymbolOffsetNotFound`.
 fn rewrite_type<F: FnMut(BtfFeature) -> bool, G: BuildHasher, H: BuildHasher>(
     made: &mut Made,
     btf: &Btf,
@@ -110,13 +110,13 @@ fn rewrite_type<F: FnMut(BtfFeature) -> bool, G: BuildHasher, H: BuildHasher>(
 /// What a pass changes in a table.
 #[derive(Drop)]
 pub struct PassChanges {
-    /// What is appended, and the types that take the place of others.
+    /// The appended strings and types, and the types that replace others.
     pub changes: Changes,
-    /// The ids of the types that `deny` changes in place, once these are in the table.
+    /// The ids of the types that `deny` changes in place after these changes are applied.
     pub denied: Vec<u32>,
 }
 
-/// What a pass changes in a table, for a kernel that has what the resolver says, or why it is refused.
+/// What a pass changes in a table, for a kernel whose features the resolver reports, or why the pass is refused.
 pub fn pass_changes<F: FnMut(BtfFeature) -> bool, G: BuildHasher, H: BuildHasher>(
     btf: &Btf,
     sections: &HashMap<String, (SectionIndex, u64), G>,

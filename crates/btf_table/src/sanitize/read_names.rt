@@ -1,4 +1,4 @@
-//! Names that records of a table share.
+//! A cache for names that records of a table share.
 
 ghost use Rattle.btf_rewrite_model.specs.Pass.{Layout};
 ghost use Rattle.btf_table.specs.ReadNames.{AreRead};
@@ -6,16 +6,16 @@ ghost use Rattle.btf_table.specs.ReadNames.{AreRead};
 use crate::table::Btf;
 use std::collections::BTreeMap;
 
-/// The length in bytes above which a name is remembered. A shorter one is read again in less time.
+/// The length in bytes above which a name is cached. Reading a shorter name again is faster.
 pub const LONG_NAME: usize = 64;
 
-/// The long names that a pass has read, and what it has found under them, by their string offsets. Each is read once,
+/// The long names that a pass has read, and what it has found for them, by their string offsets. Each is read once,
 /// however many records share it.
 #[derive(Drop)]
 pub struct ReadNames {
     /// Names can be read at the offsets below this one.
     pub readable_end: usize,
-    /// At these offsets are names that DATASECs keep, where the kernel takes DATASECs (true) or takes none (false).
+    /// The offsets of names that a DATASEC retains on a kernel that has DATASECs (true) or has none (false).
     pub kept: BTreeMap<u32, bool>,
     /// The sizes of the sections of these names.
     pub sizes: BTreeMap<u32, u32>,
@@ -24,7 +24,7 @@ pub struct ReadNames {
 }
 
 impl ReadNames {
-    /// No name is read yet. No memory is taken.
+    /// An empty cache. Allocates no memory.
     pub fn new(btf: &Btf) -> Self
         ensures { (layout : Layout) → AreRead btf.now.strings layout result }
     {

@@ -1,4 +1,4 @@
-//! The rules of types that ask for one feature at most.
+//! The rules of types that ask for at most one feature.
 
 ghost use Rattle.std.specs.Prelude.{◌≡◌, true, false};
 ghost use Rattle.std.specs.Option.{unwrap_or};
@@ -18,8 +18,8 @@ use btf_plain::BtfError;
 use btf_records::{BtfType, Enum64, FuncProto};
 use btf_rules::{as_enum, as_union, changes_in_place};
 
-/// The rule of a FUNC_PROTO: its parameters get names, or it becomes an ENUM; None where it stays.
-/// `InvalidStringOffset` where strings have no room for the names.
+/// The rule of a FUNC_PROTO: its parameters get names, or it becomes an ENUM; None if it is unchanged. Fails with
+/// `InvalidStringOffset` if the names do not fit in the strings.
 #[inline(never)]
 fn rewrite_proto(
     made: &mut Made,
@@ -42,8 +42,8 @@ fn rewrite_proto(
     Ok(Some(BtfType::FuncProto(proto)))
 }
 
-/// The rule of an ENUM64 for a kernel that has none: it becomes a UNION. `InvalidStringOffset` and
-/// `InvalidTypeInfo` where strings or types have no room for the type of its members.
+/// The rule of an ENUM64 for a kernel without ENUM64: it becomes a UNION. Fails with `InvalidStringOffset` or
+/// `InvalidTypeInfo` if the member type does not fit in the strings or the types.
 #[inline(never)]
 fn rewrite_enum64(made: &mut Made, btf: &Btf, enum64: &Enum64) -> Result<BtfType, BtfError>
     requires { HasRoom btf.now made.old.changes }
@@ -54,8 +54,8 @@ fn rewrite_enum64(made: &mut Made, btf: &Btf, enum64: &Enum64) -> Result<BtfType
     Ok(BtfType::Union(as_union(btf.allocator(), enum64, member_type)?))
 }
 
-/// The rule of a type that is neither a FUNC nor a DATASEC, where the kernel has the feature that it asks for, or
-/// where it has not.
+/// The rule of a type that is neither a FUNC nor a DATASEC, for a kernel that has or lacks the feature that the type
+/// asks for.
 #[inline(always)]
 pub fn rewrite_by(
     made: &mut Made,

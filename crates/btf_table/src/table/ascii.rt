@@ -1,4 +1,4 @@
-//! Texts of ASCII alone, which most names are: their end is found 16 bytes at a time.
+//! Texts that are pure ASCII, as most names are. The search for their end checks 16 bytes at a time.
 
 ghost use Rattle.std.specs.Prelude.{◌≡◌, ℕ, ◌+◌, ◌-◌, ◌<◌, ◌≤◌, not, leb, length, take, drop, IfOk, IfErr, IsTrue};
 ghost use Rattle.std.specs.List.{prefix_len};
@@ -7,13 +7,13 @@ ghost use Rattle.btf_table.specs.Ascii.{lowest_bit, IsAsciiEnd, IsAsciiText, Beg
 
 use std::simd::prelude::*;
 
-/// The number of bytes that are looked at at once.
+/// The number of bytes that are checked in one step.
 const LANES: usize = 16;
 
-/// The number of bytes that are passed over together. A byte costs less so than in the search for a zero byte alone.
+/// The number of bytes that are skipped in one step. Per byte this is faster than a search for a zero byte.
 const BLOCK: usize = 64;
 
-/// The place of the lowest bit that is set, or `LANES` where none is.
+/// The index of the lowest bit that is set, or `LANES` if none is set.
 #[inline(always)]
 fn lowest_bit(mask: u64) -> usize
     ensures { result ≡ lowest_bit mask LANES }
@@ -25,7 +25,8 @@ fn lowest_bit(mask: u64) -> usize
     }
 }
 
-/// How many of the 16 bytes at a place come before the first that is zero, and before the first that is not ASCII.
+/// Of the 16 bytes at a place: the number of bytes before the first zero byte, and before the first byte that is not
+/// ASCII.
 #[inline(always)]
 fn runs_at(bytes: &[u8], at: usize) -> (usize, usize)
     requires { at + LANES ≤ length bytes.now }
@@ -60,8 +61,8 @@ fn is_plain_block(bytes: &[u8], at: usize) -> bool
         && is_plain(bytes, at + 48)
 }
 
-/// The place itself, but at the end of the first block the place after all blocks from there on that are ASCII, with no
-/// zero byte. Most texts end in the first block, where 16 bytes at a time find the end sooner.
+/// At the end of the first block: the place after all further blocks that are ASCII without a zero byte. At any other
+/// place: the place itself. Most texts end in the first block, and there 16 bytes at a time find the end sooner.
 #[inline(always)]
 fn after_first_block(bytes: &[u8], from: usize) -> usize
     requires { BeginsAscii bytes.now from }
@@ -75,7 +76,7 @@ fn after_first_block(bytes: &[u8], from: usize) -> usize
     }
 }
 
-/// The place after the blocks at a place that are ASCII, with no zero byte.
+/// The place after the blocks from a place on that are ASCII without a zero byte.
 #[inline(never)]
 fn after_blocks(bytes: &[u8], from: usize) -> usize
     requires { BeginsAscii bytes.now from }
@@ -92,8 +93,8 @@ fn after_blocks(bytes: &[u8], from: usize) -> usize
     at
 }
 
-/// The length of the text at the front of bytes, up to the first zero byte, where it is of ASCII alone. Otherwise the
-/// number of bytes at the front that are known to be ASCII, and not zero.
+/// The length of the text at the front of bytes, up to the first zero byte, if the text is pure ASCII. Otherwise the
+/// number of bytes at the front that are known to be ASCII and not zero.
 pub fn ascii_len(bytes: &[u8]) -> Result<usize, usize>
     ensures found { IfOk result (IsAsciiEnd bytes.now) }
     ensures ascii { IfErr result (BeginsAscii bytes.now) }
@@ -117,7 +118,7 @@ pub fn ascii_len(bytes: &[u8]) -> Result<usize, usize>
     last_ascii_len(bytes, at)
 }
 
-/// The same, where fewer than 16 bytes are left at a place: the last 16 bytes are looked at, some of them once more.
+/// The same for a place with fewer than 16 bytes left: the last 16 bytes are checked, some of them for the second time.
 fn last_ascii_len(bytes: &[u8], at: usize) -> Result<usize, usize>
     requires begins { BeginsAscii bytes.now at }
     requires few { length bytes.now - at < LANES }
@@ -136,14 +137,14 @@ fn last_ascii_len(bytes: &[u8], at: usize) -> Result<usize, usize>
     Err(at)
 }
 
-/// The text at the front of bytes, up to the first zero byte, where `ascii_len` finds it. Otherwise the number of bytes at
-/// the front that are known to be ASCII, and not zero.
+/// The text at the front of bytes, up to the first zero byte, if `ascii_len` finds its end. Otherwise the number of
+/// bytes at the front that are known to be ASCII and not zero.
 #[inline(always)]
 pub fn ascii_text(bytes: &[u8]) -> Result<&str, usize>
     ensures text { IfOk result (λ text. IsAsciiText bytes.now text.now) }
     ensures ascii { IfErr result (BeginsAscii bytes.now) }
 {
     let text = &bytes[..ascii_len(bytes)?];
-    // SAFETY: ASCII is UTF-8, which is what the call demands, and what is proved of these bytes.
+    // SAFETY: these bytes are proved to be ASCII, which is UTF-8, as the call requires.
     Ok(unsafe { str::from_utf8_unchecked(text) })
 }

@@ -1,4 +1,4 @@
-//! Changes of a table that are made apart from it, and then put in at once.
+//! Changes of a table. They are stored apart from the table, and then applied in one step.
 
 ghost use Rattle.std.specs.Prelude.{◌≡◌, length, OnOk, OnErr, IfOk, IfErr};
 ghost use Rattle.btf_model.specs.Table.{Table};
@@ -13,10 +13,10 @@ use btf_rules::deny;
 use std::alloc::{AllocError, Global};
 use std::mem;
 
-/// New types in the place of others, and what is appended.
+/// New types that replace others, and what is appended.
 #[derive(Drop)]
 pub struct Changes {
-    /// Each with the id of the type in whose place it comes.
+    /// Each new type with the id of the type that it replaces.
     pub types: Vec<(u32, BtfType)>,
     /// The bytes that are appended to the strings.
     pub new_strings: Vec<u8>,
@@ -53,8 +53,8 @@ impl Changes {
         }
     }
 
-    /// Appends a text and a zero byte to the strings, and returns the offset of the text. `InvalidStringOffset` of that
-    /// offset where the strings of the table and the new ones would pass their limit.
+    /// Appends a text and a zero byte to the strings, and returns the offset of the text. Fails with
+    /// `InvalidStringOffset` of this offset if the strings of the table and the new strings would exceed their limit.
     pub fn append_text(&mut self, btf: &Btf, text: &str) -> Result<u32, BtfError>
         requires { HasRoom btf.now self.old }
         ensures answer { IsOrNoMemory (λ offset. offset) result
@@ -68,7 +68,7 @@ impl Changes {
         Ok(offset as u32)
     }
 
-    /// Appends a type, and returns its id. `InvalidTypeInfo` where the records would pass their limit.
+    /// Appends a type, and returns its id. Fails with `InvalidTypeInfo` if the records would exceed their limit.
     pub fn append_type(&mut self, btf: &Btf, btf_type: BtfType) -> Result<u32, BtfError>
         requires room { HasRoom btf.now self.old }
         requires no_fallback { fallback_of btf_type ≡ None }
@@ -96,7 +96,7 @@ impl Changes {
         Ok(())
     }
 
-    /// Appends a type, for whose record there is room.
+    /// Appends a type whose record fits.
     pub fn push_type(&mut self, btf_type: BtfType) -> Result<(), AllocError>
         requires { self.old.type_len + (12 + 4 * length (record_of btf_type).tail) ≤ section_limit }
         ensures strings { self.new.new_strings ≡ self.old.new_strings }
@@ -113,10 +113,10 @@ impl Changes {
     }
 }
 
-/// What takes changes out of a table again.
+/// What is needed to revert changes of a table.
 #[derive(Drop)]
 pub struct Undo {
-    /// The types in whose place others came, each with its id.
+    /// The types that were replaced, each with its id.
     types: Vec<(u32, BtfType)>,
     /// The lengths of the strings and of the types, and of the records in bytes.
     string_len: usize,
@@ -124,7 +124,7 @@ pub struct Undo {
     type_len: u32,
 }
 
-/// Puts types in the place of others, which come in theirs.
+/// Swaps the types of these ids with the given types.
 fn swap_types(types: &mut [BtfType], changed: &mut [(u32, BtfType)])
     requires { AreInside (length types.old) changed.old }
     ensures put { types.new ≡ put_all changed.old types.old }
@@ -136,7 +136,7 @@ fn swap_types(types: &mut [BtfType], changed: &mut [(u32, BtfType)])
     }
 }
 
-/// Puts types back in the place of others, the last one first.
+/// Puts the replaced types back, the last one first.
 fn put_back_types(types: &mut [BtfType], old: &mut [(u32, BtfType)])
     requires { AreInside (length types.old) old.old }
     ensures { types.new ≡ put_back old.old types.old }
@@ -160,8 +160,8 @@ fn deny_each(alloc: Global, types: &mut [BtfType], ids: &[u32])
 }
 
 impl Btf {
-    /// Puts changes of this table into it, and returns what takes them out again. `OutOfMemory` is the only error, and
-    /// leaves the table as it was.
+    /// Applies changes to their table, and returns what is needed to revert them. `OutOfMemory` is the only error, and
+    /// leaves the table unchanged.
     pub(crate) fn apply(&mut self, mut changes: Changes) -> Result<Undo, BtfError>
         requires { AreOf self.old changes }
         ensures memory { IfErr result (λ e. e ≡ BtfError.OutOfMemory) }
@@ -186,7 +186,7 @@ impl Btf {
         })
     }
 
-    /// Takes changes out of the table again.
+    /// Reverts changes of the table.
     pub(crate) fn undo(&mut self, mut undo: Undo)
         requires { (old : Table) × Undoes undo self.old old }
         ensures { (old : Table) → Undoes undo self.old old → self.new ≡ old }
@@ -197,7 +197,7 @@ impl Btf {
         self.type_len = undo.type_len;
     }
 
-    /// Changes the types of these ids in place, as `deny` does, which takes no memory.
+    /// Changes the types of these ids in place, as `deny` does. Allocates no memory.
     pub(crate) fn deny_types(&mut self, ids: &[u32])
         requires { AreIds (length self.old.records) ids.now }
         ensures { self.new ≡ with_denied ids.now self.old }

@@ -24,7 +24,7 @@ pub struct Header {
     pub str_len: u32,
 }
 
-/// So many bytes of the data, which begin at an offset after the header. None where they pass the end.
+/// `len` bytes of the data from an offset on, which counts from the end of the header. None if they exceed the data.
 pub fn section(data: &[u8], hdr_len: u32, offset: u32, len: u32) -> Option<&[u8]>
     ensures { MatchOption result
         (length «data».now < hdr_len + offset + len)
@@ -36,7 +36,7 @@ pub fn section(data: &[u8], hdr_len: u32, offset: u32, len: u32) -> Option<&[u8]
 }
 
 impl Header {
-    /// The header at the front of the data, or `InvalidHeader` where fewer than 24 bytes stand there.
+    /// The header at the front of the data, or `InvalidHeader` if there are fewer than 24 bytes.
     pub fn read(data: &[u8], endianness: Endianness) -> Result<Header, BtfError>
         ensures { MatchResult result
             (λ h. (header_len ≤ length «data».now)
@@ -61,7 +61,7 @@ impl Header {
         })
     }
 
-    /// Writes the header at the end of bytes.
+    /// Appends the header to bytes.
     pub fn append_to(&self, out: &mut Vec<u8>, endianness: Endianness) -> Result<(), AllocError>
         ensures { OnOk result (out.new.items ≡ out.old.items
             ++ header_bytes endianness (header self.now)) }

@@ -1,4 +1,4 @@
-//! The room that strings and types have.
+//! The limits of the strings and the types.
 
 ghost use Rattle.std.specs.Prelude.{◌≡◌, ◌≤◌};
 ghost use Rattle.btf_rewrite_model.specs.Checks.{has_room, fits};
@@ -8,7 +8,7 @@ ghost use Rattle.btf_rules.specs.Checked.{checked};
 use crate::table::SECTION_LIMIT;
 use btf_plain::BtfError;
 
-/// Whether a text has room with its zero byte after so many bytes of strings; `InvalidStringOffset` of them if not.
+/// Fails with `InvalidStringOffset` of the length of the strings if a text and its zero byte do not fit after them.
 pub fn text_fits(offset: usize, text: &str) -> Result<(), BtfError>
     requires { offset ≤ SECTION_LIMIT }
     ensures { Meets (λ u. u) result (λ answer. answer ≡ checked (has_room offset text.now) tt) }
@@ -19,7 +19,7 @@ pub fn text_fits(offset: usize, text: &str) -> Result<(), BtfError>
     Ok(())
 }
 
-/// Whether a record of so many bytes has room after so many bytes of records; `InvalidTypeInfo` if not.
+/// Fails with `InvalidTypeInfo` if a record of this length does not fit after the records.
 pub fn record_fits(used: usize, bytes: usize) -> Result<(), BtfError>
     requires { used ≤ SECTION_LIMIT }
     ensures { Meets (λ u. u) result (λ answer. answer ≡ checked (fits used bytes) tt) }

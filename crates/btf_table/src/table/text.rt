@@ -19,12 +19,12 @@ use btf_plain::{BtfError, BtfKind};
 use btf_records::BtfType;
 use std::alloc::Global;
 
-/// A text of a table: its own bytes where they are UTF-8, else the text that they are read as.
+/// A text of a table: the table's own bytes if they are UTF-8, else the text that they are read as.
 #[derive(Debug, Drop)]
 pub enum BtfStr<'a> {
     /// Bytes of the string section, which are UTF-8.
     Borrowed(&'a str),
-    /// Bytes that are not UTF-8, with U+FFFD in place of each longest piece that is none.
+    /// The text of bytes that are not UTF-8: U+FFFD replaces each maximal invalid piece.
     Owned(String),
 }
 
@@ -43,8 +43,8 @@ impl<'a> BtfStr<'a> {
     }
 }
 
-/// The bytes from an offset up to the first zero byte; None where there is none. The first `ascii` bytes there are known
-/// to be ASCII, and not zero, so the search begins after them.
+/// The bytes from an offset up to the first zero byte; None if there is no zero byte. The first `ascii` bytes there are
+/// known to be ASCII, and not zero, so the search begins after them.
 pub fn bytes_at(strings: &[u8], offset: u32, ascii: usize) -> Option<&[u8]>
     requires { BeginsAscii (drop offset strings.now) ascii }
     ensures bytes { option_map (λ b. b.now) result ≡ model.bytes_at strings.now offset }
@@ -56,25 +56,25 @@ pub fn bytes_at(strings: &[u8], offset: u32, ascii: usize) -> Option<&[u8]>
     Some(&rest[..ascii + end])
 }
 
-/// The text of bytes, where they are UTF-8. The first `ascii` bytes are known to be ASCII, so only those after them are
-/// looked at.
+/// The text of the bytes if they are UTF-8. The first `ascii` bytes are known to be ASCII, so only the bytes after them
+/// are checked.
 fn utf8_text(bytes: &[u8], ascii: usize) -> Option<&str>
     requires { BeginsAscii bytes.now ascii }
     ensures { MatchOption result (¬ IsUtf8 bytes.now)
         (λ text. (text.now ≡ bytes.now) × IsUtf8 bytes.now) }
 {
     match str::from_utf8(&bytes[ascii..]) {
-        // SAFETY: ASCII, and then UTF-8, is UTF-8, which is what the call demands.
+        // SAFETY: ASCII followed by UTF-8 is UTF-8, which the call requires.
         Ok(_) => Some(unsafe { str::from_utf8_unchecked(bytes) }),
         Err(_) => None,
     }
 }
 
-/// The text at an offset, or `InvalidStringOffset` of it where no zero byte stands at it or after it. Most are of ASCII
-/// alone.
+/// The text at an offset, or `InvalidStringOffset` of the offset if there is no zero byte at it or after it. Most texts
+/// are pure ASCII.
 pub fn text_at(alloc: Global, strings: &[u8], offset: u32) -> Result<BtfStr<'_>, BtfError>
     ensures text { IsOrNoMemory text_bytes result (model.text_at strings.now offset) }
-    // Memory is taken only for bytes that are not UTF-8.
+    // Memory is allocated only for bytes that are not UTF-8.
     ensures no_memory { IfSome (model.bytes_at strings.now offset) IsUtf8
         → Meets text_bytes result (λ answer. answer ≡ model.text_at strings.now offset) }
 {
@@ -84,7 +84,7 @@ pub fn text_at(alloc: Global, strings: &[u8], offset: u32) -> Result<BtfStr<'_>,
     }
 }
 
-/// The same, of bytes that may be any, after the first `ascii` bytes, which are known to be ASCII, and not zero.
+/// The same for any bytes. The first `ascii` bytes are known to be ASCII and not zero.
 #[inline(never)]
 fn any_text_at(
     alloc: Global,
@@ -110,7 +110,7 @@ fn any_text_at(
     Ok(BtfStr::Owned(text))
 }
 
-/// The end of the offsets at which a text can be read: a zero byte stands at each below it, or after it.
+/// The end of the offsets at which a text can be read: for each lower offset there is a zero byte at it or after it.
 pub fn readable_end(strings: &[u8]) -> usize
     ensures { IsReadableEnd strings.now result }
 {
@@ -134,8 +134,8 @@ fn has_kind(btf_type: &BtfType, kind: BtfKind) -> bool
     btf_type.kind() == kind
 }
 
-/// Whether bytes can be compared with a name: it has no zero byte, which would end it, and no byte with which U+FFFD
-/// begins, the text of bytes that are not UTF-8.
+/// Whether a name can be compared with the bytes of a text. It must have no zero byte, because a zero byte ends a text,
+/// and no byte with which U+FFFD begins, because U+FFFD replaces bytes that are not UTF-8.
 fn is_comparable(name: &str) -> bool
     ensures { IsTrue result → IsComparable name.now }
 {
@@ -143,7 +143,7 @@ fn is_comparable(name: &str) -> bool
     bytes.find_byte(0).is_none() && bytes.find_byte(0xef).is_none()
 }
 
-/// The readable end of the strings, where bytes can be compared with a name.
+/// The readable end of the strings if a name can be compared with bytes, else None.
 fn comparable_end(strings: &[u8], name: &str) -> Option<usize>
     ensures { IfSome result (λ end. IsReadableEnd strings.now end × IsComparable name.now) }
 {
@@ -154,7 +154,7 @@ fn comparable_end(strings: &[u8], name: &str) -> Option<usize>
     }
 }
 
-/// Whether this name and a zero byte stand at an offset. No more bytes are looked at than these.
+/// Whether this name and a zero byte are at an offset. No more bytes than these are read.
 fn has_name_at(strings: &[u8], offset: u32, name: &str) -> bool
     ensures { IsTrue result ↔ HasNameAt strings.now offset name.now }
 {
@@ -168,8 +168,8 @@ fn has_name_at(strings: &[u8], offset: u32, name: &str) -> bool
     }
 }
 
-/// Whether a type has this kind and this name, or why the name of one of this kind can't be read. With a readable end
-/// the bytes are compared, and otherwise the text that they are read as.
+/// Whether a type has this kind and this name, or why the name of a type of this kind can't be read. With a readable
+/// end the bytes are compared, and otherwise the text that they are read as.
 fn has_kind_and_name(
     alloc: Global,
     strings: &[u8],
@@ -198,11 +198,11 @@ fn has_kind_and_name(
     Ok(has_name_at(strings, offset, name))
 }
 
-/// The id of the first type of this kind and name, of fewer types than 32 bits can number. No name is read to its end,
-/// but for a name that bytes can't be compared with.
+/// The id of the first type of this kind and name. The number of types fits in 32 bits. Names of the table are not read
+/// to their end, unless the name that is searched for can't be compared with bytes.
 ///
-/// `InvalidStringOffset` where a type of this kind in front of it has a name that can't be read, and
-/// `UnknownBtfTypeName` where there is none.
+/// Fails with `InvalidStringOffset` if a type of this kind before it has a name that can't be read, and with
+/// `UnknownBtfTypeName` if no type has the kind and the name.
 pub fn find_named(
     alloc: Global,
     strings: &[u8],

@@ -11,10 +11,10 @@ use btf_plain::{BtfError, Endianness};
 use btf_records::BtfType;
 use std::alloc::{AllocError, Global};
 
-/// The types of a type section, by id: the one of id 0 first.
+/// The types of a type section, by id; the type of id 0 is first.
 ///
-/// An error says why the section can't be cut into records: `InvalidTypeInfo` where a record is cut, and
-/// `InvalidTypeKind` where its kind is none that is read.
+/// Fails if the section does not consist of records: with `InvalidTypeInfo` if a record is truncated, and with
+/// `InvalidTypeKind` if the library does not read its kind.
 pub fn read_types(
     alloc: Global,
     data: &[u8],
@@ -33,7 +33,7 @@ pub fn read_types(
     Ok(types)
 }
 
-/// Writes records at the end of bytes, in this order.
+/// Appends records to bytes, in this byte order.
 pub fn append_types(
     out: &mut Vec<u8>,
     types: &[BtfType],
@@ -41,7 +41,7 @@ pub fn append_types(
 ) -> Result<(), AllocError>
     ensures written { OnOk result (out.new.items ≡ out.old.items
         ++ flat_map (spell endianness) (map record_of types.now)) }
-    // What is written is read as these records.
+    // The written bytes are read as these records.
     ensures whole { OnOk result (AllByRecursion IsWhole (map record_of types.now)) }
 {
     for record in types {
@@ -50,7 +50,7 @@ pub fn append_types(
     Ok(())
 }
 
-/// Equal types, in a vector of just their number.
+/// Copies of the types, in a vector whose capacity is their number.
 pub fn clone_types(types: &Vec<BtfType>) -> Result<Vec<BtfType>, BtfError>
     ensures records { IsOrNoMemory (λ v. map record_of v.items) result
         (Ok (map record_of types.now.items)) }

@@ -12,11 +12,11 @@ ghost use Rattle.btf_table.specs.Extent.{extent_of};
 use btf_plain::{BtfError, BtfKind};
 use btf_records::BtfType;
 
-/// The number of types, or of pairs of types, that a walk looks at.
+/// The maximum number of types, or of pairs of types, that a walk visits.
 pub const WALK_LIMIT: usize = 32;
 
-/// The id of the first type that is no modifier, on the walk over modifiers from an id on. Most types are none, which
-/// is seen without a call.
+/// The id of the first type that is no modifier, on the walk over modifiers from an id on. Most types are no modifiers,
+/// and this function finds that out without a call.
 #[inline(always)]
 pub fn resolve(types: &[BtfType], type_id: u32) -> Result<u32, BtfError>
     ensures { Meets (λ id. id) result (Resolves (map record_of types.now) type_id) }
@@ -61,18 +61,18 @@ fn modified(btf_type: &BtfType) -> Option<u32>
     }
 }
 
-/// What a type says of its size.
+/// What a type gives for its size.
 #[derive(Drop)]
 enum Extent {
-    /// It is so many bytes.
+    /// The size is this number of bytes.
     Bytes(u32),
-    /// It is that of so many of another type.
+    /// The size is `count` times the size of another type.
     Times(u32, u32),
-    /// It says nothing.
+    /// The type gives no size.
     Nothing,
 }
 
-/// The size in bytes of one of a type, on the walk over arrays and types that lead to one other.
+/// The size of a type in bytes, on the walk over arrays and types that refer to one other type.
 pub fn size(types: &[BtfType], type_id: u32) -> Result<u32, BtfError>
     ensures { Meets (λ n. n) result (HasSize (map record_of types.now) type_id) }
 {
@@ -94,7 +94,7 @@ pub fn size(types: &[BtfType], type_id: u32) -> Result<u32, BtfError>
     Err(BtfError::MaximumTypeDepthReached { type_id })
 }
 
-/// What a type says of its size.
+/// What a type gives for its size.
 fn extent_at(btf_type: &BtfType) -> Extent
     ensures { extent_of result ≡ model.extent (kind_of (record_of btf_type.now).info)
         (record_of btf_type.now) }
@@ -111,7 +111,7 @@ fn extent_at(btf_type: &BtfType) -> Extent
     }
 }
 
-/// What an ARRAY says of its size.
+/// What an ARRAY gives for its size.
 fn array_extent(btf_type: &BtfType) -> Extent
     ensures { type_kind btf_type.now ≡ kinds.Array
         → extent_of result ≡ model.extent (Some kinds.Array) (record_of btf_type.now) }
@@ -125,7 +125,7 @@ fn array_extent(btf_type: &BtfType) -> Extent
     }
 }
 
-/// The product, or `InvalidTypeInfo` where it passes 32 bits.
+/// The product, or `InvalidTypeInfo` if it exceeds 32 bits.
 fn product(a: u32, b: u32) -> Result<u32, BtfError>
     ensures { MatchResult result
         (λ n. (n ≡ a * b) × (a * b < 2 ^ 32))

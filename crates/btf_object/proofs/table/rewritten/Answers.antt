@@ -20,7 +20,7 @@ of_kernel c =
     all_of_kernel _ (has c.args.kernel.now) (λ f. f.0.now ≡ c.args.kernel.now) (λ f g feature granted is s. (search rules, search rules)) c.new-resolver.result.0 c.fixup_and_sanitize_with.new.resolver.1 c.fixup_and_sanitize_with.new.resolver.0 before
     c.fixup_and_sanitize_with.ensures.called
 
--- the bytes are the table, in the object's order
+-- the bytes represent the table, in the object's byte order
 parsed : (c : In_ok-btf) → IsTable c.args.object.now.header.order c.args.table.now c.in_ok-btf.btf
 parsed c = subst (λ (h : FileHeader). IsTable h.order c.args.table.now c.in_ok-btf.btf) c.header.ensures c.in_ok-btf.ensures.parsed
 

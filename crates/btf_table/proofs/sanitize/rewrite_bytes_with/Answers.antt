@@ -11,13 +11,13 @@ use Rattle.btf_table.proofs.sanitize.rewrite_bytes_with.Goals as goal
 use Rattle.btf_table.proofs.sanitize.rewrite_bytes_with.Goals.{In_ok-to_bytes}
 
 module _ (g : Over) (c : In_ok-to_bytes g) where
-  -- the written bytes stand for the new table
+  -- the written bytes represent the new table
   written_is : IsTable c.args.endianness c.in_ok-to_bytes.field-0.items (strip c.fixup_and_sanitize_with.new.self)
   written_is =
       written_again c.args.endianness c.args.data.now c.in_ok-to_bytes.field-0.items c.in_ok-btf.btf c.fixup_and_sanitize_with.new.self c.args.ksyms (under c.args.policy (layout_of c.args.sections.now c.args.symbols.now)) c.fixup_and_sanitize_with.new.resolver.1
       c.in_ok-btf.ensures.parsed c.in_ok-answers.ensures.rewrites.0 c.in_ok-to_bytes.ensures.parses_back
 
-  -- what holds of both tables holds of those that the bytes stand for
+  -- a fact about both tables holds for the tables that the bytes represent
   of_bytes : (P : Table → Table → Type 0) → P c.in_ok-btf.btf (strip c.fixup_and_sanitize_with.new.self) → OfTables c.args.endianness c.args.data.now c.in_ok-to_bytes.field-0.items P
   of_bytes P = of_tables c.args.endianness c.args.data.now c.in_ok-to_bytes.field-0.items c.in_ok-btf.btf c.fixup_and_sanitize_with.new.self P c.in_ok-btf.ensures.parsed written_is
 

@@ -26,10 +26,11 @@ use btf_rules::known_offset;
 use std::collections::{BTreeMap, HashMap};
 use std::hash::BuildHasher;
 
-/// The member that an entry becomes, of its type, at the bit of its offset. `names` are the string offsets of the names
-/// that all lower ids have by now; a later id has the name of the table.
+/// The member that an entry becomes: it has the entry's type, and its offset in bits. `names` has the string offsets of
+/// the new names of all lower ids; the name of another id is read in the table.
 ///
-/// `UnknownBtfType` of an id that has no type; `InvalidTypeInfo` where the offset in bits has more than 32 bits.
+/// Fails with `UnknownBtfType` of an id that has no type, and with `InvalidTypeInfo` if the offset in bits has more
+/// than 32 bits.
 fn member(btf: &Btf, names: &[u32], entry: &DataSecEntry) -> Result<BtfMember, BtfError>
     ensures { (p : Pass) (lower : List Record) → p.table ≡ btf.now
         → names.now ≡ map (λ (r : Record). r.name) lower
@@ -52,10 +53,11 @@ fn member(btf: &Btf, names: &[u32], entry: &DataSecEntry) -> Result<BtfMember, B
     })
 }
 
-/// The members of the STRUCT that a DATASEC becomes: one for each entry, at the bit of its offset, of the entry's type
-/// and its name. `names` are the string offsets of the names that all lower ids have by now.
+/// The members of the STRUCT that a DATASEC becomes: one for each entry, with the entry's type, this type's name, and
+/// the entry's offset in bits. `names` has the string offsets of the new names of all lower ids.
 ///
-/// `UnknownBtfType` of an entry's id that has no type; `InvalidTypeInfo` where an offset in bits has more than 32 bits.
+/// Fails with `UnknownBtfType` of an entry's id that has no type, and with `InvalidTypeInfo` if an offset in bits has
+/// more than 32 bits.
 pub fn members(btf: &Btf, names: &[u32], data_sec: &DataSec) -> Result<Vec<BtfMember>, BtfError>
     ensures answer { (p : Pass) (lower : List Record) → p.table ≡ btf.now
         → names.now ≡ map (λ (r : Record). r.name) lower
@@ -71,11 +73,11 @@ pub fn members(btf: &Btf, names: &[u32], data_sec: &DataSec) -> Result<Vec<BtfMe
     Ok(members)
 }
 
-/// The offset of the symbol of the name at a string offset. That of a long name is remembered in `offsets`, so
-/// that such a name is read once.
+/// The offset of the symbol whose name is at a string offset. `offsets` caches the result for a long name, so that such
+/// a name is read once.
 ///
-/// `InvalidStringOffset` where the name can't be read; `SymbolOffsetNotFound` where no symbol has that name, or its
-/// offset has more than 32 bits.
+/// Fails with `InvalidStringOffset` if the name can't be read, and with `SymbolOffsetNotFound` if no symbol has the
+/// name, or if the symbol's offset has more than 32 bits.
 fn symbol_offset<H: BuildHasher>(
     btf: &Btf,
     symbols: &HashMap<String, u64, H>,
@@ -106,10 +108,12 @@ fn symbol_offset<H: BuildHasher>(
     Ok(offset)
 }
 
-/// The entry of a variable, at the offset of its symbol; as it is, where the variable is Static, whose name is not read.
+/// The entry of a variable, at the offset of its symbol. The entry of a Static variable is unchanged, and the
+/// variable's name is not read.
 ///
-/// `UnknownBtfType` of an id that has no type, and `InvalidDatasec` where it is no VAR; `InvalidStringOffset` where its
-/// name can't be read; `SymbolOffsetNotFound` where no symbol has that name, or its offset has more than 32 bits.
+/// Fails with `UnknownBtfType` of an id that has no type, with `InvalidDatasec` if the type is no VAR, with
+/// `InvalidStringOffset` if its name can't be read, and with `SymbolOffsetNotFound` if no symbol has the name, or if
+/// the symbol's offset has more than 32 bits.
 fn placed_entry<H: BuildHasher>(
     btf: &Btf,
     symbols: &HashMap<String, u64, H>,
@@ -142,11 +146,11 @@ fn placed_entry<H: BuildHasher>(
     })
 }
 
-/// The entries of a DATASEC, each at the offset of its symbol, but for those of Static variables.
+/// The entries of a DATASEC, each at the offset of its symbol; entries of Static variables are unchanged.
 ///
-/// Of each entry in turn: `UnknownBtfType` of an id that has no type, and `InvalidDatasec` where it is no VAR;
-/// `InvalidStringOffset` where its name can't be read; `SymbolOffsetNotFound` where no symbol has that name, or its
-/// offset has more than 32 bits.
+/// Reports the first error of the entries in order: `UnknownBtfType` of an id that has no type, `InvalidDatasec` if the
+/// type is no VAR, `InvalidStringOffset` if its name can't be read, and `SymbolOffsetNotFound` if no symbol has the
+/// name, or if the symbol's offset has more than 32 bits.
 pub fn placed_entries<H: BuildHasher>(
     btf: &Btf,
     symbols: &HashMap<String, u64, H>,

@@ -20,7 +20,7 @@ use btf_records::DataSec;
 use btf_rules::section_name;
 use std::collections::BTreeMap;
 
-/// Whether a DATASEC is known to keep the name at this offset, where the kernel takes DATASECs or takes none.
+/// Whether the cache records that a DATASEC retains the name at this offset, on a kernel that has DATASECs or has none.
 fn is_kept(kept: &BTreeMap<u32, bool>, offset: u32, granted: bool) -> bool
     ensures { IsTrue result ↔ (get nat_cmp kept.now offset ≡ Some granted) }
 {
@@ -30,11 +30,11 @@ fn is_kept(kept: &BTreeMap<u32, bool>, offset: u32, granted: bool) -> bool
     }
 }
 
-/// The string offset of the name that a DATASEC gets: as a DATASEC, where the kernel takes one, with `.` for each `/`,
-/// or else as a STRUCT, with `_` for each `.`. A text is appended only where the name changes. Long names that
-/// stay are remembered in `kept`, and read once.
+/// The string offset of the new name of a DATASEC. On a kernel that has DATASECs, `.` replaces each `/`; otherwise the
+/// DATASEC becomes a STRUCT, and `_` replaces each `.`. A text is appended only if the name changes. `kept` caches long
+/// names that do not change, so that each is read once.
 ///
-/// `InvalidStringOffset` where the name can't be read, or the new one has no room.
+/// Fails with `InvalidStringOffset` if the name can't be read, or if the new name does not fit.
 pub fn new_name(
     btf: &Btf,
     changes: &mut Changes,

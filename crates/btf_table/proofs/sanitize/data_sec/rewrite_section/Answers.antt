@@ -39,7 +39,7 @@ is_not_false false never = absurd (never refl)
 ok_no_err : {X E : Type 0} {x : X} {e : E} → ◌≡◌ {A = Result X E} (Ok x) (Err e) → ⊥
 ok_no_err {X} {E} {x} is = none-some x (sym (ap result_ok is))
 
--- ---- where DataSec alone is asked for
+-- ---- if only DataSec is asked for
 
 module _ (g : Over) (c : After-new_name g) where
   abbrev r : Record
@@ -52,7 +52,7 @@ module _ (g : Over) (c : After-new_name g) where
   called_one : (first : g.row.F.Denot) → Called (words g.row.F g.F.FnMut).step first c.args.resolver.now.1 c.args.resolver.now.0 → Called (words g.row.F g.F.FnMut).step first c.is_supported-granted.new.self.1 c.is_supported-granted.new.self.0
   called_one first = asks_called _ first features.DataSec c.args.resolver.now c.is_supported-granted.new.self c.is_supported-granted.result c.is_supported-granted.ensures.asks
 
-  -- its answers are those of before, and perhaps one more
+  -- its answers are the earlier answers, and perhaps one more
   further_one : IsFurther c.args.resolver.now.1 c.is_supported-granted.new.self.1
   further_one = asks_further (words g.row.F g.F.FnMut).step features.DataSec c.args.resolver.now c.is_supported-granted.new.self c.is_supported-granted.result c.is_supported-granted.ensures.asks
 
@@ -64,15 +64,15 @@ module _ (g : Over) (c : After-new_name g) where
     abbrev p : Pass
     p = pass_on c.args.btf.now given c.args.resolver.now.1
 
-    -- DataSec is answered, the first that the id asks for
+    -- DataSec is answered, which is the first feature that the id asks for
     some_asked : (left : List BtfFeature) × AsksUpTo p id one left
     some_asked = asks_some p id r there there.kind_is below one c.is_supported-granted.result next_one
 
-    -- and it may be all
+    -- and it may be the only one
     one_asked : asks (pass_on c.args.btf.now given one) id ≡ features.DataSec ∷ [] → AsksUpTo p id one []
     one_asked = asks_one p id r there there.kind_is below one c.is_supported-granted.result next_one
 
-    -- the answer is the one that it was given
+    -- the answer is the one that the predicate gave
     has_one : has (pass_on c.args.btf.now given one) features.DataSec ≡ c.is_supported-granted.result
     has_one = granted_one p id r there there.kind_is below one c.is_supported-granted.result next_one
 
@@ -151,9 +151,9 @@ returns-in_err-size-clause-steps g c = λ given id is comes. let policy = ap (λ
     let both : StepsTo (Err refusal) = (one_asked g at given id there below no.0, no.1) in
     both))
 
--- ---- where DataSecZero may be asked for too
+-- ---- if DataSecZero may be asked for too
 
--- What is known once all that a section asks for is answered, and whether the filler is wanted.
+-- What is known after all that a section asks for is answered, and whether the section gets the filler.
 record IsAnswered (p : Pass) (id : ℕ) (r : Record) (name size : ℕ) (before now : Made) (answers : List FeatureAnswer) (fills : Bool) : Type 0 where
   all_asked : AsksUpTo p id answers []
   granted : has (record p { answers = answers }) features.DataSec ≡ true
@@ -170,13 +170,13 @@ module _ (g : Over) (c : After-final_size g) (size : ℕ) (was : c.final_size.re
       zero_called _ first c.args.policy c.args.data_sec.now size c.is_supported-granted.new.self new fills quiet asks_it
       (asks_called _ first features.DataSec c.args.resolver.now c.is_supported-granted.new.self c.is_supported-granted.result c.is_supported-granted.ensures.asks called)
 
-  -- the answers are those of before, and perhaps one or two more
+  -- the answers are the earlier answers, and perhaps one or two more
   further_two : IsFurther c.args.resolver.now.1 new.1
   further_two =
       further_then c.args.resolver.now.1 c.is_supported-granted.new.self.1 new.1 (asks_further (words g.row.F g.F.FnMut).step features.DataSec c.args.resolver.now c.is_supported-granted.new.self c.is_supported-granted.result c.is_supported-granted.ensures.asks)
       (zero_further (words g.row.F g.F.FnMut).step c.args.policy c.args.data_sec.now size c.is_supported-granted.new.self new fills quiet asks_it)
 
-  -- what the three exits with a size know
+  -- what is known at the three exits with a size
   answered : (given : Given) (id : ℕ) → given.policy ≡ c.args.policy → given.layout.sections ≡ sizes_of c.args.sections.now → IsType c.args.btf.now id (DataSec c.args.data_sec.now)
       → AreAnswersTo (asks_below (pass_on c.args.btf.now given c.args.resolver.now.1) id) c.args.resolver.now.1 → IsHere (pass_on c.args.btf.now given new.1) id c.args.made.now
       → IsAnswered (pass_on c.args.btf.now given c.args.resolver.now.1) id c.args.data_sec.now c.in_ok-name_offset.name_offset size c.args.made.now (record c.args.made.now { changes = c.new_name.new.changes }) new.1 fills

@@ -47,7 +47,7 @@ loop-id-init g c =
     }) in
     (c.requires.callable, subst (λ answers. Called (words g.row.F g.F.FnMut).step c.args.resolver.now.0 answers c.args.resolver.now.0) (sym none) refl, start.0, subst (IsMade p 1 c.in_ok-made.made) (sym c.new-denied.ensures.items) start.1, c.new-names.ensures p.layout)
 
--- ---- an id, once it is asked what its type becomes
+-- ---- an id, after its rule has returned
 
 module _ (g : Over) (c : After-rewrite_type g) where
   abbrev given : Given
@@ -59,11 +59,11 @@ module _ (g : Over) (c : After-rewrite_type g) where
   abbrev after : Pass
   after = pass_on c.args.btf.now given c.rewrite_type.new.resolver.1
 
-  -- the table has the type there
+  -- the table has the type at this id
   type_is : IsType c.args.btf.now c.loop-id.id c.type_at-btf_type.result.now
   type_is = c.type_at-btf_type.ensures
 
-  -- what lower ids have made is there under the new answers too
+  -- what lower ids have made is the same under the new answers
   here_is : IsHere after c.loop-id.id c.loop-id.made
   here_is =
       let further = c.rewrite_type.ensures.further in

@@ -16,7 +16,7 @@ use Rattle.btf_table.proofs.table.Btf.fixup_and_sanitize_with.Given.{Over}
 use Rattle.btf_table.proofs.table.Btf.fixup_and_sanitize_with.Goals as goal
 use Rattle.btf_table.proofs.table.Btf.fixup_and_sanitize_with.Goals.{After-sanitize, After-drop-undo}
 
--- without symbols: what is kept of the table, where it is rewritten
+-- without symbols: what is retained of the table, if it is rewritten
 keeps_alone : (g : Over) (c : After-sanitize g) (Q : Type 0) → (Keeps c.args.policy c.args.self.now c.args.ksyms c.sanitize.new.resolver.1 c.sanitize.new.self → Q) → OnOk c.sanitize.result Q
 keeps_alone g c Q follows =
     let old : Table = c.args.self.now in
@@ -47,7 +47,7 @@ returns-in_err-changes-clause-asked g c = begins_none (pass_of c.args.policy c.a
 pub returns-in_err-undo-clause-asked : goal.returns-in_err-undo-clause-asked
 returns-in_err-undo-clause-asked g c = begins_none (pass_of c.args.policy c.args.self.now c.args.ksyms (layout_of c.args.sections.now c.args.symbols.now) c.args.resolver.now.1) c.requires.unasked
 
--- with symbols: what is kept of the table
+-- with symbols: what is retained of the table
 keeps_stepped : (g : Over) (c : After-drop-undo g) → Keeps c.args.policy c.args.self.now c.args.ksyms c.sanitize-2.new.resolver.1 c.sanitize-2.new.self
 keeps_stepped g c =
     let old : Table = c.args.self.now in

@@ -1,6 +1,6 @@
 use Rattle.std.proofs.Common.{refl, sym, ap, ◌∙◌, inl, arith}
 use Rattle.btf_model.specs.Refusal.{UnknownBtfType}
-use Rattle.btf_model.specs.Walk.{unmodified_in, behind_modifier}
+use Rattle.btf_model.specs.Walk.{unmodified_in, after_modifier}
 use Rattle.btf_table.proofs.Walks.{found, missing}
 use Rattle.btf_table.proofs.table.walk.resolve.Goals as goal
 
@@ -16,5 +16,5 @@ returns-in-None c =
       omega arith,
       refl,
       ap (unmodified_in c.args.type_id) (found c.args.types.now c.args.type_id c.in-Some.btf_type.now c.in-Some.ensures.lookup.0 c.in-Some.ensures.lookup.1)
-          ∙ ap (behind_modifier c.args.type_id) (sym c.modified.ensures ∙ c.in-None.is),
+          ∙ ap (after_modifier c.args.type_id) (sym c.modified.ensures ∙ c.in-None.is),
     )

@@ -1,7 +1,7 @@
 use Rattle.std.proofs.Common.{ℕ, map, refl, sym, ap, ◌∙◌, inl, inr, ◌+◌, suc, arith}
 use Rattle.std.specs.Prelude.{slice_get}
 use Rattle.btf_model.specs.Refusal.{UnknownBtfType, MaximumTypeDepthReached}
-use Rattle.btf_model.specs.Walk.{By, unmodified_in, behind_modifier, walk_limit}
+use Rattle.btf_model.specs.Walk.{By, unmodified_in, after_modifier, walk_limit}
 use Rattle.btf_model.proofs.Walks.{lead_on}
 use Rattle.btf_records.specs.BtfType.{record_of}
 use Rattle.btf_table.proofs.Walks.{found, missing, as_many}
@@ -19,7 +19,7 @@ returns-in_default-modified c =
       c.loop-test.true,
       c.loop.invariant,
       ap (unmodified_in c.loop.id) (found c.args.types.now c.loop.id c.in-Some.btf_type.now c.in-Some.ensures.lookup.0 c.in-Some.ensures.lookup.1)
-          ∙ ap (behind_modifier c.loop.id) (sym c.modified.ensures ∙ c.in_default-modified.is),
+          ∙ ap (after_modifier c.loop.id) (sym c.modified.ensures ∙ c.in_default-modified.is),
     )
 
 pub loop-preserved : goal.loop-preserved
@@ -28,7 +28,7 @@ loop-preserved c =
     as_many (By find) (suc c.loop.counter) (c.loop.counter + 1) c.args.type_id c.in-Some-modified.next (omega arith)
     (lead_on (By find) c.loop.counter c.args.type_id c.loop.id c.in-Some-modified.next c.loop.invariant
     (ap (unmodified_in c.loop.id) (found c.args.types.now c.loop.id c.in-Some.btf_type.now c.in-Some.ensures.lookup.0 c.in-Some.ensures.lookup.1)
-    ∙ ap (behind_modifier c.loop.id) (sym c.modified.ensures ∙ c.in-Some-modified.is)))
+    ∙ ap (after_modifier c.loop.id) (sym c.modified.ensures ∙ c.in-Some-modified.is)))
 
 pub returns : goal.returns
 returns c =
