@@ -46,7 +46,7 @@ numbered_is features.Enum64 = refl
 same_is : (f g : BtfFeature) → same_feature f g ≡ true → f ≡ g
 same_is f g is = sym (numbered_is f) ∙ ap numbered (eqb-true (number f) (number g) is) ∙ numbered_is g
 
--- the words of two features are equal only if the features are
+-- the words of two features are equal exactly if the features are
 words_alike : (f g : BtfFeature) → bytes_eq (feature_word f) (feature_word g) ≡ same_feature f g
 words_alike f g =
     elim (same_feature f g) as (λ (b : Bool). same_feature f g ≡ b → bytes_eq (feature_word f) (feature_word g) ≡ b) [
