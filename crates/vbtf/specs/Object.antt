@@ -69,8 +69,8 @@ ReportsCause status fault (Section replace.OutOfMemory) = ReportsNoMemory status
 ReportsCause status fault (Section e) = (status ≡ 106) × (fault.number ≡ 106)
 ReportsCause status fault OutOfMemory = ReportsNoMemory status fault
 
--- The outcomes of a call that rewrites an object: the rewritten object in the buffer, if it fits, and the answers of the
--- kernel; or the first error, and the buffer is unchanged.
+-- The outcomes of a call that rewrites an object: the rewritten object in the buffer, if it fits, and the answers of
+-- the kernel; or the first error, and the buffer is unchanged.
 abbrev pub EndsSanitizing : ℕ → List ℕ → Target → List ℕ → List ℕ → ℕ → Asked → Fault → Type 0
 EndsSanitizing status object target old new needed asked fault =
     ((file : List ℕ) × (answers : List FeatureAnswer) × IsSanitized object target file answers
