@@ -1,12 +1,12 @@
 //! BTF, the Linux kernel's type metadata for BPF programs: the one crate to import.
 //!
-//! A table of BTF has a header, records that are named by their place, and strings. [`Btf::parse`] reads the bytes of a
-//! `.BTF` section or of `/sys/kernel/btf/vmlinux`, [`Btf::to_bytes`] writes them, and between the two a table can be
-//! looked into, compared with another one, and rewritten for a kernel that lacks some features.
+//! A table of BTF has a header, type records, whose ids are their positions, and strings. [`Btf::parse`] reads the
+//! bytes of a `.BTF` section or of `/sys/kernel/btf/vmlinux`, and [`Btf::to_bytes`] writes them. A table can be
+//! searched, compared with another one, and rewritten for a kernel that lacks some features.
 //!
-//! Every call returns, whatever the bytes are: a bad table is refused with the first cause in a stated order, and a
-//! refused change leaves the table as it was. What a call returns is stated by its clauses, in the definitions of
-//! `btf::specs`, and the checker proved each clause for every input before anything was built.
+//! Every call terminates on every input. A call on invalid data returns the first error in a documented order, and a
+//! failed change leaves the table unchanged. The clauses of a call state its result, in the definitions of
+//! `btf::specs`, and the checker proves each clause for every input before anything is built.
 //!
 //! The size of a structure that a table has by name:
 //!
@@ -16,7 +16,7 @@
 //! let size = table.type_size(id)?;
 //! ```
 //!
-//! Each item lies in a crate below, by what it is about, and is passed on here under its name.
+//! Each item is defined in a crate below, by its topic, and re-exported here.
 #![tactic(auto)]
 
 pub use btf_above::{relocations_of, variant_value};

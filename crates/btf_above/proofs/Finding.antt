@@ -28,13 +28,13 @@ pub named : (strings : List ℕ) (offset : ℕ) (name text : List ℕ) (same : B
 named strings offset name text true is same = sym is ∙ ap (λ (x : List ℕ). Ok x) ((bytes_eq-Decides text name).0 (sym same))
 named strings offset name text false is same = (text, sym is, λ e. true≢false (sym ((bytes_eq-Decides text name).1 e) ∙ sym same))
 
--- what the exit of a `?` returns
+-- the error that a `?` returns
 pub handed : {X : Type 0} (r : Result X BtfError) (e : BtfError) → IsErrAnd r (λ y. y ≡ e) → r ≡ Err e
 handed r e h = let given = err_from_is_err_and r h in given.1 ∙ ap (λ (x : BtfError). Err x) given.2
 
 -- ---- lists
 
--- what stands before an element, the element, and what stands after it
+-- the elements before an element, the element, and the elements after it
 pub split_at : {X : Type 0} (xs : List X) (i : ℕ) (x : X) → slice_get xs i ≡ Some x → xs ≡ take i xs ++ x ∷ drop (suc i) xs
 split_at xs i x at =
     let lt : i < length xs = slice_get_within xs i x at in
@@ -55,17 +55,17 @@ all_after : {X : Type 0} (P : X → Type 0) (xs ys : List X) (x : X) → AllByRe
 all_after P [] ys x all = all.0
 all_after P (y ∷ xs) ys x all = all_after P xs ys x all.1
 
--- one of those that P holds of
+-- an element of a list whose elements all satisfy P
 pub all_at : {X : Type 0} (P : X → Type 0) (xs : List X) (i : ℕ) (x : X) → slice_get xs i ≡ Some x → AllByRecursion P xs → P x
 all_at P xs i x at all = all_after P (take i xs) (drop (suc i) xs) x (subst (AllByRecursion P) (split_at xs i x at) all)
 
 -- ---- variants
 
--- the variant at a place, where those before it have other names
+-- the variant at an index, if the variants before it have other names
 pub after_others : (strings name : List ℕ) (vs : List Variant) (i : ℕ) (v : Variant) → slice_get vs i ≡ Some v → HaveOtherNames strings name (take i vs) → IsAfterOthers strings name vs v
 after_others strings name vs i v at others = (take i vs, drop (suc i) vs, split_at vs i v at, others)
 
--- what is found at it, by what its name was read as: its value,
+-- the outcome at this variant, by the text of its name: its value,
 pub found_here : (strings name : List ℕ) (vs : List Variant) (i offset value : ℕ) (v : Variant) (same : Bool) → slice_get vs i ≡ Some v → HaveOtherNames strings name (take i vs) → offset ≡ v.name → value ≡ v.value → same ≡ true → IsNamed strings offset name (Ok same)
     → FindsVariant strings name vs (Ok (Some value))
 found_here strings name vs i offset value v same at others offset_is value_is is_same is =
@@ -83,14 +83,14 @@ refused_here : (strings name : List ℕ) (vs : List Variant) (i offset : ℕ) (v
 refused_here strings name vs i offset v refusal at others offset_is is =
     (v, after_others strings name vs i v at others, subst (λ (o : ℕ). text_at strings o ≡ Err refusal) offset_is is)
 
--- the same of the error that a call returns, where the name's call returned it
+-- the same, with the error that the call for the name returned
 pub error_here : (strings name : List ℕ) (vs : List Variant) (i offset : ℕ) (v : Variant) (e : BtfError) (r : Result (Option ℕ) BtfError) → r ≡ Err e → slice_get vs i ≡ Some v → HaveOtherNames strings name (take i vs) → offset ≡ v.name
     → IfSome (refusal_of e) (λ refusal. text_at strings offset ≡ Err refusal) → MeetsOrNoMemory (λ a. a) r (FindsVariant strings name vs)
 error_here strings name vs i offset v e r returned at others offset_is is =
     subst (λ (x : Result (Option ℕ) BtfError). MeetsOrNoMemory (λ a. a) x (FindsVariant strings name vs)) (sym returned)
     (IfSome_then (refusal_of e) is (λ refusal unread. refused_here strings name vs i offset v refusal at others offset_is unread))
 
--- where the name is UTF-8, if it can be read, it was not for lack of memory
+-- if the name is UTF-8 or cannot be read, the error is no allocation failure
 pub told_here : (strings name : List ℕ) (vs : List Variant) (i offset : ℕ) (v : Variant) (e : BtfError) (r : Result (Option ℕ) BtfError) → r ≡ Err e → slice_get vs i ≡ Some v → HaveOtherNames strings name (take i vs) → offset ≡ v.name
     → (IfSome (bytes_at strings offset) IsUtf8 → (refusal : Refusal) × (refusal_of e ≡ Some refusal) × (text_at strings offset ≡ Err refusal)) → HaveUtf8Names strings vs → Meets (λ a. a) r (FindsVariant strings name vs)
 told_here strings name vs i offset v e r returned at others offset_is told utf8 =
@@ -101,7 +101,7 @@ told_here strings name vs i offset v e r returned at others offset_is told utf8 
 
 -- ---- sections
 
--- the section whose name cannot be read, where those before it can
+-- the section whose name cannot be read, if all names before it can be
 unread_here : (strings name : List ℕ) (ss : List RelocationSection) (i : ℕ) (s : RelocationSection) (refusal : Refusal) → slice_get ss i ≡ Some s → HaveNames strings (take i ss) → text_at strings s.0 ≡ Err refusal → Words strings ss name (Err refusal)
 unread_here strings name ss i s refusal at names is = (take i ss, drop (suc i) ss, s, split_at ss i s at, names, is)
 
@@ -129,7 +129,7 @@ name_read strings offset name false is = ap (is_name name) is.1 ∙ differs (byt
 pub names_more : (strings name : List ℕ) (ss : List RelocationSection) (i : ℕ) (s : RelocationSection) (same : Bool) → slice_get ss i ≡ Some s → HaveNames strings (take i ss) → IsNamed strings s.0 name (Ok same) → HaveNames strings (take (i + 1) ss)
 names_more strings name ss i s same at names is = all_more (λ (q : RelocationSection). (text : List ℕ) × (text_at strings q.0 ≡ Ok text)) ss i s at names (text_read strings s.0 name same is)
 
--- and its records follow where that is the name
+-- and its records are appended if that is the name
 words_or : Bool → List (List ℕ) → List (List ℕ)
 words_or same words = if same then words else []
 

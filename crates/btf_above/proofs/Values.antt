@@ -67,7 +67,7 @@ no_enumeration id b no_enum no_enum64 no_union = refl
 pub other_has : (t : Table) (id : ℕ) (b : BtfType) → IsTypeAt t id b → ((r : Record) → b ≡ types.Enum r → ⊥) → ((r : Record) → b ≡ types.Enum64 r → ⊥) → ((u : UnionRecord) → b ≡ types.Union u → ⊥) → HasVariants t id (Err (UnexpectedBtfType id))
 other_has t id b at no_enum no_enum64 no_union = by_type t id b (Err (UnexpectedBtfType id)) at (no_enumeration id b no_enum no_enum64 no_union)
 
--- ---- what the search among them returns
+-- ---- the result of the search
 
 pub found_among : (t : Table) (id : ℕ) (name : List ℕ) (vs : List Variant) (r : Result (Option ℕ) BtfError) → HasVariants t id (Ok vs) → MeetsOrNoMemory (λ v. v) r (FindsVariant t.strings name vs) → MeetsOrNoMemory (λ v. v) r (Then (HasVariants t id) (FindsVariant t.strings name))
 found_among t id name vs (Ok found) has finds = (vs, has, finds)
@@ -102,7 +102,7 @@ value_told t id end name r resolves finds utf8 = told_after t id end name r reso
 pub unresolved : (t : Table) (id : ℕ) (name : List ℕ) (e : BtfError) (r : Result (Option ℕ) BtfError) → r ≡ Err e → (refusal : Refusal) × (refusal_of e ≡ Some refusal) × Resolves t.records id (Err refusal) → Meets (λ v. v) r (Value t id name)
 unresolved t id name e r returned refused = subst (λ (x : Result (Option ℕ) BtfError). Meets (λ v. v) x (Value t id name)) (sym returned) (refused.0, refused.1, inl refused.2)
 
--- `Meets` says all that `MeetsOrNoMemory` says
+-- `Meets` implies `MeetsOrNoMemory`
 pub told_answers : {X Y : Type 0} (view : X → Y) (r : Result X BtfError) (P : Result Y Refusal → Type 0) → Meets view r P → MeetsOrNoMemory view r P
 told_answers view (Ok x) P told = told
 told_answers view (Err e) P told = subst (λ (o : Option Refusal). IfSome o (λ refusal. P (Err refusal))) (sym told.1) told.2

@@ -1,4 +1,4 @@
-//! What a relocation engine looks up by name: values of variants, and the relocations of a section.
+//! Look-ups by name for relocation engines: values of variants, and the relocations of a section.
 #![tactic(auto)]
 
 mod above;

@@ -1,11 +1,11 @@
-//! Tables whose DATASECs share long names, with the sections and symbols that a rewrite of them is given.
+//! Tables whose DATASECs share long names, with the sections and symbols for a rewrite of them.
 
 use crate::sketch::Sketch;
 use btf_samples::layout::Layout;
 use std::alloc::{AllocError, Global};
 use std::test::Fail;
 
-/// The text that `len` bytes are read as, none of which is UTF-8.
+/// The text of `len` bytes, none of which is UTF-8.
 fn replaced(alloc: Global, len: u32) -> Result<String, AllocError> {
     let mut text = String::new(alloc);
     for _ in 0..len {
@@ -47,7 +47,7 @@ fn same_sections(sketch: &mut Sketch, name: u32, size: u32) -> Result<(), Fail> 
     Ok(())
 }
 
-/// What shares one name.
+/// The records that share one name.
 #[derive(Clone, Copy)]
 pub enum Sharing {
     /// A DATASEC has N entries of one Static VAR.

@@ -1,4 +1,4 @@
-//! Ids of pairs whose numbers end alike, so that they share buckets of a comparison's table.
+//! Ids of pairs whose hashes have the same last bits, so that they share buckets of a comparison's table.
 
 use crate::sketch::Sketch;
 use std::alloc::{AllocError, Global};
@@ -9,13 +9,13 @@ const RATIO: u64 = 0x9e37_79b9_7f4a_7c15;
 
 const INVERSE: u64 = 0x9937_733d;
 
-/// How many INTs a flood has, whose pairs agree in the 16 last bits of their numbers.
+/// The number of INTs of a flood. The hashes of their pairs agree in the last 16 bits.
 const INTS: u32 = 1 << 16;
 
-/// How far apart the target ids of flooded rings stand, whose pairs agree in the 4 last bits.
+/// The distance of the target ids of flooded rings. The hashes of their pairs agree in the last 4 bits.
 const STEP: u32 = 16;
 
-/// The number of a pair, whose last bits tell its bucket: `spread` of `btf_compare`.
+/// The hash of a pair, whose last bits select its bucket: `spread` of `btf_compare`.
 fn number(local_id: u32, target_id: u32) -> u64 {
     let apart = u64::from(target_id.wrapping_sub(local_id));
     let bits = apart
@@ -24,15 +24,15 @@ fn number(local_id: u32, target_id: u32) -> u64 {
     (bits.wrapping_mul(RATIO) >> 32).wrapping_add(u64::from(local_id % 8))
 }
 
-/// The INT that makes a pair with this one whose number ends in 16 zeros. A product with `INVERSE` undoes what the
-/// distance of the two is multiplied by.
+/// The INT that makes a pair with this one whose hash ends in 16 zeros. The product with `INVERSE` reverses the
+/// multiplication of the distance of the two.
 fn partner(local_id: u32) -> Result<u32, Fail> {
     let apart = number(local_id, local_id).wrapping_mul(INVERSE);
     let partner = u64::from(local_id).wrapping_sub(apart) % u64::from(INTS);
     Ok(u32::try_from(partner)?)
 }
 
-/// Two prototypes of so many INTs. All pairs of their parameters share a bucket.
+/// Two prototypes of this number of INTs. All pairs of their parameters share a bucket.
 pub fn flood(alloc: Global, sketch: &mut Sketch, size: u32) -> Result<(u32, u32), Fail> {
     let mut locals = Vec::new(alloc);
     let mut targets = Vec::new(alloc);
@@ -47,7 +47,7 @@ pub fn flood(alloc: Global, sketch: &mut Sketch, size: u32) -> Result<(u32, u32)
     Ok((sketch.prototype(&locals)?, sketch.prototype(&targets)?))
 }
 
-/// So many local ids. With each id that `STEP` divides they make a pair whose number ends in 4 zeros.
+/// This number of local ids. With each id that is a multiple of `STEP`, they make a pair whose hash ends in 4 zeros.
 fn local_ring(alloc: Global, size: usize) -> Result<Vec<u32>, AllocError> {
     let mut ring = Vec::new(alloc);
     for id in 1..u32::MAX {
@@ -61,7 +61,7 @@ fn local_ring(alloc: Global, size: usize) -> Result<Vec<u32>, AllocError> {
     Ok(ring)
 }
 
-/// So many target ids, `STEP` apart.
+/// This number of target ids, `STEP` apart.
 fn target_ring(alloc: Global, size: u32) -> Result<Vec<u32>, AllocError> {
     let mut ring = Vec::new(alloc);
     for place in 1..=size {
@@ -70,13 +70,13 @@ fn target_ring(alloc: Global, size: u32) -> Result<Vec<u32>, AllocError> {
     Ok(ring)
 }
 
-/// The id after the one at a place of a ring: the first one after the last.
+/// The next id after an index of a ring; the first one follows the last.
 fn after(ring: &[u32], place: usize) -> u32 {
     let next = ring.get(place.wrapping_add(1)).or(ring.first());
     next.copied().unwrap_or(0)
 }
 
-/// Puts down the next id of a ring at each of its ids.
+/// Stores the next id of a ring at each of its ids.
 fn close(ring: &[u32], next_ids: &mut [u32]) {
     for (place, id) in ring.iter().enumerate() {
         if let Some(next) = next_ids.get_mut(*id as usize) {
@@ -85,7 +85,7 @@ fn close(ring: &[u32], next_ids: &mut [u32]) {
     }
 }
 
-/// For each id up to the last of two rings, the next one of its ring; 0 where it is in none.
+/// For each id up to the last of two rings, the next one of its ring; 0 if it is in none.
 fn next_ids(alloc: Global, locals: &[u32], targets: &[u32]) -> Result<Vec<u32>, AllocError> {
     let mut next_ids = Vec::new(alloc);
     let last = locals.last().max(targets.last()).copied().unwrap_or(0);

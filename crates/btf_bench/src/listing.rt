@@ -30,7 +30,7 @@ impl Listing {
         })
     }
 
-    /// Lists the types, and drops what is written. The status of the program is returned.
+    /// Lists the types, and drops the output. Returns the status of the program.
     pub fn list(&self, alloc: Global) -> u8 {
         let mut input = self.blob.as_slice();
         run(

@@ -1,13 +1,13 @@
-//! `btf_bench`: how long the calls of the library take, `btf_bench FILE [WHAT] [REPS] [--csv|--names]`.
+//! `btf_bench`: measures the times of the library's calls, `btf_bench FILE [WHAT] [REPS] [--csv|--names]`.
 //!
-//! FILE is a table in little-endian order, as `/sys/kernel/btf/vmlinux`. For each work, or for WHAT alone, it prints
-//! the least and the median time of REPS runs, and the least by record; with `--csv` in nanoseconds, with commas
-//! between, and with `--names` that it was done, without its times.
+//! FILE is a table in little-endian order, such as `/sys/kernel/btf/vmlinux`. For each work, or for WHAT alone, it
+//! prints the least and the median time of REPS runs, and the least time by record. With `--csv` it prints them in
+//! nanoseconds, separated by commas; with `--names` it prints the names of the works without times.
 //!
-//! `btf_bench FAMILY N [REPS] [--csv|--names]` does so for a table that an attacker could make, at the sizes N, 2 N and
+//! `btf_bench FAMILY N [REPS] [--csv|--names]` measures a table that an attacker could make, at the sizes N, 2 N and
 //! 4 N: a step that is not linear shows in the time of a unit. FAMILY is `collide`, `fan`, `rings`, `nest`, `flood`,
 //! `floodrings`, `longname`, `listing`, `sections`, `collidedsections`, `keyedsections`, `entries`, `symbols` or
-//! `datasecs`; the module `hostile` says what these are.
+//! `datasecs`; the module `hostile` describes these.
 //!
 //! `btf_bench names N [REPS] [--csv|--names]` reads a name N times, for names of several lengths, each as the last of
 //! the string section and as another one.
@@ -35,7 +35,7 @@ use std::alloc::{AllocError, Global};
 use std::test::Fail;
 use std::{env, fs};
 
-/// What the words after the program's name ask for.
+/// The request in the words after the program's name.
 #[derive(Drop)]
 struct Request {
     file: String,
@@ -45,7 +45,7 @@ struct Request {
 }
 
 impl Request {
-    /// What stands for the words that are not there.
+    /// The defaults of missing words.
     fn new(alloc: Global) -> Result<Self, AllocError> {
         Ok(Request {
             file: String::new(alloc),
@@ -55,7 +55,7 @@ impl Request {
         })
     }
 
-    /// Takes the word of a place.
+    /// Reads the word at an index.
     fn take(&mut self, place: usize, word: String) -> Result<(), Fail> {
         match place {
             1 => self.file = word,
@@ -97,7 +97,7 @@ fn time_works(rt: &HostRuntime, request: &Request) -> Result<(), Fail> {
     Ok(())
 }
 
-/// Times what is done with the table of a family and a size, and prints its line.
+/// Times the work on the table of a family and a size, and prints its line.
 fn time_hostile(
     rt: &HostRuntime,
     family: Family,
@@ -122,7 +122,7 @@ fn print_hostile(
     Row { name, units, unit }.print(rt, timing, request.form)
 }
 
-/// Times how long it takes to read a name of this length as often as it is asked for, and prints its line.
+/// Times the requested number of reads of a name of this length, and prints its line.
 fn time_name(rt: &HostRuntime, len: u32, is_last: bool, request: &Request) -> Result<(), Fail> {
     let count: u32 = request.what.parse()?;
     let timing = Names::new(rt.alloc(), len, is_last, count)?.timing(rt, request.reps)?;

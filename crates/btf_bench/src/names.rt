@@ -11,17 +11,17 @@ use std::time::Instant;
 /// The lengths of the names, in bytes.
 pub static LENGTHS: [u32; 5] = [15, 63, 255, 511, 4_000];
 
-/// How many bytes stand between the two names of a table.
+/// The number of bytes between the two names of a table.
 const BETWEEN: u32 = 4_000;
 
-/// A table with two names of one length, and the offset of the one that is read, once for each time that it is here.
+/// A table with two names of one length, and the offset of the name that is read, repeated once for each read.
 #[derive(Drop)]
 pub struct Names {
     btf: Btf,
     offsets: Vec<u32>,
 }
 
-/// So many of one offset.
+/// This number of copies of one offset.
 fn repeated(alloc: Global, offset: u32, count: u32) -> Result<Vec<u32>, Fail> {
     let mut offsets = Vec::new(alloc);
     for _ in 0..count {
@@ -39,7 +39,8 @@ fn name_len(btf: &Btf, offset: u32) -> u64 {
 }
 
 impl Names {
-    /// A table with names of this length, of which the last of its string section is read so often, or another.
+    /// A table with names of this length. The last name of its string section, or another one, is read this number of
+    /// times.
     pub fn new(alloc: Global, len: u32, is_last: bool, count: u32) -> Result<Self, Fail> {
         let mut sketch = Sketch::new(alloc)?;
         let first = sketch.string(b'a', len)?;
@@ -52,7 +53,7 @@ impl Names {
         })
     }
 
-    /// The times of so many runs.
+    /// The times of this number of runs.
     pub fn timing(&self, rt: &HostRuntime, reps: usize) -> Result<Timing, Fail> {
         let mut timing = Timing::new(rt.alloc());
         for _ in 0..reps {
@@ -61,7 +62,7 @@ impl Names {
         Ok(timing)
     }
 
-    /// The nanoseconds that it takes to read the name so often.
+    /// The nanoseconds of this number of reads of the name.
     fn nanoseconds(&self, rt: &HostRuntime) -> Result<u64, Fail> {
         let start = Instant::now(rt)?;
         let mut all = 0u64;
@@ -69,7 +70,7 @@ impl Names {
             all = all.wrapping_add(name_len(&self.btf, *offset));
         }
         let took = since(rt, start)?;
-        // What was found is used, so that the loop is not left out.
+        // The result is used, so that the loop is not optimized away.
         Ok(if all == u64::MAX { 0 } else { took })
     }
 }

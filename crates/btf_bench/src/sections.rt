@@ -6,8 +6,8 @@ use btf_samples::spelled::push_words;
 use std::alloc::Global;
 use std::test::Fail;
 
-/// Each text of 32 bytes that begins with these 24 has the same hash under `FoldHasher`. The third word is the state
-/// that the first two leave, so the hasher multiplies the last word by the difference of the two, which is 0.
+/// All texts of 32 bytes that begin with these 24 have the same hash under `FoldHasher`. The third word equals the
+/// hasher's state after the first two words. So their difference is 0, and the hasher multiplies the last word by it.
 const PREFIX: &str = "kprobe/aaaamnsuiv/8z2fk3";
 
 /// The offset of one name of 2 N bytes, N times.
@@ -30,7 +30,7 @@ pub fn collided_names(alloc: Global, sketch: &mut Sketch, size: u32) -> Result<V
     Ok(names)
 }
 
-/// The bytes of a `.BTF.ext` of sections of functions that have their names at these offsets, each with one record.
+/// The bytes of a `.BTF.ext` with sections of functions, each with a name at one of these offsets and with one record.
 pub fn sections(alloc: Global, names: &[u32]) -> Result<Vec<u8>, Fail> {
     let func_len = u32::try_from(names.len())?.wrapping_mul(16).wrapping_add(4);
     let mut bytes = Vec::new(alloc);

@@ -1,4 +1,4 @@
-//! Bytes of tables in the making, in little-endian order.
+//! Bytes of unfinished tables, in little-endian order.
 
 use btf_plain::Endianness;
 use btf_samples::blobs::blob;
@@ -50,7 +50,7 @@ impl Sketch {
         self.record(&[name_offset, 0x0c00_0001, prototype])
     }
 
-    /// A VAR with the name at this offset: Static where the linkage is 0, Global where it is 1.
+    /// A VAR with the name at this offset: Static if the linkage is 0, Global if it is 1.
     pub fn var(&mut self, name_offset: u32, to: u32, linkage: u32) -> Result<u32, AllocError> {
         self.record(&[name_offset, 0x0e00_0000, to, linkage])
     }
@@ -75,7 +75,7 @@ impl Sketch {
         Ok(id)
     }
 
-    /// Appends a string of so many of this byte, and returns its offset.
+    /// Appends a string of this number of copies of a byte, and returns its offset.
     pub fn string(&mut self, byte: u8, len: u32) -> Result<u32, Fail> {
         let offset = u32::try_from(self.strings.len())?;
         for _ in 0..len {

@@ -3,12 +3,12 @@
 use crate::timing::Timing;
 use std::test::Fail;
 
-/// How the lines are written.
+/// The form of the lines.
 #[derive(Clone, Copy)]
 pub enum Form {
     /// For a reader.
     Table,
-    /// As values that commas part.
+    /// Values separated by commas.
     Csv,
     /// The name alone.
     Names,
@@ -24,11 +24,11 @@ impl From<&str> for Form {
     }
 }
 
-/// What a line is about.
+/// The subject of a line.
 #[derive(Clone, Copy)]
 pub struct Row<'a> {
     pub name: &'a str,
-    /// How many there are of what the least time is divided by, and what one is called.
+    /// The number of units that the least time is divided by, and the name of a unit.
     pub units: u64,
     pub unit: &'a str,
 }

@@ -15,19 +15,19 @@ impl Timing {
         }
     }
 
-    /// Adds a run in its place, so that the runs stay in rising order.
+    /// Inserts a run, so that the runs stay in rising order.
     pub fn add(&mut self, nanoseconds: u64) -> Result<(), AllocError> {
         let place = self.runs.iter().filter(|run| **run <= nanoseconds).count();
         self.runs.insert(place.min(self.runs.len()), nanoseconds)?;
         Ok(())
     }
 
-    /// The least time; 0 where there was no run.
+    /// The least time; 0 if there was no run.
     pub fn least(&self) -> u64 {
         self.runs.first().copied().unwrap_or(0)
     }
 
-    /// The time in the middle; 0 where there was no run.
+    /// The median time; 0 if there was no run.
     pub fn median(&self) -> u64 {
         self.runs.get(self.runs.len() / 2).copied().unwrap_or(0)
     }

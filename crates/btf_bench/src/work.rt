@@ -25,7 +25,7 @@ pub static NAMES: [&str; 12] = [
     "name",
 ];
 
-/// What the works are done on: the bytes of a table, the table, the ids of its prototypes, and its last FUNC's name.
+/// The subject of the works: the bytes of a table, the table, the ids of its prototypes, and its last FUNC's name.
 #[derive(Drop)]
 pub struct Bench<'a> {
     alloc: Global,
@@ -53,7 +53,7 @@ fn ids_of(alloc: Global, btf: &Btf, kind: BtfKind) -> Result<Vec<u32>, Fail> {
     Ok(ids)
 }
 
-/// The name of a type; empty where it cannot be read.
+/// The name of a type; empty if it cannot be read.
 fn name_of(alloc: Global, btf: &Btf, id: u32) -> Result<String, BtfError> {
     let name = btf.err_type_name(btf.type_by_id(id)?)?;
     Ok(name.unwrap_or(String::new(alloc)))
@@ -88,7 +88,7 @@ impl<'a> Bench<'a> {
         self.btf.types().len() as u64
     }
 
-    /// The times of so many runs of a work.
+    /// The times of this number of runs of a work.
     pub fn timing(&self, rt: &HostRuntime, name: &str, reps: usize) -> Result<Timing, Fail> {
         let mut timing = Timing::new(rt.alloc());
         for _ in 0..reps {
@@ -141,7 +141,7 @@ impl<'a> Bench<'a> {
         let mut table = self.btf.try_clone()?;
         let layout = Layout::new(self.alloc);
         let start = Instant::now(rt)?;
-        // A table whose sections are not known is refused, which takes its time too.
+        // A table with unknown sections is an error, and its time is measured too.
         let rewritten = rewrite(&mut table, &layout, granted);
         let took = since(rt, start);
         drop(rewritten);
@@ -170,7 +170,7 @@ impl<'a> Bench<'a> {
         took
     }
 
-    /// How many prototypes are compatible with the one so many places after them.
+    /// The number of prototypes that are compatible with the prototype this number of places after them.
     fn compatible(&self, distance: usize) -> u32 {
         let mut count = 0u32;
         for (id, other) in self
@@ -202,7 +202,7 @@ impl<'a> Bench<'a> {
         Ok(if found { took } else { 0 })
     }
 
-    /// The nanoseconds that a walk from each id takes. Only the walk is chosen by the work's name, and not each step.
+    /// The nanoseconds of a walk from each id. The work's name selects the walk once, and not at each step.
     fn walk(&self, rt: &HostRuntime, name: &str) -> Result<u64, Fail> {
         let start = Instant::now(rt)?;
         let all = match name {
@@ -215,7 +215,7 @@ impl<'a> Bench<'a> {
         Ok(if all == u64::MAX { 0 } else { took })
     }
 
-    /// What is found at all ids, added up.
+    /// The sum of the results at all ids.
     fn sum<F: Fn(&Btf, u32) -> u64>(&self, found: F) -> u64
         requires { F.IsAlwaysCallable found }
     {
@@ -229,7 +229,7 @@ impl<'a> Bench<'a> {
     }
 }
 
-// An error counts as 1. It is not handed on, since copying what it may hold would be timed too.
+// An error counts as 1. It is not propagated, because copying its contents would be timed too.
 
 /// The id that an id resolves to.
 fn resolved(btf: &Btf, id: u32) -> u64 {

@@ -1,4 +1,4 @@
--- A line asks for one thing.
+-- The meaning of a command line is unique.
 use Rattle.std.proofs.Common.{◌≡◌, ℕ, List, [], ◌∷◌, Option, None, Some, Ok, Err, Result, refl, sym, ap, subst, ◌∙◌, String, Global, inl, inr}
 use Rattle.std.specs.Prelude.{if◌then◌else◌, codes, ◌⊎◌, IfSome}
 use Rattle.std.specs.Str.{bytes_eq}
@@ -25,7 +25,7 @@ use Rattle.btf_cli.specs.Line.{order_word, AsksQuery, AsksCommand, Asks}
 use Rattle.btf_cli.specs.Answer.{Rewrites, Writes, Declines, IsAnswer, IsDeclined, IsWritten}
 use Rattle.btf_cli.proofs.Told.{said_once}
 
--- ---- what the words tell, if they ask for something
+-- ---- the meaning of the words, if they have one
 
 abbrev order_told : List ℕ → Endianness
 order_told word = if bytes_eq word (codes "big") then orders.Big else orders.Little
@@ -83,7 +83,7 @@ ids_once said (Some a) (Some b) is other =
     let placeholder : a.placeholder_id ≡ b.placeholder_id = option_once a.placeholder_id b.placeholder_id (sym is.1 ∙ other.1) in
     ap (λ (n : ℕ). Some (record { datasec_id = n; placeholder_id = a.placeholder_id })) datasec ∙ ap (λ (o : Option ℕ). Some (record { datasec_id = b.datasec_id; placeholder_id = o })) placeholder
 
--- two requests say the same
+-- two requests of the same words are equal
 pub record AreAlike (a b : Request) : Type 0 where
   pub words : request_words a ≡ request_words b
   pub ids : request_ids a ≡ request_ids b
@@ -108,7 +108,7 @@ rewrites_alike a b t (Err refusal) alike is =
 
 -- ---- commands of the same words
 
--- two commands ask for the same
+-- two commands of the same words are equal
 abbrev SameCommand : Command → Command → Type 0
 SameCommand (Ask query) (Ask other) = query ≡ other
 SameCommand (Ask query) (Rewrite request) = ⊥
@@ -136,7 +136,7 @@ declines_alike (Rewrite request) (Rewrite other) t refusal alike declines = rewr
 
 -- ---- lines of the same words
 
--- two lines ask for the same
+-- two command lines of the same words are equal
 pub record SameLine (a b : Line) : Type 0 where
   pub endianness : a.endianness ≡ b.endianness
   pub command : SameCommand a.command b.command

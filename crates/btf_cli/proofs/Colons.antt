@@ -1,16 +1,16 @@
--- What stands before and after the first `:` of a word.
+-- The texts before and after the first `:` of a word.
 use Rattle.std.proofs.Common.{◌≡◌, ◌≢◌, ℕ, List, sym, ap, ◌∙◌}
 use Rattle.std.specs.Prelude.{◌==◌, codes}
 use Rattle.std.specs.List.{before_first, after_first}
 use Rattle.btf_rewrite_model.specs.declared.feature.BtfFeature.{BtfFeature}
 use Rattle.btf_cli.specs.Saying.{Saying, Grants, FillsSized, SectionSize, SymbolOffset, KsymsId, PlaceholderId, Says, feature_word, fill_word, IsNamed, IsId}
 
--- a word is cut there into these
+-- the word is split there into these texts
 pub record IsCut (word what rest : List ℕ) : Type 0 where
   pub front : what ≡ before_first (λ b. b == 58) word
   pub back : rest ≡ after_first (λ b. b == 58) word
 
--- what a word that is cut says, by what stands before
+-- the setting of a word with `:`, by the text before it
 abbrev pub SaysBy : List ℕ → List ℕ → Saying → Type 0
 SaysBy what rest (Grants feature) = ⊥
 SaysBy what rest FillsSized = ⊥
@@ -35,7 +35,7 @@ says_by word what rest cut unnamed other (PlaceholderId id) says =
     let rest_is : rest ≡ says.0 = cut.back ∙ ap (after_first (λ b. b == 58)) says.1 in
     (cut.front ∙ ap (before_first (λ b. b == 58)) says.1, rw rest_is says.2)
 
--- a word that begins so says nothing where no name and number follow
+-- a word with this beginning is invalid if no name and number follow
 pub section_unsaid : (what rest : List ℕ) → what ≡ codes "section" → ((name : List ℕ) (n : ℕ) → IsNamed rest name n → ⊥) → (saying : Saying) → SaysBy what rest saying → ⊥
 section_unsaid what rest is unnamed (Grants feature) says = says
 section_unsaid what rest is unnamed FillsSized says = says

@@ -1,4 +1,4 @@
--- The kernel that the words of a rewrite tell of.
+-- The kernel that the words of a rewrite describe.
 use Rattle.std.proofs.Common.{◌≡◌, ℕ, List, [], ◌∷◌, Bool, true, false, ◌||◌, String, Global, refl, sym, ap, ◌∙◌, eq-eqb, eqb-true, ◌++◌}
 use Rattle.std.specs.Prelude.{codes, string_bytes, if◌then◌else◌, ◌==◌}
 use Rattle.std.specs.List.{list_any, AllByRecursion}
@@ -46,7 +46,7 @@ numbered_is features.Enum64 = refl
 same_is : (f g : BtfFeature) → same_feature f g ≡ true → f ≡ g
 same_is f g is = sym (numbered_is f) ∙ ap numbered (eqb-true (number f) (number g) is) ∙ numbered_is g
 
--- the words of two features are one word where the features are one
+-- the words of two features are equal exactly if the features are
 words_alike : (f g : BtfFeature) → bytes_eq (feature_word f) (feature_word g) ≡ same_feature f g
 words_alike f g =
     elim (same_feature f g) as (λ (b : Bool). same_feature f g ≡ b → bytes_eq (feature_word f) (feature_word g) ≡ b) [
@@ -60,7 +60,7 @@ words_alike f g =
           ] refl
     ] refl
 
--- ---- what words grant
+-- ---- granted features
 
 word_grants : (word : List ℕ) (saying : Saying) (f : BtfFeature) → Says word saying → bytes_eq word (feature_word f) ≡ is_grant f saying
 word_grants word (Grants g) f says = ap (λ (w : List ℕ). bytes_eq w (feature_word f)) says ∙ words_alike g f
@@ -102,7 +102,7 @@ words_fill (w ∷ words) [] all = absurd all
 words_fill (w ∷ words) (s ∷ said) all =
     ap (λ (b : Bool). b || list_any (λ (word : String Global). bytes_eq (string_bytes word) fill_word) words) (word_fills (string_bytes w) s all.0) ∙ ap (λ (b : Bool). is_fill s || b) (words_fill words said all.1)
 
--- the policy of a request is the one that its words say
+-- the policy of a request is the policy of its settings
 pub policy_is : (request : Request) (said : List Saying) → IsSaid request said → policy_named request ≡ policy_said said
 policy_is request said is_said = ap (λ (b : Bool). if b then FillSized else KeepSized) (words_fill request.words.now said is_said.all)
 
@@ -122,7 +122,7 @@ kernel_grants said features.Enum64 = refl
 abbrev pub AreNamed : Request → List FeatureAnswer → Type 0
 AreNamed request answers = AllByRecursion (λ (a : FeatureAnswer). a.granted ≡ names request a.feature) answers
 
--- a predicate that answers so, whatever it is called for
+-- a predicate that gives these answers to every feature
 pub all_named : {F : Type 0} (step : F → BtfFeature → Bool → F → Type 0) (request : Request) (Is : F → Type 0)
     → ((f g : F) (feature : BtfFeature) (granted : Bool) → Is f → step f feature granted g → (granted ≡ names request feature) × Is g)
     → (before : F) (answers : List FeatureAnswer) (after : F) → Is before → Called step before answers after → AreNamed request answers

@@ -19,12 +19,12 @@ option_or_none : (a : Option ℕ) → option_or a None ≡ a
 option_or_none None = refl
 option_or_none (Some x) = refl
 
--- what it says, or else what those before say
+-- its number, or otherwise the number of the words before it
 last_push : (number : Saying → Option ℕ) (said : List Saying) (saying : Saying) → last_said number (said ++ saying ∷ []) ≡ option_or (number saying) (last_said number said)
 last_push number [] saying = sym (option_or_none (number saying))
 last_push number (s ∷ said) saying = ap (λ o. option_or o (number s)) (last_push number said saying) ∙ sym (option_or_assoc (number saying) (last_said number said) (number s))
 
--- what stands at the place of a word
+-- the setting at the index of a word
 say_at : (words : List (String Global)) (said : List Saying) (i : ℕ) (word : String Global) → SayAll (texts words) said → i < length words → word ≡ slice_index_or words i word
     → (saying : Saying) × Says (string_bytes word) saying × (take (suc i) said ≡ take i said ++ saying ∷ [])
 say_at [] said i word all lt is = absurd (omega (arith, lt))
@@ -33,7 +33,7 @@ say_at (w ∷ words) (s ∷ said) zero word all lt is = (s, subst (λ (x : Strin
 say_at (w ∷ words) (s ∷ said) (suc i) word all lt is =
     let rest = say_at words said i word all.1 (omega (arith, lt)) is in (rest.0, rest.1, ap (λ ss. s ∷ ss) rest.2)
 
--- A word that is met says this, and then this is what was said.
+-- The settings of the words up to and with this word, which makes this setting.
 pub record IsNext (text : List ℕ) (said : List Saying) (i : ℕ) : Type 0 where
   pub saying : Saying
   pub says : Says text saying
@@ -45,7 +45,7 @@ next_said words said i word text all lt is text_is =
     let next : i + 1 ≡ suc i = omega arith in
     record { saying = at.0; says = subst (λ (t : List ℕ). Says t at.0) (sym text_is) at.1; more = ap (λ (n : ℕ). take n said) next ∙ at.2 }
 
--- what the last says then
+-- the number of the last setting then
 next_last : (number : Saying → Option ℕ) (text : List ℕ) (said : List Saying) (i : ℕ) (saying : Saying) → (next : IsNext text said i) → Says text saying → last_said number (take (i + 1) said) ≡ option_or (number saying) (last_said number (take i said))
 next_last number text said i saying next says =
     let same : next.saying ≡ saying = sym (told_is text next.saying next.says) ∙ told_is text saying says in
@@ -68,20 +68,20 @@ no_size : (saying : Saying) (name : List ℕ) → ((section : List ℕ) (size : 
 no_size (SectionSize section size) name other = absurd (other section size refl)
 no_size saying name other = refl
 
--- a word that tells of no section
+-- a word about no section
 pub no_section : (text : List ℕ) (said : List Saying) (i : ℕ) (name : List ℕ) → IsNext text said i → ((section : List ℕ) (size : ℕ) → Says text (SectionSize section size) → ⊥) → last_said (size_said name) (take (i + 1) said) ≡ last_said (size_said name) (take i said)
 no_section text said i name next other =
     next_last (size_said name) text said i next.saying next next.says
     ∙ ap (λ (o : Option ℕ). option_or o (last_said (size_said name) (take i said))) (no_size next.saying name (λ section size is. other section size (subst (λ (s : Saying). Says text s) is next.says)))
 
--- a word that tells of one
+-- a word about a section
 pub one_section : (text : List ℕ) (said : List Saying) (i : ℕ) (section : List ℕ) (size : ℕ) (name : List ℕ) → IsNext text said i → Says text (SectionSize section size)
     → last_said (size_said name) (take (i + 1) said) ≡ (if bytes_eq section name then Some size else last_said (size_said name) (take i said))
 one_section text said i section size name next says =
     next_last (size_said name) text said i (SectionSize section size) next says
     ∙ elim (bytes_eq section name) as (λ (b : Bool). option_or (if b then Some size else None) (last_said (size_said name) (take i said)) ≡ (if b then Some size else last_said (size_said name) (take i said))) [ true ↦ refl | false ↦ refl ]
 
--- what a map has then
+-- the contents of the map then
 pub section_kept : (b : Bool) (section : SectionIndex × ℕ) (old : Option (SectionIndex × ℕ)) (rest : Option ℕ) → option_map (λ (s : SectionIndex × ℕ). s.1) old ≡ rest
     → option_map (λ (s : SectionIndex × ℕ). s.1) (cond b (Some section) old) ≡ (if b then Some section.1 else rest)
 section_kept true section old rest is = refl

@@ -13,7 +13,7 @@ lines_push strings id (q ∷ rs) r =
     ap (λ (more : List ℕ). type_line strings id q ++ more) (lines_push strings (id + 1) rs r ∙ ap (λ (at : ℕ). lines_from strings (id + 1) rs ++ type_line strings at r) (omega arith))
     ∙ sym (append_assoc (type_line strings id q) (lines_from strings (id + 1) rs) (type_line strings (id + suc (length rs)) r))
 
--- the line of the type at a place, where the first has id 1
+-- the line of the type at an index; the first type has id 1
 pub lines_next : (strings : List ℕ) (types : List BtfType) (place : ℕ) (t : BtfType) → place < length types → t ≡ slice_index_or types place t
     → lines_from strings 1 (map record_of (take (place + 1) types)) ≡ lines_from strings 1 (map record_of (take place types)) ++ type_line strings (place + 1) (record_of t)
 lines_next strings types place t lt is =

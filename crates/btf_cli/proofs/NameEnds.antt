@@ -10,7 +10,7 @@ use Rattle.std.proofs.lemmas.Option.{same_Some, none-some}
 use Rattle.std.proofs.lemmas.Str.Pattern.{NoCharPasses-char, drop_at_char}
 use Rattle.btf_cli.specs.Saying.{IsNumber, IsNamed}
 
--- what stands before and after the last `=`
+-- the text before and after the last `=`
 abbrev cut_at : ℕ → List ℕ → Option (List ℕ × List ℕ) → Option (List ℕ × List ℕ)
 cut_at byte text (Some parts) = Some (byte ∷ parts.0, parts.1)
 cut_at byte text None = if byte == 61 then Some ([], text) else None
@@ -19,13 +19,13 @@ abbrev pub cut_last : List ℕ → Option (List ℕ × List ℕ)
 cut_last [] = None
 cut_last (byte ∷ text) = cut_at byte text (cut_last text)
 
--- a text without `=` has none
+-- a text without `=` has no last `=`
 pub not_cut : (text : List ℕ) → ((i : ℕ) → i < length text → get_or text i 0 ≢ 61) → cut_last text ≡ None
 not_cut [] lacks = refl
 not_cut (byte ∷ text) lacks =
     ap (cut_at byte text) (not_cut text (λ i lt. lacks (suc i) (omega (arith, lt)))) ∙ ap (λ b. if b then Some ([], text) else None) (ne_eqb byte 61 (lacks 0 (omega arith)))
 
--- and a text after `=` without one is what stands after the last
+-- if the text after an `=` has none, that `=` is the last
 pub cut_is : (name rest : List ℕ) → cut_last rest ≡ None → cut_last (name ++ 61 ∷ rest) ≡ Some (name, rest)
 cut_is [] rest none = ap (cut_at 61 rest) none
 cut_is (byte ∷ name) rest none = ap (cut_at byte (name ++ 61 ∷ rest)) (cut_is name rest none)
@@ -37,17 +37,17 @@ digits_not_cut : (digits : List ℕ) → AllDigits 10 digits → cut_last digits
 digits_not_cut [] all = refl
 digits_not_cut (c ∷ digits) all = ap (cut_at c digits) (digits_not_cut digits all.1) ∙ ap (λ b. if b then Some ([], digits) else None) (ne_eqb c 61 (digit_differs c all.0))
 
--- a name and a number are what stands before and after the last `=`
+-- the name and the number are the texts before and after the last `=`
 pub cut_named : (text name : List ℕ) (n : ℕ) → (named : IsNamed text name n) → cut_last text ≡ Some (name, named.0)
 cut_named text name n named = ap cut_last (named.1 ∙ append_assoc name (codes "=") named.0) ∙ cut_is name named.0 (digits_not_cut named.0 named.2.0.1)
 
 -- ---- `rsplit_once`
 
--- where it finds none, there is none
+-- if it returns None, there is no `=`
 pub none_found : (text : List ℕ) → RFindsChar 61 text None → cut_last text ≡ None
 none_found text none = not_cut text (λ i lt. NoCharPasses-char 61 text i none (omega arith) lt)
 
--- and else it cuts there
+-- otherwise it splits the text at the last `=`
 pub parts_found : (text front back : List ℕ) → SplitsAroundMatch (RFindsChar 61) text front back → (text ≡ front ++ 61 ∷ back) × (cut_last text ≡ Some (front, back))
 parts_found text front back split =
     let i : ℕ = split.0 in
@@ -64,7 +64,7 @@ parts_found text front back split =
 pub not_named : (text : List ℕ) → RFindsChar 61 text None → (name : List ℕ) (n : ℕ) → IsNamed text name n → ⊥
 not_named text none name n named = none-some (name, named.0) (sym (none_found text none) ∙ cut_named text name n named)
 
--- nor is one with no number after the last
+-- a text without a number after the last `=` is no name and number
 pub not_numbered : (text front back : List ℕ) → SplitsAroundMatch (RFindsChar 61) text front back → ((n : ℕ) → IsNumber 64 back n → ⊥) → (name : List ℕ) (n : ℕ) → IsNamed text name n → ⊥
 not_numbered text front back split unsaid name n named =
     let parts : (front, back) ≡ (name, named.0) = same_Some (front, back) (name, named.0) (sym (parts_found text front back split).1 ∙ cut_named text name n named) in

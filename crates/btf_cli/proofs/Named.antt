@@ -11,7 +11,7 @@ unfolding pieces_from
 no_text [] is = refl
 no_text (b ∷ bytes) is = absurd (omega (arith, ap length is))
 
--- a list of no length has no items
+-- a list of length 0 has no items
 pub nothing : {X : Type 0} (xs : List X) → length xs ≡ 0 → xs ≡ []
 nothing [] is = refl
 nothing (x ∷ xs) is = absurd (omega (arith, is))
@@ -21,7 +21,7 @@ part_of [] some = absurd (some refl)
 part_of (byte ∷ text) some = refl
 
 module _ {X : Type 0} (bytes : X → List ℕ) (offset : ℕ) (o : Option X) (known : Option (List ℕ)) (other found : X) (is : option_map bytes o ≡ known) (none : bytes other ≡ []) (value : found ≡ unwrap_or o other) where
-  -- bytes that are found, or none in their place, are listed as the text at the offset
+  -- the bytes at an offset, or none, are listed as the text at the offset
   found_part : name_part (text_of offset known) ≡ name_part (Ok (lossy (bytes found)))
   found_part = by_cases o is value
     where
@@ -31,7 +31,7 @@ module _ {X : Type 0} (bytes : X → List ℕ) (offset : ℕ) (o : Option X) (kn
       by_cases None at there =
           ap (λ (k : Option (List ℕ)). name_part (text_of offset k)) (sym at) ∙ ap (λ (text : List ℕ). name_part (Ok text)) (sym (no_text (bytes found) (ap bytes there ∙ none)))
 
-  -- with a space, where there are any
+  -- with a space, if there are any
   pub named_part : ¬ (length (bytes found) ≡ 0) → name_part (text_of offset known) ≡ codes " " ++ lossy (bytes found)
   named_part some = found_part ∙ part_of (lossy (bytes found)) (λ empty. some (ap length (empty_text (bytes found) empty)))
 

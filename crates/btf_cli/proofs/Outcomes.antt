@@ -1,4 +1,4 @@
--- A command has one outcome: what it writes something of, it does not refuse.
+-- A command has one outcome: if it has an output on a table, it has no error on it.
 use Rattle.std.proofs.Common.{◌≡◌, ◌∙◌, ℕ, Bool, List, [], Ok, Err, refl, sym, ap, subst, ⊎_elim, Result, Option, Some, None, inr}
 use Rattle.std.specs.Prelude.{slice_get, IfOk, IfErr, IfSome, IsErr, IsErrAnd}
 use Rattle.std.specs.Result.{is_ok, result_ok}
@@ -65,7 +65,7 @@ answered_not_declined line bytes written refusal answer declined =
 
 -- ---- results
 
--- what is declined fails, where what succeeds is an answer
+-- if there is an error, the command fails, because each success is an output
 pub declined_fails : (line : Line) (bytes : List ℕ) (r : Result Output BtfError) → IfOk r (λ output. IsAnswer line bytes (output_bytes output)) → (refusal : Refusal) → IsDeclined line bytes refusal → IsErr r
 declined_fails line bytes (Ok output) made refusal declined = absurd (answered_not_declined line bytes (output_bytes output) refusal made declined)
 declined_fails line bytes (Err e) made refusal declined = refl
@@ -87,7 +87,7 @@ query_told line bytes query t (Err e) is parsed told =
 pub line_of : (line : Line) (command : Command) → line.command ≡ command → line ≡ record { endianness = line.endianness; command = command }
 line_of line command is = ap (λ (x : Command). record { endianness = line.endianness; command = x }) is
 
--- an error that is passed on is reported for the same cause
+-- an error that is propagated has the same cause
 pub same_told : {X : Type 0} (line : Line) (bytes : List ℕ) (e : BtfError) (r : Result X BtfError) → IfSome (refusal_of e) (IsDeclined line bytes) → IsErrAnd r (λ other. other ≡ e)
     → IfErr r (λ other. IfSome (refusal_of other) (IsDeclined line bytes))
 same_told {X} line bytes e r told err =
@@ -96,7 +96,7 @@ same_told {X} line bytes e r told err =
 
 -- ---- faults
 
--- a refusal of what was read is one of the known bytes
+-- an error of the bytes that were read is an error of the known input
 pub fault_told : {X : Type 0} (line : Line) (read : List ℕ) (known : Option (List ℕ)) (e : BtfError) (r : Result X Fault) → IfSome known (λ bytes. read ≡ bytes) → IfSome (refusal_of e) (IsDeclined line read) → IsErrAnd r (λ fault. fault ≡ faults.Btf e)
     → IfErr r (λ fault. IfSome known (λ bytes. IfSome (fault_refusal fault) (IsDeclined line bytes)))
 fault_told {X} line read known e r whole told err =

@@ -21,14 +21,14 @@ say_more [] (s ∷ said) word saying all says = absurd all
 say_more (w ∷ words) [] word saying all says = absurd all
 say_more (w ∷ words) (s ∷ said) word saying all says = (all.0, say_more words said word saying all.1 says)
 
--- one word says something where all do
+-- if all words are valid, each is
 pub say_one : (front : List (List ℕ)) (word : List ℕ) (back : List (List ℕ)) (said : List Saying) → SayAll (front ++ word ∷ back) said → (saying : Saying) × Says word saying
 say_one [] word back [] all = absurd all
 say_one [] word back (s ∷ said) all = (s, all.0)
 say_one (w ∷ front) word back [] all = absurd all
 say_one (w ∷ front) word back (s ∷ said) all = say_one front word back said all.1
 
--- the texts up to a word, with it, and round it
+-- the texts before a word, with it, and around it
 pub texts_next : (words : List (String Global)) (i : ℕ) (word : String Global) → i < length words → word ≡ slice_index_or words i word → texts (take (i + 1) words) ≡ texts (take i words) ++ string_bytes word ∷ []
 texts_next words i word lt is =
     let next : i + 1 ≡ suc i = omega arith in
@@ -40,7 +40,7 @@ texts_round words i word lt is =
     ap texts (sym (take-append-drop i words)) ∙ map-append string_bytes (take i words) (drop i words) ∙ ap (λ (ws : List (String Global)). texts (take i words) ++ texts ws) (drop-cons words i word lt)
     ∙ ap (λ (w : String Global). texts (take i words) ++ string_bytes w ∷ texts (drop (suc i) words)) (sym is)
 
--- ---- what was read
+-- ---- the words that were read
 
 -- These words were read, with these ids.
 pub record HaveRead (words : List (List ℕ)) (ksyms placeholder : Option ℕ) : Type 0 where
@@ -65,7 +65,7 @@ read_more words word saying ksyms placeholder new_ksyms new_placeholder read say
       placeholders = one_more placeholder_said words word placeholder new_placeholder read.placeholders (ap (λ (s : Saying). option_to_list placeholder ++ filter_map placeholder_said (s ∷ [])) is ∙ more_placeholder);
     }
 
--- an id that was not said yet, and a word that says none
+-- a word with an id that was not given before, and a word without an id
 pub first_id : (id_said : Saying → Option ℕ) (saying : Saying) (old new : Option ℕ) (id : ℕ) → old ≡ None → id_said saying ≡ Some id → new ≡ Some id → option_to_list old ++ filter_map id_said (saying ∷ []) ≡ option_to_list new
 first_id id_said saying old new id none is kept =
     ap (λ (o : Option ℕ). option_to_list o ++ filter_map id_said (saying ∷ [])) none ∙ ap (λ (o : Option ℕ). cons_option o []) is ∙ ap (λ (o : Option ℕ). option_to_list o) (sym kept)
@@ -74,9 +74,9 @@ pub no_id : (id_said : Saying → Option ℕ) (saying : Saying) (old new : Optio
 no_id id_said saying old new none kept =
     ap (λ (o : Option ℕ). option_to_list old ++ cons_option o []) none ∙ append-nil (option_to_list old) ∙ ap (λ (o : Option ℕ). option_to_list o) (sym kept)
 
--- ---- what can't be read
+-- ---- invalid words
 
--- the ids that all words say, by those before one, and that
+-- the ids of all words, by the ids of the words before one, and its own
 ids_said : (id_said : Saying → Option ℕ) (front back : List (List ℕ)) (word : List ℕ) (saying : Saying) (said : List Saying) (ids : List ℕ) → SayAll (front ++ word ∷ back) said → filter_map id_said (map told front) ≡ ids → Says word saying
     → filter_map id_said said ≡ ids ++ filter_map id_said (saying ∷ map told back)
 ids_said id_said front back word saying said ids all is says =
@@ -108,7 +108,7 @@ second_placeholder front back word (Some first) id ksyms said (Some ids) read th
     let two : option_to_list ids.placeholder_id ≡ first ∷ id ∷ filter_map placeholder_said (map told back) = sym is.1 ∙ ids_said placeholder_said front back word (PlaceholderId id) said (first ∷ []) all read.placeholders says in
     one_at_most ids.placeholder_id first id (filter_map placeholder_said (map told back)) two
 
--- A word that is met among others, where those before it were read.
+-- A word among others, after the words before it were read.
 pub record IsMet (words : List (String Global)) (i : ℕ) (word : String Global) (text : List ℕ) (ksyms placeholder : Option ℕ) : Type 0 where
   pub within : i < length words
   pub at : word ≡ slice_index_or words i word
@@ -118,12 +118,12 @@ pub record IsMet (words : List (String Global)) (i : ℕ) (word : String Global)
 round : (words : List (String Global)) (i : ℕ) (word : String Global) (text : List ℕ) (ksyms placeholder : Option ℕ) → IsMet words i word text ksyms placeholder → texts words ≡ texts (take i words) ++ text ∷ texts (drop (suc i) words)
 round words i word text ksyms placeholder met = texts_round words i word met.within met.at ∙ ap (λ (t : List ℕ). texts (take i words) ++ t ∷ texts (drop (suc i) words)) (sym met.text_is)
 
--- one that says nothing
+-- an invalid one
 pub unread : (words : List (String Global)) (i : ℕ) (word : String Global) (text : List ℕ) (ksyms placeholder : Option ℕ) → IsMet words i word text ksyms placeholder → ((saying : Saying) → Says text saying → ⊥) → (said : List Saying) → SayAll (texts words) said → ⊥
 unread words i word text ksyms placeholder met unsaid said all =
     let one = say_one (texts (take i words)) text (texts (drop (suc i) words)) said (subst (λ (ws : List (List ℕ)). SayAll ws said) (round words i word text ksyms placeholder met) all) in unsaid one.0 one.1
 
--- one that says an id again
+-- one that gives an id again
 pub ksyms_again : (words : List (String Global)) (i : ℕ) (word : String Global) (text : List ℕ) (saying : Saying) (id : ℕ) (ksyms placeholder : Option ℕ) → IsMet words i word text ksyms placeholder → (ksyms ≡ None → ⊥) → Says text saying → saying ≡ KsymsId id
     → (said : List Saying) (ids : Option KsymsIds) → SayAll (texts words) said → SayIds said ids → ⊥
 ksyms_again words i word text saying id ksyms placeholder met there says saying_is said ids all is =
@@ -145,7 +145,7 @@ placeholder_alone words ksyms placeholder id none some said ids read all is =
 
 -- ---- all words
 
--- one word more of those that are met
+-- one more of the words
 pub read_next : (words : List (String Global)) (i : ℕ) (word : String Global) (text : List ℕ) (saying : Saying) (ksyms placeholder new_ksyms new_placeholder : Option ℕ) → IsMet words i word text ksyms placeholder → Says text saying
     → option_to_list ksyms ++ filter_map ksyms_said (saying ∷ []) ≡ option_to_list new_ksyms → option_to_list placeholder ++ filter_map placeholder_said (saying ∷ []) ≡ option_to_list new_placeholder
     → HaveRead (texts (take (i + 1) words)) new_ksyms new_placeholder
@@ -157,7 +157,7 @@ read_next words i word text saying ksyms placeholder new_ksyms new_placeholder m
 pub read_whole : (words : List (String Global)) (i : ℕ) (ksyms placeholder : Option ℕ) → length words ≤ i → HaveRead (texts (take i words)) ksyms placeholder → HaveRead (texts words) ksyms placeholder
 read_whole words i ksyms placeholder le read = subst (λ (ws : List (String Global)). HaveRead (texts ws) ksyms placeholder) (take_all i words le) read
 
--- a word that says no id
+-- a word without an id
 pub no_ksyms : (word : Word) → ((id : ℕ) → word ≡ words.Ksyms id → ⊥) → ksyms_said (saying_of word) ≡ None
 no_ksyms (words.Ksyms id) other = absurd (other id refl)
 no_ksyms word other = refl

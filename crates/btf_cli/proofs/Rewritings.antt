@@ -1,4 +1,4 @@
--- A rewrite under the answers to what was asked is the one that a request asks for.
+-- A rewrite with the answers that a request gives is the rewrite of that request.
 use Rattle.std.proofs.Common.{◌≡◌, ℕ, List, Option, None, Some, Ok, Err, Result, Vec, Global, sym, ap, subst, ◌∙◌, inl, inr}
 use Rattle.std.specs.Prelude.{IfErr, IfSome, IsErrAnd}
 use Rattle.std.proofs.Math.Path.{fun_ext}
@@ -21,14 +21,13 @@ use Rattle.btf_cli.specs.declared.request.Request.{Request}
 use Rattle.btf_cli.specs.declared.line.Command.TheVariants.{Rewrite}
 use Rattle.btf_cli.specs.Answer.{Rewrites, IsAnswer, IsDeclined}
 
--- a layout is the one that was said if it has each name's numbers
+-- a layout is the request's if it has the numbers of each name
 pub layout_is : (layout : Layout) (said : List Saying) → ((name : List ℕ) → layout.sections name ≡ last_said (size_said name) said) → ((name : List ℕ) → layout.symbols name ≡ last_said (offset_said name) said) → layout ≡ layout_said said
 layout_is layout said sizes offsets =
     ap (λ (sections : List ℕ → Option ℕ). record { sections = sections; symbols = layout.symbols }) (fun_ext sizes)
     ∙ ap (λ (symbols : List ℕ → Option ℕ). record { sections = λ name. last_said (size_said name) said; symbols = symbols }) (fun_ext offsets)
 
--- What is known of a rewrite that was made for a request: its layout and its policy are those that were said, and its
--- answers are the kernel's.
+-- A rewrite that was made for a request: its layout and its policy are the request's, and its answers are the kernel's.
 pub record IsFor (request : Request) (layout : Layout) (policy : FillPolicy) (answers : List FeatureAnswer) (said : List Saying) : Type 0 where
   pub is_said : IsSaid request said
   pub same_layout : layout ≡ layout_said said
@@ -48,18 +47,18 @@ module _ (request : Request) (layout : Layout) (policy : FillPolicy) (answers : 
       subst (λ (f : FillPolicy). Refuses f t (request_ids request) (layout_said said) answers refusal) for_request.same_policy (subst (λ (l : Layout). Refuses policy t (request_ids request) l answers refusal) for_request.same_layout is) in
       (said, for_request.is_said, refused_alike (policy_said said) t (request_ids request) (layout_said said) answers (kernel_said said) refusal known for_request.agree)
 
-  -- the bytes that are written are the answer
+  -- the bytes of the rewritten table are the output
   pub rewritten_answer : (endianness : Endianness) (bytes written : List ℕ) (listed : List FeatureAnswer) → RewritesBytes policy endianness bytes (request_ids request) layout answers (Ok (written, listed))
       → IsAnswer (record { endianness = endianness; command = Rewrite request }) bytes written
   rewritten_answer endianness bytes written listed is = (is.0, is.2, (is.1, rewrites_so is.0 is.1 is.3 is.4, is.5))
 
-  -- what is refused is declined
+  -- an error of the rewrite is an error of the command
   pub rewritten_declined : (endianness : Endianness) (bytes : List ℕ) (refusal : Refusal) → RewritesBytes policy endianness bytes (request_ids request) layout answers (Err refusal)
       → IsDeclined (record { endianness = endianness; command = Rewrite request }) bytes refusal
   rewritten_declined endianness bytes refusal (inl no_table) = record { cause = inl no_table.0 }
   rewritten_declined endianness bytes refusal (inr table) = record { cause = inr (table.0, table.1, refuses_so table.0 refusal table.2) }
 
--- what is said of an error that is passed on
+-- a claim about an error holds of the error that is returned for it
 pub told_through : (P Q : Refusal → Type 0) (e : BtfError) (r : Result (Vec ℕ Global) BtfError) → ((refusal : Refusal) → P refusal → Q refusal) → IfSome (refusal_of e) P → IsErrAnd r (λ y. y ≡ e) → IfErr r (λ y. IfSome (refusal_of y) Q)
 told_through P Q e r so told err =
     let q = err_from_is_err_and r err in

@@ -1,4 +1,4 @@
--- What a buffer takes, one text after another; and the text of bytes.
+-- The texts that a buffer receives, one after another; and the text of bytes.
 use Rattle.std.proofs.Common.{◌≡◌, ◌∙◌, ◌+◌, ◌≤◌, ℕ, ◌==◌, Bool, true, false, List, [], ◌∷◌, ◌++◌, length, take, drop, refl, sym, ap, subst₂, arith, None, Some, Result, Ok, Err, OnOk}
 use Rattle.std.specs.Prelude.{Option}
 use Rattle.std.specs.Fmt.{WritesInCalls}
@@ -13,22 +13,22 @@ use Rattle.btf_model.specs.Text.{lossy}
 use Rattle.btf_cli.specs.Buffered.{buffered_contents, Takes}
 use Rattle.btf_cli.specs.declared.buffered.Buffered.{Buffered}
 
--- ---- what a buffer takes
+-- ---- the bytes that a buffer receives
 
 known_nil : (known : Option (List ℕ)) → append_known known [] ≡ known
 known_nil None = refl
 known_nil (Some xs) = ap (λ (ys : List ℕ). Some ys) (append-nil xs)
 
--- what holds of a value that is there
+-- two claims about a value
 pub both_ok : {T E : Type 0} (P Q : Type 0) (r : Result T E) → OnOk r P → OnOk r Q → OnOk r (P × Q)
 both_ok P Q (Ok x) p q = (p, q)
 both_ok P Q (Err e) p q = tt
 
--- what the buffer holds after the next part
+-- the bytes of the buffer after the next part
 pub added : (old new last done next : List ℕ) → new ≡ old ++ done → last ≡ new ++ next → last ≡ old ++ (done ++ next)
 added old new last done next is more = more ∙ ap (λ (xs : List ℕ). xs ++ next) is ∙ append_assoc old done next
 
--- there is room for the next part of a text that there was room for
+-- if there was room for a text, there is room for its next part
 pub room_next : (old new all done next more : List ℕ) → length old + length all ≤ 8192 → new ≡ old ++ done → done ++ (next ++ more) ≡ all → length new + length next ≤ 8192
 room_next old new all done next more room is parts =
     omega (arith, room, ap length is, length-append old done, ap length parts, length-append done (next ++ more), length-append next more)
@@ -47,7 +47,7 @@ module _ {W : Type 0} (contents : W → Option (List ℕ)) where
   pub takes_text : (a b : Buffered W) (bs : List ℕ) → WritesInCalls (Takes contents) a bs b → Takes contents a bs b
   takes_text a b bs calls = Appends-of_writes (λ (s : Buffered W). s.out.ghost_name) (buffered_contents contents) a bs b calls
 
-  -- what a buffer took that was empty, and is empty again, is with the writer
+  -- if a buffer was empty and is empty again, the writer has the bytes that it received
   pub flushed : (w : W) (a b d : Buffered W) (bs : List ℕ) → a.out.now ≡ w → a.pending.bytes ≡ [] → Takes contents a bs b → Keeps (buffered_contents contents b) (buffered_contents contents d) → d.pending.bytes ≡ []
       → Appends (contents w) (contents d.out.now) bs
   flushed w a b d bs is empty taken kept again =
@@ -64,13 +64,13 @@ unfolding utf8_lossy
 whole_is [] is = refl
 whole_is (b ∷ bs) is = rw (eq-eqb (utf8_valid_len (b ∷ bs)) (length (b ∷ bs)) is) refl
 
--- the text of bytes begins with their longest front that is UTF-8
+-- the text of bytes begins with their longest UTF-8 prefix
 pub text_begins : (bs valid invalid rest : List ℕ) → bs ≡ valid ++ (invalid ++ rest) → length valid ≡ utf8_valid_len bs → length invalid ≡ utf8_invalid_len (drop (utf8_valid_len bs) bs) → (length invalid ≡ 0 → length rest ≡ 0)
     → (more : List ℕ) × (valid ++ more ≡ utf8_lossy bs)
 text_begins bs valid [] rest parts front none last = (utf8_lossy rest, sym (utf8_lossy_last_chunk bs valid [] rest parts front refl (last refl)))
 text_begins bs valid (b ∷ invalid) rest parts front some last = (replacement_bytes ++ utf8_lossy rest, sym (utf8_lossy_chunk bs valid (b ∷ invalid) rest parts front some (omega arith)))
 
--- no bytes alone are read as the empty text
+-- only the empty list of bytes is read as the empty text
 pub empty_text : (bs : List ℕ) → lossy bs ≡ [] → bs ≡ []
 empty_text bs is = by_cases (utf8_valid_len bs == length bs) refl
   where

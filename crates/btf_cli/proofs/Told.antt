@@ -1,4 +1,4 @@
--- A word says one thing.
+-- The setting of a word is unique.
 use Rattle.std.proofs.Common.{◌≡◌, ℕ, List, [], ◌∷◌, drop, Option, None, Some, refl, sym, ap, ◌∙◌}
 use Rattle.std.specs.Prelude.{if◌then◌else◌, codes, nat_eq, map}
 use Rattle.std.specs.List.{starts_with}
@@ -31,12 +31,12 @@ feature_is features.DeclTag = refl
 feature_is features.TypeTag = refl
 feature_is features.Enum64 = refl
 
--- what the parts of a text with `=` tell
+-- the setting of a text with `=`, by its parts
 abbrev named_told : (List ℕ → ℕ → Saying) → Option (List ℕ × List ℕ) → Saying
 named_told kind (Some parts) = kind parts.0 (digits_value 10 parts.1)
 named_told kind None = kind [] 0
 
--- what a word tells, if it can be read
+-- the setting of a word, if it is valid
 abbrev pub told : List ℕ → Saying
 told word =
     if starts_with nat_eq word (codes "section:") then named_told SectionSize (cut_last (drop 8 word))
@@ -58,7 +58,7 @@ feature_word_told features.Enum64 = refl
 told_named : (kind : List ℕ → ℕ → Saying) (text name : List ℕ) (n : ℕ) → IsNamed text name n → named_told kind (cut_last text) ≡ kind name n
 told_named kind text name n named = ap (named_told kind) (cut_named text name n named) ∙ ap (kind name) named.2.1
 
--- a word tells what it says
+-- this is the setting that the word makes
 pub told_is : (word : List ℕ) (saying : Saying) → Says word saying → told word ≡ saying
 told_is word (Grants feature) says = ap told says ∙ feature_word_told feature ∙ ap (λ f. Grants f) (feature_is feature)
 told_is word FillsSized says = ap told says
@@ -67,7 +67,7 @@ told_is word (SymbolOffset name offset) says = ap told says.1 ∙ told_named Sym
 told_is word (KsymsId id) says = ap told says.1 ∙ ap (λ n. KsymsId n) says.2.1
 told_is word (PlaceholderId id) says = ap told says.1 ∙ ap (λ n. PlaceholderId n) says.2.1
 
--- so words say one thing each
+-- so the settings of words are unique
 pub all_told : (words : List (List ℕ)) (said : List Saying) → SayAll words said → said ≡ map told words
 all_told [] [] all = refl
 all_told [] (saying ∷ said) all = absurd all

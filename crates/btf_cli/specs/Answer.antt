@@ -1,4 +1,4 @@
--- What the program writes.
+-- The output of the program.
 use Rattle.std.specs.Prelude.{◌≡◌, ◌⊎◌, ℕ, Bool, List, [], length, Option, Result, Ok, Err}
 use Rattle.std.specs.Io.KnownBytes.{Appends}
 use Rattle.btf_model.specs.Refusal.{Refusal}
@@ -20,14 +20,14 @@ use Rattle.btf_cli.specs.declared.line.Command.{Command}
 use Rattle.btf_cli.specs.declared.line.Command.TheVariants.{Ask, Rewrite}
 use Rattle.btf_cli.specs.Listing.{listing, size_line, comparison_lines}
 
--- The comparison of two types of a table returns this, with so many pairs that it starts; or is refused.
+-- The comparison of two types of a table returns this answer and this number of started pairs, or this error.
 abbrev pub Compares : Table → ℕ → ℕ → Result (Bool × ℕ) Refusal → Type 0
 Compares t id other (Ok found) =
     (starts : List Pair) × Plain t t [] (pair id other) (Ok found.0) starts × (found.1 ≡ length (firsts starts))
 Compares t id other (Err refusal) = (starts : List Pair) × Plain t t [] (pair id other) (Err refusal) starts
 
--- The table is rewritten as the words of a request say, for a kernel that has the features that they grant, under the
--- policy that they choose; or is refused.
+-- The rewrite of a table with the settings of a request returns this table or this error. The settings give the
+-- kernel's features, the policy, and the layout.
 abbrev pub Rewrites : Request → Table → Result Table Refusal → Type 0
 Rewrites request t (Ok new) =
     (said : List Saying) × IsSaid request said
@@ -36,7 +36,7 @@ Rewrites request t (Err refusal) =
     (said : List Saying) × IsSaid request said
     × IsRefused (policy_said said) t (request_ids request) (layout_said said) (kernel_said said) refusal
 
--- what a command writes of a table
+-- the output of a command on a table
 abbrev pub Writes : Command → Table → List ℕ → Type 0
 Writes (Ask Copy) t written = written ≡ canon t
 Writes (Ask Types) t written = written ≡ listing t
@@ -45,7 +45,7 @@ Writes (Ask (Compat id other)) t written =
     (b : Bool) × (n : ℕ) × Compares t id other (Ok (b, n)) × (written ≡ comparison_lines b n)
 Writes (Rewrite request) t written = (new : Table) × Rewrites request t (Ok new) × (written ≡ canon new)
 
--- why a command refuses a table
+-- the error of a command on a table
 abbrev pub Declines : Command → Table → Refusal → Type 0
 Declines (Ask Copy) t refusal = ⊥
 Declines (Ask Types) t refusal = ⊥
@@ -53,19 +53,19 @@ Declines (Ask (Size id)) t refusal = HasSize t.records id (Err refusal)
 Declines (Ask (Compat id other)) t refusal = Compares t id other (Err refusal)
 Declines (Rewrite request) t refusal = Rewrites request t (Err refusal)
 
--- the line that asks for a rewrite
+-- the command line of a rewrite
 abbrev pub rewriting : Endianness → Request → Line
 rewriting endianness request = record { endianness = endianness; command = Rewrite request }
 
--- the bytes stand for a table, and the command writes this of it
+-- the bytes represent a table, and this is the output of the command on it
 abbrev pub IsAnswer : Line → List ℕ → List ℕ → Type 0
 IsAnswer line bytes written = (t : Table) × IsTable line.endianness bytes t × Writes line.command t written
 
--- The bytes stand for no table, or for one that the command refuses.
+-- The bytes represent no table, or the command fails on their table; this is the error.
 pub record IsDeclined (line : Line) (bytes : List ℕ) (refusal : Refusal) : Type 0 where
   pub cause : IsRefusal line.endianness bytes refusal
       ⊎ ((t : Table) × IsTable line.endianness bytes t × Declines line.command t refusal)
 
--- A writer whose bytes are known has gained the answer to these bytes, and nothing else.
+-- The program appends the output for these bytes to a writer whose bytes are known, and nothing else.
 abbrev pub IsWritten : Option (List ℕ) → Option (List ℕ) → Line → List ℕ → Type 0
 IsWritten old new line bytes = (written : List ℕ) × IsAnswer line bytes written × Appends old new written

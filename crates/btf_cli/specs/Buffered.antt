@@ -1,13 +1,13 @@
--- What a buffer in front of a writer has taken.
+-- The bytes that a buffered writer has received.
 use Rattle.std.specs.Prelude.{◌≡◌, ◌+◌, ◌≤◌, ℕ, List, length, Option}
 use Rattle.std.specs.Io.KnownBytes.{append_known, Appends}
 use Rattle.btf_cli.specs.declared.buffered.Buffered.{Buffered}
 
--- the bytes of the writer, and then those of the buffer, where the writer's are known
+-- the bytes of the writer, if they are known, and then the bytes of the buffer
 abbrev pub buffered_contents : {W : Type 0} → (W → Option (List ℕ)) → Buffered W → Option (List ℕ)
 buffered_contents contents b = append_known (contents b.out.now) b.pending.bytes
 
--- The buffer has taken these bytes, and nothing else, for the same writer.
+-- The buffer receives these bytes, and nothing else, and its writer stays the same.
 abbrev pub Takes : {W : Type 0} → (W → Option (List ℕ)) → Buffered W → List ℕ → Buffered W → Type 0
 Takes contents old bytes new =
     (new.out.ghost_name ≡ old.out.ghost_name)

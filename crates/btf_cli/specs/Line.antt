@@ -1,4 +1,4 @@
--- What a command line asks for.
+-- The meaning of a command line.
 use Rattle.std.specs.Prelude.{◌≡◌, List, [], ◌∷◌, ℕ, codes}
 use Rattle.std.specs.Prelude.{String}
 use Rattle.std.specs.declared.alloc.Global.{Global}
@@ -17,7 +17,7 @@ abbrev pub order_word : Endianness → List ℕ
 order_word Little = codes "little"
 order_word Big = codes "big"
 
--- the words ask this of a table
+-- the words are this query
 abbrev pub AsksQuery : List (List ℕ) → Query → Type 0
 AsksQuery words Copy = words ≡ codes "copy" ∷ []
 AsksQuery words Types = words ≡ codes "types" ∷ []
@@ -25,17 +25,17 @@ AsksQuery words (Size id) = (word : List ℕ) × (words ≡ codes "size" ∷ wor
 AsksQuery words (Compat id other) =
     (word second : List ℕ) × (words ≡ codes "compat" ∷ word ∷ second ∷ []) × IsId word id × IsId second other
 
--- the words ask for this command
+-- the words are this command
 abbrev pub AsksCommand : List (List ℕ) → Command → Type 0
 AsksCommand words (Ask query) = AsksQuery words query
 AsksCommand words (Rewrite request) = (rest : List (List ℕ)) × (words ≡ codes "rewrite" ∷ rest) × Requests rest request
 
--- The words ask for this: an order, and then a command
+-- the words are this command line: a byte order, and then a command
 abbrev pub Asks : List (String Global) → Line → Type 0
 Asks words line =
     (rest : List (List ℕ)) × (texts words ≡ order_word line.endianness ∷ rest)
     × AsksCommand rest line.command
 
--- some words ask for this
+-- some words are this command line
 abbrev pub IsAsked : Line → Type 0
 IsAsked line = (words : List (String Global)) × Asks words line

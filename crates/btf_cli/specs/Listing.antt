@@ -1,4 +1,4 @@
--- The listing of a table's types, and a size and a comparison as they are printed.
+-- The listing of a table's types, and the printed forms of a size and of a comparison.
 -- Source: this project's program.
 use Rattle.std.specs.Prelude.{ℕ, ◌+◌, Bool, true, false, List, [], ◌∷◌, ◌++◌, drop, codes, Option, Some, None, Result, Ok, Err}
 use Rattle.std.specs.Fmt.{decimal}
@@ -24,7 +24,7 @@ abbrev pub type_line : List ℕ → ℕ → Record → List ℕ
 type_line strings id r =
     decimal id ++ codes " " ++ kind_part (kind_of r.info) ++ name_part (text_at strings r.name) ++ codes "\n"
 
--- the lines of types that have ids from this one on
+-- the lines of consecutive types, of which the first has this id
 abbrev pub lines_from : List ℕ → ℕ → List Record → List ℕ
 lines_from strings id [] = []
 lines_from strings id (r ∷ rs) = type_line strings id r ++ lines_from strings (id + 1) rs
@@ -33,15 +33,15 @@ lines_from strings id (r ∷ rs) = type_line strings id r ++ lines_from strings 
 abbrev pub listing : Table → List ℕ
 listing t = lines_from t.strings 1 (drop 1 t.records)
 
--- a size as it is printed
+-- the line of a size
 abbrev pub size_line : ℕ → List ℕ
 size_line n = decimal n ++ codes "\n"
 
--- the answer of a comparison as it is printed
+-- the line of a comparison's answer
 abbrev pub answer_line : Bool → List ℕ
 answer_line true = codes "true\n"
 answer_line false = codes "false\n"
 
--- the answer, and how many pairs were started for it
+-- the answer, and the number of started pairs
 abbrev pub comparison_lines : Bool → ℕ → List ℕ
 comparison_lines answer starts = answer_line answer ++ codes "starts " ++ decimal starts ++ codes "\n"

@@ -1,4 +1,4 @@
--- What a request for a rewrite stands for.
+-- A request for a rewrite: its words and their settings.
 use Rattle.std.specs.Prelude.{◌≡◌, if◌then◌else◌, ℕ, Bool, List, Option, String, string_bytes}
 use Rattle.std.specs.List.{list_any}
 use Rattle.std.specs.Str.{bytes_eq}
@@ -16,27 +16,27 @@ use Rattle.btf_cli.specs.declared.request.Request.{Request}
 abbrev pub request_words : Request → List (List ℕ)
 request_words request = texts request.words.now
 
--- the ids of `.ksyms` that a request has
+-- the ids of `.ksyms` in a request
 abbrev pub request_ids : Request → Option KsymsIds
 request_ids request = request.ksyms
 
--- one of the words of a request is this
+-- whether a request contains this word
 abbrev pub has_word : Request → List ℕ → Bool
 has_word request text = list_any (λ (word : String Global). bytes_eq (string_bytes word) text) request.words.now
 
--- a word of the request is that of a feature
+-- whether a request contains the word of this feature
 abbrev pub names : Request → BtfFeature → Bool
 names request f = has_word request (feature_word f)
 
--- a word of the request is that which has DATASECs filled that have a size
+-- the policy of a request: sized DATASECs are filled if the request contains the word for it
 abbrev pub policy_named : Request → FillPolicy
 policy_named request = if has_word request fill_word then FillSized else KeepSized
 
--- The words of a request say this, and its ids among it.
+-- These are the settings of a request's words, and its ids are among them.
 pub record IsSaid (request : Request) (said : List Saying) : Type 0 where
   pub all : SayAll (request_words request) said
   pub ids : SayIds said (request_ids request)
 
--- The words make this request.
+-- The words are this request.
 abbrev pub Requests : List (List ℕ) → Request → Type 0
 Requests words request = (request_words request ≡ words) × ((said : List Saying) × IsSaid request said)

@@ -1,4 +1,4 @@
--- What a word of a rewrite says.
+-- The setting that a word of a rewrite makes.
 use Rattle.std.specs.Prelude.{◌≡◌, ◌<◌, ◌^◌, ◌++◌, List, ℕ, string_bytes, codes, map}
 use Rattle.std.specs.Prelude.{String}
 use Rattle.std.specs.Str.Parse.{IsNumeral, digits_value}
@@ -10,15 +10,15 @@ use Rattle.btf_rewrite_model.specs.declared.feature.BtfFeature.TheVariants as fe
 abbrev pub texts : List (String Global) → List (List ℕ)
 texts words = map string_bytes words
 
--- one or more decimal digits, and the number that they are, which has so many bits
+-- one or more decimal digits, and their number, which has this many bits
 abbrev pub IsNumber : ℕ → List ℕ → ℕ → Type 0
 IsNumber bits text n = IsNumeral 10 text × (digits_value 10 text ≡ n) × (n < 2 ^ bits)
 
--- the id that a text says
+-- a text, and the id that it names
 abbrev pub IsId : List ℕ → ℕ → Type 0
 IsId text id = IsNumber 32 text id
 
--- A name and a number with `=` between them. As the number is of digits, the name ends at the last `=`.
+-- A name and a number with `=` between them. Because the number consists of digits, the name ends at the last `=`.
 abbrev pub IsNamed : List ℕ → List ℕ → ℕ → Type 0
 IsNamed text name n = (digits : List ℕ) × (text ≡ name ++ codes "=" ++ digits) × IsNumber 64 digits n
 
@@ -33,15 +33,15 @@ feature_word features.DeclTag = codes "DeclTag"
 feature_word features.TypeTag = codes "TypeTag"
 feature_word features.Enum64 = codes "Enum64"
 
--- the word that has DATASECs filled that have a size
+-- the word for filling DATASECs that have a size
 abbrev pub fill_word : List ℕ
 fill_word = codes "fill-sized"
 
--- what a word can say
+-- a setting
 pub data Saying : Type 0 where
   -- the kernel has this feature
   Grants : (feature : BtfFeature) → Saying
-  -- a DATASEC that has a size and no entries gets one, where the kernel takes none without
+  -- a DATASEC that has a size and no entries gets an entry if the kernel rejects one without entries
   FillsSized : Saying
   -- the section of this name has this size
   SectionSize : (name : List ℕ) (size : ℕ) → Saying
@@ -49,10 +49,10 @@ pub data Saying : Type 0 where
   SymbolOffset : (name : List ℕ) (offset : ℕ) → Saying
   -- this is the id of `.ksyms`
   KsymsId : (id : ℕ) → Saying
-  -- this is the id of the VAR that takes the place of functions
+  -- this is the id of the VAR that replaces functions
   PlaceholderId : (id : ℕ) → Saying
 
--- The word says this.
+-- The word makes this setting.
 abbrev pub Says : List ℕ → Saying → Type 0
 Says word (Grants feature) = word ≡ feature_word feature
 Says word FillsSized = word ≡ fill_word

@@ -1,4 +1,4 @@
--- What the words of a rewrite say together.
+-- The settings of all the words of a rewrite.
 use Rattle.std.specs.Prelude.{◌≡◌, ℕ, if◌then◌else◌, Bool, true, false, List, [], ◌∷◌, map, Option, Some, None}
 use Rattle.std.specs.List.{AllZip, filter_map, list_any}
 use Rattle.std.specs.Option.{option_or, option_to_list}
@@ -13,13 +13,13 @@ use Rattle.btf_rewrite_model.specs.declared.ksyms_ids.KsymsIds.{KsymsIds}
 use Rattle.btf_rewrite_model.specs.Pass.{Layout}
 use Rattle.btf_cli.specs.Saying.{Saying, Grants, FillsSized, SectionSize, SymbolOffset, KsymsId, PlaceholderId, Says}
 
--- each word says what stands at its place
+-- each word makes the setting at its index
 abbrev pub SayAll : List (List ℕ) → List Saying → Type 0
 SayAll words said = AllZip Says words said
 
 -- ---- the kernel
 
--- the word grants this feature
+-- whether the setting grants this feature
 abbrev pub is_grant : BtfFeature → Saying → Bool
 is_grant f (Grants feature) = same_feature feature f
 is_grant f saying = false
@@ -30,43 +30,43 @@ all_features =
     features.Func ∷ features.FuncGlobal ∷ features.DataSec ∷ features.DataSecZero ∷ features.Float ∷ features.DeclTag
     ∷ features.TypeTag ∷ features.Enum64 ∷ []
 
--- the kernel has a feature if a word grants it
+-- the kernel's answer for a feature: it has the feature if a setting grants it
 abbrev pub answer_said : List Saying → BtfFeature → FeatureAnswer
 answer_said said f = record { feature = f; granted = list_any (is_grant f) said }
 
--- what the words say of each feature of the kernel
+-- the kernel's answers for all features
 abbrev pub kernel_said : List Saying → List FeatureAnswer
 kernel_said said = map (answer_said said) all_features
 
 -- ---- the policy
 
--- the word asks that DATASECs which have a size are filled
+-- whether the setting has sized DATASECs filled
 abbrev pub is_fill : Saying → Bool
 is_fill FillsSized = true
 is_fill saying = false
 
--- DATASECs that have a size are filled if a word says so
+-- the policy: sized DATASECs are filled if a setting has them filled
 abbrev pub policy_said : List Saying → FillPolicy
 policy_said said = if list_any is_fill said then FillSized else KeepSized
 
 -- ---- the layout
 
--- the size of the section of a name
+-- the size that a setting gives to the section of this name
 abbrev pub size_said : List ℕ → Saying → Option ℕ
 size_said name (SectionSize section size) = if bytes_eq section name then Some size else None
 size_said name saying = None
 
--- the offset of the symbol of a name
+-- the offset that a setting gives to the symbol of this name
 abbrev pub offset_said : List ℕ → Saying → Option ℕ
 offset_said name (SymbolOffset symbol offset) = if bytes_eq symbol name then Some offset else None
 offset_said name saying = None
 
--- what the last says that says such a thing
+-- the number of the last setting that gives one
 abbrev pub last_said : (Saying → Option ℕ) → List Saying → Option ℕ
 last_said number [] = None
 last_said number (saying ∷ said) = option_or (last_said number said) (number saying)
 
--- the sizes of sections and the offsets of symbols that the words say
+-- the layout: the sizes of sections and the offsets of symbols that the settings give
 abbrev pub layout_said : List Saying → Layout
 layout_said said = record {
   sections = λ name. last_said (size_said name) said;
@@ -75,17 +75,17 @@ layout_said said = record {
 
 -- ---- the ids of `.ksyms`
 
--- the id of `.ksyms`, where the word says it
+-- the id of `.ksyms`, if the setting gives it
 abbrev pub ksyms_said : Saying → Option ℕ
 ksyms_said (KsymsId id) = Some id
 ksyms_said saying = None
 
--- the id of the placeholder, where the word says it
+-- the id of the placeholder, if the setting gives it
 abbrev pub placeholder_said : Saying → Option ℕ
 placeholder_said (PlaceholderId id) = Some id
 placeholder_said saying = None
 
--- One word says the id of `.ksyms`, and one at most that of the placeholder; or none says either.
+-- One setting gives the id of `.ksyms`, and at most one the id of the placeholder; or no setting gives either.
 abbrev pub SayIds : List Saying → Option KsymsIds → Type 0
 SayIds said (Some ids) =
     (filter_map ksyms_said said ≡ ids.datasec_id ∷ [])

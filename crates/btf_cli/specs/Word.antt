@@ -1,9 +1,9 @@
--- What a word that was read says.
+-- The setting of a parsed word.
 use Rattle.btf_cli.specs.Saying.{Saying, Grants, FillsSized, SectionSize, SymbolOffset, KsymsId, PlaceholderId}
 use Rattle.btf_cli.specs.declared.word.Word.{Word}
 use Rattle.btf_cli.specs.declared.word.Word.TheVariants as words
 
--- what a word of the code says, as the definitions have it
+-- the setting of a word of the code
 abbrev pub saying_of : Word → Saying
 saying_of (words.Grant feature) = Grants feature
 saying_of words.FillSized = FillsSized

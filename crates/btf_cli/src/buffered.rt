@@ -1,4 +1,4 @@
-//! A buffer of fixed size in front of a writer of text.
+//! A buffered writer of text, with a buffer of fixed size.
 
 ghost use Rattle.std.specs.Prelude.{◌≡◌, [], ◌++◌, IsOk, OnOk};
 ghost use Rattle.std.specs.Io.KnownBytes.{Appends, Keeps};
@@ -8,10 +8,10 @@ use arrayvec::ArrayString;
 use std::fmt;
 use std::io::Write;
 
-/// The number of bytes that the buffer holds at most.
+/// The capacity of the buffer in bytes.
 const CAPACITY: usize = 8192;
 
-/// A writer, and the text that is still to be written to it. No memory is allocated.
+/// A writer, and the text that is not yet written to it. Nothing is allocated.
 #[derive(Drop)]
 pub struct Buffered<'a, W> {
     out: &'a mut W,
@@ -19,7 +19,7 @@ pub struct Buffered<'a, W> {
 }
 
 impl<'a, W: Write> Buffered<'a, W> {
-    /// An empty buffer in front of a writer.
+    /// A writer with an empty buffer.
     pub fn new(out: &'a mut W) -> Buffered<'a, W>
         ensures same_reference { result.out.ghost_name ≡ out.entry.ghost_name }
         ensures out { result.out.now ≡ out.old }
@@ -31,11 +31,11 @@ impl<'a, W: Write> Buffered<'a, W> {
         }
     }
 
-    /// Adds a text. The buffer is written out first where it has no room for the text, and a text that is longer than
-    /// the buffer goes straight to the writer.
+    /// Adds a text. If the buffer has no room for the text, it is written out first. A text that is longer than the
+    /// buffer goes directly to the writer.
     pub fn put(&mut self, text: &str) -> fmt::Result
         ensures taken { OnOk result (Takes W.contents self.old text.now self.new) }
-        // Where there is room, the writer is not called, so nothing fails.
+        // If there is room, the writer is not called, so nothing fails.
         ensures room { HasRoom self.old text.now → IsOk result
             × (self.new.pending.bytes ≡ self.old.pending.bytes ++ text.now) }
     {
@@ -49,7 +49,7 @@ impl<'a, W: Write> Buffered<'a, W> {
         write_text(&mut *self.out, text)
     }
 
-    /// Writes the buffer out. What is still in it when it is dropped is lost.
+    /// Writes the buffer out. Text that is in the buffer when it is dropped is lost.
     pub fn flush(&mut self) -> fmt::Result
         ensures same_reference { self.new.out.ghost_name ≡ self.old.out.ghost_name }
         ensures bytes { OnOk result (Keeps (buffered_contents W.contents self.old)

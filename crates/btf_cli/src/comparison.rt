@@ -8,7 +8,7 @@ use btf_plain::BtfError;
 use btf_table::Btf;
 use std::alloc::Global;
 
-/// Whether the types of two ids are compatible, and how many pairs were started to find that out.
+/// Whether the types of two ids are compatible, and the number of pairs that the comparison started.
 pub fn compared(alloc: Global, table: &Btf, id: u32, other: u32) -> Result<(bool, usize), BtfError>
     ensures { MeetsOrNoMemory (λ found. found) result (Compares table.now id other) }
 {

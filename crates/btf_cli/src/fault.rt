@@ -1,9 +1,9 @@
-//! Why the program ends with status 1.
+//! The causes of status 1.
 
 use btf_plain::BtfError;
 use thiserror::Error;
 
-/// Why a command could not be carried out.
+/// The cause of a command's failure.
 #[derive(Debug, Drop, Error)]
 pub enum Fault {
     /// Standard input failed.
@@ -12,7 +12,7 @@ pub enum Fault {
     /// Standard output failed.
     #[error("cannot write standard output")]
     Write,
-    /// The table was refused, or the command on it.
+    /// The table is invalid, or the command failed on it.
     #[error(transparent)]
     Btf(BtfError),
 }

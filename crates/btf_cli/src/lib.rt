@@ -1,4 +1,4 @@
-//! The command lines of `btftool`: what their words ask for, and what is written for it, over any reader and writers.
+//! The command lines of `btftool`: their meaning and their output, over any reader and writers.
 #![tactic(auto)]
 
 mod buffered;

@@ -1,4 +1,4 @@
-//! What the words after the program's name ask for.
+//! The command line: the words after the program's name.
 
 ghost use Rattle.std.specs.Prelude.{◌≡◌, ◌≢◌, IfSome, IfNone};
 ghost use Rattle.btf_model.specs.declared.endianness.Endianness.{Endianness};
@@ -8,7 +8,7 @@ use crate::number::read_id;
 use crate::request::Request;
 use btf_plain::Endianness;
 
-/// What is asked of a table as it is.
+/// A query of an unchanged table.
 #[derive(Clone, Copy)]
 pub enum Query {
     /// The table written again.
@@ -21,7 +21,7 @@ pub enum Query {
     Compat(u32, u32),
 }
 
-/// What is to be made of a table.
+/// A command on a table.
 #[derive(Clone, Copy)]
 pub enum Command<'a> {
     /// The answer to a query.
@@ -30,7 +30,7 @@ pub enum Command<'a> {
     Rewrite(Request<'a>),
 }
 
-/// A command line that can be read.
+/// A valid command line.
 #[derive(Clone, Copy)]
 pub struct Line<'a> {
     pub endianness: Endianness,
@@ -55,7 +55,7 @@ impl Query {
     ghost use Rattle.btf_cli.specs.Saying.{texts};
     ghost use Rattle.btf_cli.specs.declared.line.Query.{Query};
 
-    /// The query that the words after the order make.
+    /// The query in the words after the byte order.
     fn read(words: &[String]) -> Option<Query>
         ensures some { IfSome result (AsksQuery (texts words.now)) }
         ensures none { IfNone result ((query : Query) → AsksQuery (texts words.now) query → ⊥) }
@@ -88,7 +88,7 @@ impl<'a> Command<'a> {
     ghost use Rattle.btf_cli.specs.Saying.{texts};
     ghost use Rattle.btf_cli.specs.declared.line.Command.{Command};
 
-    /// The command that the words after the order make.
+    /// The command in the words after the byte order.
     fn read(words: &'a [String]) -> Option<Command<'a>>
         ensures some { IfSome result (AsksCommand (texts words.now)) }
         ensures none { IfNone result ((command : Command) → AsksCommand (texts words.now) command
@@ -107,7 +107,7 @@ impl<'a> Line<'a> {
     ghost use Rattle.btf_cli.specs.Line.{Asks};
     ghost use Rattle.btf_cli.specs.declared.line.Line.{Line};
 
-    /// The line that the words make, or None where they can't be read.
+    /// The command line of these words, or None if they are no valid one.
     pub fn read(words: &'a [String]) -> Option<Line<'a>>
         ensures some { IfSome result (Asks words.now) }
         ensures none { IfNone result ((line : Line) → Asks words.now line → ⊥) }

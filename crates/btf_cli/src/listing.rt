@@ -1,4 +1,4 @@
-//! What the commands print of a table. The listing of its types is written as it is made.
+//! The output of the queries. The listing of a table's types is written while it is made.
 
 ghost use Rattle.std.specs.Prelude.{map, Ok, IsOk, OnOk};
 ghost use Rattle.std.specs.Io.KnownBytes.{Appends};
@@ -17,7 +17,7 @@ use std::alloc::Global;
 use std::fmt::Write;
 use std::{fmt, io};
 
-/// Writes the text of bytes: U+FFFD takes the place of each longest piece that is not UTF-8.
+/// Writes the text of bytes: U+FFFD replaces each longest piece that is not UTF-8.
 fn write_lossy<W: io::Write>(lines: &mut Buffered<'_, W>, bytes: &[u8]) -> fmt::Result
     ensures taken { OnOk result (Takes W.contents lines.old (lossy bytes.now) lines.new) }
     ensures room { HasRoom lines.old (lossy bytes.now) → IsOk result }
@@ -31,8 +31,8 @@ fn write_lossy<W: io::Write>(lines: &mut Buffered<'_, W>, bytes: &[u8]) -> fmt::
     Ok(())
 }
 
-/// Writes a space and the name of a type, where it can be read and is not empty. The name is not copied, however long
-/// its text is.
+/// Writes a space and the name of a type, if the name can be read and is not empty. The name is not copied, however
+/// long its text is.
 fn write_name<W: io::Write>(
     lines: &mut Buffered<'_, W>,
     table: &Btf,
@@ -40,7 +40,7 @@ fn write_name<W: io::Write>(
 ) -> fmt::Result
     ensures taken { OnOk result (Takes W.contents lines.old
         (name_part (text_at table.now.strings (record_of btf_type.now).name)) lines.new) }
-    // So a name that can't be read is no error.
+    // If there is room, nothing fails, so a name that can't be read is no error.
     ensures room { HasRoom lines.old
         (name_part (text_at table.now.strings (record_of btf_type.now).name)) → IsOk result }
 {
@@ -52,7 +52,7 @@ fn write_name<W: io::Write>(
     Ok(())
 }
 
-/// Writes the line of a type: its id, its kind, and its name where it can be read and is not empty.
+/// Writes the line of a type: its id, its kind, and its name if it can be read and is not empty.
 fn write_line<W: io::Write>(
     lines: &mut Buffered<'_, W>,
     table: &Btf,
@@ -68,7 +68,7 @@ fn write_line<W: io::Write>(
     lines.put("\n")
 }
 
-/// Writes a line for each of these types, of which the first has id 1.
+/// Writes a line for each of these types; the first has id 1.
 fn write_lines<W: io::Write>(
     lines: &mut Buffered<'_, W>,
     table: &Btf,
@@ -83,7 +83,7 @@ fn write_lines<W: io::Write>(
     Ok(())
 }
 
-/// Writes a line for each type from id 1 on. No memory is taken, so only the writer can fail.
+/// Writes a line for each type from id 1 on. Nothing is allocated, so only the writer can fail.
 pub fn write_listing<W: io::Write>(table: &Btf, out: &mut W) -> fmt::Result
     ensures { OnOk result (Appends (W.contents out.old) (W.contents out.new)
         (spec.listing table.now)) }
@@ -95,7 +95,7 @@ pub fn write_listing<W: io::Write>(table: &Btf, out: &mut W) -> fmt::Result
     lines.flush()
 }
 
-/// The line that says a size.
+/// The line of a size.
 pub fn size_line(alloc: Global, size: usize) -> Result<Vec<u8>, BtfError>
     ensures { IsOrNoMemory (λ v. v.items) result (Ok (spec.size_line size)) }
 {
@@ -103,7 +103,7 @@ pub fn size_line(alloc: Global, size: usize) -> Result<Vec<u8>, BtfError>
     Ok(text.into_bytes())
 }
 
-/// The lines that say the answer of a comparison, and how many pairs it started.
+/// The lines of a comparison: its answer, and the number of pairs that it started.
 pub fn comparison_lines(alloc: Global, answer: bool, starts: usize) -> Result<Vec<u8>, BtfError>
     ensures { IsOrNoMemory (λ v. v.items) result (Ok (spec.comparison_lines answer starts)) }
 {

@@ -3,19 +3,19 @@
 ghost use Rattle.std.specs.Prelude.{ℕ, IfSome, IfNone};
 ghost use Rattle.btf_cli.specs.Saying.{IsId, IsNumber};
 
-/// The number of 64 bits that a text of decimal digits says.
+/// The number of 64 bits in a text of decimal digits.
 pub fn read_number(text: &str) -> Option<u64>
     ensures some { IfSome result (IsNumber 64 text.now) }
     ensures none { IfNone result ((n : ℕ) → IsNumber 64 text.now n → ⊥) }
 {
-    // A sign is no digit, and `parse` would take it.
+    // `parse` accepts a sign, which is no digit.
     if text.starts_with('+') {
         return None;
     }
     text.parse().ok()
 }
 
-/// The id that a text of decimal digits says.
+/// The id in a text of decimal digits.
 pub fn read_id(text: &str) -> Option<u32>
     ensures some { IfSome result (IsId text.now) }
     ensures none { IfNone result ((id : ℕ) → IsId text.now id → ⊥) }

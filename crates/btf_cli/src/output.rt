@@ -1,16 +1,16 @@
-//! What a command writes on standard output.
+//! The standard output of a command.
 
 use crate::fault::Fault;
 use crate::listing::write_listing;
 use btf_table::Btf;
 use std::io::Write;
 
-/// What a command writes once nothing but the writing can fail.
+/// The output of a command that has succeeded, so that only writing can fail.
 #[derive(Drop)]
 pub enum Output {
     /// These bytes.
     Bytes(Vec<u8>),
-    /// The listing of this table, which is made as it is written: it can be far longer than the table.
+    /// The listing of this table. It is made while it is written, because it can be far longer than the table.
     Listing(Btf),
 }
 
@@ -20,7 +20,7 @@ impl Output {
     ghost use Rattle.btf_cli.specs.Output.{output_bytes};
     ghost use Rattle.btf_cli.specs.declared.fault.Fault.TheVariants as faults;
 
-    /// Writes all of it. No memory is taken, so a fault is the writer's.
+    /// Writes the whole output. Nothing is allocated, so only the writer can fail.
     pub fn write_to<W: Write>(&self, out: &mut W) -> Result<(), Fault>
         ensures written { OnOk result (Appends (W.contents out.old) (W.contents out.new)
             (output_bytes self.now)) }

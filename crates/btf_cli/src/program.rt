@@ -39,7 +39,7 @@ fn read_input<R: Read>(alloc: Global, input: &mut R) -> Result<Vec<u8>, Fault>
     }
 }
 
-/// The answer to a query about a table.
+/// The output of a query of a table.
 fn asked(alloc: Global, query: Query, table: Btf) -> Result<Output, BtfError>
     ensures made { IfOk result (λ output. Writes (Ask query) table (output_bytes output)) }
     ensures told { IfErr result (λ e. IfSome (refusal_of e) (Declines (Ask query) table)) }
@@ -58,12 +58,12 @@ fn asked(alloc: Global, query: Query, table: Btf) -> Result<Output, BtfError>
     }
 }
 
-/// What the command makes of a blob.
+/// The output of a command on a blob.
 fn answer(alloc: Global, line: Line, blob: &[u8]) -> Result<Output, BtfError>
     requires { IsAsked line }
     ensures made { IfOk result (λ output. IsAnswer line.entry blob.now (output_bytes output)) }
     ensures refused { (f : Refusal) → IsDeclined line.entry blob.now f → IsErr result }
-    // A refusal is reported for its cause alone.
+    // An error of the table has this cause.
     ensures told { IfErr result (λ e. IfSome (refusal_of e) (IsDeclined line.entry blob.now)) }
 {
     match line.command {
@@ -78,7 +78,7 @@ fn answer(alloc: Global, line: Line, blob: &[u8]) -> Result<Output, BtfError>
     }
 }
 
-/// Reads the input, and writes what the command makes of it.
+/// Reads the input, and writes the output of the command on it.
 fn carry_out<R: Read, W: Write>(
     alloc: Global,
     line: Line,
@@ -91,10 +91,10 @@ fn carry_out<R: Read, W: Write>(
     ensures refused { (bytes : List ℕ) (f : Refusal) → R.remaining input.old ≡ Some bytes
         → IsDeclined line.entry bytes f
         → IsErr result × Keeps (W.contents out.old) (W.contents out.new) }
-    // A refusal is reported for its cause alone.
+    // An error of the table has this cause.
     ensures told { IfErr result (λ fault. IfSome (R.remaining input.old) (λ bytes.
         IfSome (fault_refusal fault) (IsDeclined line.entry bytes))) }
-    // What can be refused is refused before the first byte is written.
+    // The table's errors are found before the first byte is written.
     ensures untouched { IfErr result (λ fault. fault ≢ faults.Write
         → Keeps (W.contents out.old) (W.contents out.new)) }
     ensures end { OnOk result (IsAtEnd (R.remaining input.new)) }
@@ -104,10 +104,10 @@ fn carry_out<R: Read, W: Write>(
     output.write_to(out)
 }
 
-/// The program: reads what the words ask for, then the input to its end, and writes the answer.
+/// The program: parses the command line, reads the input to its end, and writes the output.
 ///
-/// The answer is the status: 0 on success; 1 where a stream fails or the table is refused, with the fault's
-/// text on `err`; 2 for words that can't be read, with the usage on `err` and nothing read.
+/// Returns the status: 0 on success; 1 if a stream or an allocation fails or the table is refused, with the fault's
+/// text on `err`; 2 for an invalid command line, with the usage on `err` and nothing read.
 pub fn run<R: Read, W: Write, E: Write>(
     alloc: Global,
     words: &[String],
@@ -115,16 +115,16 @@ pub fn run<R: Read, W: Write, E: Write>(
     out: &mut W,
     err: &mut E,
 ) -> u8
-    // Words that can't be read are reported so, and then nothing is read or written but the usage.
+    // An invalid command line has status 2. Then nothing is read, and only the usage is written.
     ensures usage { (result ≡ 2) ↔ ((line : Line) → Asks words.now line → ⊥) }
     ensures usage_alone { result ≡ 2 → (input.new ≡ input.old) × (out.new ≡ out.old) }
-    // On success the input stands for a table, and what the command makes of it is written.
+    // On success the input represents a table, and the output of the command on it is written.
     ensures written { (line : Line) → Asks words.now line → result ≡ 0
         → IfSome (R.remaining input.old) (λ bytes.
         IsWritten (W.contents out.old) (W.contents out.new) line bytes) }
-    // Then the input has been read to its end.
+    // On success the input has been read to its end.
     ensures end { result ≡ 0 → IsAtEnd (R.remaining input.new) }
-    // Input that stands for no table, or for one that the command refuses, ends so, and nothing is written on standard
+    // If the input represents no table, or the command fails on it, the status is 1, and nothing is written on standard
     // output.
     ensures refused { (line : Line) (bytes : List ℕ) (f : Refusal) → Asks words.now line
         → R.remaining input.old ≡ Some bytes

@@ -1,4 +1,4 @@
-//! What the words of a rewrite ask for together.
+//! A request for a rewrite, in several words.
 
 ghost use Rattle.std.specs.Prelude.{◌≡◌, ◌↔◌, None, Some, IsSome, OnSome};
 
@@ -6,14 +6,14 @@ use crate::word::{FILL_SIZED, Word, feature_word};
 use btf_rules::{BtfFeature, FillPolicy};
 use btf_table::KsymsIds;
 
-/// The words of a rewrite, all of which can be read, and the ids of `.ksyms` that they say.
+/// The words of a rewrite, which are all valid, and the ids of `.ksyms` in them.
 #[derive(Clone, Copy)]
 pub struct Request<'a> {
     pub words: &'a [String],
     pub ksyms: Option<KsymsIds>,
 }
 
-/// Keeps an id where none is kept yet. Returns None, and keeps the first, where one is.
+/// Stores an id. If an id is stored already, that id stays, and None is returned.
 fn keep(place: &mut Option<u32>, id: u32) -> Option<()>
     ensures first { IsSome result ↔ (place.old ≡ None) }
     ensures kept { OnSome result (place.new ≡ Some id) }
@@ -31,7 +31,7 @@ impl<'a> Request<'a> {
     ghost use Rattle.btf_cli.specs.Request.{has_word, names, policy_named, Requests};
     ghost use Rattle.btf_cli.specs.declared.request.Request.{Request};
 
-    /// The request that the words make, or None where they can't be read.
+    /// The request in these words, or None if they are no valid request.
     pub fn read(words: &'a [String]) -> Option<Request<'a>>
         ensures some { IfSome result (Requests (texts words.now)) }
         ensures none { IfNone result ((request : Request) → Requests (texts words.now) request
@@ -57,7 +57,7 @@ impl<'a> Request<'a> {
         Some(Request { words, ksyms })
     }
 
-    /// Whether one of the words is this.
+    /// Whether the request contains this word.
     fn has(&self, text: &str) -> bool
         ensures { result ≡ has_word self.now text.now }
     {
@@ -71,7 +71,7 @@ impl<'a> Request<'a> {
         self.has(feature_word(feature))
     }
 
-    /// What the words choose for DATASECs that have a size and no entries.
+    /// The policy for DATASECs that have a size and no entries.
     pub fn policy(&self) -> FillPolicy
         ensures { result ≡ policy_named self.now }
     {

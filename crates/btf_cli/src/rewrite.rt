@@ -1,4 +1,4 @@
-//! The rewrite of a table that a request asks for.
+//! The rewrite of a table for a request.
 
 ghost use Rattle.std.specs.Prelude.{◌≡◌, ℕ, List, IfOk, IfErr, IfSome, IfNone};
 ghost use Rattle.btf_words.specs.Error.{refusal_of};
@@ -16,7 +16,7 @@ use btf_table::rewrite_bytes_with;
 use std::alloc::{AllocError, Global};
 use std::collections::HashMap;
 
-/// The name and the size of a section, where a word says these.
+/// The name and the size of a section in a word, if it gives these.
 fn read_section(word: &str) -> Option<(&str, u64)>
     ensures some { IfSome result (λ named. Says word.now (SectionSize named.0.now named.1)) }
     ensures none { IfNone result
@@ -28,7 +28,7 @@ fn read_section(word: &str) -> Option<(&str, u64)>
     }
 }
 
-/// The name and the offset of a symbol, where a word says these.
+/// The name and the offset of a symbol in a word, if it gives these.
 fn read_symbol(word: &str) -> Option<(&str, u64)>
     ensures some { IfSome result (λ named. Says word.now (SymbolOffset named.0.now named.1)) }
     ensures none { IfNone result
@@ -40,7 +40,7 @@ fn read_symbol(word: &str) -> Option<(&str, u64)>
     }
 }
 
-/// The sizes of the sections that the words name, each with an index that is not read.
+/// The sizes of the sections that the words name. Their indices are not used.
 fn sections(
     alloc: Global,
     words: &[String],
@@ -71,7 +71,7 @@ fn symbols(alloc: Global, words: &[String]) -> Result<HashMap<String, u64>, Allo
     Ok(symbols)
 }
 
-/// The bytes of the table that a blob stands for, rewritten as a request says.
+/// The bytes of the table that a blob represents, rewritten for a request.
 pub fn rewritten(
     alloc: Global,
     endianness: Endianness,

@@ -7,15 +7,15 @@ ghost use Rattle.btf_cli.specs.Saying.{feature_word as word_of, IsNamed};
 use crate::number::{read_id, read_number};
 use btf_rules::BtfFeature;
 
-/// The word that has DATASECs filled that have a size.
+/// The word for filling DATASECs that have a size.
 pub const FILL_SIZED: &str = "fill-sized";
 
-/// What a word of a rewrite says.
+/// A word of a rewrite, parsed.
 #[derive(Clone, Copy)]
 pub enum Word<'a> {
     /// The kernel has a feature.
     Grant(BtfFeature),
-    /// DATASECs are filled that have a size and no entries.
+    /// DATASECs that have a size and no entries are filled.
     FillSized,
     /// The size of the section of a name.
     Section { name: &'a str, size: u64 },
@@ -23,7 +23,7 @@ pub enum Word<'a> {
     Symbol { name: &'a str, offset: u64 },
     /// The id of the DATASEC `.ksyms`.
     Ksyms(u32),
-    /// The id of the VAR that takes the place of functions in it.
+    /// The id of the VAR that replaces functions in it.
     Placeholder(u32),
 }
 
@@ -75,7 +75,7 @@ impl<'a> Word<'a> {
     ghost use Rattle.btf_cli.specs.Saying.{Saying, Says};
     ghost use Rattle.btf_cli.specs.Word.{saying_of};
 
-    /// What the word of this text says, or None where it can't be read. No memory is taken.
+    /// The word of this text, or None if it is invalid. Nothing is allocated.
     pub fn read(text: &'a str) -> Option<Word<'a>>
         ensures some { IfSome result (λ word. Says text.now (saying_of word)) }
         ensures none { IfNone result ((saying : Saying) → Says text.now saying → ⊥) }

@@ -1,4 +1,4 @@
--- What is known of a pair that was started, by what its walk came to.
+-- The state of a pair that was started, by where its walk stopped.
 use Rattle.std.proofs.Common.{◌≡◌, refl, sym, ap, subst, ◌∙◌, inl, inr, Bool, true, false, Ok, Err, Result}
 use Rattle.std.proofs.lemmas.Bool.{false≢true}
 use Rattle.std.proofs.lemmas.Result.{err_from_is_err_and}
@@ -12,7 +12,7 @@ use Rattle.btf_compare.specs.declared.frame.Place.{Place}
 use Rattle.btf_compare.specs.declared.frame.Place.TheVariants as places
 use Rattle.btf_compare.specs.Compared.{FailsFor, HasStarted, IsStarted, WalksTo, ComesTo, frame_of}
 
--- whether a walk ends with false, as it does where kinds differ
+-- whether a walk ends with false, as it does if the kinds differ
 abbrev pub ends_false : Result Place BtfError → Bool
 ends_false (Ok (places.Ends false)) = true
 ends_false end = false
@@ -30,7 +30,7 @@ module _ (local target : Table) (passed : Pair → Bool) (p : Pair) (f : Frame) 
   has_started true end starts differs walks comes = inr (starts, walks refl, comes refl)
   has_started false end starts differs walks comes = inl (starts, differs refl)
 
--- ---- what a start comes to
+-- ---- the outcomes of a start
 
 -- an error that `?` returns
 pub fails_for : {X : Type 0} (r : Result X BtfError) (e : BtfError) (P : BtfError → Type 0) → IsErrAnd r (λ y. y ≡ e) → P e → FailsFor r P

@@ -1,4 +1,4 @@
--- How buckets are numbered (linear hashing), as one is added.
+-- The indices of buckets (linear hashing), before and after a bucket is added.
 use Rattle.std.proofs.Common.{◌≡◌, ◌≢◌, ℕ, suc, ◌+◌, ◌-◌, ◌*◌, ◌/◌, ◌%◌, ◌^◌, ◌<◌, ◌≤◌, Bool, true, bit_and, inl, inr, sym, ap, subst, ◌∙◌, arith}
 use Rattle.std.specs.Prelude.{if◌then◌else◌, ltb, ◌⊎◌}
 use Rattle.std.proofs.lemmas.Bool.{cases_lt, cases_eq, lt-ltb, le-ltb, eq-eqb, ne_eqb, eqb-true}
@@ -8,7 +8,7 @@ use Rattle.std.proofs.Math.Pow.{mod-mod-pow}
 use Rattle.btf_compare.specs.Buckets.{bucket_of, is_numbered, spread}
 use Rattle.btf_compare.specs.PairTable.{capacity, load}
 
--- the index that some bits give, and else one bit fewer
+-- the masked hash, with one bit less if there is no such bucket
 abbrev pick : ℕ → ℕ → ℕ → ℕ
 pick many wide narrow = if ltb wide many then wide else narrow
 
@@ -112,7 +112,7 @@ module _ (bits mask many : ℕ) (ones : mask ≡ 2 ^ suc bits - 1) (least : 2 ^ 
             sym (pick_wide many w n (lt_not many w below not)) ∙ sym (ap (λ (b : Bool). if b then many else bucket_of mask many ids) (ne_eqb w many not))
       ]
 
--- ---- how many pairs come into the buckets
+-- ---- the number of pairs that the buckets take
 
 pub few_buckets : (buckets : ℕ) → buckets ≤ 3 → capacity buckets ≡ 15 + buckets
 unfolding capacity

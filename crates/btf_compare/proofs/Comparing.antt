@@ -30,28 +30,28 @@ use Rattle.btf_words.proofs.Refused.{known_refusal}
 
 -- ---- what the call returns
 
--- the call returns the comparison that remembers nothing, and lists what that starts
+-- the call returns the result of the recursion without a record, and lists the pairs that the recursion starts
 abbrev pub Compares : Table → Table → Pair → Result Bool BtfError → (List (ℕ × ℕ) → Type 0) → Type 0
-Compares local target root result IsTold = (answer : Result Bool Refusal) × (listed : List Pair) × Plain local target [] root answer listed × TracesBy IsTold result answer (firsts listed)
+Compares local target root result IsReported = (answer : Result Bool Refusal) × (listed : List Pair) × Plain local target [] root answer listed × TracesBy IsReported result answer (firsts listed)
 
 -- after these pairs one more was reported
-abbrev pub TellsOneMore : (List (ℕ × ℕ) → Type 0) → (List (ℕ × ℕ) → Type 0) → ℕ × ℕ → Type 0
-TellsOneMore IsTold IsToldNow ids = (before : List (ℕ × ℕ)) → IsTold before → IsToldNow (before ++ ids ∷ [])
+abbrev pub ReportsOneMore : (List (ℕ × ℕ) → Type 0) → (List (ℕ × ℕ) → Type 0) → ℕ × ℕ → Type 0
+ReportsOneMore IsReported IsReportedNow ids = (before : List (ℕ × ℕ)) → IsReported before → IsReportedNow (before ++ ids ∷ [])
 
-answered : (local target : Table) (Settled : Pair → Type 0) (root : Pair) (answer : Result Bool Refusal) (listed : List Pair) (result : Result Bool BtfError) (IsTold : List (ℕ × ℕ) → Type 0) → Outcome local target Settled root answer listed → Meets (λ b. b) result (λ a. a ≡ answer) → IsTold (map ids_of listed)
-    → Compares local target root result IsTold
-answered local target Settled root answer listed result IsTold outcome tells added = (answer, outcome.0, outcome.1, inl (tells, subst (λ (x : List Pair). IsTold (map ids_of x)) (sym outcome.2) added))
+answered : (local target : Table) (Settled : Pair → Type 0) (root : Pair) (answer : Result Bool Refusal) (listed : List Pair) (result : Result Bool BtfError) (IsReported : List (ℕ × ℕ) → Type 0) → Outcome local target Settled root answer listed → Meets (λ b. b) result (λ a. a ≡ answer) → IsReported (map ids_of listed)
+    → Compares local target root result IsReported
+answered local target Settled root answer listed result IsReported outcome tells added = (answer, outcome.0, outcome.1, inl (tells, subst (λ (x : List Pair). IsReported (map ids_of x)) (sym outcome.2) added))
 
-cut_short : (local target : Table) (Settled : Pair → Type 0) (root : Pair) (listed : List Pair) (result : Result Bool BtfError) (IsTold : List (ℕ × ℕ) → Type 0) → BeginsWith local target Settled root listed → result ≡ Err errors.OutOfMemory → IsTold (map ids_of listed) → Compares local target root result IsTold
-cut_short local target Settled root listed result IsTold begins is added = (begins.0, begins.1, begins.3, inr (is, listed, begins.2, begins.4, added))
+cut_short : (local target : Table) (Settled : Pair → Type 0) (root : Pair) (listed : List Pair) (result : Result Bool BtfError) (IsReported : List (ℕ × ℕ) → Type 0) → BeginsWith local target Settled root listed → result ≡ Err errors.OutOfMemory → IsReported (map ids_of listed) → Compares local target root result IsReported
+cut_short local target Settled root listed result IsReported begins is added = (begins.0, begins.1, begins.3, inr (is, listed, begins.2, begins.4, added))
 
--- what is reported at once is reported later
-pub told_on : (local target : Table) (root : Pair) (result : Result Bool BtfError) (IsTold IsToldNow : List (ℕ × ℕ) → Type 0) → ((ids : List (ℕ × ℕ)) → IsTold ids → IsToldNow ids) → Compares local target root result IsTold → Compares local target root result IsToldNow
-told_on local target root result IsTold IsToldNow more h = (h.0, h.1, h.2, elim h.3 [ inl t ↦ inl (t.0, more (map ids_of (firsts h.1)) t.1) | inr t ↦ inr (t.0, t.1, t.2, t.3, more (map ids_of t.1) t.4) ])
+-- pairs that were reported earlier stay reported
+pub reported_on : (local target : Table) (root : Pair) (result : Result Bool BtfError) (IsReported IsReportedNow : List (ℕ × ℕ) → Type 0) → ((ids : List (ℕ × ℕ)) → IsReported ids → IsReportedNow ids) → Compares local target root result IsReported → Compares local target root result IsReportedNow
+reported_on local target root result IsReported IsReportedNow more h = (h.0, h.1, h.2, elim h.3 [ inl t ↦ inl (t.0, more (map ids_of (firsts h.1)) t.1) | inr t ↦ inr (t.0, t.1, t.2, t.3, more (map ids_of t.1) t.4) ])
 
--- an error tells its refusal
-tells_refusal : (result : Result Bool BtfError) (e : BtfError) (refusal : Refusal) → result ≡ Err e → refusal_of e ≡ Some refusal → Meets (λ b. b) result (λ a. a ≡ Err refusal)
-tells_refusal result e refusal is known = subst (λ (r : Result Bool BtfError). Meets (λ b. b) r (λ a. a ≡ Err refusal)) (sym is) (refusal, known, refl)
+-- each error has its refusal
+refusal_reported : (result : Result Bool BtfError) (e : BtfError) (refusal : Refusal) → result ≡ Err e → refusal_of e ≡ Some refusal → Meets (λ b. b) result (λ a. a ≡ Err refusal)
+refusal_reported result e refusal is known = subst (λ (r : Result Bool BtfError). Meets (λ b. b) r (λ a. a ≡ Err refusal)) (sym is) (refusal, known, refl)
 
 not_true : (refusal : Refusal) → ◌≡◌ {A = Result Bool Refusal} (Err refusal) (Ok true) → ⊥
 not_true refusal is = none-some true (ap result_ok is)
@@ -59,9 +59,9 @@ not_true refusal is = none-some true (ap result_ok is)
 pub false_is_not_true : ◌≡◌ {A = Result Bool Refusal} (Ok false) (Ok true) → ⊥
 false_is_not_true is = false≢true (same_Some false true (ap result_ok is))
 
--- an error that `?` hands on
-pub handed : (r : Result Bool BtfError) (e : BtfError) → IsErrAnd r (λ y. y ≡ e) → r ≡ Err e
-handed r e h = let given = err_from_is_err_and r h in given.1 ∙ ap (λ (x : BtfError). Err x) given.2
+-- an error that `?` propagates
+pub propagated : (r : Result Bool BtfError) (e : BtfError) → IsErrAnd r (λ y. y ≡ e) → r ≡ Err e
+propagated r e h = let given = err_from_is_err_and r h in given.1 ∙ ap (λ (x : BtfError). Err x) given.2
 
 -- ---- the state of the loop
 
@@ -84,9 +84,9 @@ abbrev pub Changes : PairSet → PairSet → Pair → Bool → Type 0
 Changes old new p b = (q : Pair) → new q ≡ cond (pair_eq p q) b (old q)
 
 -- What holds at each step of the loop: it is a run, and the set of open pairs has those of the stack.
-pub record IsRunning (local target : Table) (root : Pair) (opened settled : PairSet) (top : runs.Frame) (below : List runs.Frame) (many : ℕ) (IsTold : List (ℕ × ℕ) → Type 0) : Type 0 where
+pub record IsRunning (local target : Table) (root : Pair) (opened settled : PairSet) (top : runs.Frame) (below : List runs.Frame) (many : ℕ) (IsReported : List (ℕ × ℕ) → Type 0) : Type 0 where
   pub listed : List Pair
-  pub added : IsTold (map ids_of listed)
+  pub added : IsReported (map ids_of listed)
   pub counts : many ≡ length listed
   pub run : states.Run local target (IsIn settled) root top below listed
   pub among : (q : Pair) → IsIn opened q → Among (top.pair ∷ open_pairs below) q
@@ -126,23 +126,23 @@ module _ (local target : Table) (root : ℕ × ℕ) where
   none : Pair → Type 0
   none q = ⊥
 
-  pub root_refused : HaveKinds local → HaveKinds target → (e : BtfError) (result : Result Bool BtfError) (IsTold : List (ℕ × ℕ) → Type 0) → IsRefused local target (pair_of root) e → result ≡ Err e → IsTold [] → Compares local target (pair_of root) result IsTold
-  root_refused ls ts e result IsTold (inl memory) is added =
+  pub root_refused : HaveKinds local → HaveKinds target → (e : BtfError) (result : Result Bool BtfError) (IsReported : List (ℕ × ℕ) → Type 0) → IsRefused local target (pair_of root) e → result ≡ Err e → IsReported [] → Compares local target (pair_of root) result IsReported
+  root_refused ls ts e result IsReported (inl memory) is added =
       let whole = plain_answers local target ls ts [] (pair_of root) in
-      cut_short local target none (pair_of root) [] result IsTold (whole.0, whole.1, firsts whole.1, whole.2, refl) (is ∙ ap (λ (x : BtfError). Err x) memory) added
-  root_refused ls ts e result IsTold (inr (inl h)) is added =
-      answered local target none (pair_of root) (Err (UnknownBtfType root.0)) [] result IsTold ([], Plain.no_local [] (pair_of root) none_open h.0, refl) (tells_refusal result e (UnknownBtfType root.0) is (ap refusal_of h.1)) added
-  root_refused ls ts e result IsTold (inr (inr h)) is added =
-      answered local target none (pair_of root) (Err (UnknownBtfType root.1)) [] result IsTold ([], Plain.no_target [] (pair_of root) h.0 none_open h.1 h.2, refl) (tells_refusal result e (UnknownBtfType root.1) is (ap refusal_of h.3)) added
+      cut_short local target none (pair_of root) [] result IsReported (whole.0, whole.1, firsts whole.1, whole.2, refl) (is ∙ ap (λ (x : BtfError). Err x) memory) added
+  root_refused ls ts e result IsReported (inr (inl h)) is added =
+      answered local target none (pair_of root) (Err (UnknownBtfType root.0)) [] result IsReported ([], Plain.no_local [] (pair_of root) none_open h.0, refl) (refusal_reported result e (UnknownBtfType root.0) is (ap refusal_of h.1)) added
+  root_refused ls ts e result IsReported (inr (inr h)) is added =
+      answered local target none (pair_of root) (Err (UnknownBtfType root.1)) [] result IsReported ([], Plain.no_target [] (pair_of root) h.0 none_open h.1 h.2, refl) (refusal_reported result e (UnknownBtfType root.1) is (ap refusal_of h.3)) added
 
-  pub root_differs : (IsTold : List (ℕ × ℕ) → Type 0) → IsStarted local target (pair_of root) false → IsTold (root ∷ []) → Compares local target (pair_of root) (Ok false) IsTold
-  root_differs IsTold h added = answered local target none (pair_of root) (Ok false) (pair_of root ∷ []) (Ok false) IsTold (pair_of root ∷ [], Plain.kinds_differ [] (pair_of root) h.0 h.1 none_open h.2 h.3, refl) refl added
+  pub root_differs : (IsReported : List (ℕ × ℕ) → Type 0) → IsStarted local target (pair_of root) false → IsReported (root ∷ []) → Compares local target (pair_of root) (Ok false) IsReported
+  root_differs IsReported h added = answered local target none (pair_of root) (Ok false) (pair_of root ∷ []) (Ok false) IsReported (pair_of root ∷ [], Plain.kinds_differ [] (pair_of root) h.0 h.1 none_open h.2 h.3, refl) refl added
 
-  pub root_started : (top : Frame) (begun opened settled : PairSet) (items : List Frame) (many : ℕ) (IsTold : List (ℕ × ℕ) → Type 0) → IsStarted local target (pair_of root) true → frame_of top ≡ new_frame (pair_of root) → items ≡ [] → ((q : Pair) → begun q ≡ false) → ((q : Pair) → settled q ≡ false) → Changes begun opened (pair_of root) true → many ≡ 1 → IsTold (root ∷ [])
-      → IsRunning local target (pair_of root) opened settled (frame_of top) (stack_of items) many IsTold
-  root_started top begun opened settled items many IsTold h new below empty none_settled changes is_one added =
-      subst (λ (x : runs.Frame). IsRunning local target (pair_of root) opened settled x (stack_of items) many IsTold) (sym new)
-      (subst (λ (xs : List Frame). IsRunning local target (pair_of root) opened settled (new_frame (pair_of root)) (stack_of xs) many IsTold) (sym below)
+  pub root_started : (top : Frame) (begun opened settled : PairSet) (items : List Frame) (many : ℕ) (IsReported : List (ℕ × ℕ) → Type 0) → IsStarted local target (pair_of root) true → frame_of top ≡ new_frame (pair_of root) → items ≡ [] → ((q : Pair) → begun q ≡ false) → ((q : Pair) → settled q ≡ false) → Changes begun opened (pair_of root) true → many ≡ 1 → IsReported (root ∷ [])
+      → IsRunning local target (pair_of root) opened settled (frame_of top) (stack_of items) many IsReported
+  root_started top begun opened settled items many IsReported h new below empty none_settled changes is_one added =
+      subst (λ (x : runs.Frame). IsRunning local target (pair_of root) opened settled x (stack_of items) many IsReported) (sym new)
+      (subst (λ (xs : List Frame). IsRunning local target (pair_of root) opened settled (new_frame (pair_of root)) (stack_of xs) many IsReported) (sym below)
       (record {
         listed = pair_of root ∷ [];
         counts = is_one;
@@ -154,30 +154,30 @@ module _ (local target : Table) (root : ℕ × ℕ) where
 
 -- ---- in the loop
 
--- what an error says, an equal one says
+-- the refusal of an error is the refusal of an equal error
 told_again : (answer result : Result Bool BtfError) (e : BtfError) (P : Result Bool Refusal → Type 0) → answer ≡ Err e → result ≡ Err e → Meets (λ b. b) answer P → (refusal : Refusal) × P (Err refusal) × Meets (λ b. b) result (λ a. a ≡ Err refusal)
 told_again answer result e P is same h =
     let given = subst (λ (r : Result Bool BtfError). Meets (λ b. b) r P) is h in
-    (given.0, given.2, tells_refusal result e given.0 same given.1)
+    (given.0, given.2, refusal_reported result e given.0 same given.1)
 
-module _ (local target : Table) (root : Pair) (opened settled : PairSet) (top : runs.Frame) (below : List runs.Frame) (many : ℕ) (IsTold : List (ℕ × ℕ) → Type 0) (state : IsRunning local target root opened settled top below many IsTold) where
-  pub no_memory : HaveKinds local → HaveKinds target → (result : Result Bool BtfError) → result ≡ Err errors.OutOfMemory → Compares local target root result IsTold
-  no_memory ls ts result is = cut_short local target (IsIn settled) root state.listed result IsTold (run_begins local target (IsIn settled) ls ts root top below state.listed state.run) is state.added
+module _ (local target : Table) (root : Pair) (opened settled : PairSet) (top : runs.Frame) (below : List runs.Frame) (many : ℕ) (IsReported : List (ℕ × ℕ) → Type 0) (state : IsRunning local target root opened settled top below many IsReported) where
+  pub no_memory : HaveKinds local → HaveKinds target → (result : Result Bool BtfError) → result ≡ Err errors.OutOfMemory → Compares local target root result IsReported
+  no_memory ls ts result is = cut_short local target (IsIn settled) root state.listed result IsReported (run_begins local target (IsIn settled) ls ts root top below state.listed state.run) is state.added
 
-  pub ends_refused : (answer result : Result Bool BtfError) (e : BtfError) → answer ≡ Err e → result ≡ Err e → Meets (λ b. b) answer (λ a. IsNext local target top (runs.Ends a)) → Compares local target root result IsTold
+  pub ends_refused : (answer result : Result Bool BtfError) (e : BtfError) → answer ≡ Err e → result ≡ Err e → Meets (λ b. b) answer (λ a. IsNext local target top (runs.Ends a)) → Compares local target root result IsReported
   ends_refused answer result e is same h =
       let told = told_again answer result e (λ a. IsNext local target top (runs.Ends a)) is same h in
-      answered local target (IsIn settled) root (Err told.0) state.listed result IsTold (run_fails local target (IsIn settled) root top below state.listed state.run (Err told.0) told.1 (not_true told.0)) told.2 state.added
+      answered local target (IsIn settled) root (Err told.0) state.listed result IsReported (run_fails local target (IsIn settled) root top below state.listed state.run (Err told.0) told.1 (not_true told.0)) told.2 state.added
 
-  pub ends_false : IsNext local target top (runs.Ends (Ok false)) → Compares local target root (Ok false) IsTold
-  ends_false next = answered local target (IsIn settled) root (Ok false) state.listed (Ok false) IsTold (run_fails local target (IsIn settled) root top below state.listed state.run (Ok false) next false_is_not_true) refl state.added
+  pub ends_false : IsNext local target top (runs.Ends (Ok false)) → Compares local target root (Ok false) IsReported
+  ends_false next = answered local target (IsIn settled) root (Ok false) state.listed (Ok false) IsReported (run_fails local target (IsIn settled) root top below state.listed state.run (Ok false) next false_is_not_true) refl state.added
 
-  pub ends_true : IsNext local target top (runs.Ends (Ok true)) → below ≡ [] → Compares local target root (Ok true) IsTold
+  pub ends_true : IsNext local target top (runs.Ends (Ok true)) → below ≡ [] → Compares local target root (Ok true) IsReported
   ends_true next is =
-      answered local target (IsIn settled) root (Ok true) state.listed (Ok true) IsTold
+      answered local target (IsIn settled) root (Ok true) state.listed (Ok true) IsReported
       (run_ends local target (IsIn settled) root top state.listed (subst (λ (x : List runs.Frame). states.Run local target (IsIn settled) root top x state.listed) is state.run) next) refl state.added
 
-  pub goes_on : (g : runs.Frame) → IsNext local target top (runs.GoesOn g) → IsRunning local target root opened settled g below many IsTold
+  pub goes_on : (g : runs.Frame) → IsNext local target top (runs.GoesOn g) → IsRunning local target root opened settled g below many IsReported
   goes_on g next =
       let same : top.pair ≡ g.pair = sym (ap (λ (x : runs.Frame). x.pair) next.3) in
       record {
@@ -193,7 +193,7 @@ module _ (local target : Table) (root : Pair) (opened settled : PairSet) (top : 
     same_pair : top.pair ≡ g.pair
     same_pair = sym (ap (λ (x : runs.Frame). x.pair) next.5)
 
-    pub pays : IsIn settled p → IsRunning local target root opened settled g below many IsTold
+    pub pays : IsIn settled p → IsRunning local target root opened settled g below many IsReported
     pays is = record {
       listed = state.listed;
       counts = state.counts;
@@ -203,9 +203,9 @@ module _ (local target : Table) (root : Pair) (opened settled : PairSet) (top : 
       has_all = subst (λ (o : Pair). (q : Pair) → Among (o ∷ open_pairs below) q → IsIn opened q) same_pair state.has_all;
     }
 
-    pub is_open : IsIn opened p → Compares local target root (Err (errors.MaximumTypeDepthReached p.local)) IsTold
+    pub is_open : IsIn opened p → Compares local target root (Err (errors.MaximumTypeDepthReached p.local)) IsReported
     is_open is =
-        answered local target (IsIn settled) root (Err (MaximumTypeDepthReached p.local)) state.listed (Err (errors.MaximumTypeDepthReached p.local)) IsTold
+        answered local target (IsIn settled) root (Err (MaximumTypeDepthReached p.local)) state.listed (Err (errors.MaximumTypeDepthReached p.local)) IsReported
         (run_refused local target (IsIn settled) root top g p below state.listed state.run next (Err (MaximumTypeDepthReached p.local)) (Plain.again (top.pair ∷ open_pairs below) p (contains_from_among (top.pair ∷ open_pairs below) p (state.among p is))) (not_true (MaximumTypeDepthReached p.local)))
         (MaximumTypeDepthReached p.local, refl, refl) state.added
 
@@ -219,29 +219,29 @@ module _ (local target : Table) (root : Pair) (opened settled : PairSet) (top : 
       not_above : ¬ (Contains (top.pair ∷ open_pairs below) p)
       not_above h = new_pair (among_from_contains (top.pair ∷ open_pairs below) p h)
 
-      refused_with : (result : Result Bool BtfError) (e : BtfError) (refusal : Refusal) → result ≡ Err e → refusal_of e ≡ Some refusal → Plain local target (top.pair ∷ open_pairs below) p (Err refusal) [] → Compares local target root result IsTold
+      refused_with : (result : Result Bool BtfError) (e : BtfError) (refusal : Refusal) → result ≡ Err e → refusal_of e ≡ Some refusal → Plain local target (top.pair ∷ open_pairs below) p (Err refusal) [] → Compares local target root result IsReported
       refused_with result e refusal is known plain =
-          answered local target (IsIn settled) root (Err refusal) state.listed result IsTold (run_refused local target (IsIn settled) root top g p below state.listed state.run next (Err refusal) plain (not_true refusal)) (tells_refusal result e refusal is known) state.added
+          answered local target (IsIn settled) root (Err refusal) state.listed result IsReported (run_refused local target (IsIn settled) root top g p below state.listed state.run next (Err refusal) plain (not_true refusal)) (refusal_reported result e refusal is known) state.added
 
-      pub is_refused : HaveKinds local → HaveKinds target → (e : BtfError) (result : Result Bool BtfError) → IsRefused local target p e → result ≡ Err e → Compares local target root result IsTold
+      pub is_refused : HaveKinds local → HaveKinds target → (e : BtfError) (result : Result Bool BtfError) → IsRefused local target p e → result ≡ Err e → Compares local target root result IsReported
       is_refused ls ts e result (inl memory) is = no_memory ls ts result (is ∙ ap (λ (x : BtfError). Err x) memory)
       is_refused ls ts e result (inr (inl h)) is = refused_with result e (UnknownBtfType p.local) is (ap refusal_of h.1) (Plain.no_local (top.pair ∷ open_pairs below) p not_above h.0)
       is_refused ls ts e result (inr (inr h)) is = refused_with result e (UnknownBtfType p.target) is (ap refusal_of h.3) (Plain.no_target (top.pair ∷ open_pairs below) p h.0 not_above h.1 h.2)
 
-      adds_one : (IsToldNow : List (ℕ × ℕ) → Type 0) → TellsOneMore IsTold IsToldNow (ids_of p) → IsToldNow (map ids_of (state.listed ++ p ∷ []))
-      adds_one IsToldNow tells = subst IsToldNow (sym (map-append ids_of state.listed (p ∷ []))) (tells (map ids_of state.listed) state.added)
+      adds_one : (IsReportedNow : List (ℕ × ℕ) → Type 0) → ReportsOneMore IsReported IsReportedNow (ids_of p) → IsReportedNow (map ids_of (state.listed ++ p ∷ []))
+      adds_one IsReportedNow tells = subst IsReportedNow (sym (map-append ids_of state.listed (p ∷ []))) (tells (map ids_of state.listed) state.added)
 
-      pub differs : (IsToldNow : List (ℕ × ℕ) → Type 0) → IsStarted local target p false → TellsOneMore IsTold IsToldNow (ids_of p) → Compares local target root (Ok false) IsToldNow
-      differs IsToldNow h tells =
-          answered local target (IsIn settled) root (Ok false) (state.listed ++ p ∷ []) (Ok false) IsToldNow
-          (run_differs local target (IsIn settled) root top g p below state.listed state.run next new_pair unsettled (Ok false) (Plain.kinds_differ (top.pair ∷ open_pairs below) p h.0 h.1 not_above h.2 h.3) false_is_not_true) refl (adds_one IsToldNow tells)
+      pub differs : (IsReportedNow : List (ℕ × ℕ) → Type 0) → IsStarted local target p false → ReportsOneMore IsReported IsReportedNow (ids_of p) → Compares local target root (Ok false) IsReportedNow
+      differs IsReportedNow h tells =
+          answered local target (IsIn settled) root (Ok false) (state.listed ++ p ∷ []) (Ok false) IsReportedNow
+          (run_differs local target (IsIn settled) root top g p below state.listed state.run next new_pair unsettled (Ok false) (Plain.kinds_differ (top.pair ∷ open_pairs below) p h.0 h.1 not_above h.2 h.3) false_is_not_true) refl (adds_one IsReportedNow tells)
 
-      pub starts : (f : Frame) (more_open : PairSet) (now : ℕ) (IsToldNow : List (ℕ × ℕ) → Type 0) → IsStarted local target p true → frame_of f ≡ new_frame p → Changes opened more_open p true → now ≡ many + 1 → TellsOneMore IsTold IsToldNow (ids_of p) → IsRunning local target root more_open settled (frame_of f) (g ∷ below) now IsToldNow
-      starts f more_open now IsToldNow h new changes one tells =
-          subst (λ (x : runs.Frame). IsRunning local target root more_open settled x (g ∷ below) now IsToldNow) (sym new)
+      pub starts : (f : Frame) (more_open : PairSet) (now : ℕ) (IsReportedNow : List (ℕ × ℕ) → Type 0) → IsStarted local target p true → frame_of f ≡ new_frame p → Changes opened more_open p true → now ≡ many + 1 → ReportsOneMore IsReported IsReportedNow (ids_of p) → IsRunning local target root more_open settled (frame_of f) (g ∷ below) now IsReportedNow
+      starts f more_open now IsReportedNow h new changes one tells =
+          subst (λ (x : runs.Frame). IsRunning local target root more_open settled x (g ∷ below) now IsReportedNow) (sym new)
           (record {
             listed = state.listed ++ p ∷ [];
-            added = adds_one IsToldNow tells;
+            added = adds_one IsReportedNow tells;
             counts = omega (arith, one, state.counts, length-append state.listed (p ∷ []));
             run = run_starts local target (IsIn settled) root top g p below state.listed state.run next new_pair unsettled h;
             among = λ q m. elim (now_in opened more_open p changes q m) [
@@ -254,17 +254,17 @@ module _ (local target : Table) (root : Pair) (opened settled : PairSet) (top : 
             ];
           })
 
--- ---- a pair that is settled
+-- ---- a pair that is known to be compatible
 
 out_cond : (b x : Bool) → cond b false x ≡ true → (b ≡ false) × (x ≡ true)
 out_cond true x is = absurd (false≢true is)
 out_cond false x is = (refl, is)
 
-module _ (local target : Table) (root : Pair) (opened settled : PairSet) (top g : runs.Frame) (below : List runs.Frame) (many : ℕ) (IsTold : List (ℕ × ℕ) → Type 0) (state : IsRunning local target root opened settled top (g ∷ below) many IsTold) where
+module _ (local target : Table) (root : Pair) (opened settled : PairSet) (top g : runs.Frame) (below : List runs.Frame) (many : ℕ) (IsReported : List (ℕ × ℕ) → Type 0) (state : IsRunning local target root opened settled top (g ∷ below) many IsReported) where
   other_pair : (q : Pair) → Among (open_pairs (g ∷ below)) q → pair_eq top.pair q ≡ false
   other_pair q m = eq_other top.pair q (λ same. state.run.apart.0 (subst (λ (x : Pair). Among (open_pairs (g ∷ below)) x) (sym same) m))
 
-  pub settles : (fewer more : PairSet) → IsNext local target top (runs.Ends (Ok true)) → Changes settled more top.pair true → Changes opened fewer top.pair false → IsRunning local target root fewer more g below many IsTold
+  pub settles : (fewer more : PairSet) → IsNext local target top (runs.Ends (Ok true)) → Changes settled more top.pair true → Changes opened fewer top.pair false → IsRunning local target root fewer more g below many IsReported
   settles fewer more next changes closes = record {
     listed = state.listed;
     counts = state.counts;
@@ -279,16 +279,16 @@ module _ (local target : Table) (root : Pair) (opened settled : PairSet) (top g 
     has_all = λ q m. closes q ∙ ap (λ (b : Bool). cond b false (opened q)) (other_pair q m) ∙ state.has_all q (inr m);
   }
 
--- ---- the steps come to an end
+-- ---- the steps terminate
 
 module _ (local target : Table) (root : Pair) where
-  -- where so many pairs are started
+  -- if this number of pairs is started
   abbrev pub left : ℕ → runs.Frame → List runs.Frame → ℕ
   left many top below = left_to_do (length (known_pairs local target)) many (widest local.records) top below
 
-  pub less_by_start : (opened settled : PairSet) (f top g : runs.Frame) (p : Pair) (below : List runs.Frame) (many now : ℕ) (IsToldNow : List (ℕ × ℕ) → Type 0) → IsNext local target top (runs.Waits p g) → f ≡ new_frame p → now ≡ many + 1
-      → IsRunning local target root opened settled f (g ∷ below) now IsToldNow → left now f (g ∷ below) < left many top below
-  less_by_start opened settled f top g p below many now IsToldNow next is one started =
+  pub less_by_start : (opened settled : PairSet) (f top g : runs.Frame) (p : Pair) (below : List runs.Frame) (many now : ℕ) (IsReportedNow : List (ℕ × ℕ) → Type 0) → IsNext local target top (runs.Waits p g) → f ≡ new_frame p → now ≡ many + 1
+      → IsRunning local target root opened settled f (g ∷ below) now IsReportedNow → left now f (g ∷ below) < left many top below
+  less_by_start opened settled f top g p below many now IsReportedNow next is one started =
       rw (is, one) (less_started local target (length (known_pairs local target)) many top g p below next (omega (arith, one, started.counts, started.run.counts)))
 
 -- ---- the answer alone
@@ -300,8 +300,8 @@ tells_answer (Err e) answer P is h = known_refusal e is.0 (λ f. P (Err f)) is.1
 no_answer : (result : Result Bool BtfError) (P : Result Bool Refusal → Type 0) → result ≡ Err errors.OutOfMemory → MeetsOrNoMemory (λ b. b) result P
 no_answer result P is = subst (λ (r : Result Bool BtfError). MeetsOrNoMemory (λ b. b) r P) (sym is) tt
 
-pub answers : (local target : Table) (root : Pair) (result : Result Bool BtfError) (IsTold : List (ℕ × ℕ) → Type 0) → Compares local target root result IsTold → MeetsOrNoMemory (λ b. b) result (λ answer. (listed : List Pair) × Plain local target [] root answer listed)
-answers local target root result IsTold h =
+pub answers : (local target : Table) (root : Pair) (result : Result Bool BtfError) (IsReported : List (ℕ × ℕ) → Type 0) → Compares local target root result IsReported → MeetsOrNoMemory (λ b. b) result (λ answer. (listed : List Pair) × Plain local target [] root answer listed)
+answers local target root result IsReported h =
     elim h.3 [
       | inl told ↦ tells_answer result h.0 (λ answer. (listed : List Pair) × Plain local target [] root answer listed) told.0 (h.1, h.2)
       | inr short ↦ no_answer result (λ answer. (listed : List Pair) × Plain local target [] root answer listed) short.0

@@ -1,4 +1,4 @@
--- Maps from pairs of ids: an array that is searched, and a map for what does not fit into it.
+-- Maps from pairs of ids: an array that is searched, and a map of the entries that do not fit into it.
 use Rattle.std.proofs.Common.{◌≡◌, ℕ, zero, suc, ◌<◌, List, [], ◌∷◌, ◌++◌, length, take, refl, sym, ap, subst, ◌∙◌, Bool, true, false, Some, None, Option, arith, slice_get, slice_set, get_or, inl, inr}
 use Rattle.std.specs.Prelude.{◌==◌, ◌&&◌, cond}
 use Rattle.std.specs.Option.{option_or}
@@ -13,7 +13,7 @@ use Rattle.btf_compare.specs.Pairs.{pair_of, ids_of}
 
 -- ---- pairs of ids
 
--- the order tells two pairs of ids apart as `==` does
+-- the order compares two pairs of ids as equal exactly if `==` does
 pub ids_eq : (x y : ℕ × ℕ) → (x.0 == y.0 && x.1 == y.1) ≡ is_ids x y
 ids_eq x y = both_tied (x.0 == y.0) (x.1 == y.1) (nat_cmp x.0 y.0) (nat_cmp x.1 y.1) (unsigned_ties x.0 y.0) (unsigned_ties x.1 y.1)
 
@@ -56,7 +56,7 @@ module _ {V : Type 0} (ids : ℕ × ℕ) where
       let parts = cond_none (is_ids ids a.0) a.1 (lookup (is_ids ids) (take i es)) none in
       ap (λ (b : Bool). cond b (Some a.1) (lookup (is_ids ids) (take (suc i) es))) parts.0 ∙ none_so_far es i e at parts.1 differs
 
-  -- and the first that is
+  -- the first entry of the pair
   pub place_here : (es : List ((ℕ × ℕ) × V)) (i : ℕ) (e : (ℕ × ℕ) × V) → slice_get es i ≡ Some e → IsNoPair ids (take i es) → is_ids ids e.0 ≡ true → IsPlaceOf ids es i
   place_here [] i e at none is = absurd (none-some e at)
   place_here (a ∷ es) zero e at none is = ap (λ (x : (ℕ × ℕ) × V). is_ids ids x.0) (same_Some a e at) ∙ is
@@ -69,7 +69,7 @@ module _ {V : Type 0} (ids : ℕ × ℕ) where
   place_within (a ∷ es) zero place = omega arith
   place_within (a ∷ es) (suc i) place = omega (arith, place_within es i place.1)
 
-  -- what is looked up stands there
+  -- the value that is looked up is at this index
   pub place_found : (es : List ((ℕ × ℕ) × V)) (i : ℕ) (d : (ℕ × ℕ) × V) → IsPlaceOf ids es i → lookup (is_ids ids) es ≡ Some (get_or es i d).1
   place_found [] i d place = absurd place
   place_found (a ∷ es) zero d place = ap (λ (b : Bool). cond b (Some a.1) (lookup (is_ids ids) es)) place
@@ -129,7 +129,7 @@ module _ {V : Type 0} (ids : ℕ × ℕ) where
       → (other : ℕ × ℕ) → option_or (lookup (is_ids other) (es ++ (ids, v) ∷ [])) (more other) ≡ cond (is_ids ids other) (Some v) (option_or (lookup (is_ids other) es) (more other))
   array_push es v more none other = ap (λ (o : Option V). option_or o (more other)) (list_push es v none other) ∙ set_then_more (is_ids ids other) v (lookup (is_ids other) es) (more other)
 
-  -- where the array has no entry of the pair, the map tells
+  -- if the array has no entry of the pair, its value is in the map
   pub further : (es : List ((ℕ × ℕ) × V)) (more : Option V) → IsNoPair ids es → option_or (lookup (is_ids ids) es) more ≡ more
   further es more none = ap (λ (o : Option V). option_or o more) none
 

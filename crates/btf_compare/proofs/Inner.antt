@@ -1,4 +1,4 @@
--- A pair that has to be compatible first: its walk, before anything is remembered of it.
+-- A pending pair that is started: its walk, before the run records its progress.
 use Rattle.std.proofs.Common.{◌≡◌, ℕ, ◌+◌, ◌<◌, List, [], ◌∷◌, ◌++◌, length, refl, sym, ap, subst, ◌∙◌, Bool, true, false, None, Ok, Err, Result}
 use Rattle.std.specs.Prelude.{cond}
 use Rattle.std.specs.BTreeSet.{BTreeSet}
@@ -15,9 +15,9 @@ use Rattle.btf_compare.specs.declared.frame.Frame.{Frame}
 use Rattle.btf_compare.specs.declared.progress.Progress.TheVariants.{Open, Compatible}
 use Rattle.btf_compare.specs.declared.pair_map.PairMap.{PairMap}
 use Rattle.btf_compare.specs.PairMap.{known, count, Learns}
-use Rattle.btf_compare.specs.Compared.{WalksTo, ComesTo, IsStarted, frame_of, tells_open, tells_settled, opened_in, settled_in, passed_in}
+use Rattle.btf_compare.specs.Compared.{WalksTo, ComesTo, IsStarted, frame_of, is_progress_open, is_progress_compatible, opened_in, compatible_in, passed_in}
 use Rattle.btf_compare.specs.Pairs.{pair_of}
-use Rattle.btf_compare.proofs.Comparing.{PairSet, Changes, IsRunning, Compares, TellsOneMore, stack_of, stack_push, no_memory, ends_refused, ends_false, starts, settles, still_in, less_by_start}
+use Rattle.btf_compare.proofs.Comparing.{PairSet, Changes, IsRunning, Compares, ReportsOneMore, stack_of, stack_push, no_memory, ends_refused, ends_false, starts, settles, still_in, less_by_start}
 use Rattle.btf_compare.proofs.Passed.{ArePassed, still_passed}
 use Rattle.btf_compare.proofs.Progresses.{learned, learned_nothing}
 use Rattle.btf_compare.proofs.Walking.{Running, PassedIn, left, shorter, lower, walked, walked_less}
@@ -26,81 +26,80 @@ cond_again : (c x : Bool) → cond c false x ≡ cond c false (cond c true x)
 cond_again true x = refl
 cond_again false x = refl
 
--- A pair that has to be compatible before the open pair top goes on, which is g then: it was started, and its walk went
--- from f to h.
-pub record Above (local target : Table) (root : Pair) (seen : PairMap) (passed : BTreeSet (ℕ × ℕ)) (below : List Frame) (top : Frame) (IsTold IsToldNow : List (ℕ × ℕ) → Type 0) (ids : ℕ × ℕ) (g f h : Frame) : Type 0 where
-  pub state : Running local target root seen below top IsTold
+-- A pending pair of the open pair top, which is g after it: the pair was started, and its walk got from f to h.
+pub record Above (local target : Table) (root : Pair) (seen : PairMap) (passed : BTreeSet (ℕ × ℕ)) (below : List Frame) (top : Frame) (IsReported IsReportedNow : List (ℕ × ℕ) → Type 0) (ids : ℕ × ℕ) (g f h : Frame) : Type 0 where
+  pub state : Running local target root seen below top IsReported
   pub are : PassedIn local target seen passed
   pub next : IsNext local target (frame_of top) (runs.Waits (pair_of ids) (frame_of g))
   pub unknown : known seen ids ≡ None
   pub begins : IsStarted local target (pair_of ids) true
-  pub tells : TellsOneMore IsTold IsToldNow ids
+  pub tells : ReportsOneMore IsReported IsReportedNow ids
   pub new : frame_of f ≡ new_frame (pair_of ids)
   pub goes : WalksTo local target (passed_in passed) (frame_of f) (frame_of h)
 
-module _ {local target : Table} {root : Pair} {seen : PairMap} {passed : BTreeSet (ℕ × ℕ)} {below : List Frame} {top : Frame} {IsTold IsToldNow : List (ℕ × ℕ) → Type 0} {ids : ℕ × ℕ} {g f h : Frame} (w : Above local target root seen passed below top IsTold IsToldNow ids g f h) where
+module _ {local target : Table} {root : Pair} {seen : PairMap} {passed : BTreeSet (ℕ × ℕ)} {below : List Frame} {top : Frame} {IsReported IsReportedNow : List (ℕ × ℕ) → Type 0} {ids : ℕ × ℕ} {g f h : Frame} (w : Above local target root seen passed below top IsReported IsReportedNow ids g f h) where
   -- it is open too
   abbrev opened : PairSet
   opened q = cond (pair_eq (pair_of ids) q) true (opened_in seen q)
 
-  inner_starts : IsRunning local target root opened (settled_in seen) (frame_of f) (frame_of g ∷ stack_of below) (count seen + 1) IsToldNow
+  inner_starts : IsRunning local target root opened (compatible_in seen) (frame_of f) (frame_of g ∷ stack_of below) (count seen + 1) IsReportedNow
   inner_starts =
-      starts local target root (opened_in seen) (settled_in seen) (frame_of top) (stack_of below) (count seen) IsTold w.state (pair_of ids) (frame_of g) w.next (ap tells_open w.unknown) (ap tells_settled w.unknown) f opened (count seen + 1) IsToldNow w.begins w.new (λ q. refl) refl w.tells
+      starts local target root (opened_in seen) (compatible_in seen) (frame_of top) (stack_of below) (count seen) IsReported w.state (pair_of ids) (frame_of g) w.next (ap is_progress_open w.unknown) (ap is_progress_compatible w.unknown) f opened (count seen + 1) IsReportedNow w.begins w.new (λ q. refl) refl w.tells
 
-  inner_walks : IsRunning local target root opened (settled_in seen) (frame_of h) (frame_of g ∷ stack_of below) (count seen + 1) IsToldNow
-  inner_walks = walked local target root opened (settled_in seen) (passed_in passed) (frame_of g ∷ stack_of below) (count seen + 1) IsToldNow w.are (frame_of f) inner_starts (frame_of h) w.goes
+  inner_walks : IsRunning local target root opened (compatible_in seen) (frame_of h) (frame_of g ∷ stack_of below) (count seen + 1) IsReportedNow
+  inner_walks = walked local target root opened (compatible_in seen) (passed_in passed) (frame_of g ∷ stack_of below) (count seen + 1) IsReportedNow w.are (frame_of f) inner_starts (frame_of h) w.goes
 
   inner_less : left_to_do (length (known_pairs local target)) (count seen + 1) (widest local.records) (frame_of h) (frame_of g ∷ stack_of below) < left local target seen below top
   inner_less =
       shorter _ _ _
-      (walked_less local target root opened (settled_in seen) (passed_in passed) (frame_of g ∷ stack_of below) (count seen + 1) IsToldNow w.are (frame_of f) inner_starts (length (known_pairs local target)) (widest local.records) (frame_of h) w.goes)
-      (less_by_start local target root opened (settled_in seen) (frame_of f) (frame_of top) (frame_of g) (pair_of ids) (stack_of below) (count seen) (count seen + 1) IsToldNow w.next w.new refl inner_starts)
+      (walked_less local target root opened (compatible_in seen) (passed_in passed) (frame_of g ∷ stack_of below) (count seen + 1) IsReportedNow w.are (frame_of f) inner_starts (length (known_pairs local target)) (widest local.records) (frame_of h) w.goes)
+      (less_by_start local target root opened (compatible_in seen) (frame_of f) (frame_of top) (frame_of g) (pair_of ids) (stack_of below) (count seen) (count seen + 1) IsReportedNow w.next w.new refl inner_starts)
 
-  pub inner_no_memory : HaveKinds local → HaveKinds target → (result : Result Bool BtfError) → result ≡ Err errors.OutOfMemory → Compares local target root result IsToldNow
-  inner_no_memory ls ts result is = no_memory local target root opened (settled_in seen) (frame_of h) (frame_of g ∷ stack_of below) (count seen + 1) IsToldNow inner_walks ls ts result is
+  pub inner_no_memory : HaveKinds local → HaveKinds target → (result : Result Bool BtfError) → result ≡ Err errors.OutOfMemory → Compares local target root result IsReportedNow
+  inner_no_memory ls ts result is = no_memory local target root opened (compatible_in seen) (frame_of h) (frame_of g ∷ stack_of below) (count seen + 1) IsReportedNow inner_walks ls ts result is
 
-  pub inner_fails : (e : BtfError) (result : Result Bool BtfError) → ComesTo local target h (Err e) → result ≡ Err e → Compares local target root result IsToldNow
-  inner_fails e result comes is = ends_refused local target root opened (settled_in seen) (frame_of h) (frame_of g ∷ stack_of below) (count seen + 1) IsToldNow inner_walks (Err e) result e refl is comes
+  pub inner_fails : (e : BtfError) (result : Result Bool BtfError) → ComesTo local target h (Err e) → result ≡ Err e → Compares local target root result IsReportedNow
+  inner_fails e result comes is = ends_refused local target root opened (compatible_in seen) (frame_of h) (frame_of g ∷ stack_of below) (count seen + 1) IsReportedNow inner_walks (Err e) result e refl is comes
 
-  pub inner_false : IsNext local target (frame_of h) (runs.Ends (Ok false)) → Compares local target root (Ok false) IsToldNow
-  inner_false ends = ends_false local target root opened (settled_in seen) (frame_of h) (frame_of g ∷ stack_of below) (count seen + 1) IsToldNow inner_walks ends
+  pub inner_false : IsNext local target (frame_of h) (runs.Ends (Ok false)) → Compares local target root (Ok false) IsReportedNow
+  inner_false ends = ends_false local target root opened (compatible_in seen) (frame_of h) (frame_of g ∷ stack_of below) (count seen + 1) IsReportedNow inner_walks ends
 
-  -- ---- it came out true
+  -- ---- it is compatible
 
   module _ (same : h.pair ≡ ids) (more : PairMap) (learns : Learns seen more ids Compatible) where
-    changes : Changes (settled_in seen) (settled_in more) (pair_of ids) true
-    changes = learned seen more ids Compatible learns tells_settled
+    changes : Changes (compatible_in seen) (compatible_in more) (pair_of ids) true
+    changes = learned seen more ids Compatible learns is_progress_compatible
 
     pub inner_settled_passed : PassedIn local target more passed
-    inner_settled_passed = still_passed local target (settled_in seen) (settled_in more) (passed_in passed) (still_in (settled_in seen) (settled_in more) (pair_of ids) changes) w.are
+    inner_settled_passed = still_passed local target (compatible_in seen) (compatible_in more) (passed_in passed) (still_in (compatible_in seen) (compatible_in more) (pair_of ids) changes) w.are
 
     module _ (counts : count more ≡ count seen + 1) where
-      pub inner_settled : IsNext local target (frame_of h) (runs.Ends (Ok true)) → Running local target root more below g IsToldNow
+      pub inner_settled : IsNext local target (frame_of h) (runs.Ends (Ok true)) → Running local target root more below g IsReportedNow
       inner_settled ends =
-          subst (λ (n : ℕ). IsRunning local target root (opened_in more) (settled_in more) (frame_of g) (stack_of below) n IsToldNow) (sym counts)
-          (settles local target root opened (settled_in seen) (frame_of h) (frame_of g) (stack_of below) (count seen + 1) IsToldNow inner_walks (opened_in more) (settled_in more) ends
-          (subst (λ (p : ℕ × ℕ). Changes (settled_in seen) (settled_in more) (pair_of p) true) (sym same) changes)
-          (subst (λ (p : ℕ × ℕ). Changes opened (opened_in more) (pair_of p) false) (sym same) (λ q. learned seen more ids Compatible learns tells_open q ∙ cond_again (pair_eq (pair_of ids) q) (opened_in seen q))))
+          subst (λ (n : ℕ). IsRunning local target root (opened_in more) (compatible_in more) (frame_of g) (stack_of below) n IsReportedNow) (sym counts)
+          (settles local target root opened (compatible_in seen) (frame_of h) (frame_of g) (stack_of below) (count seen + 1) IsReportedNow inner_walks (opened_in more) (compatible_in more) ends
+          (subst (λ (p : ℕ × ℕ). Changes (compatible_in seen) (compatible_in more) (pair_of p) true) (sym same) changes)
+          (subst (λ (p : ℕ × ℕ). Changes opened (opened_in more) (pair_of p) false) (sym same) (λ q. learned seen more ids Compatible learns is_progress_open q ∙ cond_again (pair_eq (pair_of ids) q) (opened_in seen q))))
 
       pub inner_settled_less : left local target more below g < left local target seen below top
       inner_settled_less = lower _ _ _ (rw counts (less_settled local target (length (known_pairs local target)) (count seen + 1) (widest local.records) (frame_of h) (frame_of g) (stack_of below))) inner_less
 
-  -- ---- it has come to prototypes
+  -- ---- it is at prototypes
 
   module _ (more : PairMap) (learns : Learns seen more ids Open) where
-    nothing : ◌≡◌ {A = Pair → Bool} (settled_in more) (settled_in seen)
-    nothing = learned_nothing seen more ids Open learns tells_settled (ap tells_settled w.unknown)
+    nothing : ◌≡◌ {A = Pair → Bool} (compatible_in more) (compatible_in seen)
+    nothing = learned_nothing seen more ids Open learns is_progress_compatible (ap is_progress_compatible w.unknown)
 
     pub inner_open_passed : PassedIn local target more passed
     inner_open_passed = subst (λ (settled : Pair → Bool). ArePassed local target settled (passed_in passed)) (sym nothing) w.are
 
     module _ (counts : count more ≡ count seen + 1) (above : List Frame) (is : above ≡ below ++ g ∷ []) where
-      pub inner_open : Running local target root more above h IsToldNow
+      pub inner_open : Running local target root more above h IsReportedNow
       inner_open =
-          subst (λ (s : List runs.Frame). IsRunning local target root (opened_in more) (settled_in more) (frame_of h) s (count more) IsToldNow) (sym (stack_push below above g is))
-          (subst (λ (n : ℕ). IsRunning local target root (opened_in more) (settled_in more) (frame_of h) (frame_of g ∷ stack_of below) n IsToldNow) (sym counts)
-          (subst (λ (settled : PairSet). IsRunning local target root (opened_in more) settled (frame_of h) (frame_of g ∷ stack_of below) (count seen + 1) IsToldNow) (sym nothing)
-          (subst (λ (open_ones : PairSet). IsRunning local target root open_ones (settled_in seen) (frame_of h) (frame_of g ∷ stack_of below) (count seen + 1) IsToldNow) (λ i q. (sym (learned seen more ids Open learns tells_open q)) i) inner_walks)))
+          subst (λ (s : List runs.Frame). IsRunning local target root (opened_in more) (compatible_in more) (frame_of h) s (count more) IsReportedNow) (sym (stack_push below above g is))
+          (subst (λ (n : ℕ). IsRunning local target root (opened_in more) (compatible_in more) (frame_of h) (frame_of g ∷ stack_of below) n IsReportedNow) (sym counts)
+          (subst (λ (settled : PairSet). IsRunning local target root (opened_in more) settled (frame_of h) (frame_of g ∷ stack_of below) (count seen + 1) IsReportedNow) (sym nothing)
+          (subst (λ (open_ones : PairSet). IsRunning local target root open_ones (compatible_in seen) (frame_of h) (frame_of g ∷ stack_of below) (count seen + 1) IsReportedNow) (λ i q. (sym (learned seen more ids Open learns is_progress_open q)) i) inner_walks)))
 
       pub inner_open_less : left local target more above h < left local target seen below top
       inner_open_less = rw (stack_push below above g is, counts) inner_less

@@ -1,4 +1,4 @@
--- Tables of pairs: buckets that are shared out, and what a table has as one is added.
+-- Tables of pairs: buckets that are split, and the entries of a table to which a bucket is added.
 use Rattle.std.proofs.Common.{◌≡◌, ◌≢◌, ℕ, zero, suc, ◌+◌, ◌<◌, List, [], ◌∷◌, ◌++◌, length, get_or, map, set, refl, sym, ap, subst, ◌∙◌, Bool, true, false, Some, None, Option, arith, inl, inr}
 use Rattle.std.specs.Prelude.{cond, if◌then◌else◌}
 use Rattle.std.specs.Option.{option_or}
@@ -15,7 +15,7 @@ use Rattle.btf_compare.proofs.Buckets.{bucket_within}
 module _ {V : Type 0} where
   -- ---- an entry more
 
-  -- what an entry says of a pair
+  -- the value of a pair in a list with one more entry
   entry_says : (ℕ × ℕ) × V → ℕ × ℕ → Option V
   entry_says e ids = cond (is_ids ids e.0) (Some e.1) None
 
@@ -32,10 +32,10 @@ module _ {V : Type 0} where
   values_push [] e ids = refl
   values_push (a ∷ es) e ids = ap (λ (o : Option V). cond (is_ids ids a.0) (Some a.1) o) (values_push es e ids) ∙ cond_or (is_ids ids a.0) a.1 (values_in es ids) (entry_says e ids)
 
-  -- ---- entries shared out
+  -- ---- the entries of a split bucket
 
   module _ (mask number : ℕ) (stay go all : List ((ℕ × ℕ) × V)) (shared : AreShared mask number stay go all) (e : (ℕ × ℕ) × V) where
-    -- a pair that has no such number is another
+    -- a pair with another masked hash is another pair
     unlike : (ids : ℕ × ℕ) → (is_numbered mask number ids ≡ is_numbered mask number e.0 → ⊥) → entry_says e ids ≡ None
     unfolding entry_says
     unlike ids differ =
@@ -124,11 +124,11 @@ module _ (buckets : List Bucket) (mask : ℕ) (further : List ((ℕ × ℕ) × P
     pub value_here : value_of (layout buckets mask further) ids ≡ option_or (values_in (entries_of b) ids) (values_in further ids)
     value_here = ap (λ (j : ℕ). option_or (values_in (get_or (map entries_of buckets) j []) ids) (values_in further ids)) here ∙ ap (λ (row : List ((ℕ × ℕ) × Progress)). option_or (values_in row ids) (values_in further ids)) row_here
 
-    -- where it had room for all, the ordered map has none of them
+    -- if the bucket has not overflowed, the ordered map has none of its pairs
     pub none_further : b.overflows ≡ false → values_in further ids ≡ None
     none_further fits = table.marked ids (ap (λ (j : ℕ). get_or (map mark_of buckets) j false) here ∙ mark_here ∙ fits)
 
-    -- a pair that has nothing has nothing there
+    -- a pair without a value has no entry there
     pub absent : value_of (layout buckets mask further) ids ≡ None → values_in further ids ≡ None
     absent none = (nowhere ids (entries_of b) (values_in further ids) (sym value_here ∙ none)).1
 
@@ -139,7 +139,7 @@ module _ (buckets : List Bucket) (mask : ℕ) (further : List ((ℕ × ℕ) × P
           let rows_set = map-set entries_of buckets i new in
           omega (arith, ap held rows_set, held_set (map entries_of buckets) i (entries_of b) (entries_of new) (omega (arith, inside, many)) row_here)
 
-      -- the pairs that come into the buckets before one more is made
+      -- the pairs that the buckets take before the table grows
       pub takes_more : (left now : ℕ) → TakesMore (layout buckets mask further) left → now + length (entries_of new) ≡ left + length (entries_of b) → TakesMore (layout (set buckets i new) mask more) now
       takes_more left now takes same =
           let rows_set = map-set entries_of buckets i new in
@@ -217,7 +217,7 @@ module _ (buckets : List Bucket) (mask : ℕ) (further : List ((ℕ × ℕ) × P
           ];
         }
 
--- ---- a pair that has its first progress, or another one
+-- ---- a pair that is added, or whose progress changes
 module _ (buckets : List Bucket) (mask : ℕ) (further : List ((ℕ × ℕ) × Progress)) (table : IsTable (layout buckets mask further))
     (ids : ℕ × ℕ) (i : ℕ) (at : i ≡ bucket_of mask (length buckets) ids) (b : Bucket) (is : b ≡ get_or buckets i b) (p : Progress) where
   -- in its bucket
@@ -236,7 +236,7 @@ module _ (buckets : List Bucket) (mask : ℕ) (further : List ((ℕ × ℕ) × P
     pub pushed_counts : count_in (layout (set buckets i new) mask further) ≡ count_in (layout buckets mask further) + 1
     pushed_counts = omega (arith, counts_set buckets mask further table ids i at b is new further, ap length pushed, length-append (entries_of b) ((ids, p) ∷ []))
 
-  -- in the ordered map, as its bucket has no room
+  -- in the ordered map, because its bucket is full
   module _ (none : value_of (layout buckets mask further) ids ≡ None) (new : Bucket) (stays : entries_of new ≡ entries_of b) (marked : new.overflows ≡ true) (more : List ((ℕ × ℕ) × Progress)) (changes : Sets (values_in further) (values_in more) ids p) (longer : length more ≡ length further + 1) where
     kept_apart : (other : ℕ × ℕ) → is_ids ids other ≡ false → values_in more other ≡ values_in further other
     kept_apart other differs = changes other ∙ ap (λ (b : Bool). cond b (Some p) (values_in further other)) differs
@@ -255,7 +255,7 @@ module _ (buckets : List Bucket) (mask : ℕ) (further : List ((ℕ × ℕ) × P
     pub over_counts : count_in (layout (set buckets i new) mask more) ≡ count_in (layout buckets mask further) + 1
     over_counts = omega (arith, counts_set buckets mask further table ids i at b is new more, ap length stays, longer)
 
-  -- another one in its bucket
+  -- changed in its bucket
   module _ (new : Bucket) (changes : Sets (values_in (entries_of b)) (values_in (entries_of new)) ids p) (long : length (entries_of new) ≡ length (entries_of b)) (same : new.overflows ≡ b.overflows) where
     pub set_sets : Sets (value_of (layout buckets mask further)) (value_of (layout (set buckets i new) mask further)) ids p
     set_sets =
@@ -270,7 +270,7 @@ module _ (buckets : List Bucket) (mask : ℕ) (further : List ((ℕ × ℕ) × P
     pub set_counts : count_in (layout (set buckets i new) mask further) ≡ count_in (layout buckets mask further)
     set_counts = omega (arith, counts_set buckets mask further table ids i at b is new further, long)
 
-  -- another one in the ordered map
+  -- changed in the ordered map
   module _ (new : Bucket) (none : values_in (entries_of b) ids ≡ None) (stays : entries_of new ≡ entries_of b) (same : new.overflows ≡ b.overflows) (more : List ((ℕ × ℕ) × Progress)) (changes : Sets (values_in further) (values_in more) ids p) (long : length more ≡ length further) (some : values_in further ids ≡ None → ⊥) where
     apart_in_map : (other : ℕ × ℕ) → is_ids ids other ≡ false → values_in more other ≡ values_in further other
     apart_in_map other differs = changes other ∙ ap (λ (b : Bool). cond b (Some p) (values_in further other)) differs

@@ -1,4 +1,5 @@
--- Long prototypes all of whose parameters came out true: a walk that meets them again goes past them.
+-- Passed prototypes: long ones whose parameters are all known to be compatible. A walk that meets them again continues
+-- with their return types.
 use Rattle.std.proofs.Common.{◌≡◌, ℕ, ◌<◌, ◌≤◌, List, length, sym, ap, subst, ◌∙◌, inl, inr, Bool, true, false, Ok, arith}
 use Rattle.std.specs.Prelude.{cond, ◌⊎◌, ◌==◌}
 use Rattle.std.specs.List.{list_any}
@@ -27,18 +28,18 @@ use Rattle.btf_compare.proofs.Comparing.{PairSet, IsIn, Changes, IsRunning}
 pub nothing_in : (set : BTreeSet (ℕ × ℕ)) → ordered.IsEmpty set → (p : Pair) → passed_in set p ≡ false
 nothing_in set is p = ap (list_any (is_at (ids_cmp (ids_of p)))) is
 
--- pairs that the order does not tell apart are one
+-- pairs that compare as equal are equal
 same_ids : (p q : Pair) → is_eq (ids_cmp (ids_of p) (ids_of q)) ≡ pair_eq p q
 same_ids p q = sym (both_tied (p.local == q.local) (p.target == q.target) (nat_cmp p.local q.local) (nat_cmp p.target q.target) (unsigned_ties p.local q.local) (unsigned_ties p.target q.target))
 
--- what an insertion into the set says of each pair of ids
+-- whether each pair is in the set after an insertion
 pub inserted : (old new : BTreeSet (ℕ × ℕ)) (p : Pair) → ((ids : ℕ × ℕ) → ordered.contains ids_cmp new ids ≡ cond (is_at (ids_cmp (ids_of p)) ids) true (ordered.contains ids_cmp old ids)) → Changes (passed_in old) (passed_in new) p true
 inserted old new p given q = given (ids_of q) ∙ ap (λ (x : Bool). cond x true (passed_in old q)) (same_ids p q)
 
--- ---- what it says
+-- ---- the passed prototypes
 
 module _ (local target : Table) where
-  -- Each parameter of the passed prototypes resolves to a settled pair, wherever they are met.
+  -- Each parameter of the passed prototypes resolves to a pair that is known to be compatible.
   abbrev pub ArePassed : PairSet → PairSet → Type 0
   ArePassed settled passed = (p : Pair) → IsIn passed p → (at : Pair) → ResolvesPair local target at (Ok p) → (owed : List Pair) (to : Pair) → Finds local target at (Owes owed to) → AllBefore local target owed (length owed) (IsIn settled)
 
@@ -50,8 +51,8 @@ module _ (local target : Table) where
       let was = are p is at resolves owed to finds index lt at_index there in
       (was.0, was.1, still was.0 was.2)
 
-  module _ (root : Pair) (opened settled : PairSet) (top g : runs.Frame) (below : List runs.Frame) (many : ℕ) (IsTold : List (ℕ × ℕ) → Type 0) (state : IsRunning local target root opened settled top below many IsTold) (ids : Pair) (past : GoesPast local target top g ids) where
-    -- the parameters had their turn, and so the prototypes are passed
+  module _ (root : Pair) (opened settled : PairSet) (top g : runs.Frame) (below : List runs.Frame) (many : ℕ) (IsReported : List (ℕ × ℕ) → Type 0) (state : IsRunning local target root opened settled top below many IsReported) (ids : Pair) (past : GoesPast local target top g ids) where
+    -- after their last parameter, the prototypes are passed
     pub more_passed : (passed more : PairSet) → length past.owed ≤ top.parameter → ((q : Pair) → IsIn more q → IsIn passed q ⊎ (ids ≡ q)) → ArePassed settled passed → ArePassed settled more
     more_passed passed more le gains are p is at resolves owed to finds index lt at_index there =
         elim (gains p is) [
@@ -62,9 +63,9 @@ module _ (local target : Table) where
               state.run.walks.paid owed to found index (omega (arith, lt, few, le)) at_index there
         ]
 
-    pub skips : (passed : PairSet) → IsIn passed ids → top.parameter ≡ 0 → ArePassed settled passed → IsRunning local target root opened settled g below many IsTold
+    pub skips : (passed : PairSet) → IsIn passed ids → top.parameter ≡ 0 → ArePassed settled passed → IsRunning local target root opened settled g below many IsReported
     skips passed is none are =
-        subst (λ (x : runs.Frame). IsRunning local target root opened settled x below many IsTold) (sym past.is)
+        subst (λ (x : runs.Frame). IsRunning local target root opened settled x below many IsReported) (sym past.is)
         (record {
           listed = state.listed;
           counts = state.counts;

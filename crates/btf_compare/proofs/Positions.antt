@@ -19,7 +19,7 @@ use Rattle.btf_items.specs.Items.{param_words}
 use Rattle.btf_items.specs.declared.items.BtfParam.{BtfParam}
 use Rattle.btf_compare.specs.declared.position.Position.{Position}
 use Rattle.btf_compare.specs.declared.position.Position.TheVariants as positions
-use Rattle.btf_compare.specs.Compared.{PositionIs, IfOwed, types_of}
+use Rattle.btf_compare.specs.Compared.{PositionIs, IfPrototypes, types_of}
 use Rattle.btf_compare.specs.Pairs.{pair_of, IsResolved}
 
 -- ---- prototypes
@@ -43,7 +43,7 @@ pub other_parameters : (r s : Record) (params others : List BtfParam) → r.tail
 other_parameters r s params others is there differ =
     rw (its_types r params is, its_types s others there, ne_eqb (length (types_of params)) (length (types_of others)) (λ same. differ (sym (count_of params) ∙ same ∙ count_of others))) refl
 
--- ---- what is found after modifiers
+-- ---- the position after modifiers
 
 pub no_local_type : (local target : Table) (at : Pair) (refusal : Refusal) → IsResolved local at.local (Err refusal) → Finds local target at (Told (Err refusal))
 no_local_type local target at refusal h = inl (refusal, inl h, refl)
@@ -56,20 +56,20 @@ told_more (Ok b) P Q more h = more (Told (Ok b)) h
 told_more (Err e) P Q more h = (h.0, h.1, more (Told (Err h.0)) h.2)
 
 position_more : (x : Position) (P Q : model.Position → Type 0) → ((y : model.Position) → P y → Q y) → PositionIs x P → PositionIs x Q
-position_more (positions.Told answer) P Q more h = told_more answer P Q more h
+position_more (positions.Decided answer) P Q more h = told_more answer P Q more h
 position_more (positions.On next) P Q more h = more _ h
-position_more (positions.Owes found) P Q more h = more _ h
+position_more (positions.Prototypes found) P Q more h = more _ h
 
 pub found_at_ends : (local target : Table) (at : Pair) (found other : ℕ × Kind × Record) (x : Position) → IsResolved local at.local (Ok found) → IsResolved target at.target (Ok other) → PositionIs x (PositionFound found.0 found.1 other.1 found.2 other.2) → PositionIs x (Finds local target at)
 found_at_ends local target at found other x h g is =
     position_more x (PositionFound found.0 found.1 other.1 found.2 other.2) (Finds local target at)
     (λ y is. inr (record { local = found.0; target = other.0 }, found.1, other.1, found.2, other.2, (h.0, g.0), h.1, g.1, is)) is
 
--- the ids that a pair resolves to are those of the prototypes that are found
-pub if_owed : (local target : Table) (at ids : Pair) (x : Position) → ResolvesPair local target at (Ok ids) → IfOwed x (λ owing. owing ≡ ids) → IfOwed x (λ owing. ResolvesPair local target at (Ok owing))
-if_owed local target at ids (positions.Told answer) h is = tt
-if_owed local target at ids (positions.On next) h is = tt
-if_owed local target at ids (positions.Owes found) h is = subst (λ (p : Pair). ResolvesPair local target at (Ok p)) (sym is) h
+-- the pair resolves to the ids of the prototypes of its position
+pub if_prototypes : (local target : Table) (at ids : Pair) (x : Position) → ResolvesPair local target at (Ok ids) → IfPrototypes x (λ owing. owing ≡ ids) → IfPrototypes x (λ owing. ResolvesPair local target at (Ok owing))
+if_prototypes local target at ids (positions.Decided answer) h is = tt
+if_prototypes local target at ids (positions.On next) h is = tt
+if_prototypes local target at ids (positions.Prototypes found) h is = subst (λ (p : Pair). ResolvesPair local target at (Ok p)) (sym is) h
 
 -- ---- parameters by their index
 
@@ -84,9 +84,9 @@ length-pairs [] others = (omega arith, omega arith)
 length-pairs (id ∷ ids) [] = (omega arith, omega arith)
 length-pairs (id ∷ ids) (other ∷ others) = let le = length-pairs ids others in (omega (arith, le.0), omega (arith, le.1))
 
--- no more parameters are owed than a vlen can count
-pub few_owed : (params others : List BtfParam) (info : ℕ) → vlen info ≡ length params → length (pairs (types_of params) (types_of others)) < 2 ^ 16
-few_owed params others info is = omega (arith, is, (length-pairs (types_of params) (types_of others)).0, count_of params, mod-lt info {m = 2 ^ 16} (omega arith))
+-- there are no more pending pairs than a vlen can count
+pub few_pending : (params others : List BtfParam) (info : ℕ) → vlen info ≡ length params → length (pairs (types_of params) (types_of others)) < 2 ^ 16
+few_pending params others info is = omega (arith, is, (length-pairs (types_of params) (types_of others)).0, count_of params, mod-lt info {m = 2 ^ 16} (omega arith))
 
 its_type : (params : List BtfParam) (index : ℕ) (p : BtfParam) → true ≡ nat_lt index (length params) → p ≡ slice_index_or params index p → slice_get (types_of params) index ≡ Some p.btf_type
 its_type params index p lt is = slice_get-map (λ (x : BtfParam). x.btf_type) params index ∙ ap (option_map (λ (x : BtfParam). x.btf_type)) (slice_get_read params (length params) index p refl (ltb-true index (length params) (sym lt)) is)

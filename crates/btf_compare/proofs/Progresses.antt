@@ -1,4 +1,4 @@
--- What a run learns of a pair, as the sets of the open pairs and of the settled ones.
+-- The progress of pairs, as the set of the open pairs and the set of the pairs that are known to be compatible.
 use Rattle.std.proofs.Common.{◌≡◌, ℕ, refl, sym, ap, ◌∙◌, Bool, true, false, Option, Some, None, Ok, Err}
 use Rattle.std.specs.Prelude.{cond, IsSome}
 use Rattle.std.specs.Result.{result_ok, result_err}
@@ -13,12 +13,12 @@ use Rattle.btf_words.specs.declared.error.BtfError.TheVariants as errors
 use Rattle.std.proofs.lemmas.Bool.{false≢true}
 use Rattle.btf_compare.specs.Entries.{is_ids}
 use Rattle.btf_compare.specs.PairMap.{known, Learns}
-use Rattle.btf_compare.specs.Compared.{tells_open, tells_settled, settled_by}
+use Rattle.btf_compare.specs.Compared.{is_progress_open, is_progress_compatible, compatible_by}
 use Rattle.btf_compare.specs.Pairs.{pair_of, ids_of}
 use Rattle.btf_compare.proofs.EntryLists.{ids_eq, is_same}
 use Rattle.btf_compare.proofs.Comparing.{Changes}
 
--- what is said of a value that a condition picks
+-- a function of a value that a condition picks
 told_of : (f : Option Progress → Bool) (c : Bool) (v : Progress) (o : Option Progress) → f (cond c (Some v) o) ≡ cond c (f (Some v)) (f o)
 told_of f true v o = refl
 told_of f false v o = refl
@@ -28,13 +28,13 @@ cond_same true b x is = sym (is refl)
 cond_same false b x is = refl
 
 module _ (old new : PairMap) (ids : ℕ × ℕ) (v : Progress) (learns : Learns old new ids v) where
-  -- what f tells of each pair
+  -- the value of f at the progress of each pair
   pub learned : (f : Option Progress → Bool) → Changes (λ q. f (known old (ids_of q))) (λ q. f (known new (ids_of q))) (pair_of ids) (f (Some v))
   learned f q =
       ap f (learns (ids_of q)) ∙ told_of f (is_ids ids (ids_of q)) v (known old (ids_of q))
       ∙ ap (λ (c : Bool). cond c (f (Some v)) (f (known old (ids_of q)))) (sym (ids_eq ids (ids_of q)))
 
-  -- and where it tells the same of the pair, it tells the same of all
+  -- if it is the same for the pair as before, it is the same for all pairs
   pub learned_nothing : (f : Option Progress → Bool) → f (known old ids) ≡ f (Some v) → ◌≡◌ {A = Pair → Bool} (λ q. f (known new (ids_of q))) (λ q. f (known old (ids_of q)))
   learned_nothing f is =
       let each : (q : Pair) → f (known new (ids_of q)) ≡ f (known old (ids_of q)) =
@@ -42,26 +42,26 @@ module _ (old new : PairMap) (ids : ℕ × ℕ) (v : Progress) (learns : Learns 
       λ i q. each q i
 
 -- an open pair is known
-pub known_if_open : (o : Option Progress) → tells_open o ≡ true → IsSome o
+pub known_if_open : (o : Option Progress) → is_progress_open o ≡ true → IsSome o
 known_if_open None is = absurd (false≢true is)
 known_if_open (Some p) is = refl
 
--- ---- what an answer on a pair says of it
+-- ---- the progress of a pair, by the result of `is_known_compatible`
 
 -- it is open
-pub open_if : (id : ℕ) (o : Option Progress) (e : BtfError) → settled_by id o ≡ Err e → (tells_open o ≡ true) × (e ≡ errors.MaximumTypeDepthReached id)
+pub open_if : (id : ℕ) (o : Option Progress) (e : BtfError) → compatible_by id o ≡ Err e → (is_progress_open o ≡ true) × (e ≡ errors.MaximumTypeDepthReached id)
 open_if id None e is = absurd (none-some false (sym (ap result_ok is)))
 open_if id (Some progresses.Open) e is = (refl, sym (same_Some (errors.MaximumTypeDepthReached id) e (ap result_err is)))
 open_if id (Some progresses.Compatible) e is = absurd (none-some true (sym (ap result_ok is)))
 
--- it came out true
-pub settled_if : (id : ℕ) (o : Option Progress) → settled_by id o ≡ Ok true → tells_settled o ≡ true
-settled_if id None is = absurd (false≢true (same_Some false true (ap result_ok is)))
-settled_if id (Some progresses.Open) is = absurd (none-some true (ap result_ok is))
-settled_if id (Some progresses.Compatible) is = refl
+-- it is known to be compatible
+pub compatible_if : (id : ℕ) (o : Option Progress) → compatible_by id o ≡ Ok true → is_progress_compatible o ≡ true
+compatible_if id None is = absurd (false≢true (same_Some false true (ap result_ok is)))
+compatible_if id (Some progresses.Open) is = absurd (none-some true (ap result_ok is))
+compatible_if id (Some progresses.Compatible) is = refl
 
--- nothing is known of it
-pub unknown_if : (id : ℕ) (o : Option Progress) → settled_by id o ≡ Ok false → o ≡ None
+-- it was not started
+pub unknown_if : (id : ℕ) (o : Option Progress) → compatible_by id o ≡ Ok false → o ≡ None
 unknown_if id None is = refl
 unknown_if id (Some progresses.Open) is = absurd (none-some false (ap result_ok is))
 unknown_if id (Some progresses.Compatible) is = absurd (false≢true (sym (same_Some true false (ap result_ok is))))

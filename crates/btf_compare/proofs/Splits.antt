@@ -84,7 +84,7 @@ module _ (buckets : List Bucket) (mask : ℕ) (further : List ((ℕ × ℕ) × P
     old_within : (ids : ℕ × ℕ) → place_in (layout buckets mask further) ids < length buckets
     old_within ids = omega (arith, old_place ids, bucket_within table.bits mask (length buckets) table.ones least most ids)
 
-    -- a pair has what it had in its bucket
+    -- the value of a pair in its bucket does not change
     row_same : (ids : ℕ × ℕ) → values_in (get_or (map entries_of (set buckets n lo ++ up ∷ [])) (place_in (layout (set buckets n lo ++ up ∷ []) next further) ids) []) ids ≡ values_in (get_or (map entries_of buckets) (place_in (layout buckets mask further) ids) []) ids
     row_same ids =
         let old : List (List ((ℕ × ℕ) × Progress)) = map entries_of buckets in

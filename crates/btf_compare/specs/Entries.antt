@@ -9,12 +9,12 @@ use Rattle.std.specs.Ordering.{nat_cmp, ordering_then}
 abbrev pub ids_cmp : ℕ × ℕ → ℕ × ℕ → Ordering
 ids_cmp x y = ordering_then (nat_cmp x.0 y.0) (nat_cmp x.1 y.1)
 
--- whether two pairs of ids are one
+-- whether two pairs of ids are equal
 abbrev pub is_ids : ℕ × ℕ → ℕ × ℕ → Bool
 is_ids x y = is_at (ids_cmp x) y
 
 module _ {V : Type 0} where
-  -- no entry is the pair's
+  -- the list has no entry of the pair
   abbrev pub IsNoPair : ℕ × ℕ → List ((ℕ × ℕ) × V) → Type 0
   IsNoPair ids entries = lookup (is_ids ids) entries ≡ None
 
@@ -24,10 +24,10 @@ module _ {V : Type 0} where
   IsPlaceOf ids (e ∷ es) zero = is_ids ids e.0 ≡ true
   IsPlaceOf ids (e ∷ es) (suc index) = (is_ids ids e.0 ≡ false) × IsPlaceOf ids es index
 
-  -- the pair has the value v now, and each other what it had
+  -- the value of the pair becomes v, and no other changes
   abbrev pub Sets : (ℕ × ℕ → Option V) → (ℕ × ℕ → Option V) → ℕ × ℕ → V → Type 0
   Sets old new ids v = (other : ℕ × ℕ) → new other ≡ cond (is_ids ids other) (Some v) (old other)
 
-  -- what each pair has in a list of entries
+  -- the value of each pair in a list of entries
   abbrev pub values_in : List ((ℕ × ℕ) × V) → ℕ × ℕ → Option V
   values_in entries ids = lookup (is_ids ids) entries

@@ -1,16 +1,16 @@
--- A map from pairs of ids.
+-- A map from pairs of ids: an array of a few entries, or a table.
 use Rattle.std.specs.Prelude.{ℕ, length, List, Option, None, Some}
 use Rattle.btf_compare.specs.Entries.{Sets, values_in}
 use Rattle.btf_compare.specs.PairTable.{Layout, count_in, value_of}
 use Rattle.btf_compare.specs.declared.pair_map.PairMap.{PairMap}
 use Rattle.btf_compare.specs.declared.progress.Progress.{Progress}
 
--- what each pair has: in the table, if there is one
+-- the progress of each pair: in the table, if there is one, and otherwise in the array
 abbrev pub known_in : List ((ℕ × ℕ) × Progress) → Option (Layout Progress) → ℕ × ℕ → Option Progress
 known_in few None = values_in few
 known_in few (Some table) = value_of table
 
--- how many have something
+-- the number of entries
 abbrev pub count_of : List ((ℕ × ℕ) × Progress) → Option (Layout Progress) → ℕ
 count_of few None = length few
 count_of few (Some table) = count_in table
@@ -19,10 +19,10 @@ count_of few (Some table) = count_in table
 abbrev pub known : PairMap → ℕ × ℕ → Option Progress
 known m = known_in m.few.list.items m.many
 
--- how many entries there are
+-- the number of entries of the map
 abbrev pub count : PairMap → ℕ
 count m = count_of m.few.list.items m.many
 
--- the pair has the progress p now, and each other what it had
+-- the progress of the pair becomes p, and no other changes
 abbrev pub Learns : PairMap → PairMap → ℕ × ℕ → Progress → Type 0
 Learns old new = Sets (known old) (known new)

@@ -1,4 +1,4 @@
--- A table of many pairs of ids, in buckets.
+-- A hash table of pairs of ids, in buckets.
 use Rattle.std.specs.Prelude.{◌≡◌, ℕ, suc, ◌+◌, ◌-◌, ◌*◌, ◌^◌, ◌<◌, ◌≤◌, length, map, get_or, Bool, false, List, [], ◌∷◌, Option, None, if◌then◌else◌, ltb}
 use Rattle.std.specs.Option.{option_or}
 use Rattle.btf_compare.specs.Entries.{values_in}
@@ -6,32 +6,32 @@ use Rattle.btf_compare.specs.Buckets.{bucket_of, is_numbered}
 use Rattle.btf_compare.specs.declared.bucket.Bucket.{Bucket}
 use Rattle.btf_compare.specs.declared.progress.Progress.{Progress}
 
--- how many pairs come into the buckets before one more is made
+-- the mean number of pairs per bucket at which the table grows by a bucket
 abbrev pub load : ℕ
 load = 6
 
--- how many pairs come into so many buckets before one more is made: `load` for each, but 16 at least, and one more for
--- the second and for the third bucket
+-- The number of pairs that this number of buckets takes before the table grows: 16 for one bucket, 17 for two, and
+-- `load` per bucket from three buckets on.
 unfoldable pub capacity : ℕ → ℕ
 capacity buckets = if ltb buckets 3 then 15 + buckets else load * buckets
 
--- What lies where in a table: the entries of each bucket, which of them had no room for more, the mask that tells the
--- bucket of a pair, and the entries for which there was no room.
+-- The contents of a table: the entries of each bucket, whether each bucket has overflowed, the mask that gives the
+-- index of a pair's bucket, and the entries whose buckets were full.
 pub record Layout (V : Type 0) : Type 0 where
   pub rows : List (List ((ℕ × ℕ) × V))
   pub marks : List Bool
   pub mask : ℕ
   pub further : List ((ℕ × ℕ) × V)
 
--- the pairs of a bucket, with what is known of each
+-- the pairs of a bucket, with the progress of each
 abbrev pub entries_of : Bucket → List ((ℕ × ℕ) × Progress)
 entries_of bucket = bucket.entries.list.items
 
--- the bucket had no room for a pair
+-- whether the bucket has overflowed
 abbrev pub mark_of : Bucket → Bool
 mark_of bucket = bucket.overflows
 
--- the layout of these buckets, this mask, and the pairs that had no room
+-- the layout of these buckets, this mask, and the pairs whose buckets were full
 abbrev pub layout : List Bucket → ℕ → List ((ℕ × ℕ) × Progress) → Layout Progress
 layout buckets mask further = record {
   rows = map entries_of buckets;
@@ -41,7 +41,7 @@ layout buckets mask further = record {
 }
 
 module _ {V : Type 0} where
-  -- Entries are shared out to two buckets: those of the pairs that have the number are in the second.
+  -- A bucket is split in two: an entry is in the second if the masked hash of its pair is this number.
   abbrev pub AreShared : ℕ → ℕ → List ((ℕ × ℕ) × V) → List ((ℕ × ℕ) × V) → List ((ℕ × ℕ) × V) → Type 0
   AreShared mask number stay go all = (ids : ℕ × ℕ)
       → values_in (if is_numbered mask number ids then go else stay) ids ≡ values_in all ids
@@ -50,29 +50,29 @@ module _ {V : Type 0} where
   abbrev pub place_in : Layout V → ℕ × ℕ → ℕ
   place_in t ids = bucket_of t.mask (length t.rows) ids
 
-  -- what a pair has: in its bucket, or where there was no room
+  -- the value of a pair: in its bucket, or in the ordered map
   abbrev pub value_of : Layout V → ℕ × ℕ → Option V
   value_of t ids = option_or (values_in (get_or t.rows (place_in t ids) []) ids) (values_in t.further ids)
 
-  -- how many entries so many buckets have
+  -- the number of entries of these buckets
   unfoldable pub held : List (List ((ℕ × ℕ) × V)) → ℕ
   held [] = 0
   held (row ∷ rows) = length row + held rows
 
-  -- how many entries there are
+  -- the number of entries of the table
   abbrev pub count_in : Layout V → ℕ
   count_in t = held t.rows + length t.further
 
-  -- So many more pairs come into the buckets before one more is made.
+  -- The buckets take `left` more pairs before the table grows.
   abbrev pub TakesMore : Layout V → ℕ → Type 0
   TakesMore t left = held t.rows + left ≡ capacity (length t.rows)
 
-  -- One more pair comes into the buckets before that.
+  -- The buckets take at least one more pair before the table grows.
   abbrev pub HasRoom : Layout V → Type 0
   HasRoom t = held t.rows < capacity (length t.rows)
 
-  -- The mask has a bit more than the numbers of all buckets take, and an entry is not in its bucket only where that had
-  -- no room.
+  -- The mask covers the index of each bucket, and without its highest bit it is the index of a bucket. The ordered map
+  -- has an entry only if the entry's bucket has overflowed.
   pub record IsTable (t : Layout V) : Type 0 where
     pub bits : ℕ
     pub ones : t.mask ≡ 2 ^ suc bits - 1

@@ -1,4 +1,4 @@
--- Pairs of ids, and what an id resolves to.
+-- Pairs of ids, and the type that an id resolves to.
 use Rattle.std.specs.Prelude.{ℕ, Result, Ok, Err}
 use Rattle.btf_model.specs.Record.{Kind, Record}
 use Rattle.btf_model.specs.Refusal.{Refusal}
@@ -14,11 +14,11 @@ pair id other = record { local = id; target = other }
 abbrev pub pair_of : ℕ × ℕ → Pair
 pair_of ids = pair ids.0 ids.1
 
--- and a pair as two ids
+-- a pair as two ids, the local one first
 abbrev pub ids_of : Pair → ℕ × ℕ
 ids_of p = (p.local, p.target)
 
--- the id that an id resolves to, with its kind and its record, or why there is none
+-- the id that an id resolves to, with its kind and its record, or the error if there is none
 abbrev pub IsResolved : Table → ℕ → Result (ℕ × Kind × Record) Refusal → Type 0
 IsResolved t id (Ok found) = Resolves t.records id (Ok found.0) × IsAt t found.0 found.1 found.2
 IsResolved t id (Err refusal) = Resolves t.records id (Err refusal)

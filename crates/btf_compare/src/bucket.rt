@@ -1,4 +1,4 @@
-//! A bucket of a table of pairs.
+//! A bucket of a hash table of pairs.
 
 ghost use Rattle.std.specs.Prelude.{◌≡◌, ◌+◌, [], length};
 ghost use Rattle.btf_compare.specs.Buckets.{spread};
@@ -6,19 +6,19 @@ ghost use Rattle.btf_compare.specs.PairTable.{AreShared, entries_of};
 
 use crate::entries::Entries;
 
-/// The number of pairs that a bucket has room for.
+/// The capacity of a bucket, in pairs.
 pub const ROOM: usize = 16;
 
-/// The pairs of a bucket, and whether there was no room for more of them.
+/// The pairs of a bucket, and whether the bucket has overflowed.
 #[derive(Drop)]
 pub struct Bucket {
     pub entries: Entries<ROOM>,
-    /// Whether pairs of this bucket may lie in the ordered map.
+    /// Whether the ordered map may hold pairs of this bucket.
     pub overflows: bool,
 }
 
 impl Bucket {
-    /// A bucket of no pair.
+    /// An empty bucket.
     #[inline(always)]
     pub fn new(overflows: bool) -> Self
         ensures empty { entries_of result ≡ [] }
@@ -30,7 +30,7 @@ impl Bucket {
         }
     }
 
-    /// Shares the pairs out between two buckets: those that have this number by a mask come into the second.
+    /// Splits the bucket in two. A pair goes to the second bucket if its masked hash equals this number.
     pub fn split(&self, mask: usize, number: usize) -> (Self, Self)
         ensures shared { AreShared mask number (entries_of result.0) (entries_of result.1)
             (entries_of self.now) }
@@ -53,9 +53,9 @@ impl Bucket {
     }
 }
 
-/// The number by which a pair of ids finds its bucket. Pairs that are as far apart as each other, and whose local ids
-/// stand together, are often met one after the other, so that up to eight of them have numbers in a row, and their
-/// buckets lie beside each other in memory. Where such a row begins is spread by a product (Knuth, "The Art of Computer
+/// The hash of a pair of ids, which selects its bucket. The comparison often visits pairs with neighbouring local ids
+/// and an equal difference of the two ids one after the other. Up to eight such pairs have consecutive hashes, so their
+/// buckets are adjacent in memory. A product spreads the first hashes of these groups (Knuth, "The Art of Computer
 /// Programming", volume 3, section 6.4).
 #[inline(always)]
 pub fn spread(pair: (u32, u32)) -> usize

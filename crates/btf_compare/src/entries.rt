@@ -1,4 +1,4 @@
-//! A few pairs of ids, which are looked up one after the other.
+//! A short list of pairs of ids, searched from its first entry to its last.
 
 ghost use Rattle.std.specs.Prelude.{◌≡◌, ◌<◌, ◌++◌, ◌∷◌, [], length, IsTrue, false, is_some, IfSome, IfNone};
 ghost use Rattle.btf_compare.specs.Entries.{IsNoPair, IsPlaceOf, Sets, values_in};
@@ -13,7 +13,7 @@ pub struct Entries<const N: usize> {
 }
 
 impl<const N: usize> Entries<N> {
-    /// No pair.
+    /// An empty list.
     #[inline(always)]
     pub fn new() -> Self
         ensures { result.list.items ≡ [] }
@@ -23,7 +23,7 @@ impl<const N: usize> Entries<N> {
         }
     }
 
-    /// Whether there is no room for another pair.
+    /// Whether the list is full.
     #[inline(always)]
     pub fn are_full(&self) -> bool
         ensures room { result ≡ false → length self.now.list.items < N }
@@ -52,7 +52,7 @@ impl<const N: usize> Entries<N> {
         self.list.push((pair, progress));
     }
 
-    /// Gives a pair another progress, and returns whether it is here.
+    /// Changes the progress of a pair, and returns whether the list contains the pair.
     #[inline(always)]
     pub fn set(&mut self, pair: (u32, u32), progress: Progress) -> bool
         ensures found { result ≡ is_some (values_in self.old.list.items pair) }
@@ -70,7 +70,7 @@ impl<const N: usize> Entries<N> {
         true
     }
 
-    /// Where a pair stands.
+    /// The index of a pair's entry.
     fn place(&self, pair: (u32, u32)) -> Option<usize>
         ensures place { IfSome result (λ index. IsPlaceOf pair self.now.list.items index) }
         ensures within { IfSome result (λ index. index < length self.now.list.items) }

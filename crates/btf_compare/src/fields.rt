@@ -14,24 +14,27 @@ use btf_plain::BtfError;
 use btf_records::BtfType;
 use btf_table::{Btf, WALK_LIMIT};
 
-/// What separates a name from its flavor.
+/// The separator between a name and its flavor.
 const FLAVOR_MARK: &[u8] = b"___";
 
-/// What the comparison finds at a pair of types.
+/// The outcome of one step of the comparison, at a pair of types.
 #[derive(Drop)]
 enum FieldStep {
-    /// The answer.
+    /// The comparison ends with this result.
     Ends(Result<bool, BtfError>),
     /// The types to compare next, the local one first.
     GoesOn(u32, u32),
 }
 
-/// Whether the types of two fields are compatible, where each stands in its own table: as libbpf has it, any two
-/// structures or unions are, enumerations and forward declarations of one name are (but for the flavor after `___`),
-/// integers that begin at bit 0, any two pointers or floating-point numbers, and arrays whose elements are.
+/// Whether the types of two fields are compatible, each in its own table. The rules are libbpf's:
 ///
-/// Modifiers are resolved at each step, the local side first, with the errors of `resolve_type`; a name that can't be
-/// read is `InvalidStringOffset`; types of other kinds are `UnexpectedBtfType` with the local id. After 32 arrays it is
+/// - any two composites (structures or unions) are compatible, and so are any two pointers or floating-point numbers;
+/// - enumerations and forward declarations are compatible if their names are equal without the flavor after `___`;
+/// - integers are compatible if both begin at bit 0;
+/// - arrays are compatible if their element types are.
+///
+/// Each step resolves modifiers, the local side first, with the errors of `resolve_type`. A name that can't be read is
+/// `InvalidStringOffset`. Types of other kinds are `UnexpectedBtfType` with the local id. After 32 arrays the error is
 /// `MaximumTypeDepthReached` with the local id that would come next.
 pub fn fields_are_compatible(
     local: &Btf,
@@ -55,7 +58,7 @@ pub fn fields_are_compatible(
     Err(BtfError::MaximumTypeDepthReached { type_id: local_id })
 }
 
-/// What the comparison finds at two ids.
+/// Compares two ids, after modifiers.
 fn step_at(local: &Btf, local_id: u32, target: &Btf, target_id: u32) -> FieldStep
     ensures { StepIs result (FieldsFind local.now target.now (pair local_id target_id)) }
 {
@@ -69,7 +72,7 @@ fn step_at(local: &Btf, local_id: u32, target: &Btf, target_id: u32) -> FieldSte
     }
 }
 
-/// What the comparison finds at two types that are no modifiers.
+/// Compares two types that are no modifiers.
 fn step_of(
     local: &Btf,
     local_id: u32,
@@ -89,7 +92,7 @@ fn step_of(
     by_kind(local, local_id, local_type, target, target_type)
 }
 
-/// What the comparison finds at two types of compatible kinds, of which one at least is no composite.
+/// Compares two types of compatible kinds, at least one of which is no composite.
 fn by_kind(
     local: &Btf,
     local_id: u32,
@@ -116,7 +119,7 @@ fn by_kind(
     }
 }
 
-/// Whether two types have one name, but for its flavor.
+/// Whether two types have the same name, ignoring flavors.
 fn named_alike(
     local: &Btf,
     local_type: &BtfType,
@@ -132,7 +135,7 @@ fn named_alike(
     Ok(without_flavor(name.as_str()) == without_flavor(other.as_str()))
 }
 
-/// The bytes of a name in front of its flavor.
+/// The bytes of a name before its flavor.
 fn without_flavor(name: &str) -> &[u8]
     ensures { result.now ≡ before_flavor name.now }
 {

@@ -1,10 +1,12 @@
-//! An open pair of the comparison of types, and its walk.
+//! An open pair of the comparison of types, and its walk: the sequence of positions that the comparison visits from the
+//! pair through pointers, arrays and return types. At two prototypes the walk has pending parameter pairs. It continues
+//! with the return types when all of them are known to be compatible.
 
 ghost use Rattle.std.specs.Prelude.{◌≡◌, ◌+◌, ◌<◌, Ok, IsTrue, false};
 ghost use Rattle.btf_model.specs.Compat.{ResolvesPair};
 ghost use Rattle.btf_model.specs.Run.{new_frame};
 ghost use Rattle.btf_words.specs.Error.{Meets};
-ghost use Rattle.btf_compare.specs.Compared.{AreAt, WalksTo, ComesTo, PaysNext, frame_of, passed_in};
+ghost use Rattle.btf_compare.specs.Compared.{AreAt, WalksTo, ComesTo, NextParameterIs, frame_of, passed_in};
 ghost use Rattle.btf_compare.specs.Pairs.{pair_of};
 
 use crate::position::{Position, ProtoPair, found_at};
@@ -12,41 +14,41 @@ use btf_plain::BtfError;
 use btf_table::{Btf, WALK_LIMIT};
 use std::collections::BTreeSet;
 
-/// How many positions a walk passes.
+/// The maximum number of positions of a walk.
 const POSITIONS: u32 = WALK_LIMIT as u32;
 
-/// A pair of ids that is open: where its walk is, how many positions it has passed, and which parameter comes next.
+/// An open pair of ids: the position of its walk, the number of steps taken, and the index of the next parameter.
 #[derive(Clone, Copy, Drop)]
 pub struct Frame {
     /// The pair, the local id first.
     pub pair: (u32, u32),
     at: (u32, u32),
-    gone: u32,
+    taken: u32,
     parameter: u32,
 }
 
-/// What the walk of an open pair comes to.
+/// Where the walk of an open pair stops.
 #[derive(Clone, Copy, Drop)]
 pub enum Place<'a> {
-    /// Its end, with this answer.
+    /// The walk ends with this answer.
     Ends(bool),
-    /// Two prototypes, whose parameters have to be compatible before it goes on.
-    Owes(ProtoPair<'a>),
+    /// The walk is at two prototypes with pending parameter pairs: they have to be compatible before it continues.
+    Pending(ProtoPair<'a>),
 }
 
 impl Frame {
-    /// A place for a frame, in which no pair is open.
+    /// A frame without an open pair, to be overwritten.
     #[inline(always)]
     pub fn vacant() -> Self {
         Frame {
             pair: (0, 0),
             at: (0, 0),
-            gone: POSITIONS,
+            taken: POSITIONS,
             parameter: 0,
         }
     }
 
-    /// The pair before its first step.
+    /// The frame of a pair before its first step.
     pub fn new(pair: (u32, u32)) -> Self
         ensures frame { frame_of result ≡ new_frame (pair_of pair) }
         ensures pair { result.pair ≡ pair }
@@ -54,12 +56,12 @@ impl Frame {
         Frame {
             pair,
             at: pair,
-            gone: 0,
+            taken: 0,
             parameter: 0,
         }
     }
 
-    /// Walks a pair for the first time. If the kinds of its types differ, the pair is false, and no position is walked.
+    /// Starts the walk of a pair. If the kinds of its types differ, the answer is false, without a step.
     #[inline(always)]
     pub fn begin<'a>(
         &mut self,
@@ -80,8 +82,8 @@ impl Frame {
         self.walk(local, target, passed)
     }
 
-    /// Walks on, to two prototypes or to the end. At each position the two ids are looked up, after their modifiers.
-    /// Prototypes whose parameters came out true before, the `passed` ones, are gone past.
+    /// Continues the walk to two prototypes or to its end. At each position it resolves the modifiers of both ids. The
+    /// `passed` prototypes are known to have compatible parameters, so the walk continues with their return types.
     pub fn walk<'a>(
         &mut self,
         local: &'a Btf,
@@ -93,13 +95,13 @@ impl Frame {
         ensures comes { ComesTo local.now target.now self.new result }
         ensures pair { self.new.pair ≡ self.old.pair }
     {
-        'positions: while self.gone < POSITIONS {
+        'positions: while self.taken < POSITIONS {
             match found_at(local, target, self.at) {
-                Position::Told(answer) => return Ok(Place::Ends(answer?)),
+                Position::Decided(answer) => return Ok(Place::Ends(answer?)),
                 Position::On(next) => self.go_on(next),
-                Position::Owes(found) => {
+                Position::Prototypes(found) => {
                     if self.parameter > 0 || !found.are_long() || !passed.contains(&found.ids) {
-                        return Ok(Place::Owes(found));
+                        return Ok(Place::Pending(found));
                     }
                     self.go_on(found.returns);
                 }
@@ -108,15 +110,15 @@ impl Frame {
         Err(BtfError::MaximumTypeDepthReached { type_id: self.at.0 })
     }
 
-    /// Looks up the parameters at their turn, and what their types resolve to; there is none after the last.
-    pub fn pay(
+    /// The next pending parameter pair, as the ids that its types resolve to. Returns `None` after the last parameter.
+    pub fn next_parameter(
         &mut self,
         local: &Btf,
         target: &Btf,
         found: &ProtoPair<'_>,
     ) -> Result<Option<(u32, u32)>, BtfError>
         requires { AreAt local.now target.now self.old found.now }
-        ensures next { PaysNext local.now target.now self.old self.new found.now result }
+        ensures next { NextParameterIs local.now target.now self.old self.new found.now result }
         ensures here { AreAt local.now target.now self.new found.now }
         ensures pair { self.new.pair ≡ self.old.pair }
     {
@@ -128,13 +130,13 @@ impl Frame {
         Ok(Some(pair))
     }
 
-    /// Goes on to a position.
+    /// Moves the walk to a position.
     pub fn go_on(&mut self, at: (u32, u32))
-        requires { self.old.gone < WALK_LIMIT }
-        ensures { self.new ≡ record self.old { at = at; gone = self.old.gone + 1; parameter = 0 } }
+        requires { self.old.taken < WALK_LIMIT }
+        ensures { self.new ≡ record self.old { at = at; taken = self.old.taken + 1; parameter = 0 } }
     {
         self.at = at;
-        self.gone += 1;
+        self.taken += 1;
         self.parameter = 0;
     }
 }

@@ -1,4 +1,4 @@
-//! Comparisons of the types of two tables, as relocation engines make them.
+//! Comparisons of the types of two tables, for relocation engines.
 #![tactic(auto)]
 
 mod bucket;

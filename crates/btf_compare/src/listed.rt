@@ -1,21 +1,21 @@
-//! What a run knows of the pairs that it has listed.
+//! What a run has recorded about the pairs that it has started.
 
 use crate::pair_map::PairMap;
 use crate::progress::Progress;
 use std::alloc::AllocError;
 
-/// A memory of the pairs that a run has listed.
+/// A record of the pairs that a run has started.
 pub trait Listed {
     ghost use Rattle.std.specs.Prelude.{◌≡◌, ℕ, Option, None, OnOk};
     ghost use Rattle.btf_compare.specs.declared.progress.Progress.{Progress};
 
-    /// What is known of each pair: None of one that was not listed.
+    /// The recorded progress of each pair; None for a pair that is not recorded.
     ghost knows: { Self → ℕ × ℕ → Option Progress };
 
-    /// The second value is the first after this pair was listed, with its progress.
+    /// The second value is the first after this pair was recorded with this progress.
     ghost learns: { Self → Self → ℕ × ℕ → Progress → Type 0 };
 
-    /// Remembers a pair that was not listed before.
+    /// Records a pair that is not recorded yet.
     fn remember(&mut self, pair: (u32, u32), progress: Progress) -> Result<(), AllocError>
         requires { knows self.old pair ≡ None }
         ensures { OnOk result (learns self.old self.new pair progress) };
@@ -36,7 +36,7 @@ impl Listed for PairMap {
     }
 }
 
-/// No pair was listed yet, and the first one is not remembered.
+/// An empty record that ignores the first pair of a run, because most runs end with that pair.
 #[derive(Drop)]
 pub struct NoneListed;
 

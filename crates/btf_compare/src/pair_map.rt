@@ -1,4 +1,4 @@
-//! What is known of pairs of ids.
+//! A map from pairs of ids to their progress.
 
 ghost use Rattle.std.specs.Prelude.{◌≡◌, ℕ, ◌+◌, None, IsSome, OnOk};
 ghost use Rattle.btf_compare.specs.PairMap.{known, count, Learns};
@@ -10,8 +10,8 @@ use crate::progress::Progress;
 use std::alloc::{AllocError, Global};
 use std::mem;
 
-/// A map from pairs of ids, the local id first. The first few lie in an array, as most comparisons need no more, and
-/// take no memory of their own; where there are more, all lie in a table.
+/// A map from pairs of ids, the local id first. Up to 16 pairs are in an array, without an allocation, because most
+/// comparisons need no more. When the array is full, all pairs move to a hash table.
 #[derive(Drop)]
 pub struct PairMap {
     few: Entries<ROOM>,
@@ -20,7 +20,7 @@ pub struct PairMap {
 }
 
 impl PairMap {
-    /// A map of no pair.
+    /// An empty map.
     pub fn new(alloc: Global) -> Self
         ensures empty { (ids : ℕ × ℕ) → known result ids ≡ None }
         ensures counts { count result ≡ 0 }
@@ -42,7 +42,7 @@ impl PairMap {
         }
     }
 
-    /// Gives a pair that has none its first progress.
+    /// Adds a pair that is not in the map, with its progress.
     #[inline(always)]
     pub fn insert(&mut self, pair: (u32, u32), progress: Progress) -> Result<(), AllocError>
         requires { known self.old pair ≡ None }
@@ -56,8 +56,8 @@ impl PairMap {
         self.insert_in_table(pair, progress)
     }
 
-    /// Does so where the array is full, or there is a table. It is a call of its own, as few comparisons come here, and a
-    /// function clears all that it has on the call stack when it is called.
+    /// Adds the pair if the array is full or the table exists. This is a separate function because few comparisons call
+    /// it, and a function clears its whole stack frame on entry.
     #[inline(never)]
     fn insert_in_table(&mut self, pair: (u32, u32), progress: Progress) -> Result<(), AllocError>
         requires { known self.old pair ≡ None }
@@ -74,7 +74,7 @@ impl PairMap {
         Ok(())
     }
 
-    /// Gives a pair that has one another progress, which takes no memory.
+    /// Changes the progress of a pair in the map, without an allocation.
     #[inline(always)]
     pub fn update(&mut self, pair: (u32, u32), progress: Progress)
         requires { IsSome (known self.old pair) }

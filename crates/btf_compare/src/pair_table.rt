@@ -1,4 +1,4 @@
-//! Many pairs of ids, in buckets.
+//! A hash table of pairs of ids.
 
 ghost use Rattle.std.specs.Prelude.{◌≡◌, ℕ, ◌+◌, ◌<◌, length, None, IsSome, IfOk, OnOk};
 ghost use Rattle.btf_compare.specs.Entries.{Sets, values_in};
@@ -12,23 +12,25 @@ use std::alloc::{AllocError, Global};
 use std::collections::BTreeMap;
 use std::marker::Model;
 
-/// How many pairs come into the buckets before one more is made.
+/// The mean number of pairs per bucket at which the table grows by a bucket.
 const LOAD: usize = 6;
 
-/// The number of buckets that a table has memory for as it begins.
+/// The number of buckets that a new table allocates memory for.
 const FIRST_BUCKETS: usize = 8;
 
-/// A table of pairs of ids, each with its progress. It grows by a bucket at a time (linear hashing: Litwin, "Linear
-/// hashing: a new tool for file and table addressing", 1980). A pair for which its bucket has no room lies in an
-/// ordered map, so that look-ups stay short whatever ids a table names.
+/// A table of pairs of ids, each with its progress. It grows by one bucket at a time (linear hashing: Litwin, "Linear
+/// hashing: a new tool for file and table addressing", 1980). If a pair's bucket is full, the pair goes to an ordered
+/// map, so that look-ups stay fast even if an untrusted table makes all pairs collide.
 #[derive(Drop)]
 pub struct PairTable {
     buckets: Vec<Bucket>,
-    /// Ones: the bits of a pair's number that tell its bucket, where there is that bucket. Else they are one fewer.
+    /// The mask of a pair's hash that gives the index of its bucket. If that bucket does not exist yet, one bit less is
+    /// used.
     mask: usize,
-    /// How many more pairs come into the buckets before one more is made. Pairs of the ordered map do not count, so a
-    /// flood makes no buckets.
+    /// The number of pairs that the buckets take before the table grows by a bucket. Pairs of the ordered map do not
+    /// count, so colliding pairs do not make the table grow.
     left: usize,
+    /// The pairs whose buckets were full.
     further: BTreeMap<(u32, u32), Progress>,
 }
 
@@ -77,7 +79,7 @@ impl PairTable {
         }
     }
 
-    /// Gives a pair that has none its first progress.
+    /// Adds a pair that is not in the table, with its progress.
     pub fn insert(&mut self, pair: (u32, u32), progress: Progress) -> Result<(), AllocError>
         requires { value_of self.old pair ≡ None }
         ensures learns { OnOk result (Sets (value_of self.old) (value_of self.new) pair progress) }
@@ -96,7 +98,7 @@ impl PairTable {
         Ok(())
     }
 
-    /// Gives a pair that has one another progress, which takes no memory.
+    /// Changes the progress of a pair in the table, without an allocation.
     pub fn update(&mut self, pair: (u32, u32), progress: Progress)
         requires { IsSome (value_of self.old pair) }
         ensures learns { Sets (value_of self.old) (value_of self.new) pair progress }
@@ -110,7 +112,7 @@ impl PairTable {
         }
     }
 
-    /// Makes one more bucket, if the buckets have no room for one more pair.
+    /// Adds a bucket if the buckets take no further pair.
     #[inline(always)]
     fn make_room(&mut self) -> Result<(), AllocError>
         ensures values { (ids : ℕ × ℕ) → value_of self.new ids ≡ value_of self.old ids }
@@ -124,8 +126,8 @@ impl PairTable {
         Ok(())
     }
 
-    /// Makes one more bucket, for the pairs of the next one to be split that have its number. It is a call of its own, as
-    /// few insertions come here, and a function clears all that it has on the call stack when it is called.
+    /// Adds a bucket. The pairs that belong to it move from the next bucket to be split. This is a separate function
+    /// because few insertions call it, and a function clears its whole stack frame on entry.
     #[inline(never)]
     fn split_next(&mut self) -> Result<(), AllocError>
         requires { held self.old.rows ≡ capacity (length self.old.rows) }
@@ -149,8 +151,8 @@ impl PairTable {
     }
 }
 
-/// How many more pairs come into the buckets before the next one is made, with one more bucket than these: one at a
-/// time while the pairs of a full array are shared out.
+/// The number of pairs that the buckets take, after this number of buckets has grown by one, before the table grows
+/// again. While the pairs of a full array are distributed, it is one.
 #[inline(always)]
 fn gained(many: usize) -> usize
     ensures gains { result + capacity many ≡ capacity (many + 1) }
@@ -159,7 +161,7 @@ fn gained(many: usize) -> usize
     if many < 3 { 1 } else { LOAD }
 }
 
-/// The index of the bucket of a pair, where there are so many.
+/// The index of a pair's bucket; `many` is the number of buckets.
 #[inline(always)]
 fn bucket_of(mask: usize, many: usize, pair: (u32, u32)) -> usize
     ensures { result ≡ bucket_of mask many pair }

@@ -1,11 +1,11 @@
-//! What the comparison of types finds at a pair of types.
+//! One position of the comparison of types.
 
 ghost use Rattle.std.specs.Prelude.{◌≡◌, ◌<◌, Ok, slice_get};
 ghost use Rattle.std.specs.Option.{option_map};
 ghost use Rattle.btf_model.specs.Record as model;
 ghost use Rattle.btf_model.specs.Compat.{Finds, PositionFound, ResolvesPair, position_by};
 ghost use Rattle.btf_records.specs.BtfType.{record_of, type_kind};
-ghost use Rattle.btf_compare.specs.Compared.{PositionIs, IfOwed, HasFew, are_long, owed_by};
+ghost use Rattle.btf_compare.specs.Compared.{PositionIs, IfPrototypes, HasFew, are_long, pending_of};
 ghost use Rattle.btf_compare.specs.Pairs.{pair_of};
 
 use crate::resolved::resolved;
@@ -13,59 +13,59 @@ use btf_plain::{Array, BtfError, Int, Ptr};
 use btf_records::{BtfParam, BtfType, FuncProto};
 use btf_table::Btf;
 
-/// Prototypes with more parameters are remembered once these came out true.
+/// The run records prototypes with more parameters than this once all the parameters are known to be compatible.
 const FEW_PARAMETERS: usize = 8;
 
-/// What is found at a pair of types.
+/// The outcome of the comparison at one pair of types.
 #[derive(Drop)]
 pub enum Position<'a> {
-    /// The answer.
-    Told(Result<bool, BtfError>),
-    /// The pair to go on to.
+    /// The walk ends with this result.
+    Decided(Result<bool, BtfError>),
+    /// The walk continues with this pair.
     On((u32, u32)),
-    /// Two prototypes, whose parameters come before what they return.
-    Owes(ProtoPair<'a>),
+    /// Two prototypes. Their parameters are compared first, and then their return types.
+    Prototypes(ProtoPair<'a>),
 }
 
-/// Two prototypes with as many parameters.
+/// Two prototypes with the same number of parameters.
 #[derive(Clone, Copy, Drop)]
 pub struct ProtoPair<'a> {
     /// Their ids, the local one first.
     pub ids: (u32, u32),
-    /// The parameters of the local one.
+    /// The parameters of the local prototype.
     pub params: &'a [BtfParam],
-    /// The parameters of the target's.
+    /// The parameters of the target prototype.
     pub others: &'a [BtfParam],
-    /// The types that they return.
+    /// Their return types.
     pub returns: (u32, u32),
 }
 
-/// What is found at a pair of ids. Both are resolved, the local one first.
+/// Compares a pair of ids. Both are resolved, the local one first.
 pub fn found_at<'a>(local: &'a Btf, target: &'a Btf, at: (u32, u32)) -> Position<'a>
     ensures position { PositionIs result (Finds local.now target.now (pair_of at)) }
-    ensures ids { IfOwed result (λ ids. ResolvesPair local.now target.now (pair_of at) (Ok ids)) }
+    ensures ids { IfPrototypes result (λ ids. ResolvesPair local.now target.now (pair_of at) (Ok ids)) }
     ensures few { HasFew result }
 {
     let (local_id, local_type) = match resolved(local, at.0) {
         Ok(found) => found,
-        Err(e) => return Position::Told(Err(e)),
+        Err(e) => return Position::Decided(Err(e)),
     };
     match resolved(target, at.1) {
         Ok((target_id, target_type)) => { types_at((local_id, target_id), local_type, target_type) }
-        Err(e) => Position::Told(Err(e)),
+        Err(e) => Position::Decided(Err(e)),
     }
 }
 
-/// What is found at two types that are no modifiers, and have these ids.
+/// Compares two types that are no modifiers, and have these ids.
 fn types_at<'a>(ids: (u32, u32), local_type: &'a BtfType, target_type: &'a BtfType) -> Position<'a>
     ensures position { PositionIs result
         (PositionFound ids.0 (type_kind local_type.now) (type_kind target_type.now)
         (record_of local_type.now) (record_of target_type.now)) }
-    ensures ids { IfOwed result (λ owing. owing ≡ pair_of ids) }
+    ensures ids { IfPrototypes result (λ owing. owing ≡ pair_of ids) }
     ensures few { HasFew result }
 {
     if !local_type.is_compatible(target_type) {
-        return Position::Told(Ok(false));
+        return Position::Decided(Ok(false));
     }
     match local_type {
         BtfType::Int(l) => ints(l, target_type),
@@ -78,7 +78,7 @@ fn types_at<'a>(ids: (u32, u32), local_type: &'a BtfType, target_type: &'a BtfTy
         | BtfType::Enum(_)
         | BtfType::Enum64(_)
         | BtfType::Fwd(_)
-        | BtfType::Float(_) => Position::Told(Ok(true)),
+        | BtfType::Float(_) => Position::Decided(Ok(true)),
         BtfType::Typedef(_)
         | BtfType::Volatile(_)
         | BtfType::Const(_)
@@ -88,24 +88,24 @@ fn types_at<'a>(ids: (u32, u32), local_type: &'a BtfType, target_type: &'a BtfTy
         | BtfType::DataSec(_)
         | BtfType::DeclTag(_)
         | BtfType::TypeTag(_) => {
-            Position::Told(Err(BtfError::UnexpectedBtfType { type_id: ids.0 }))
+            Position::Decided(Err(BtfError::UnexpectedBtfType { type_id: ids.0 }))
         }
     }
 }
 
-/// What is found at an integer and another type: whether that is an integer, and both begin at bit 0.
+/// Compares an integer with another type: whether that is an integer too, and both begin at bit 0.
 fn ints<'a>(local: &Int, target_type: &BtfType) -> Position<'a>
     ensures { type_kind target_type.now ≡ model.Int
         → PositionIs result (λ found. found ≡ position_by 0 model.Int local.now
         (record_of target_type.now)) }
 {
     match target_type {
-        BtfType::Int(target) => Position::Told(Ok(local.offset() == 0 && target.offset() == 0)),
-        _ => Position::Told(Ok(false)),
+        BtfType::Int(target) => Position::Decided(Ok(local.offset() == 0 && target.offset() == 0)),
+        _ => Position::Decided(Ok(false)),
     }
 }
 
-/// What is found at a pointer and another type: the types that both point to.
+/// Compares a pointer with another type: the types that both point to are next.
 fn pointers<'a>(local: &Ptr, target_type: &BtfType) -> Position<'a>
     ensures { type_kind target_type.now ≡ model.Ptr
         → PositionIs result (λ found. found ≡ position_by 0 model.Ptr local.now
@@ -113,11 +113,11 @@ fn pointers<'a>(local: &Ptr, target_type: &BtfType) -> Position<'a>
 {
     match target_type {
         BtfType::Ptr(target) => Position::On((local.btf_type(), target.btf_type())),
-        _ => Position::Told(Ok(false)),
+        _ => Position::Decided(Ok(false)),
     }
 }
 
-/// What is found at an array and another type: the types of the elements of both.
+/// Compares an array with another type: the element types of both are next.
 fn arrays<'a>(local: &Array, target_type: &BtfType) -> Position<'a>
     ensures { type_kind target_type.now ≡ model.Array
         → PositionIs result (λ found. found ≡ position_by 0 model.Array local.now
@@ -127,28 +127,28 @@ fn arrays<'a>(local: &Array, target_type: &BtfType) -> Position<'a>
         BtfType::Array(target) => {
             Position::On((local.array().element_type, target.array().element_type))
         }
-        _ => Position::Told(Ok(false)),
+        _ => Position::Decided(Ok(false)),
     }
 }
 
-/// What is found at a prototype and another type, which have these ids: the parameters of both, if they are as many,
-/// and then what both return.
+/// Compares a prototype with another type; `ids` are the ids of both. If the numbers of parameters are equal, the
+/// parameters are next, and then the return types.
 fn prototypes<'a>(ids: (u32, u32), local: &'a FuncProto, target_type: &'a BtfType) -> Position<'a>
     ensures position { type_kind target_type.now ≡ model.FuncProto
         → PositionIs result (λ found. found ≡ position_by 0 model.FuncProto local.now
         (record_of target_type.now)) }
-    ensures ids { IfOwed result (λ owing. owing ≡ pair_of ids) }
+    ensures ids { IfPrototypes result (λ owing. owing ≡ pair_of ids) }
     ensures few { HasFew result }
 {
     let BtfType::FuncProto(target) = target_type else {
-        return Position::Told(Ok(false));
+        return Position::Decided(Ok(false));
     };
     let params = local.params();
     let others = target.params();
     if params.len() != others.len() {
-        return Position::Told(Ok(false));
+        return Position::Decided(Ok(false));
     }
-    Position::Owes(ProtoPair {
+    Position::Prototypes(ProtoPair {
         ids,
         params,
         others,
@@ -157,8 +157,8 @@ fn prototypes<'a>(ids: (u32, u32), local: &'a FuncProto, target_type: &'a BtfTyp
 }
 
 impl ProtoPair<'_> {
-    /// Whether it is worth remembering that all parameters came out true: where they are few, to look each of them up
-    /// again costs no more than that.
+    /// Whether the run records that all the parameters are compatible. For a few parameters, to look up each of them
+    /// again costs no more than to look up that record.
     pub fn are_long(&self) -> bool
         ensures { result ≡ are_long self.now }
     {
@@ -167,7 +167,7 @@ impl ProtoPair<'_> {
 
     /// The types of the parameters at an index, if both prototypes have one there.
     pub fn parameters_at(&self, index: usize) -> Option<(u32, u32)>
-        ensures pair { option_map pair_of result ≡ slice_get (owed_by self.now) index }
+        ensures pair { option_map pair_of result ≡ slice_get (pending_of self.now) index }
     {
         let param = self.params.get(index)?;
         let other = self.others.get(index)?;

@@ -1,11 +1,11 @@
-//! How far the comparison of a pair of types is.
+//! The progress of the comparison of a pair of types.
 
-/// What a run knows of a pair that it has started.
+/// The progress of a pair that a run has started.
 #[derive(Clone, Copy, Default)]
 pub enum Progress {
-    /// Its walk goes on, or waits for another pair.
+    /// Its walk is not finished: it goes on, or waits for a pending parameter pair.
     #[default]
     Open,
-    /// It came out true.
+    /// It is known to be compatible.
     Compatible,
 }

@@ -1,4 +1,4 @@
-//! Types that the comparisons look at, after modifiers.
+//! Types after modifiers.
 
 ghost use Rattle.btf_words.specs.Error.{Meets};
 ghost use Rattle.btf_records.specs.BtfType.{record_of, type_kind};

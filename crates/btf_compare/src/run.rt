@@ -1,11 +1,17 @@
-//! The run of the comparison of types: open pairs on a stack of its own, and pairs that came out true.
+//! The run of the comparison of types.
+//!
+//! A run starts with the pair of the call. A pair is *open* while its walk is not finished. When a walk reaches two
+//! prototypes, it has one *pending* pair per parameter; the run compares the next one, and the walk continues with the
+//! return types after the last. If a pending pair was not started before, the run starts it, and pushes the open pair
+//! on an explicit stack. A pair whose walk ended with true is *known to be compatible*, and is not walked again. The
+//! first pair that is not compatible ends the run with false.
 
 ghost use Rattle.std.specs.Prelude.{◌≡◌, ◌⊎◌, ℕ, ◌+◌, None, IsSome, [], ◌∷◌, ◌++◌, List, Bool, Result, OnOk, MatchOption, true, false};
 ghost use Rattle.std.specs.BTreeSet.{IsEmpty};
 ghost use Rattle.btf_model.specs.Fields.{Pair, HaveKinds};
 ghost use Rattle.btf_model.specs.Refusal.{Refusal};
 ghost use Rattle.btf_model.specs.Compat.{Plain, firsts};
-ghost use Rattle.btf_compare.specs.Compared.{IsStarted, FailsFor, HasStarted, IsRefused, TracesBy, GainsOnly, Passes, WalksTo, AreAt, frame_of, passed_in, progress_of, settled_by};
+ghost use Rattle.btf_compare.specs.Compared.{IsStarted, FailsFor, HasStarted, IsRefused, TracesBy, GainsOnly, Passes, WalksTo, AreAt, frame_of, passed_in, progress_of, compatible_by};
 ghost use Rattle.btf_model.specs.Run.{new_frame};
 ghost use Rattle.btf_compare.specs.PairMap.{known, count, Learns};
 ghost use Rattle.btf_compare.specs.Pairs.{pair_of};
@@ -21,19 +27,20 @@ use btf_table::{Btf, allocator_of};
 use std::alloc::{AllocError, Global};
 use std::collections::BTreeSet;
 
-/// What a run remembers.
+/// The state of a run.
 #[derive(Drop)]
 struct Run {
-    /// The open pairs that wait for the one above them, the root first.
+    /// The open pairs that wait for the pair above them, the pair of the call first.
     below: Vec<Frame>,
-    /// The pairs that were started, each with its progress.
+    /// The started pairs, each with its progress.
     seen: PairMap,
-    /// The long prototypes all of whose parameters came out true, which a walk that meets them again goes past.
+    /// The pairs of long prototypes whose parameters are all known to be compatible. A walk that meets such prototypes
+    /// again continues with their return types.
     passed: BTreeSet<(u32, u32)>,
 }
 
 impl Run {
-    /// A run in which no pair is open or settled.
+    /// A run that has started no pair.
     fn new(alloc: Global) -> Self
         ensures below { result.below.items ≡ [] }
         ensures seen { (ids : ℕ × ℕ) → known result.seen ids ≡ None }
@@ -47,9 +54,9 @@ impl Run {
         }
     }
 
-    /// Whether a pair came out true before. One that is still open is refused.
-    fn is_settled(&self, pair: (u32, u32)) -> Result<bool, BtfError>
-        ensures { result ≡ settled_by pair.0 (known self.now.seen pair) }
+    /// Whether a pair is known to be compatible. A pair that is still open is an error.
+    fn is_known_compatible(&self, pair: (u32, u32)) -> Result<bool, BtfError>
+        ensures { result ≡ compatible_by pair.0 (known self.now.seen pair) }
     {
         match self.seen.get(pair) {
             Some(Progress::Open) => Err(BtfError::MaximumTypeDepthReached { type_id: pair.0 }),
@@ -58,7 +65,7 @@ impl Run {
         }
     }
 
-    /// Remembers prototypes whose parameters all came out true, if it is worth it.
+    /// Records prototypes whose parameters are all known to be compatible, if they have many parameters.
     fn pass(&mut self, found: &ProtoPair<'_>) -> Result<(), AllocError>
         ensures passes { OnOk result (Passes self.old.passed self.new.passed found.now) }
         ensures passed { OnOk result
@@ -72,8 +79,8 @@ impl Run {
         Ok(())
     }
 
-    /// Settles an open pair that came out true, and returns the one below it, which goes on.
-    fn settle(&mut self, pair: (u32, u32)) -> Option<Frame>
+    /// Records that an open pair is compatible, and returns the open pair below it, whose walk continues.
+    fn mark_compatible(&mut self, pair: (u32, u32)) -> Option<Frame>
         requires { IsSome (known self.old.seen pair) }
         ensures next { MatchOption result (self.old.below.items ≡ [])
             (λ frame. self.old.below.items ≡ self.new.below.items ++ frame ∷ []) }
@@ -86,7 +93,7 @@ impl Run {
     }
 }
 
-/// What is remembered of a pair, by what its walk came to.
+/// The progress of a pair after its first walk.
 #[inline(always)]
 fn progress_of(end: &Result<Place<'_>, BtfError>) -> Progress
     ensures { result ≡ progress_of end.now }
@@ -97,9 +104,10 @@ fn progress_of(end: &Result<Place<'_>, BtfError>) -> Progress
     }
 }
 
-/// Starts a pair that was not listed: looks up both ids, the local one first, makes its frame, walks as far as no other
-/// pair is waited for, remembers the pair with what its walk came to, and lists it. The walk looks at no other pair and
-/// asks for no memory, so what it came to is returned last: where the pair cannot be remembered, it is not listed.
+/// Starts a pair that was not started before: looks up both ids, the local one first, makes its frame, walks to the
+/// first pending parameter pair or to the end, records the pair with its progress, and adds it to the list of starts.
+/// The walk looks at no other pair and allocates nothing, so its result is returned last: if the pair cannot be
+/// recorded, it is not added to the list.
 #[inline(always)]
 fn start<'a, L: Listed, S: Starts>(
     local: &'a Btf,
@@ -130,8 +138,8 @@ fn start<'a, L: Listed, S: Starts>(
     end
 }
 
-/// Whether the types of a pair of ids are compatible. Most pairs are settled by their own walk, for which nothing has to
-/// be remembered.
+/// Whether the types of a pair of ids are compatible. Most comparisons end with the walk of this pair, and record
+/// nothing.
 pub fn compare<S: Starts>(
     local: &Btf,
     target: &Btf,
@@ -144,7 +152,7 @@ pub fn compare<S: Starts>(
         × TracesBy (S.has_added starts.old starts.new) result answer (firsts listed) }
 {
     let alloc = allocator_of(local);
-    // The contract speaks of an answer, which there is where each record has a kind, as a use of the tables shows.
+    // The contract's answer exists only if each record has a kind. A use of a table proves that its records have.
     let _ = allocator_of(target);
     let none = BTreeSet::new(alloc);
     let mut top = Frame::vacant();
@@ -158,12 +166,12 @@ pub fn compare<S: Starts>(
         starts,
     )? {
         Place::Ends(answer) => Ok(answer),
-        Place::Owes(found) => compare_on(local, target, top, found, starts),
+        Place::Pending(found) => compare_on(local, target, top, found, starts),
     }
 }
 
-/// Whether the types of a pair of ids are compatible, where its walk has come to these prototypes. It is a call of its
-/// own, as a function clears all that it has on the call stack when it is called.
+/// Whether the types of a pair of ids are compatible, after its walk has reached these prototypes. This is a separate
+/// function because a function clears its whole stack frame on entry.
 #[inline(never)]
 fn compare_on<S: Starts>(
     local: &Btf,
@@ -186,13 +194,13 @@ fn compare_on<S: Starts>(
     run.seen.insert(first.pair, Progress::Open)?;
     let mut top = first;
     let mut inner = Frame::vacant();
-    let mut place = Place::Owes(prototypes);
+    let mut place = Place::Pending(prototypes);
     'steps: loop {
         let found = match place {
-            Place::Owes(found) => found,
+            Place::Pending(found) => found,
             Place::Ends(false) => return Ok(false),
             Place::Ends(true) => {
-                let Some(next) = run.settle(top.pair) else {
+                let Some(next) = run.mark_compatible(top.pair) else {
                     return Ok(true);
                 };
                 top = next;
@@ -200,13 +208,13 @@ fn compare_on<S: Starts>(
                 continue;
             }
         };
-        let Some(pair) = top.pay(local, target, &found)? else {
+        let Some(pair) = top.next_parameter(local, target, &found)? else {
             run.pass(&found)?;
             top.go_on(found.returns);
             place = top.walk(local, target, &run.passed)?;
             continue;
         };
-        if run.is_settled(pair)? {
+        if run.is_known_compatible(pair)? {
             continue;
         }
         let end = start(
@@ -221,10 +229,10 @@ fn compare_on<S: Starts>(
         match end {
             Place::Ends(false) => return Ok(false),
             Place::Ends(true) => {}
-            Place::Owes(inside) => {
+            Place::Pending(inside) => {
                 run.below.push(top)?;
                 top = inner;
-                place = Place::Owes(inside);
+                place = Place::Pending(inside);
             }
         }
     }

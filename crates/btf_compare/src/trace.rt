@@ -1,12 +1,12 @@
-//! What is done with the pairs that a run starts.
+//! Receivers of the pairs that a run starts.
 
 use std::alloc::AllocError;
 
-/// What is reported of each pair that a run starts, in order.
+/// A receiver of each pair that a run starts, in order.
 pub trait Starts {
     ghost use Rattle.std.specs.Prelude.{ℕ, List, [], ◌∷◌, ◌++◌, OnOk, OnErr};
 
-    /// The second value is the first after these pairs were reported to it.
+    /// The second value is the first after it received these pairs.
     ghost has_added: { Self → Self → List (ℕ × ℕ) → Type 0 };
 
     /// Reports a pair.
@@ -17,7 +17,7 @@ pub trait Starts {
             → has_added first self.old ids → has_added first self.new ids) };
 }
 
-/// A list to which they are added.
+/// A list that the pairs are appended to.
 impl Starts for Vec<(u32, u32)> {
     ghost use Rattle.std.specs.Prelude.{◌≡◌, ◌++◌};
 
@@ -29,7 +29,7 @@ impl Starts for Vec<(u32, u32)> {
     }
 }
 
-/// Nobody asked for them.
+/// A receiver that drops the pairs.
 #[derive(Drop)]
 pub struct Untraced;
 

@@ -1,4 +1,4 @@
-//! A caller of three lines for each of the calls that matter most. `docs/API.md` shows them.
+//! A caller of three lines for each of the most important calls. `docs/API.md` shows them.
 
 use btf::{
     Btf, BtfError, BtfExt, BtfFeature, BtfFeatureResolver, BtfKind, BtfType, Endianness, KsymsIds,
@@ -8,13 +8,13 @@ use btf::{
 use std::alloc::Global;
 use std::collections::HashMap;
 
-/// For `Btf::parse`: how many types the bytes of a `.BTF` section have, the void type among them.
+/// For `Btf::parse`: the number of types in the bytes of a `.BTF` section, including the void type.
 pub fn count(alloc: Global, section: &[u8]) -> Result<usize, BtfError> {
     let table = Btf::parse(alloc, section, Endianness::Little)?;
     Ok(table.types().len())
 }
 
-/// For `Btf::to_bytes`: whether a table is written as the bytes that it was read from.
+/// For `Btf::to_bytes`: whether the written table equals the bytes that it was read from.
 pub fn is_written_so(table: &Btf, section: &[u8]) -> Result<bool, BtfError> {
     let written = table.to_bytes()?;
     Ok(written.as_slice() == section)
@@ -50,7 +50,7 @@ pub fn find(table: &Btf) -> Result<u32, BtfError> {
     Ok(id)
 }
 
-/// For `Btf::resolve_type`: whether a type is a pointer, behind typedefs and modifiers.
+/// For `Btf::resolve_type`: whether a type is a pointer, after typedefs and modifiers.
 pub fn is_pointer(table: &Btf, id: u32) -> Result<bool, BtfError> {
     let end = table.resolve_type(id)?;
     Ok(kind(table, end)? == BtfKind::Ptr)
@@ -106,7 +106,7 @@ pub fn field_fits(program: &Btf, id: u32, kernel: &Btf, other: u32) -> Result<bo
     Ok(is_compatible)
 }
 
-/// For `types_are_compatible_traced`: how many pairs of types a comparison starts.
+/// For `types_are_compatible_traced`: the number of pairs of types that a comparison starts.
 pub fn pairs(alloc: Global, table: &Btf, id: u32, other: u32) -> Result<usize, BtfError> {
     let mut started = Vec::new(alloc);
     types_are_compatible_traced(table, id, table, other, &mut started)?;
@@ -119,13 +119,13 @@ pub fn value(table: &Btf, id: u32) -> Result<Option<u64>, BtfError> {
     Ok(value)
 }
 
-/// For `BtfExt::parse`: how many relocation sections the bytes of a `.BTF.ext` section have.
+/// For `BtfExt::parse`: the number of relocation sections in the bytes of a `.BTF.ext` section.
 pub fn relocation_sections(section: &[u8], table: &Btf) -> Result<usize, BtfError> {
     let ext = BtfExt::parse(section, Endianness::Little, table)?;
     Ok(ext.relocations().len())
 }
 
-/// For `relocations_of`: how many relocations the instructions of a section have.
+/// For `relocations_of`: the number of relocations of the instructions of a section.
 pub fn relocations(alloc: Global, ext: &BtfExt, table: &Btf) -> Result<usize, BtfError> {
     let records = relocations_of(alloc, ext, table, "xdp")?;
     Ok(records.len())

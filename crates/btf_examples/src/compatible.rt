@@ -1,12 +1,11 @@
-//! Whether a program's type is compatible with the kernel's of the same name, as a relocation engine asks it.
+//! Whether a program's type is compatible with the kernel's type of the same name, as a relocation engine asks.
 
 use btf::{Btf, BtfKind, types_are_compatible_traced};
 use std::test::Fail;
 
-/// Prints whether the TYPEDEFs of this name are compatible in both tables, and how many pairs of types were compared.
+/// Prints whether the TYPEDEFs of this name are compatible in both tables, and the number of compared pairs of types.
 ///
-/// The tables may be cyclic and nested as deeply as a stranger likes: no call stack is used, and no pair is compared
-/// twice.
+/// Hostile tables may be cyclic and arbitrarily nested: the comparison does not recurse, and compares no pair twice.
 pub fn print_compatible(
     rt: &HostRuntime,
     program: &Btf,

@@ -10,9 +10,10 @@ use std::test::Fail;
 
 /// The value of a variant, looked up before the table is rewritten for a kernel that has none of the features.
 ///
-/// The clause is this caller's own: the rewritten table has this value for the name too, or none as there was none. So
-/// who keeps the value need not look it up again. It follows from the clause `value` of `variant_value` and the clause
-/// `values` of `Btf::fixup_and_sanitize`, and the checker refuses a body for which it does not hold.
+/// The clause is this caller's own: the name has the same value in the rewritten table, or none if it had none before.
+/// So a caller that stores the value need not look it up again. The clause follows from the clause `value` of
+/// `variant_value` and the clause `values` of `Btf::fixup_and_sanitize`. The checker rejects a body for which it does
+/// not hold.
 fn lasting_value(
     alloc: Global,
     table: &mut Btf,

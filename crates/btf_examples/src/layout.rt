@@ -3,7 +3,7 @@
 use btf::{Btf, BtfKind, BtfType};
 use std::test::Fail;
 
-/// Prints the size of a structure, and at which bit each of its members begins.
+/// Prints the size of a structure, and the first bit of each of its members.
 pub fn print_struct(rt: &HostRuntime, table: &Btf, name: &str) -> Result<(), Fail> {
     let id = table.id_by_type_name_kind(name, BtfKind::Struct)?;
     println!(rt; "struct {name}: {} bytes", table.type_size(id)?)?;

@@ -1,9 +1,9 @@
-//! Examples of what a loader, a linker or a dumper does with the library: `btf_examples PROGRAM KERNEL`, two files with
-//! tables in little-endian order, here those that clang wrote for `data/program.c` and `data/kernel.c`.
+//! Examples of a loader, a linker or a dumper that uses the library: `btf_examples PROGRAM KERNEL`. Both files have a
+//! table in little-endian order; the ones here were written by clang for `data/program.c` and `data/kernel.c`.
 //!
-//! Each module is one example, and reads on its own. `HostRuntime` is what `main` gets in Rattle: who has it may use
-//! the process's files and streams. Memory is asked for by an allocator that is passed along, and a call that asks for
-//! it returns a `Result`, so an allocation failure is an error like any other.
+//! Each module is one example, and can be read on its own. In Rattle, `main` gets a `HostRuntime`, which gives access
+//! to the process's files and streams. Memory is allocated with an allocator that is passed to calls, and a call that
+//! allocates returns a `Result`, so an allocation failure is an error like any other.
 #![tactic(auto)]
 
 mod calls;

@@ -4,8 +4,8 @@ use btf::{BtfFeature, BtfFeatureResolver, Endianness, SectionIndex, rewrite_byte
 use std::collections::HashMap;
 use std::test::Fail;
 
-/// Prints what was asked of a kernel that has functions and data sections and none of the newer features, and how long
-/// the table is then.
+/// Rewrites the table for a kernel that has functions and data sections and none of the newer features. Prints the
+/// features that the rewrite asked about, and the length of the new table.
 pub fn print_rewritten(rt: &HostRuntime, bytes: &[u8]) -> Result<(), Fail> {
     let alloc = rt.alloc();
     // The sizes of the object's sections and the offsets of its symbols, which clang leaves 0 in the table.
@@ -17,7 +17,8 @@ pub fn print_rewritten(rt: &HostRuntime, bytes: &[u8]) -> Result<(), Fail> {
     for (name, offset) in [("total", 0u64), ("installed", 8), ("counts", 0)] {
         symbols.insert(String::from_str(alloc, name)?, offset)?;
     }
-    // A loader would try a small program for each feature. It is asked once for a feature, and only if that matters.
+    // A loader would try a small program for each feature. The rewrite asks about a feature at most once, and only if
+    // the table needs it.
     let has = |feature| matches!(feature, BtfFeature::Func | BtfFeature::DataSec);
     let mut kernel = BtfFeatureResolver::new(has);
     let ksyms = None;

@@ -15,19 +15,19 @@ use Rattle.std.proofs.lemmas.Slice.Eq.{bytes_eq-Decides}
 use Rattle.std.proofs.lemmas.Bool.{true≢false}
 use Rattle.btf_model.specs.Ext.{Records}
 
--- what is copied, and what is left to copy, are all that is under each name
+-- the copied entries and the remaining entries together are the map
 pub record CopiedSoFar {X S : Type 0} (view : X → Records) (whole : List (String Global × X)) (copy : HashMap (String Global) X S) (rest : List (String Global × X)) : Type 0 where
   pub distinct : IsDistinct string_eq (keys_of rest)
   pub found : (name : List ℕ) → option_or (option_map view (lookup (is_text name) rest)) (option_map view (get_by_text copy name)) ≡ option_map view (lookup (is_text name) whole)
 
--- a name that is found is no later name
+-- a name that is found is not among the later names
 none_later : {X : Type 0} (name : List ℕ) (k : String Global) (es : List (String Global × X)) → bytes_eq name (string_bytes k) ≡ true → AllByRecursion (λ y. string_eq k y ≡ false) (keys_of es) → lookup (is_text name) es ≡ None
 none_later name k [] h apart = refl
 none_later name k (e ∷ es) h apart =
     let here : bytes_eq name (string_bytes e.0) ≡ false = ap (λ (x : List ℕ). bytes_eq x (string_bytes e.0)) ((bytes_eq-Decides name (string_bytes k)).0 h) ∙ apart.0 in
     ap (λ (b : Bool). cond b (Some e.1) (lookup (is_text name) es)) here ∙ none_later name k es h apart.1
 
--- one entry goes from what is left to what is copied
+-- one of the remaining entries is copied
 moved : {X : Type 0} (view : X → Records) (b : Bool) (later before after : Option X) (v w : X) → (b ≡ true → later ≡ None) → view w ≡ view v → after ≡ cond b (Some w) before → option_or (option_map view later) (option_map view after) ≡ option_or (option_map view (cond b (Some v) later)) (option_map view before)
 moved view true later before after v w none same is = ap (λ o. option_or (option_map view o) (option_map view after)) (none refl) ∙ ap (option_map view) is ∙ ap (λ (x : Records). Some x) same
 moved view false later before after v w none same is = ap (λ o. option_or (option_map view later) (option_map view o)) is

@@ -11,7 +11,7 @@ use Rattle.btf_model.specs.Ext.{Range, Part, IsRange, part_of}
 same_part : (p q : Part) → p.size ≡ q.size → p.bytes ≡ q.bytes → p ≡ q
 same_part p q a b = λ i. record { size = a i; bytes = b i }
 
--- what a range says that is not empty
+-- the contents of a range that is not empty
 pub full_range : (order : Endianness) (bytes : List ℕ) (r : Range) (size : ℕ) (found first rest : List ℕ) → r.start + r.len ≤ length bytes → found ≡ slice_range bytes r.start (r.start + r.len) → length found ≢ 0 → length rest + 4 ≡ length found → first ≡ take 4 found → size ≡ word_of order first → rest ≡ drop 4 found → r.least ≤ size
     → IsRange order bytes r × (record { size = size; bytes = rest } ≡ part_of order bytes r)
 full_range order bytes r size found first rest within is some word first-is size-is rest-is large =

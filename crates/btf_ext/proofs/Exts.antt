@@ -1,4 +1,4 @@
--- What is read part after part is what `.BTF.ext` says, and the first refusal is its refusal.
+-- The parts that are read one after another are the contents of `.BTF.ext`, and their first error is its error.
 use Rattle.std.proofs.Common.{◌≡◌, ℕ, zero, suc, ◌+◌, ◌-◌, ◌<◌, ◌≤◌, Bool, true, false, List, [], ◌∷◌, length, Ok, Err, refl, ap, arith, inl, inr}
 use Rattle.std.specs.Prelude.{map, ◌==◌, if◌then◌else◌}
 use Rattle.std.specs.List.{AllByRecursion}
@@ -41,12 +41,12 @@ pub whole_ext : (order : Endianness) (bytes strings : List ℕ) (h : Header) (fu
 whole_ext order bytes strings h func line core funcs lines relocations e p a b c q r s t u =
     (h, p.header, (func, p.func_part, (line, p.line_part, (core, p.core_part, (funcs, a, (lines, b, (relocations, c, ap (λ (x : Ext). Ok x) (same_ext e (ext_of order func funcs line lines core relocations) q r s t u))))))))
 
--- where there are sections, records have a byte
+-- if there are sections, records have at least one byte
 pub some_sections : (size : ℕ) (items : List SecInfo) → AllByRecursion (IsSection size) (map section_of items) → 0 < length items → 0 < size
 some_sections size [] h lt = absurd (omega (arith, lt))
 some_sections size (x ∷ xs) h lt = h.0.some_byte
 
--- and then they have the least size
+-- then records have at least the least size
 not_empty : (n : ℕ) → (n == 0) ≡ false → 0 < n
 not_empty zero e = absurd (true≢false e)
 not_empty (suc n) e = omega arith

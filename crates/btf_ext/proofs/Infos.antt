@@ -6,7 +6,7 @@ use Rattle.btf_model.specs.Word.{words_at}
 use Rattle.btf_model.specs.declared.endianness.Endianness.{Endianness}
 use Rattle.btf_model.specs.Ext.{record_words}
 
--- the records so far, and as many of the rest as there are still to be, are all records
+-- the records so far, and the remaining number of records from the rest, are all the records
 pub record RecordsSoFar {X : Type 0} (words : X → List ℕ) (read_as : List ℕ → List ℕ) (order : Endianness) (size width count : ℕ) (bytes : List ℕ) (done : ℕ) (items : List X) (rest : List ℕ) : Type 0 where
   pub todo : ℕ
   pub sum : done + todo ≡ count
@@ -22,7 +22,7 @@ no_records_yet words read_as order size width count bytes items none len = recor
   records = ap (λ xs. map words xs ++ map read_as (record_words order size width count bytes)) none;
 }
 
--- a record lies in the rest
+-- a record is within the rest
 pub record_lies_in_rest : {X : Type 0} (words : X → List ℕ) (read_as : List ℕ → List ℕ) (order : Endianness) (size width count : ℕ) (bytes : List ℕ) (done : ℕ) (items : List X) (rest : List ℕ) → RecordsSoFar words read_as order size width count bytes done items rest → done < count → size ≤ length rest
 record_lies_in_rest words read_as order size width count bytes done items rest h lt = within h.todo h.sum h.left
   where

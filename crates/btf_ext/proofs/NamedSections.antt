@@ -33,8 +33,8 @@ use Rattle.btf_ext.proofs.Parts.{CutSoFar, cut_one, cut_all}
 
 -- ---- the first pass: each name can be read
 
--- What was read of the sections of a part: those that the bytes begin with, whose names can be read, as at each offset
--- that was met.
+-- The state of the first pass: the sections at the start of the bytes were read, their names can be read, and so can
+-- the text at each offset that was met.
 pub record MetSoFar (order : Endianness) (size : ℕ) (strings bytes : List ℕ) (sections : List Section) (rest : SectionBytes) (set : BTreeSet ℕ) : Type 0 where
   pub names : List Named
   pub same : sections_of names ≡ sections
@@ -67,7 +67,7 @@ gained old new k q updates at = split (is_eq (nat_cmp k q)) (contains nat_cmp ol
     split true c here at = inl (here refl)
     split false c here at = inr at
 
--- one more section, whose name was read, or stands at an offset that was met
+-- one more section, whose name was read, or is at an offset that was met
 pub one_more_met : (order : Endianness) (size : ℕ) (strings bytes : List ℕ) (sections more : List Section) (rest next : SectionBytes) (met now : BTreeSet ℕ) (s : SecInfo)
     → MetSoFar order size strings bytes sections rest met → GivesSection rest (Some (Ok s)) next → more ≡ sections ++ section_of s ∷ [] → ordered.Updates nat_cmp met now s.name_offset true → (text : List ℕ) × (text_at strings s.name_offset ≡ Ok text) → MetSoFar order size strings bytes more next now
 one_more_met order size strings bytes sections more rest next met now s h gives more-is updates read =
@@ -123,7 +123,7 @@ last_or-or : {A : Type 0} (o : Option A) (xs : List A) → last_or o xs ≡ opti
 last_or-or o [] = refl
 last_or-or o (x ∷ xs) = sym (option_or-same (last_or (Some x) xs) o (subst (λ p. IsSome p) (sym (last_or-or (Some x) xs)) (IsSome-option_or_some (last_or None xs) x)))
 
--- the section of a name, where one more stands before the others
+-- the section of a name, in a list with one more section in front
 pub section_named-cons : (n : Named) (ns : List Named) (q : List ℕ) → section_named (n ∷ ns) q ≡ option_or (section_named ns q) (cond (bytes_eq q n.text) (Some n.section) None)
 section_named-cons n ns q = at (bytes_eq q n.text) (filter (λ x. bytes_eq q x.text) ns)
   where
@@ -149,7 +149,7 @@ named_later n ns q later = section_named-cons n ns q ∙ at (bytes_eq q n.text) 
     at true is = option_or-same (section_named ns q) (Some n.section) (subst (λ (t : List ℕ). IsSome (section_named ns t)) (sym ((bytes_eq-Decides q n.text).0 is)) later)
     at false is = option_or-none (section_named ns q)
 
--- What was taken of the named sections of a part, from the last on: the records under their names, and a name at each
+-- The state of the second pass, which begins at the last section: the records under their names, and a name at each
 -- offset that was met.
 pub record TakenSoFar (order : Endianness) (width : ℕ) (strings : List ℕ) (p : Part) (items : List SecInfo) (set : BTreeSet ℕ) (found_in : List ℕ → Option Records) : Type 0 where
   pub before : List Named
@@ -189,12 +189,12 @@ put_under view old new k x records none is updates q =
 one_text : (r : Result (List ℕ) Refusal) (a b : List ℕ) → Ok a ≡ r → r ≡ Ok b → a ≡ b
 one_text r a b p q = cc
 
--- the same, where the name is the text at an offset
+-- the same, if the name is the text at an offset
 pub added_under : {X S : Type 0} (view : X → Records) (old new : HashMap (String Global) X S) (k : String Global) (x : X) (records : Records) (read : Result (List ℕ) Refusal) → Ok (string_bytes k) ≡ read → is_some (get_by_text old (string_bytes k)) ≡ false → view x ≡ records → hash.Updates string_eq old new k (Some x)
     → (text : List ℕ) → read ≡ Ok text → GainsUnder text records (λ q. option_map view (get_by_text old q)) (λ q. option_map view (get_by_text new q))
 added_under view old new k x records read name none is updates text given = subst (λ (t : List ℕ). GainsUnder t records (λ q. option_map view (get_by_text old q)) (λ q. option_map view (get_by_text new q))) (one_text read (string_bytes k) text name given) (put_under view old new k x records none is updates)
 
--- what a list of last elements is made of
+-- a list whose images end with y, as the elements before its last one, and the last one
 record EndsIn {A B : Type 0} (f : A → B) (xs : List A) (ys : List B) (y : B) : Type 0 where
   pub front : List A
   pub last : A
@@ -212,7 +212,7 @@ ends_in f (x ∷ xs) (z ∷ zs) y e =
     let h = ends_in f xs zs y tail in
     record { front = x ∷ h.front; last = h.last; is = ap (λ (t : List _). x ∷ t) h.is; front_is = cc; last_is = h.last_is }
 
--- what is known of the section whose turn it is
+-- the current section
 pub record IsTurn (order : Endianness) (strings : List ℕ) (p : Part) (s : SecInfo) (left : List SecInfo) (after : List Named) : Type 0 where
   pub front : List Named
   pub name : Named
@@ -283,7 +283,7 @@ one_passed order width strings p all left s taken now found h is updates was =
       found = λ q. h.found q ∙ ap (option_map (instruction_records order p.size width)) (sym (named_later t.name h.after q later));
     }
 
--- the name of a section can be read, so only memory can be missing
+-- the name of a section can be read, so only an allocation can fail
 pub not_refused : (order : Endianness) (width : ℕ) (strings : List ℕ) (p : Part) (all left : List SecInfo) (s : SecInfo) (taken : BTreeSet ℕ) (found : List ℕ → Option Records) (e : BtfError) (P : Refusal → Type 0) → TakenSoFar order width strings p all taken found → all ≡ left ++ s ∷ [] → IfSome (refusal_of e) (λ f. text_at strings s.name_offset ≡ Err f) → IfSome (refusal_of e) P
 not_refused order width strings p all left s taken found e P h is refused =
     let t = turn_of order width strings p all left s taken found h is in

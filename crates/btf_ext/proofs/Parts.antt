@@ -30,7 +30,7 @@ cut_one order size bytes sections rest next s h g =
       begins = begins_push order size bytes sections (section_of s) rest.bytes next.bytes h.begins (subst (λ (x : ℕ). IsSection x (section_of s)) h.size_is g.0) b;
     }
 
--- what is left begins with no section
+-- the rest begins with no section
 pub cut_end : (order : Endianness) (size : ℕ) (bytes : List ℕ) (sections : List Section) (rest next : SectionBytes) (e : BtfError) → CutSoFar order size bytes sections rest → GivesSection rest (Some (Err e)) next
     → Sections order size bytes sections rest.bytes × (rest.bytes ≢ []) × (refusal_of e ≡ Some (cut_refusal order size rest.bytes))
 cut_end order size bytes sections rest next e h g = (
@@ -43,13 +43,13 @@ cut_end order size bytes sections rest next e h g = (
 pub cut_all : (order : Endianness) (size : ℕ) (bytes : List ℕ) (sections : List Section) (rest : SectionBytes) → CutSoFar order size bytes sections rest → rest.bytes ≡ [] → BeginsWith order size bytes sections []
 cut_all order size bytes sections rest h done = subst (BeginsWith order size bytes sections) done h.begins
 
--- what is left is refused, where names are not read
+-- the rest is an error, if names are not read
 pub sections_refused : (order : Endianness) (size : ℕ) (bytes : List ℕ) (sections : List Section) (rest next : SectionBytes) (e : BtfError) → CutSoFar order size bytes sections rest → GivesSection rest (Some (Err e)) next → IfSome (refusal_of e) (λ f. AreSections order size bytes (Err f))
 sections_refused order size bytes sections rest next e h g =
     let p = cut_end order size bytes sections rest next e h g in
     known_refusal e (cut_refusal order size rest.bytes) (λ f. AreSections order size bytes (Err f)) p.2 (sections, rest.bytes, p.0, p.1, refl)
 
--- the same where they are
+-- the same if they are
 pub named_refused : (order : Endianness) (size : ℕ) (strings bytes : List ℕ) (names : List Named) (rest next : SectionBytes) (e : BtfError) → CutSoFar order size bytes (sections_of names) rest → HaveNames strings names → GivesSection rest (Some (Err e)) next → IfSome (refusal_of e) (λ f. AreNamed order size strings bytes (Err f))
 named_refused order size strings bytes names rest next e h have g =
     let p = cut_end order size bytes (sections_of names) rest next e h g in

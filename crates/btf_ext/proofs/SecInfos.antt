@@ -10,7 +10,7 @@ use Rattle.btf_model.specs.Ext.{Section, IsSection, BeginsNoSection, section_byt
 use Rattle.btf_model.proofs.Words.{IsBytes}
 use Rattle.btf_model.proofs.Sections.{none_in_cut, begins_section, word_at_fits}
 
--- what is known of the two words in front of bytes, and of what follows them
+-- the two words at the start of bytes, and the bytes after them
 pub record IsHead (order : Endianness) (bytes : List ℕ) (name count : ℕ) (rest : List ℕ) : Type 0 where
   pub long : 8 ≤ length bytes
   pub name_is : name ≡ word_at order 0 bytes
@@ -20,7 +20,7 @@ pub record IsHead (order : Endianness) (bytes : List ℕ) (name count : ℕ) (re
 length-rest : (order : Endianness) (bytes : List ℕ) (name count : ℕ) (rest : List ℕ) → IsHead order bytes name count rest → 8 + length rest ≡ length bytes
 length-rest order bytes name count rest h = omega (arith, h.long, ap length h.rest_is, length-drop 4 (drop 4 bytes), length-drop 4 bytes)
 
--- the records are none, or pass the end
+-- there is no record, or the records pass the end
 pub cut_section : (order : Endianness) (size : ℕ) (bytes : List ℕ) (name count : ℕ) (rest : List ℕ) (len : ℕ) → IsHead order bytes name count rest → len ≡ min (size * count) largest_len → (len ≡ 0) ⊎ (length rest < len)
     → BeginsNoSection order size bytes × (Some (InvalidInfo 8 len (length bytes)) ≡ Some (cut_refusal order size bytes))
 cut_section order size bytes name count rest len h len-is bad = (none, told)
@@ -37,7 +37,7 @@ cut_section order size bytes name count rest len h len-is bad = (none, told)
     told : Some (InvalidInfo 8 len (length bytes)) ≡ Some (cut_refusal order size bytes)
     told = rw (le-ltb (length bytes) 8 h.long, product) (ap (λ (n : ℕ). Some (InvalidInfo 8 n (length bytes))) len-is)
 
--- the records lie in the rest
+-- the records are within the rest
 pub whole_section : (order : Endianness) (size : ℕ) (bytes : List ℕ) (name count : ℕ) (rest : List ℕ) (len : ℕ) (s : Section) (behind : List ℕ) → IsBytes bytes → length bytes < 2 ^ 64 → IsHead order bytes name count rest → len ≡ min (size * count) largest_len → len ≢ 0 → len ≤ length rest → s.name ≡ name → s.count ≡ count → s.bytes ≡ take len rest → behind ≡ drop len rest
     → IsSection size s × (bytes ≡ section_bytes order s ++ behind)
 whole_section order size bytes name count rest len s behind fits short h len-is some le name-is count-is bytes-is behind-is =

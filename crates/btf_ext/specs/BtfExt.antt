@@ -1,11 +1,11 @@
--- What a `BtfExt` says.
+-- The value of a `BtfExt` in the model's terms.
 use Rattle.std.specs.Prelude.{map}
 use Rattle.btf_model.specs.Ext.{Ext}
 use Rattle.btf_ext.specs.Info.{funcs_by_name, lines_by_name}
 use Rattle.btf_ext.specs.Relocation.{relocation}
 use Rattle.btf_ext.specs.declared.ext.BtfExt.{BtfExt}
 
--- what a `BtfExt` has, as the definitions have it
+-- the contents of a `BtfExt`, in the model's terms
 abbrev pub ext : {H Hasher : Type 0} → BtfExt H Hasher → Ext
 ext e = record {
   func_size = e.func_info_rec_size;

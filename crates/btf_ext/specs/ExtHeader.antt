@@ -1,18 +1,18 @@
--- The header of `.BTF.ext` and what its ranges say, as the definitions have them.
+-- The header of `.BTF.ext` and its ranges, in the model's terms.
 use Rattle.std.specs.Prelude.{◌+◌}
 use Rattle.btf_model.specs.Ext as model
 use Rattle.btf_ext.specs.declared.header.Range.{Range}
 use Rattle.btf_ext.specs.declared.header.Header.{Header}
 use Rattle.btf_ext.specs.declared.header.Part.{Part}
 
--- a range of the code, as the definitions have ranges
+-- a range of the code, in the model's terms
 abbrev pub range : Range → model.Range
 range r = record { start = r.hdr_len + r.offset; len = r.len; least = r.least }
 
--- a header of the code, as the definitions have headers
+-- a header of the code, in the model's terms
 abbrev pub header : Header → model.Header
 header h = record { func = range h.func; line = range h.line; core = range h.core }
 
--- a part of the code, as the definitions have parts
+-- a part of the code, in the model's terms
 abbrev pub part : Part → model.Part
 part p = record { size = p.rec_size; bytes = p.sections.now }

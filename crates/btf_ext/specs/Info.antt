@@ -1,4 +1,4 @@
--- Function and line records as the definitions have them.
+-- Function and line records in the model's terms.
 use Rattle.std.specs.Prelude.{◌≡◌, ℕ, if◌then◌else◌, List, [], ◌∷◌, map, option_map, Option, Some, None, Result, Ok, Err}
 use Rattle.std.specs.HashMap.{get_by_text}
 use Rattle.std.specs.Option.{option_or}
@@ -16,7 +16,7 @@ use Rattle.btf_ext.specs.declared.info.line.LineSecInfo.{LineSecInfo}
 abbrev pub func_words : bpf_func_info → List ℕ
 func_words r = r.insn_off ∷ r.type_id ∷ []
 
--- the function records of a section: how many the section states, and their words
+-- the function records of a section: the count that the section records, and the words of each
 abbrev pub func_records : FuncSecInfo → Records
 func_records s = record { count = s.num_info; words = map func_words s.func_info.items }
 
@@ -24,11 +24,11 @@ func_records s = record { count = s.num_info; words = map func_words s.func_info
 abbrev pub line_words : bpf_line_info → List ℕ
 line_words r = r.insn_off ∷ r.file_name_off ∷ r.line_off ∷ r.line_col ∷ []
 
--- the line records of a section: how many the section states, and their words
+-- the line records of a section: the count that the section records, and the words of each
 abbrev pub line_records : LineSecInfo → Records
 line_records s = record { count = s.num_info; words = map line_words s.line_info.items }
 
--- the records under each name, where this is what those of a section say
+-- the records under each name; `records` maps those of a section to the model's
 abbrev pub by_name : {S H Hasher : Type 0} → (S → Records) → BySection S H Hasher → List ℕ → Option Records
 by_name records b name = option_map records (get_by_text b.sections name)
 
@@ -40,13 +40,13 @@ funcs_by_name = by_name func_records
 abbrev pub lines_by_name : {H Hasher : Type 0} → BySection LineSecInfo H Hasher → List ℕ → Option Records
 lines_by_name = by_name line_records
 
--- What is found under each name, before and after records are added under this one: what was found stays, and a name
--- that had none has these now.
+-- The look-up by name before and after these records are added under the name `text`: a name that had records keeps
+-- them, and otherwise `text` has these.
 abbrev pub GainsUnder : List ℕ → Records → (List ℕ → Option Records) → (List ℕ → Option Records) → Type 0
 GainsUnder text records old new =
     (name : List ℕ) → new name ≡ option_or (old name) (if bytes_eq name text then Some records else None)
 
--- What reading named sections of a part returns: the records under each name, of so many words each, or the refusal.
+-- The result of reading the named sections of a part: the records under each name, `width` words of each; or the error.
 abbrev pub AreByName : Endianness → ℕ → List ℕ → Part → Result (List ℕ → Option Records) Refusal → Type 0
 AreByName order width strings p (Ok found) =
     (sections : List Named) × AreNamed order p.size strings p.bytes (Ok sections)

@@ -1,4 +1,4 @@
--- What a section of relocation records is as the definitions have it.
+-- A section of relocation records in the model's terms.
 use Rattle.std.specs.Prelude.{ℕ, List, Vec}
 
 -- the records of a section, with the string offset of its name

@@ -1,4 +1,4 @@
--- The section that a `SecInfo` is, what the next of a `SecInfoIter` is, and sections whose names can be read.
+-- A `SecInfo` and the iterator `SecInfoIter` in the model's terms, and sections whose names can be read.
 use Rattle.std.specs.Prelude.{◌≡◌, ◌≢◌, ℕ, List, [], ◌++◌, Option, Some, None, Result, Ok, Err}
 use Rattle.btf_model.specs.Ext.{Section, SectionBytes, Named, IsSection, BeginsNoSection, AreNamed, section_bytes, sections_of, cut_refusal}
 use Rattle.btf_model.specs.Refusal.{Refusal}
@@ -7,12 +7,12 @@ use Rattle.btf_words.specs.declared.error.BtfError.{BtfError}
 use Rattle.btf_words.specs.Error.{refusal_of}
 use Rattle.btf_ext.specs.declared.sections.SecInfo.{SecInfo}
 
--- a section of the code, as the definitions have sections
+-- a section of the code, in the model's terms
 abbrev pub section_of : SecInfo → Section
 section_of s = record { name = s.name_offset; count = s.num_info; bytes = s.bytes.now }
 
--- Nothing comes where no byte is left; a section, and the bytes after it are left; or why what is left begins with no
--- section, and then no byte is left.
+-- The next item of the iterator: none if no byte is left; the first section, after which the bytes after it are left;
+-- or the error if the bytes begin with no section, after which no byte is left.
 abbrev pub GivesSection : SectionBytes → Option (Result SecInfo BtfError) → SectionBytes → Type 0
 GivesSection before None after = (before.bytes ≡ []) × (after ≡ before)
 GivesSection before (Some (Ok s)) after =
@@ -23,8 +23,8 @@ GivesSection before (Some (Err e)) after =
     × (refusal_of e ≡ Some (cut_refusal before.order before.size before.bytes))
     × (after ≡ record before { bytes = [] })
 
--- What reading the sections of a part returns, where the name of each can be read, but none is kept: the sections of
--- some named sections, or the refusal.
+-- The result of reading the sections of a part and checking that each name can be read: the sections, without their
+-- names, or the error.
 abbrev pub AreReadable : Endianness → ℕ → List ℕ → List ℕ → Result (List Section) Refusal → Type 0
 AreReadable order size strings bytes (Ok sections) =
     (named : List Named) × (sections_of named ≡ sections) × AreNamed order size strings bytes (Ok named)

@@ -13,8 +13,8 @@ use btf_plain::{BtfError, Endianness};
 use btf_table::{Btf, allocator_of};
 use std::hash::{BuildHasher, BuildHasherDefault, FoldHasher};
 
-/// What `.BTF.ext` says of a program: function and line records under the names of the program's sections, and
-/// relocation records.
+/// The contents of `.BTF.ext`: function and line records by the names of the program's sections, and relocation
+/// records.
 #[derive(Debug, Drop)]
 pub struct BtfExt<H: BuildHasher = BuildHasherDefault<FoldHasher>> {
     func_info_rec_size: usize,
@@ -27,15 +27,18 @@ pub struct BtfExt<H: BuildHasher = BuildHasherDefault<FoldHasher>> {
 impl BtfExt {
     ghost use Rattle.btf_ext.specs.BtfExt.{ext};
 
-    /// What the bytes of a `.BTF.ext` section say, whose words are in this order. The names of sections are read in
-    /// a table; of a name the last section counts. Memory is taken with the table's allocator.
+    /// Parses the bytes of a `.BTF.ext` section, with words in this byte order. The names of sections are read from the
+    /// table. If several sections have the same name, the last one counts. Memory is allocated with the table's
+    /// allocator. Magic, version and flags are not checked.
     ///
-    /// The first cause is reported. `InvalidHeader` for fewer than 8 bytes, or fewer than the header's length.
-    /// `InvalidInfo` for the first of the ranges of functions, lines and relocations that passes the end, or is not
-    /// empty and begins with no word, or with a record size below 8, 16 and 16: it says where the range begins, its
-    /// length, and the length of the data. Then, section after section, in this order: `InvalidInfo` as
-    /// `SecInfoIter` reports it, and for functions and lines `InvalidStringOffset` of a name that can't be read.
-    /// Magic, version and flags are not looked at.
+    /// The first error in this order is returned:
+    ///
+    /// - `InvalidHeader` for fewer than 8 bytes, or for fewer bytes than the header's length.
+    /// - `InvalidInfo` for the first of the ranges of functions, lines and relocations that passes the end of the data,
+    ///   or that is not empty and is shorter than a word, or has a record size below 8, 16 and 16. It reports the start
+    ///   of the range, its length, and the length of the data.
+    /// - For each section in turn, `InvalidInfo` as `SecInfoIter` reports it, and for functions and lines
+    ///   `InvalidStringOffset` of a name that can't be read.
     pub fn parse(data: &[u8], endianness: Endianness, btf: &Btf) -> Result<BtfExt, BtfError>
         ensures { MeetsOrNoMemory ext result
             (IsExt endianness «data».now btf.now.strings) }
@@ -47,10 +50,10 @@ impl BtfExt {
 impl<H: BuildHasher> BtfExt<H> {
     ghost use Rattle.btf_ext.specs.BtfExt.{ext};
 
-    /// What `BtfExt::parse` returns, in maps whose hashers are this one and a clone of it.
+    /// Parses as `BtfExt::parse` does, into maps with this hasher and a clone of it.
     ///
-    /// The hasher of `BtfExt::parse` has a fixed seed, so an attacker can choose names that collide, and n of them take
-    /// time in proportion to n squared. For an untrusted section, pass a hasher with random keys, as `RandomState`.
+    /// The hasher of `BtfExt::parse` has a fixed seed, so an attacker can choose names that collide; n such names take
+    /// time proportional to n squared. For an untrusted section, pass a hasher with random keys, such as `RandomState`.
     pub fn parse_with_hasher(
         data: &[u8],
         endianness: Endianness,
@@ -107,8 +110,8 @@ impl<H: BuildHasher> BtfExt<H> {
         self.line_info_rec_size
     }
 
-    /// The relocation sections in order: of each the string offset of its name, and the first four words of each
-    /// record as they stand.
+    /// The relocation sections in order, each with the string offset of its name and the first four words of each
+    /// record.
     pub fn relocations(&self) -> &[(u32, Vec<[u32; 4]>)]
         ensures { map relocation result.now ≡ (ext self.now).relocations }
     {

@@ -11,16 +11,16 @@ use btf_plain::{BtfError, Endianness};
 /// The length of the header with all its words.
 const HEADER_LEN: usize = 32;
 
-/// The length of a header up to the word that says its length.
+/// The length of a header up to and including the word `hdr_len`.
 const MINIMAL_LEN: usize = 8;
 
-/// A range of the data, of which the offset counts from `hdr_len`.
+/// A range of the data. Its offset counts from `hdr_len`.
 #[derive(Clone, Copy)]
 pub struct Range {
     hdr_len: u32,
     offset: u32,
     len: u32,
-    /// The size that a record has at least.
+    /// The least size of a record.
     least: u32,
 }
 
@@ -32,7 +32,7 @@ pub struct Header {
     pub core: Range,
 }
 
-/// What a range says.
+/// The contents of a range.
 #[derive(Clone, Copy)]
 pub struct Part<'a> {
     /// The size of its records; 0 in an empty range.
@@ -42,8 +42,8 @@ pub struct Part<'a> {
 }
 
 impl Header {
-    /// The header of data, or `InvalidHeader` where fewer than 8 bytes stand there, or fewer than its length says.
-    /// What a header that is shorter than 32 bytes leaves out is 0.
+    /// The header at the start of data. The fields that a header shorter than 32 bytes leaves out are 0. If there are
+    /// fewer than 8 bytes, or fewer than the header's length, the error is `InvalidHeader`.
     pub fn read(data: &[u8], endianness: Endianness) -> Result<Header, BtfError>
         ensures { Meets header result (HasHeader endianness «data».now) }
     {
@@ -58,7 +58,7 @@ impl Header {
         Ok(Header::of_bytes(&bytes, endianness))
     }
 
-    /// The header of just its bytes.
+    /// The header in these bytes.
     fn of_bytes(bytes: &[u8; 32], endianness: Endianness) -> Header
         ensures { header result ≡ header_words endianness bytes.now }
     {
@@ -87,7 +87,7 @@ impl Header {
     }
 }
 
-/// Bytes with zeros after them.
+/// Bytes, padded with zeros.
 fn filled_up(given: &[u8]) -> [u8; 32]
     requires { length given.now ≤ 32 }
     ensures { result ≡ given.now ++ replicate (32 - length given.now) 0 }
@@ -98,8 +98,8 @@ fn filled_up(given: &[u8]) -> [u8; 32]
 }
 
 impl Range {
-    /// What the range says, or `InvalidInfo` where it does not lie in the data, or is not empty and begins with no
-    /// word, or with one below the least size.
+    /// The contents of the range. The error is `InvalidInfo` if the range is not within the data, or if it is not empty
+    /// and is shorter than a word, or has a record size below the least one.
     pub fn read<'a>(&self, data: &'a [u8], endianness: Endianness) -> Result<Part<'a>, BtfError>
         ensures { Meets part result (HasPart endianness «data».now (range self.now)) }
     {
@@ -113,14 +113,14 @@ impl Range {
         }
     }
 
-    /// Where the range begins.
+    /// The start of the range.
     fn start(&self) -> usize
         ensures { result ≡ (range self.now).start }
     {
         self.hdr_len as usize + self.offset as usize
     }
 
-    /// What the range says; None where it is none.
+    /// The contents of the range; None if it is not valid.
     fn find<'a>(&self, data: &'a [u8], endianness: Endianness) -> Option<Part<'a>>
         ensures { MatchOption result
             (¬ (IsRange endianness «data».now (range self.now)))

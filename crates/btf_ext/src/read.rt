@@ -16,7 +16,7 @@ use btf_table::{Btf, BtfStr};
 use std::alloc::{AllocError, Global};
 use std::collections::BTreeSet;
 
-/// The text at a string offset, in memory of its own. `InvalidStringOffset` where it can't be read.
+/// A copy of the text at a string offset. The error is `InvalidStringOffset` if it can't be read.
 pub fn name_at(alloc: Global, btf: &Btf, offset: u32) -> Result<String, BtfError>
     ensures { IsOrNoMemory string_bytes result (text_at btf.now.strings offset) }
 {
@@ -42,11 +42,11 @@ pub fn read_sections<'a>(
     Ok(sections)
 }
 
-/// The sections of a part, in order, where the name of each can be read. A name is read once for each string offset,
-/// however many sections share it, and none is kept.
+/// The sections of a part, in order, after a check that each name can be read. The check reads a name once for each
+/// string offset, however many sections share it, and drops it.
 ///
-/// Of each section in turn: `InvalidInfo` as `SecInfoIter` has it, and `InvalidStringOffset` where its name can't be
-/// read.
+/// For each section in turn, the error is `InvalidInfo` as `SecInfoIter` reports it, or `InvalidStringOffset` if its
+/// name can't be read.
 pub fn readable_sections<'a>(
     alloc: Global,
     part: &Part<'a>,

@@ -1,4 +1,4 @@
-//! Records of a section: so many of one size, of which the first words are read.
+//! Records of a section, all of one size. Only the first words of each are read.
 
 ghost use Rattle.std.specs.Prelude.{◌≡◌, ℕ, ◌*◌, ◌≤◌, List, length, map, IfOk};
 ghost use Rattle.btf_model.specs.Word.{words_at};
@@ -10,27 +10,27 @@ use crate::words::four_words;
 use btf_plain::Endianness;
 use std::alloc::{AllocError, Global};
 
-/// The number of bytes that an instruction has.
+/// The number of bytes of an instruction.
 pub const INSTRUCTION_LEN: u32 = 8;
 
-/// A record of which the first words are read.
+/// A record that is read from its first words.
 pub trait Record: Sized + Drop {
-    /// How many words are read.
+    /// The number of words that are read.
     ghost width: { ℕ };
 
-    /// The words that a record is seen as.
+    /// The words of a record.
     ghost words: { Self → List ℕ };
 
-    /// Those words, of the words that are read.
+    /// The words of a record, as a function of the words that are read.
     ghost read_as: { List ℕ → List ℕ };
 
-    /// The record at the front of bytes.
+    /// The record at the start of bytes.
     fn read(bytes: &[u8], endianness: Endianness) -> Self
         requires { 4 * width ≤ length bytes.now }
         ensures { words result ≡ read_as (words_at endianness width bytes.now) };
 }
 
-/// Four words as they stand.
+/// Four words, unchanged.
 impl Record for [u32; 4] {
     ghost width = { 4 };
 
@@ -43,7 +43,7 @@ impl Record for [u32; 4] {
     }
 }
 
-/// The records of a section, which have so many bytes each, in a vector of just their number.
+/// The records of a section, `rec_size` bytes each, in a vector of exactly their number.
 pub fn read_records<T: Record>(
     alloc: Global,
     section: &SecInfo<'_>,

@@ -9,7 +9,7 @@ ghost use Rattle.btf_ext.specs.SecInfo.{section_of};
 use btf_plain::{BtfError, Endianness};
 use std::marker::Model;
 
-/// A section of records: those of one section of the program (the kernel's documentation, ".BTF.ext section",
+/// The records of one section of the program (the kernel's documentation, ".BTF.ext section",
 /// `struct btf_ext_info_sec`).
 #[derive(Debug, Drop)]
 pub struct SecInfo<'a> {
@@ -21,12 +21,12 @@ pub struct SecInfo<'a> {
     pub bytes: &'a [u8],
 }
 
-/// The sections that bytes hold, in order. After them, where the rest of the bytes is no section, comes the error
-/// that says why, and then nothing more.
+/// The sections in bytes, in order. If the rest of the bytes is no section, the iterator returns an error, and then
+/// ends.
 ///
-/// The error is `InvalidInfo`, with the length of the rest as `section_len`: at offset 0 with length 8 where less
-/// than two words are left; at offset 8 with the length of the records, which is at most `usize::MAX`, where there
-/// is no record, where records have no bytes, or where they pass the end.
+/// The error is `InvalidInfo`, with the length of the rest as `section_len`. If fewer than two words are left, it has
+/// offset 0 and length 8. If there is no record, or records have no bytes, or the records pass the end, it has offset 8
+/// and the length of the records, which is at most `usize::MAX`.
 #[derive(Drop)]
 pub struct SecInfoIter<'a> {
     bytes: &'a [u8],
@@ -48,7 +48,7 @@ impl<'a> Model for SecInfoIter<'a> {
 }
 
 impl<'a> SecInfoIter<'a> {
-    /// The sections of bytes, whose words are in this order, with records of so many bytes.
+    /// The sections in bytes, with words in this byte order; `rec_size` is the number of bytes of a record.
     pub fn new(data: &'a [u8], rec_size: usize, endianness: Endianness) -> Self
         ensures { result ≡ record {
           order = endianness;
@@ -93,7 +93,7 @@ impl<'a> Iterator for SecInfoIter<'a> {
     }
 }
 
-/// The two words in front of a section's records, and what follows them; None where the bytes end before.
+/// The two words before a section's records, and the bytes after them; None if there are fewer than two words.
 fn split_head(bytes: &[u8], endianness: Endianness) -> Option<(u32, u32, &[u8])>
     ensures { MatchOption result
         (length bytes.now < 8)
@@ -110,7 +110,7 @@ fn split_head(bytes: &[u8], endianness: Endianness) -> Option<(u32, u32, &[u8])>
     ))
 }
 
-/// The section that bytes begin with, and what follows it, or why they begin with none.
+/// The section at the start of bytes, and the bytes after it, or the error if they begin with none.
 fn split_section(
     bytes: &[u8],
     rec_size: usize,

@@ -1,4 +1,4 @@
-//! Words read from bytes and written.
+//! Reading words from bytes, and writing them.
 
 ghost use Rattle.std.specs.Prelude.{◌≡◌, ◌+◌, ◌≤◌, ◌++◌, length, drop, take, OnOk};
 ghost use Rattle.std.specs.List.{flat_map};
@@ -10,7 +10,7 @@ use btf_items::push_array;
 use btf_plain::Endianness;
 use std::alloc::AllocError;
 
-/// The first word of bytes, and what follows it.
+/// The first word of bytes, and the bytes after it.
 pub fn split_word(bytes: &[u8], endianness: Endianness) -> (u32, &[u8])
     requires { 4 ≤ length bytes.now }
     ensures word { result.0 ≡ word_of endianness (take 4 bytes.now) }
@@ -21,7 +21,7 @@ pub fn split_word(bytes: &[u8], endianness: Endianness) -> (u32, &[u8])
     (endianness.read_u32(*word), rest)
 }
 
-/// The word at a place.
+/// The word at an offset.
 pub fn word_at(bytes: &[u8], at: usize, endianness: Endianness) -> u32
     requires { at + 4 ≤ length bytes.now }
     ensures { result ≡ blob.word_at endianness at bytes.now }
@@ -43,7 +43,7 @@ pub fn four_words(bytes: &[u8], endianness: Endianness) -> [u32; 4]
     [first, second, third, fourth]
 }
 
-/// Writes words at the end of bytes, the lowest byte first, all at once.
+/// Appends words to bytes, the lowest byte first, in one step: all of them or none.
 pub fn push_little<const N: usize>(out: &mut Vec<u8>, words: &[u32; N]) -> Result<(), AllocError>
     ensures { OnOk result (out.new.items ≡ out.old.items ++ flat_map (word Little) words.now) }
 {

@@ -1,4 +1,4 @@
--- The parts of the plain recursion, and what they stand for.
+-- The parts of the plain recursion, and the relations of the model.
 use Rattle.std.proofs.Common.{◌≡◌, ◌≢◌, ℕ, zero, suc, List, [], ◌∷◌, ◌++◌, length, refl, sym, ap, subst, ◌∙◌, inl, inr, Bool, true, false, Some, Ok, Err, Result, Contains, arith, append_assoc}
 use Rattle.std.specs.Prelude.{map, ◌↔◌, IfOk, IsErrAnd}
 use Rattle.std.specs.List.{list_any}
@@ -24,23 +24,23 @@ use Rattle.btf_types.specs.Pairs.{pair_of, ids_of, IsResolved}
 use Rattle.btf_types.specs.Compared.{types_of}
 use Rattle.btf_reference.specs.PlainComparison.{PositionIs, AreStarted, Lists}
 
--- ---- what is found after modifiers
+-- ---- the position after modifiers
 
 told_more : (answer : Result Bool BtfError) (P Q : model.Position → Type 0) → ((x : model.Position) → P x → Q x) → Meets (λ b. b) answer (λ a. P (Told a)) → Meets (λ b. b) answer (λ a. Q (Told a))
 told_more (Ok b) P Q more h = more (Told (Ok b)) h
 told_more (Err e) P Q more h = (h.0, h.1, more (Told (Err h.0)) h.2)
 
 position_more : (x : Position) (P Q : model.Position → Type 0) → ((y : model.Position) → P y → Q y) → PositionIs x P → PositionIs x Q
-position_more (positions.Told answer) P Q more h = told_more answer P Q more h
+position_more (positions.Decided answer) P Q more h = told_more answer P Q more h
 position_more (positions.On next) P Q more h = more _ h
-position_more (positions.Owes params others next) P Q more h = more _ h
+position_more (positions.Prototypes params others next) P Q more h = more _ h
 
 pub found_at_ends : (local target : Table) (at : Pair) (found other : ℕ × Kind × Record) (x : Position) → IsResolved local at.local (Ok found) → IsResolved target at.target (Ok other) → PositionIs x (PositionFound found.0 found.1 other.1 found.2 other.2) → PositionIs x (Finds local target at)
 found_at_ends local target at found other x h g is =
     position_more x (PositionFound found.0 found.1 other.1 found.2 other.2) (Finds local target at)
     (λ y is. inr (record { local = found.0; target = other.0 }, found.1, other.1, found.2, other.2, (h.0, g.0), h.1, g.1, is)) is
 
--- ---- errors that are handed on
+-- ---- errors that are propagated
 
 pub told_err : {X Y : Type 0} (view : X → Y) (P : Result Y Refusal → Type 0) (r : Result X BtfError) (e : BtfError) (f : Refusal) → IsErrAnd r (λ y. y ≡ e) → refusal_of e ≡ Some f → P (Err f) → Meets view r P
 told_err view P (Ok x) e f is told h = absurd is
@@ -74,7 +74,7 @@ joined : (first listed : List Pair) (old mid new : List (ℕ × ℕ)) → mid �
 joined first listed old mid new is more =
     more ∙ ap (λ (xs : List (ℕ × ℕ)). xs ++ map ids_of listed) is ∙ append_assoc old (map ids_of first) (map ids_of listed) ∙ ap (λ (xs : List (ℕ × ℕ)). old ++ xs) (sym (map-append ids_of first listed))
 
--- what is listed after first ones
+-- pairs that are listed after others
 lists_behind : (P Q : Result Bool Refusal → List Pair → Type 0) (r : Result Bool BtfError) (first : List Pair) (old mid new : List (ℕ × ℕ)) → ((a : Result Bool Refusal) (t : List Pair) → P a t → Q a (first ++ t))
     → mid ≡ old ++ map ids_of first → Lists P r mid new → Lists Q r old new
 lists_behind P Q (Ok b) first old mid new more is h = (first ++ h.0, more (Ok b) h.0 h.1, joined first h.0 old mid new is h.2)
@@ -172,7 +172,7 @@ module _ (local target : Table) where
       (λ a t q other. subst (λ (o : List Pair). Paid local target above o a t) (sym is) (Paid.other above at p rest a t h q other))
       plain
 
--- ---- the parameters owed
+-- ---- pending parameter pairs
 
 pub owed_first : (params others ps os : List BtfParam) (param other : BtfParam) → params ≡ param ∷ ps → others ≡ other ∷ os → pairs (types_of params) (types_of others) ≡ pair_of (param.btf_type, other.btf_type) ∷ pairs (types_of ps) (types_of os)
 owed_first params others ps os param other is there = rw (is, there) refl

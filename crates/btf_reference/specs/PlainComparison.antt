@@ -1,4 +1,4 @@
--- What the parts of the plain recursion stand for.
+-- The parts of the plain recursion, in terms of the model.
 use Rattle.std.specs.Prelude.{◌≡◌, ◌≢◌, ◌⊎◌, ℕ, Bool, true, false, List, ◌++◌, map, slice_get, Some, None, Result, Ok, Err}
 use Rattle.btf_model.specs.Record.{Record, Kind, compared_kind}
 use Rattle.btf_model.specs.Refusal.{Refusal, UnknownBtfType}
@@ -13,14 +13,15 @@ use Rattle.btf_types.specs.Compared.{types_of}
 use Rattle.btf_reference.specs.declared.plain_comparison.Position.{Position}
 use Rattle.btf_reference.specs.declared.plain_comparison.Position.TheVariants as positions
 
--- the position is one of which P holds
+-- P holds of the position
 abbrev pub PositionIs : Position → (model.Position → Type 0) → Type 0
-PositionIs (positions.Told answer) P = Meets (λ b. b) answer (λ a. P (Told a))
+PositionIs (positions.Decided answer) P = Meets (λ b. b) answer (λ a. P (Told a))
 PositionIs (positions.On next) P = P (On (pair_of next))
-PositionIs (positions.Owes params others next) P =
+PositionIs (positions.Prototypes params others next) P =
     P (Owes (pairs (types_of params.now) (types_of others.now)) (pair_of next))
 
--- both ids of the pair are known, and their kinds are compatible or not; or the first one that is not known
+-- The ids of the pair are both known, and this is whether their kinds are compatible; or this is the error of the first
+-- unknown id.
 abbrev pub AreStarted : Table → Table → Pair → Result Bool Refusal → Type 0
 AreStarted local target p (Ok true) = (k q : Kind) × AreKnown local target p k q × (compared_kind k ≡ compared_kind q)
 AreStarted local target p (Ok false) = (k q : Kind) × AreKnown local target p k q × (compared_kind k ≢ compared_kind q)
@@ -29,7 +30,7 @@ AreStarted local target p (Err refusal) =
     ⊎ ((r : Record) × (slice_get local.records p.local ≡ Some r) × (slice_get target.records p.target ≡ None)
     × (refusal ≡ UnknownBtfType p.target))
 
--- An answer, and pairs after those of a list, of which P holds.
+-- P holds of the answer and of the pairs that are appended to a list.
 abbrev pub Lists : (Result Bool Refusal → List Pair → Type 0) → Result Bool BtfError → List (ℕ × ℕ) → List (ℕ × ℕ)
     → Type 0
 Lists P result old new =

@@ -1,4 +1,4 @@
-//! The comparison of types as it is defined, which tests hold the comparison of the library against.
+//! The comparison of types by its definition, as a reference for tests of the library's comparison.
 #![tactic(auto)]
 
 pub mod plain_comparison;

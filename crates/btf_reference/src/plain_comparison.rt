@@ -1,5 +1,5 @@
-//! The comparison of types as it is defined, by calls: nothing that came out before is remembered. It is for small
-//! tables, against which the comparison of the library is tested.
+//! The comparison of types by its definition: a recursion that records no results. Tests compare it with the comparison
+//! of the library on small tables.
 
 ghost use Rattle.std.specs.Prelude.{◌≡◌, ◌∷◌, ◌≤◌, ◌↔◌, true, [], map, Contains, IfOk, IsTrue};
 ghost use Rattle.btf_model.specs.Record as model;
@@ -16,18 +16,18 @@ use btf_records::{BtfParam, BtfType, FuncProto};
 use btf_types::Btf;
 use std::alloc::{AllocError, AllocFailed, Global};
 
-/// The number of positions that a walk has.
+/// The maximum number of positions of a walk.
 const WALK_LIMIT: u32 = 32;
 
-/// The number of pairs that may be open.
+/// The maximum number of open pairs.
 const MOST_OPEN: u32 = 1000;
 
-/// Why the recursion was given up.
+/// The cause for which the recursion stopped.
 #[derive(Debug, Drop)]
 pub enum Stop {
-    /// Memory was refused.
+    /// An allocation failed.
     OutOfMemory,
-    /// More pairs were open than it is meant for.
+    /// More than `MOST_OPEN` pairs were open.
     TooDeep,
 }
 
@@ -43,18 +43,18 @@ impl<T: Drop> From<AllocFailed<T>> for Stop {
     }
 }
 
-/// What is found at a pair of types.
+/// The outcome of the comparison at one pair of types.
 #[derive(Drop)]
 enum Position<'a> {
-    /// The answer.
-    Told(Result<bool, BtfError>),
-    /// The pair to go on to.
+    /// The walk ends with this result.
+    Decided(Result<bool, BtfError>),
+    /// The walk continues with this pair.
     On((u32, u32)),
-    /// The parameters of two prototypes, as many of the one as of the other, and the pair to go on to after them.
-    Owes(&'a [BtfParam], &'a [BtfParam], (u32, u32)),
+    /// The parameters of two prototypes, which have the same number of them, and the pair after the parameters.
+    Prototypes(&'a [BtfParam], &'a [BtfParam], (u32, u32)),
 }
 
-/// The answer of the comparison of a pair, and all pairs that it starts, in order, after those of the list.
+/// The answer of the comparison of a pair. All pairs that it starts are appended to the list, in order.
 pub fn compare_plainly(
     local: &Btf,
     target: &Btf,
@@ -67,7 +67,7 @@ pub fn compare_plainly(
     compared(local, target, &[], pair, starts, MOST_OPEN)
 }
 
-/// The comparison of a pair, under these open ones.
+/// The comparison of a pair; `above` are the open pairs.
 #[cycle(plain)]
 fn compared(
     local: &Btf,
@@ -104,7 +104,7 @@ fn is_open(above: &[(u32, u32)], pair: (u32, u32)) -> bool
     above.contains(&pair)
 }
 
-/// Whether the kinds of a pair's types are compatible, or which id is unknown.
+/// Whether the kinds of a pair's types are compatible, or the error of an unknown id.
 fn kinds_agree(local: &Btf, target: &Btf, pair: (u32, u32)) -> Result<bool, BtfError>
     ensures { Meets (λ agree. agree) result (AreStarted local.now target.now (pair_of pair)) }
 {
@@ -113,7 +113,7 @@ fn kinds_agree(local: &Btf, target: &Btf, pair: (u32, u32)) -> Result<bool, BtfE
     Ok(local_type.is_compatible(target_type))
 }
 
-/// A pair in front of those above it.
+/// The open pairs with one more pair.
 fn opened(
     alloc: Global,
     pair: (u32, u32),
@@ -127,7 +127,7 @@ fn opened(
     Ok(pairs)
 }
 
-/// The walk of a pair from this position on, which looks at so many positions more.
+/// The walk of a pair from this position on; `left` is the number of positions that remain.
 #[cycle(plain)]
 fn walked(
     local: &Btf,
@@ -147,10 +147,10 @@ fn walked(
         return Ok(Err(BtfError::MaximumTypeDepthReached { type_id: at.0 }));
     }
     match found_at(local, target, at) {
-        Position::Told(answer) => Ok(answer),
+        Position::Decided(answer) => Ok(answer),
         Position::On(next) => walked(local, target, above, left - 1, next, starts, depth),
-        Position::Owes(params, others, next) => {
-            let answer = paid(local, target, above, params, others, starts, depth)?;
+        Position::Prototypes(params, others, next) => {
+            let answer = compared_parameters(local, target, above, params, others, starts, depth)?;
             if !is_true(&answer) {
                 return Ok(answer);
             }
@@ -159,9 +159,9 @@ fn walked(
     }
 }
 
-/// The comparison of parameters with others, in order: true, or the first answer that is not true.
+/// The comparison of parameters with others, in order: true, or the first result that is not true.
 #[cycle(plain)]
-fn paid(
+fn compared_parameters(
     local: &Btf,
     target: &Btf,
     above: &[(u32, u32)],
@@ -189,17 +189,17 @@ fn paid(
     if !is_true(&answer) {
         return Ok(answer);
     }
-    paid(local, target, above, params, others, starts, depth)
+    compared_parameters(local, target, above, params, others, starts, depth)
 }
 
-/// Whether an answer is true.
+/// Whether a result is true.
 fn is_true(answer: &Result<bool, BtfError>) -> bool
     ensures { IsTrue result ↔ (answer.now ≡ Ok true) }
 {
     matches!(answer, Ok(true))
 }
 
-/// What a pair resolves to, the local id first.
+/// The ids that a pair resolves to, the local one first.
 fn resolved_pair(local: &Btf, target: &Btf, at: (u32, u32)) -> Result<(u32, u32), BtfError>
     ensures { Meets pair_of result (ResolvesPair local.now target.now (pair_of at)) }
 {
@@ -208,17 +208,17 @@ fn resolved_pair(local: &Btf, target: &Btf, at: (u32, u32)) -> Result<(u32, u32)
     Ok((local_id, target_id))
 }
 
-/// What is found at a pair of ids. Both are resolved, the local one first.
+/// Compares a pair of ids. Both are resolved, the local one first.
 fn found_at<'a>(local: &'a Btf, target: &'a Btf, at: (u32, u32)) -> Position<'a>
     ensures { PositionIs result (Finds local.now target.now (pair_of at)) }
 {
     let (local_id, local_type) = match resolved(local, at.0) {
         Ok(found) => found,
-        Err(e) => return Position::Told(Err(e)),
+        Err(e) => return Position::Decided(Err(e)),
     };
     match resolved(target, at.1) {
         Ok((_, target_type)) => found_in(local_id, local_type, target_type),
-        Err(e) => Position::Told(Err(e)),
+        Err(e) => Position::Decided(Err(e)),
     }
 }
 
@@ -232,13 +232,13 @@ fn resolved(table: &Btf, type_id: u32) -> Result<(u32, &BtfType), BtfError>
     Ok((id, btf_type))
 }
 
-/// What is found at two types that are no modifiers.
+/// Compares two types that are no modifiers.
 fn found_in<'a>(local_id: u32, local_type: &'a BtfType, target_type: &'a BtfType) -> Position<'a>
     ensures { PositionIs result (PositionFound local_id (type_kind local_type.now)
         (type_kind target_type.now) (record_of local_type.now) (record_of target_type.now)) }
 {
     if !local_type.is_compatible(target_type) {
-        return Position::Told(Ok(false));
+        return Position::Decided(Ok(false));
     }
     match local_type {
         BtfType::Int(l) => ints(l, target_type),
@@ -251,7 +251,7 @@ fn found_in<'a>(local_id: u32, local_type: &'a BtfType, target_type: &'a BtfType
         | BtfType::Enum(_)
         | BtfType::Enum64(_)
         | BtfType::Fwd(_)
-        | BtfType::Float(_) => Position::Told(Ok(true)),
+        | BtfType::Float(_) => Position::Decided(Ok(true)),
         BtfType::Typedef(_)
         | BtfType::Volatile(_)
         | BtfType::Const(_)
@@ -261,24 +261,24 @@ fn found_in<'a>(local_id: u32, local_type: &'a BtfType, target_type: &'a BtfType
         | BtfType::DataSec(_)
         | BtfType::DeclTag(_)
         | BtfType::TypeTag(_) => {
-            Position::Told(Err(BtfError::UnexpectedBtfType { type_id: local_id }))
+            Position::Decided(Err(BtfError::UnexpectedBtfType { type_id: local_id }))
         }
     }
 }
 
-/// What is found at an integer and another type: whether that is an integer, and both begin at bit 0.
+/// Compares an integer with another type: whether that is an integer too, and both begin at bit 0.
 fn ints<'a>(local: &Int, target_type: &BtfType) -> Position<'a>
     ensures { type_kind target_type.now ≡ model.Int
         → PositionIs result (λ found. found ≡ position_by 0 model.Int local.now
         (record_of target_type.now)) }
 {
     match target_type {
-        BtfType::Int(target) => Position::Told(Ok(local.offset() == 0 && target.offset() == 0)),
-        _ => Position::Told(Ok(false)),
+        BtfType::Int(target) => Position::Decided(Ok(local.offset() == 0 && target.offset() == 0)),
+        _ => Position::Decided(Ok(false)),
     }
 }
 
-/// What is found at a pointer and another type: the types that both point to.
+/// Compares a pointer with another type: the types that both point to are next.
 fn pointers<'a>(local: &Ptr, target_type: &BtfType) -> Position<'a>
     ensures { type_kind target_type.now ≡ model.Ptr
         → PositionIs result (λ found. found ≡ position_by 0 model.Ptr local.now
@@ -286,11 +286,11 @@ fn pointers<'a>(local: &Ptr, target_type: &BtfType) -> Position<'a>
 {
     match target_type {
         BtfType::Ptr(target) => Position::On((local.btf_type(), target.btf_type())),
-        _ => Position::Told(Ok(false)),
+        _ => Position::Decided(Ok(false)),
     }
 }
 
-/// What is found at an array and another type: the types of the elements of both.
+/// Compares an array with another type: the element types of both are next.
 fn arrays<'a>(local: &Array, target_type: &BtfType) -> Position<'a>
     ensures { type_kind target_type.now ≡ model.Array
         → PositionIs result (λ found. found ≡ position_by 0 model.Array local.now
@@ -300,24 +300,24 @@ fn arrays<'a>(local: &Array, target_type: &BtfType) -> Position<'a>
         BtfType::Array(target) => {
             Position::On((local.array().element_type, target.array().element_type))
         }
-        _ => Position::Told(Ok(false)),
+        _ => Position::Decided(Ok(false)),
     }
 }
 
-/// What is found at a prototype and another type: the parameters of both, if they are as many, and then what both
-/// return.
+/// Compares a prototype with another type: if the numbers of parameters are equal, the parameters are next, and then
+/// the return types.
 fn prototypes<'a>(local: &'a FuncProto, target_type: &'a BtfType) -> Position<'a>
     ensures { type_kind target_type.now ≡ model.FuncProto
         → PositionIs result (λ found. found ≡ position_by 0 model.FuncProto local.now
         (record_of target_type.now)) }
 {
     let BtfType::FuncProto(target) = target_type else {
-        return Position::Told(Ok(false));
+        return Position::Decided(Ok(false));
     };
     let params = local.params();
     let others = target.params();
     if params.len() != others.len() {
-        return Position::Told(Ok(false));
+        return Position::Decided(Ok(false));
     }
-    Position::Owes(params, others, (local.return_type(), target.return_type()))
+    Position::Prototypes(params, others, (local.return_type(), target.return_type()))
 }

@@ -14,7 +14,7 @@ pub fn front(endianness: Endianness) -> [u8; 4] {
     }
 }
 
-/// The header of a table whose types come first: the length of the types, and the place of the strings.
+/// The header of a table whose types come first; it has the length of the types, and the offset of the strings.
 pub fn header(
     alloc: Global,
     type_len: u32,

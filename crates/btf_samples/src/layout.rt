@@ -1,4 +1,4 @@
-//! What a rewrite is given of a program beside its table.
+//! The layout of a program, which a rewrite needs besides its table.
 
 use btf_plain::SectionIndex;
 use std::alloc::{AllocError, Global};

@@ -1,4 +1,4 @@
-//! Tables and rows that several test crates share, and the words and bytes that tests spell themselves.
+//! Tables and rows that several test crates share, and functions that make words and bytes for tests.
 #![tactic(auto)]
 
 pub mod blobs;

@@ -1,4 +1,4 @@
-//! The table of a small program that passes every packet on, in both orders, and its `.BTF.ext` section.
+//! The table of a small program that passes every packet, in both byte orders, and its `.BTF.ext` section.
 
 use crate::blobs::{front, header, parsed_blob};
 use crate::spelled::{push_words, spelled_decimals, words};
@@ -26,7 +26,7 @@ pub const RECORDS: &str = "
 /// The length of the records in bytes.
 pub const TYPE_LEN: u32 = 0x10c;
 
-/// The strings, each of which a zero byte ends. The first is empty.
+/// The strings, each with a zero byte at its end. The first is empty.
 pub const STRINGS: &str = "\0xdp_md\0data\0data_end\0data_meta\0ingress_ifindex\0\
 rx_queue_index\0egress_ifindex\0__u32\0unsigned int\0ctx\0int\0xdp_pass\0xdp/pass\0\
 /home/dave/dev/bpfd/bpf/xdp_pass.bpf.c\0    return XDP_PASS;\0char\0\
@@ -54,7 +54,7 @@ pub fn program(alloc: Global, endianness: Endianness, type_len: u32) -> Result<V
     let mut blob = header(alloc, type_len, TYPE_LEN, 0xe1, endianness)?;
     push_words(&mut blob, &words(alloc, RECORDS)?, endianness)?;
     blob.extend_from_slice(STRINGS.as_bytes())?;
-    // The big table's last member of id 2 has the type 48.
+    // In the big-endian table, the last member of id 2 has the type 48.
     if let (Endianness::Big, Some(byte)) = (endianness, blob.get_mut(115)) {
         *byte = 48;
     }

@@ -1,4 +1,4 @@
-//! Words, bytes and records, read from text as a person writes them, and spelled in an order.
+//! Words, bytes and records from human-readable text, written in a byte order.
 
 use btf_plain::Endianness;
 use btf_records::BtfType;
@@ -35,7 +35,7 @@ pub fn bytes(alloc: Global, text: &str) -> Result<Vec<u8>, Fail> {
     Ok(bytes)
 }
 
-/// Spells words at the end of bytes.
+/// Appends words to bytes.
 pub fn push_words(
     bytes: &mut Vec<u8>,
     words: &[u32],

@@ -1,7 +1,7 @@
-//! Whether records and tables are written as they should be.
+//! Whether records and tables are written correctly.
 //!
-//! A function that owns a record, a table or bytes makes one call with a borrow of it, and nothing else: the proof of a
-//! function grows with what it owns at each of its exits.
+//! A function that owns a record, a table or bytes makes one call with a borrow of it, and nothing else, because the
+//! proof of a function grows with the values that it owns at each of its exits.
 
 use crate::blobs::table_bytes;
 use crate::spelled::{bytes, spelled_text};
@@ -101,7 +101,7 @@ pub fn has_kinds(table: &Btf, kinds: &[BtfKind]) -> bool {
     table.types().len() == kinds.len() && has_no_type(table, kinds.len())
 }
 
-/// Whether an id is reported to name no type.
+/// Whether an id is reported as unknown.
 fn has_no_type(table: &Btf, id: usize) -> bool {
     let Ok(id) = u32::try_from(id) else {
         return false;

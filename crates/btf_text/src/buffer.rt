@@ -1,13 +1,13 @@
-//! A buffer of fixed size in front of a writer of bytes.
+//! A buffered writer of text over a writer of bytes, with a buffer of fixed size.
 
 use arrayvec::ArrayString;
 use std::fmt;
 use std::io::Write;
 
-/// The number of bytes that the buffer holds at most.
+/// The capacity of the buffer in bytes.
 const CAPACITY: usize = 32768;
 
-/// A writer of text, which passes what it takes to a writer of bytes in large pieces. No memory is allocated.
+/// A writer of text, which passes its text to a writer of bytes in large pieces. Nothing is allocated.
 #[derive(Drop)]
 pub struct TextBuffer<'a, W> {
     out: &'a mut W,
@@ -15,7 +15,7 @@ pub struct TextBuffer<'a, W> {
 }
 
 impl<'a, W: Write> TextBuffer<'a, W> {
-    /// An empty buffer in front of a writer.
+    /// A writer of text with an empty buffer.
     pub fn new(out: &'a mut W) -> TextBuffer<'a, W> {
         TextBuffer {
             out,
@@ -23,8 +23,8 @@ impl<'a, W: Write> TextBuffer<'a, W> {
         }
     }
 
-    /// Adds a text. The buffer is written out first where it has no room for the text, and a text that is longer than
-    /// the buffer goes straight to the writer.
+    /// Adds a text. If the buffer has no room for the text, it is written out first. A text that is longer than the
+    /// buffer goes directly to the writer.
     fn put(&mut self, text: &str) -> fmt::Result {
         if self.pending.try_push_str(text).is_ok() {
             return Ok(());
@@ -36,7 +36,7 @@ impl<'a, W: Write> TextBuffer<'a, W> {
         write_text(&mut *self.out, text)
     }
 
-    /// Writes the buffer out. What is still in it when it is dropped is lost.
+    /// Writes the buffer out. Text that is in the buffer when it is dropped is lost.
     pub fn flush(&mut self) -> fmt::Result {
         write_text(&mut *self.out, self.pending.as_str())?;
         self.pending.clear();

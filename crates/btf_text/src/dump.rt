@@ -1,4 +1,4 @@
-//! Each type of a table with all that it says, as `bpftool btf dump file FILE format raw` of bpftool 7.1 writes it.
+//! A dump of the types of a table, in the form of `bpftool btf dump file FILE format raw` of bpftool 7.1.
 
 mod line;
 mod list;
@@ -11,12 +11,12 @@ use crate::error::TextError;
 use btf_table::Btf;
 use std::fmt::Write;
 
-/// Writes each type that is selected, in rising order of ids: a line for the type, and one for each of its members,
-/// variants, parameters or variables. They are the lines of `bpftool btf dump file FILE format raw` of bpftool 7.1, but
-/// for names that are not UTF-8, which are written as `Btf::string_at` reads them.
+/// Writes the selected types in rising order of ids: a line for each type, and a line for each of its members,
+/// variants, parameters or variables. The text equals the output of `bpftool btf dump file FILE format raw` of bpftool
+/// 7.1, except for names that are not UTF-8, which are written as `Btf::string_at` reads them.
 ///
-/// `Write` where the writer fails, and `Table` with `OutOfMemory` where an allocation does: one is made for a name that
-/// is not UTF-8, and none for others.
+/// The error is `Write` if the writer fails, and `Table` with `OutOfMemory` if an allocation fails. Only a name that is
+/// not UTF-8 needs an allocation.
 pub fn write_dump<W: Write>(
     table: &Btf,
     selection: &Selection<'_>,

@@ -8,14 +8,14 @@ use std::alloc::{AllocError, AllocFailed};
 use std::fmt;
 use thiserror::Error;
 
-/// Why a text was not written to its end.
+/// The error of a text that was not written to its end.
 #[derive(Debug, Drop, Error)]
 pub enum TextError {
     /// The writer failed.
     #[error("cannot write the text")]
     Write,
 
-    /// The table doesn't have what the text needs.
+    /// The table lacks something that the text needs.
     #[error("{0}")]
     Table(BtfError),
 

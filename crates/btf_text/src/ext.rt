@@ -1,4 +1,4 @@
-//! What `.BTF.ext` says of a program, by the sections of the program.
+//! The contents of `.BTF.ext` as text, by the sections of the program.
 
 mod header;
 mod record;
@@ -13,7 +13,7 @@ use btf_table::Btf;
 use std::alloc::Global;
 use std::fmt::Write;
 
-/// What the records of a section of `.BTF.ext` are about.
+/// The topic of the records of a section of `.BTF.ext`.
 #[derive(Clone, Copy, Debug, PartialEq, Eq, PartialOrd, Ord)]
 pub(crate) enum Topic {
     /// Functions.
@@ -24,7 +24,7 @@ pub(crate) enum Topic {
     Relocations,
 }
 
-/// The records of one topic that belong to one section of the program.
+/// The records of one topic for one section of the program.
 #[derive(Drop)]
 struct Listed<'a> {
     /// The string offset of the name of the program's section.
@@ -36,14 +36,14 @@ struct Listed<'a> {
     bytes: &'a [u8],
 }
 
-/// Writes the functions, the lines and the relocations of a program, whose `.BTF.ext` section has these bytes: a line
-/// for each section of the program, in the order of the string offsets of their names, and a line for each record.
-/// Offsets count bytes from the beginning of the program's section. A name that can't be read is written as
+/// Writes the functions, the lines and the relocations of a program, from the bytes of its `.BTF.ext` section: a line
+/// for each section of the program, in the order of the string offsets of the section names, and a line for each
+/// record. Offsets count bytes from the beginning of the program's section. A name that can't be read is written as
 /// `(invalid)`.
 ///
-/// `Table` with `InvalidHeader` for fewer than 8 bytes, or fewer than the header's length, and with `InvalidInfo` for
-/// a range of functions, lines or relocations, or a section in one, that isn't whole, as `BtfExt::parse` has them.
-/// `Write` where the writer fails, and `OutOfMemory`.
+/// The errors are as of `BtfExt::parse`: `Table` with `InvalidHeader` for fewer than 8 bytes, or fewer than the
+/// header's length, and `Table` with `InvalidInfo` for an incomplete range of functions, lines or relocations, or an
+/// incomplete section in one; further `Write` if the writer fails, and `OutOfMemory`.
 pub fn write_ext<W: Write>(
     alloc: Global,
     table: &Btf,

@@ -27,11 +27,11 @@ use btf_words::{BtfError, BtfKind};
 use std::alloc::Global;
 use std::fmt::Write;
 
-/// The id of the structure or union of a name: the first STRUCT that has it, else the first UNION, else the first
-/// TYPEDEF whose type is one.
+/// The id of the structure or union of a name: the first STRUCT of the name; otherwise the first UNION; otherwise the
+/// structure or union that the first TYPEDEF of the name resolves to.
 ///
-/// The errors of `Btf::id_by_type_name_kind`, in this order of kinds, and those of `Btf::resolve_type` for the TYPEDEF.
-/// `UnexpectedBtfType` where the TYPEDEF leads to a type of another kind.
+/// The errors are those of `Btf::id_by_type_name_kind`, in this order of kinds, and those of `Btf::resolve_type` for
+/// the TYPEDEF. If the TYPEDEF resolves to a type of another kind, the error is `UnexpectedBtfType`.
 pub fn find_layout(table: &Btf, name: &str) -> Result<u32, BtfError>
     ensures { IfOk result (λ id. is_composite_at table.now id ≡ true) }
 {
@@ -43,7 +43,8 @@ pub fn find_layout(table: &Btf, name: &str) -> Result<u32, BtfError>
     }
 }
 
-/// The id of the first STRUCT of a name, else of the first UNION, else what the first TYPEDEF resolves to.
+/// The id of the first STRUCT of a name; otherwise of the first UNION; otherwise the id that the first TYPEDEF resolves
+/// to.
 fn find_named(table: &Btf, name: &str) -> Result<u32, BtfError> {
     for kind in [BtfKind::Struct, BtfKind::Union] {
         match table.id_by_type_name_kind(name, kind) {
@@ -55,18 +56,22 @@ fn find_named(table: &Btf, name: &str) -> Result<u32, BtfError> {
     table.resolve_type(typedef)
 }
 
-/// Writes the members of the STRUCT or UNION of an id, with offsets and sizes in bytes, bit-fields with the place of
+/// Writes the members of the STRUCT or UNION of an id, with offsets and sizes in bytes, bit-fields with the position of
 /// their first bit, holes, and for a STRUCT sums at the end. Structures, unions and enumerations without a name are
-/// written in the place of their member, with offsets that count from the beginning of the whole.
+/// written at their member, with offsets that count from the beginning of the outermost type.
 ///
-/// It is the text of pahole 1.24, but for what that guesses or gets wrong: no attribute and no unnamed bit-field is
-/// guessed, a qualifier is written once, and arrays of arrays, arrays of function pointers and floating-point types are
-/// written as in C.
+/// The text equals the text of pahole 1.24, except for pahole's guesses and mistakes: this function guesses no
+/// attributes and no unnamed bit-fields, writes a qualifier once, and writes arrays of arrays, arrays of function
+/// pointers and floating-point types as in C.
 ///
-/// `Table` with `UnknownBtfType` where the id or one on the way to a member's size is unknown, with
-/// `UnexpectedBtfType` where the id is that of another kind or a member has no size, with `MaximumTypeDepthReached`
-/// after 32 types that lead on, and with `InvalidTypeInfo` for a size that passes 32 bits. `Write` where the writer
-/// fails, and `OutOfMemory`.
+/// The errors are `Table` with
+///
+/// - `UnknownBtfType` if the id is unknown, or an id that is met while a member's size is computed;
+/// - `UnexpectedBtfType` if the type has another kind, or a member has no size;
+/// - `MaximumTypeDepthReached` after 32 types that refer to another one;
+/// - `InvalidTypeInfo` for a size of more than 32 bits;
+///
+/// and `Write` if the writer fails, and `OutOfMemory`.
 pub fn write_layout<W: Write>(
     alloc: Global,
     table: &Btf,
@@ -90,7 +95,7 @@ pub fn write_layout<W: Write>(
     Ok(())
 }
 
-/// Writes the first line: the word for the kind, and the name.
+/// Writes the first line: the keyword of the kind, and the name.
 fn write_head<W: Write>(page: &mut Page<'_, W>, btf_type: &BtfType) -> Result<(), TextError> {
     page.out.write_str(keyword(btf_type))?;
     if let Some(name) = text_at(page.table, btf_type.name_offset())? {

@@ -1,7 +1,7 @@
-//! What a table of BTF says, as text: each type as `bpftool` writes it, the layout of a structure as `pahole` writes it,
-//! and what `.BTF.ext` says of a program.
+//! A table of BTF as text: each type in the form of `bpftool`, the layout of a structure in the form of `pahole`, and
+//! the contents of `.BTF.ext`.
 //!
-//! Each call writes to any `std::fmt::Write`. `TextBuffer` is one over a writer of bytes.
+//! Each call writes to any `std::fmt::Write`. `TextBuffer` implements it over a writer of bytes.
 #![tactic(auto)]
 
 mod buffer;

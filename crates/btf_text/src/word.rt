@@ -5,7 +5,7 @@ use btf_table::{Btf, BtfStr};
 use btf_words::BtfError;
 use std::fmt::Write;
 
-/// The text at a string offset; None where none can be read. `OutOfMemory` is the only error.
+/// The text at a string offset; None if it can't be read. `OutOfMemory` is the only error.
 pub fn text_at(table: &Btf, offset: u32) -> Result<Option<BtfStr<'_>>, TextError> {
     match table.string_at(offset) {
         Ok(text) => Ok(Some(text)),
@@ -14,7 +14,7 @@ pub fn text_at(table: &Btf, offset: u32) -> Result<Option<BtfStr<'_>>, TextError
     }
 }
 
-/// Writes the text at a string offset in quotes, or that it is no valid offset where no text can be read.
+/// Writes the text at a string offset in quotes, or a remark that the offset is invalid if no text can be read.
 pub fn write_text<W: Write>(out: &mut W, table: &Btf, offset: u32) -> Result<(), TextError> {
     out.write_str("'")?;
     match text_at(table, offset)? {

@@ -1,5 +1,5 @@
-//! Tables of BTF types: read, written, looked up, compared, and rewritten for a kernel. Each item lies in a crate
-//! below, and is passed on here.
+//! Tables of BTF types: read, written, searched, compared, and rewritten for a kernel. Each item is defined in a crate
+//! below, and re-exported here.
 #![tactic(auto)]
 
 pub use btf_compare::{fields_are_compatible, types_are_compatible, types_are_compatible_traced};

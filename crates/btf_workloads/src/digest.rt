@@ -1,4 +1,4 @@
-//! What a job found, as one number.
+//! The results of a job, as one number.
 
 use btf::BtfError;
 
@@ -9,7 +9,7 @@ pub struct Digest {
     high: u64,
 }
 
-/// Takes one number more into a lane.
+/// Adds a number to a lane.
 fn mixed(lane: u64, number: u64) -> u64 {
     (lane ^ number)
         .wrapping_mul(0x9fb2_1c65_1e98_df25)
@@ -54,7 +54,7 @@ impl Digest {
         }
     }
 
-    /// The number of all that was added.
+    /// The digest of all that was added.
     pub fn value(&self) -> u64 {
         mixed(self.low, self.high)
     }

@@ -4,7 +4,7 @@ use crate::random::Random;
 use std::alloc::Global;
 use std::test::Fail;
 
-/// Bytes, and the places of those that may have any value.
+/// Bytes, and the positions of the bytes that may have any value.
 #[derive(Drop)]
 pub struct Input {
     pub bytes: Vec<u8>,
@@ -16,7 +16,7 @@ impl Input {
         Input { bytes, places }
     }
 
-    /// Gives the bytes at all places other values.
+    /// Changes the bytes at all positions.
     pub fn change(&mut self, random: &mut Random) {
         for place in &self.places {
             if let Some(byte) = self.bytes.get_mut(*place) {
@@ -26,7 +26,7 @@ impl Input {
     }
 }
 
-/// The places of one in so many numbers.
+/// The positions of one in this number of numbers.
 pub fn some_places(alloc: Global, all: &[usize], step: u32) -> Result<Vec<usize>, Fail> {
     let mut places = Vec::new(alloc);
     let mut number = 0u32;

@@ -1,5 +1,5 @@
-//! Tables of the shape of a kernel's: what share of the types each kind has, how long lists and names are, and which
-//! kinds lead to which, is as in `/sys/kernel/btf/vmlinux` of a Linux 6 kernel with some 125,000 types.
+//! Tables that resemble a kernel's. The shares of the kinds, the lengths of lists and names, and the references between
+//! kinds are as in `/sys/kernel/btf/vmlinux` of a Linux 6 kernel with some 125,000 types.
 
 use crate::input::Input;
 use crate::random::Random;
@@ -8,7 +8,7 @@ use btf::{BtfKind, Endianness};
 use std::alloc::Global;
 use std::test::Fail;
 
-/// The ids that there are, by what refers to them.
+/// The existing ids, by the kinds that refer to them.
 #[derive(Drop)]
 struct Ids {
     ints: Vec<u32>,
@@ -51,7 +51,7 @@ impl Ids {
         Ok(())
     }
 
-    /// What a pointer leads to.
+    /// The target of a pointer.
     fn pointee(&self, random: &mut Random) -> u32 {
         match random.below(100) {
             0..52 => random.one_of(&self.composites),
@@ -63,7 +63,7 @@ impl Ids {
         }
     }
 
-    /// The type of a parameter or of a member, or what a prototype returns.
+    /// The type of a parameter or of a member, or the return type of a prototype.
     fn value(&self, random: &mut Random) -> u32 {
         match random.below(100) {
             0..60 => random.one_of(&self.pointers),
@@ -93,7 +93,7 @@ fn kind_of(number: u32) -> BtfKind {
     }
 }
 
-/// How many items a list has: a few, and seldom many.
+/// The number of items of a list: a few, and seldom many.
 fn len_of(random: &mut Random, kind: BtfKind) -> u32 {
     let few = random.below(4).wrapping_add(random.below(4));
     match kind {
@@ -103,7 +103,7 @@ fn len_of(random: &mut Random, kind: BtfKind) -> u32 {
     }
 }
 
-/// A table in the making.
+/// An unfinished table.
 #[derive(Drop)]
 struct Kernel<'a> {
     alloc: Global,
@@ -111,7 +111,7 @@ struct Kernel<'a> {
     ids: Ids,
     /// The string offsets of the names of members, parameters and variants, which many of them share.
     names: Vec<u32>,
-    /// The places of bytes that may have any value: of sizes of structures, and of what pointers lead to.
+    /// The positions of bytes that may have any value: in the sizes of structures, and in the targets of pointers.
     places: Vec<usize>,
     random: &'a mut Random,
 }
@@ -133,7 +133,7 @@ impl<'a> Kernel<'a> {
         })
     }
 
-    /// Fifteen INTs, and one of each kind that others lead to.
+    /// Fifteen INTs, and one type of each kind that others refer to.
     fn begin(&mut self) -> Result<(), Fail> {
         for place in 0u32..15 {
             let name = self.sketch.name(self.random)?;
@@ -154,7 +154,7 @@ impl<'a> Kernel<'a> {
         Ok(())
     }
 
-    /// The words of a list of items: of each a name, and what `item` adds.
+    /// The words of a list of items: for each a name, and the words of `item`.
     fn list(&mut self, kind: BtfKind, len: u32) -> Result<Vec<u32>, Fail> {
         let mut words = Vec::new(self.alloc);
         for place in 0..len {
@@ -267,7 +267,8 @@ impl<'a> Kernel<'a> {
     }
 }
 
-/// A table of at least so many types, in little-endian order. One in 40 of its structures and pointers may change.
+/// A table of at least this number of types, in little-endian order. One in 40 of its structures and pointers may
+/// change.
 pub fn kernel_input(alloc: Global, random: &mut Random, types: u32) -> Result<Input, Fail> {
     let mut kernel = Kernel::new(alloc, random)?;
     kernel.begin()?;

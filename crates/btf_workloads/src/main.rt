@@ -1,9 +1,8 @@
-//! `btf_workloads JOB SEED SIZE ROUNDS`: jobs that a user of the library waits for, to measure one build against
-//! another.
+//! `btf_workloads JOB SEED SIZE ROUNDS`: typical jobs of a user of the library, to compare the times of two builds.
 //!
-//! The seed draws the input: another seed gives another one of the same kind and size. Each round does the job once
-//! more, on input that differs from that of all other rounds. It prints a digest of all that was found, and no times.
-//! JOB is `copy`, `rewrite`, `list`, `relocate`, `load` or `hostile`, or `all` for one after the other.
+//! The seed determines the input: another seed gives another input of the same kind and size. Each round does the job
+//! once more, on different input. The program prints a digest of all results, and no times. JOB is `copy`, `rewrite`,
+//! `list`, `relocate`, `load` or `hostile`, or `all` for one after the other.
 #![tactic(auto)]
 
 mod awkward;
@@ -21,7 +20,7 @@ use std::alloc::Global;
 use std::env;
 use std::test::Fail;
 
-/// What the words after the program's name ask for.
+/// The request in the words after the program's name.
 #[derive(Drop)]
 struct Request {
     job: String,
@@ -31,7 +30,7 @@ struct Request {
 }
 
 impl Request {
-    /// Takes the word of a place.
+    /// Reads the word at an index.
     fn take(&mut self, place: usize, word: String) -> Result<(), Fail> {
         match place {
             1 => self.job = word,

@@ -1,4 +1,4 @@
-//! What a compiler writes for a BPF program: a table whose sections have no sizes yet, and its `.BTF.ext`.
+//! The output of a compiler for a BPF program: a table whose sections have no sizes yet, and its `.BTF.ext`.
 
 use crate::input::{Input, some_places};
 use crate::random::Random;
@@ -8,7 +8,7 @@ use std::alloc::Global;
 use std::collections::HashMap;
 use std::test::Fail;
 
-/// A program, and what its object file says of sections and symbols.
+/// A program, and the sections and symbols of its object file.
 #[derive(Drop)]
 pub struct Program {
     pub order: Endianness,
@@ -21,7 +21,7 @@ pub struct Program {
     pub ksyms: Option<KsymsIds>,
 }
 
-/// A program in the making.
+/// An unfinished program.
 #[derive(Drop)]
 struct Maker {
     alloc: Global,
@@ -56,7 +56,7 @@ impl Maker {
         }
     }
 
-    /// So many INTs, with a TYPEDEF of each, and the pointer to nothing.
+    /// This number of INTs, with a TYPEDEF of each, and the pointer to void.
     fn add_ints(&mut self, count: u32) -> Result<(), Fail> {
         for place in 0..count {
             let name = self.sketch.name(&mut self.random)?;
@@ -70,7 +70,7 @@ impl Maker {
         Ok(())
     }
 
-    /// The words of so many items: of each a name, a type, and for a member the bit at which it begins.
+    /// The words of this number of items: for each a name, a type, and for a member its first bit.
     fn items(&mut self, count: u32, members: bool) -> Result<Vec<u32>, Fail> {
         let mut words = Vec::new(self.alloc);
         for place in 0..count {
@@ -83,7 +83,7 @@ impl Maker {
         Ok(words)
     }
 
-    /// So many structures, with a pointer to each.
+    /// This number of structures, with a pointer to each.
     fn add_structures(&mut self, count: u32) -> Result<(), Fail> {
         for _ in 0..count {
             let len = self.random.from(1, 12);
@@ -100,7 +100,7 @@ impl Maker {
         Ok(())
     }
 
-    /// So many enumerations; one in four has 64-bit values.
+    /// This number of enumerations; one in four has 64-bit values.
     fn add_enumerations(&mut self, count: u32) -> Result<(), Fail> {
         for place in 0..count {
             let name = self.sketch.name(&mut self.random)?;
@@ -117,7 +117,7 @@ impl Maker {
         Ok(())
     }
 
-    /// So many functions, of linkages in turn.
+    /// This number of functions, with alternating linkages.
     fn add_functions(&mut self, count: u32) -> Result<(), Fail> {
         for place in 0..count {
             let len = self.random.from(1, 4);
@@ -132,7 +132,7 @@ impl Maker {
         Ok(())
     }
 
-    /// A section of so many variables; `sized` says whether the compiler knows its size, and where they lie.
+    /// A section of this number of variables; `sized` is whether the compiler knows its size and the offsets.
     fn add_section(&mut self, name: &str, count: u32, sized: bool) -> Result<u32, Fail> {
         let mut words = Vec::new(self.alloc);
         let mut offset = 0u32;
@@ -184,7 +184,7 @@ fn code_sections(
     Ok((offsets, names))
 }
 
-/// Adds the section of an offset to a part of `.BTF.ext`: so many records of so many words.
+/// Adds a section, by the offset of its name, to a part of `.BTF.ext`: a number of records of a number of words.
 fn add_records(
     words: &mut Vec<u32>,
     random: &mut Random,
@@ -199,7 +199,7 @@ fn add_records(
     Ok(())
 }
 
-/// A part of `.BTF.ext`: the size of a record, and of each section up to so many records.
+/// A part of `.BTF.ext`: the size of a record, and up to a number of records for each section.
 fn part(
     alloc: Global,
     random: &mut Random,
@@ -241,7 +241,7 @@ fn ext(
     let first = bytes.len();
     push_words(&mut bytes, &line, order)?;
     push_words(&mut bytes, &core, order)?;
-    // A first record of lines, after the size of one and the two words of its section.
+    // The first record of lines is after the record size and the two words of its section.
     let mut places = Vec::new(alloc);
     for place in 12..60 {
         places.push(first.wrapping_add(place))?;
@@ -249,7 +249,7 @@ fn ext(
     Ok(Input::new(bytes, places))
 }
 
-/// A program of so many structures and functions, and as many sections of code as a fourth of these.
+/// A program of this number of structures and of functions; the number of its sections of code is a fourth of that.
 pub fn drawn_program(
     alloc: Global,
     random: &mut Random,

@@ -1,6 +1,6 @@
-//! Numbers that a seed draws.
+//! Random numbers from a seed.
 
-/// A generator of numbers: SplitMix64.
+/// A generator of random numbers: SplitMix64.
 #[derive(Drop)]
 pub struct Random {
     state: u64,
@@ -19,7 +19,7 @@ impl Random {
         mixed ^ (mixed >> 31)
     }
 
-    /// A number below this one; 0 where there is none.
+    /// A number below this one; 0 if there is none.
     pub fn below(&mut self, end: u32) -> u32 {
         ((self.number() >> 32).wrapping_mul(u64::from(end)) >> 32) as u32
     }
@@ -29,12 +29,12 @@ impl Random {
         (self.number() >> 56) as u8
     }
 
-    /// A number from the first on, so many.
+    /// One of `count` numbers from the first on.
     pub fn from(&mut self, first: u32, count: u32) -> u32 {
         first.wrapping_add(self.below(count))
     }
 
-    /// One of these; 0 where there is none.
+    /// One of these numbers; 0 if there are none.
     pub fn one_of(&mut self, numbers: &[u32]) -> u32 {
         let count = u32::try_from(numbers.len()).unwrap_or(u32::MAX);
         let place = self.below(count) as usize;

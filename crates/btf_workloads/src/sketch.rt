@@ -1,18 +1,18 @@
-//! Bytes of tables in the making.
+//! Bytes of unfinished tables.
 
 use crate::random::Random;
 use btf::{BtfKind, Endianness};
 use std::alloc::Global;
 use std::test::Fail;
 
-/// The words that names are made of.
+/// The words that names consist of.
 static WORDS: [&str; 32] = [
     "task", "net", "dev", "alloc", "page", "queue", "sched", "xfrm", "irq", "inode", "buffer",
     "state", "init", "get", "put", "lock", "ops", "skb", "fs", "group", "device", "register",
     "set", "mem", "entry", "list", "tx", "rx", "fn", "ctx", "cfg", "trace",
 ];
 
-/// Spells words at the end of bytes.
+/// Appends words to bytes.
 pub fn push_words(bytes: &mut Vec<u8>, words: &[u32], endianness: Endianness) -> Result<(), Fail> {
     for word in words {
         bytes.extend_from_slice(&endianness.write_u32(*word))?;
@@ -49,7 +49,7 @@ impl Sketch {
         self.last.wrapping_add(1)
     }
 
-    /// The place of the lowest byte of the next record's third word in the bytes of the table.
+    /// The position of the lowest byte of the next record's third word in the bytes of the table.
     pub fn third_word(&self) -> usize {
         let low = match self.order {
             Endianness::Little => 32,
@@ -74,7 +74,7 @@ impl Sketch {
         Ok(self.last)
     }
 
-    /// An INT of so many bytes.
+    /// An INT of this number of bytes.
     pub fn int(&mut self, name: u32, bytes: u32) -> Result<u32, Fail> {
         self.record(BtfKind::Int, name, 0, bytes, &[bytes.wrapping_mul(8)])
     }
@@ -87,7 +87,7 @@ impl Sketch {
         Ok(offset)
     }
 
-    /// Appends so many of a byte, and returns their offset.
+    /// Appends this number of copies of a byte, and returns their offset.
     pub fn bytes_of(&mut self, byte: u8, count: u32) -> Result<u32, Fail> {
         let offset = u32::try_from(self.strings.len())?;
         for _ in 0..count {

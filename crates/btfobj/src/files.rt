@@ -1,4 +1,4 @@
-//! Files that are read, and files that are written.
+//! Reading and writing files.
 
 use std::fs::File;
 use std::io::{Read, Write};
@@ -7,7 +7,7 @@ use std::{fs, io};
 /// The name of standard input, and of standard output.
 const STREAM: &str = "-";
 
-/// What the name of a new file ends with until it is whole.
+/// The ending of a new file's name until the file is complete.
 const UNFINISHED: &str = ".btfobj-new";
 
 /// The whole of a file, or of standard input for `-`.
@@ -20,10 +20,10 @@ pub fn read_file(rt: &HostRuntime, name: &str) -> io::Result<Vec<u8>> {
     Ok(bytes)
 }
 
-/// Writes a file of these bytes, or standard output for `-`.
+/// Writes these bytes to a file, or to standard output for `-`.
 ///
-/// The bytes are written to a new file `NAME.btfobj-new`, which takes the name at the end. So there is no part of a file
-/// under the name at any time. A file that is left from a process that was killed is not written over.
+/// The bytes are written to a new file `NAME.btfobj-new`, which is renamed at the end, so that the name never refers to
+/// an incomplete file. An unfinished file that a killed process left is not overwritten.
 pub fn write_file(rt: &HostRuntime, name: &str, bytes: &[u8]) -> io::Result<()> {
     if name == STREAM {
         return rt.stdout().write_all(bytes);
@@ -34,7 +34,7 @@ pub fn write_file(rt: &HostRuntime, name: &str, bytes: &[u8]) -> io::Result<()> 
     match finish(rt, &mut file, bytes, unfinished, name) {
         Ok(()) => Ok(()),
         Err(e) => {
-            // What is wrong with the removal says nothing more.
+            // An error of the removal is ignored, because the first error is returned.
             let _ = fs::remove_file(rt, unfinished);
             Err(e)
         }

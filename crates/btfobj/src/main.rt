@@ -1,4 +1,4 @@
-//! `btfobj`: reads ELF objects and BTF tables, and writes what they say or what an old kernel takes.
+//! `btfobj`: reads ELF objects and BTF tables, writes their contents as text, and rewrites them for an old kernel.
 #![tactic(auto)]
 
 mod files;
@@ -11,7 +11,7 @@ use std::alloc::{AllocError, Global};
 use std::process::ExitCode;
 use std::{env, io};
 
-/// The words of the command line, the program's name among them.
+/// The words of the command line, including the program's name.
 fn read_words(rt: &HostRuntime) -> io::Result<Vec<String>> {
     let mut words = Vec::new(rt.alloc());
     for word in env::args(rt)? {
@@ -20,7 +20,7 @@ fn read_words(rt: &HostRuntime) -> io::Result<Vec<String>> {
     Ok(words)
 }
 
-/// The words as texts that are lent.
+/// The words as borrowed texts.
 fn lend(alloc: Global, words: &[String]) -> Result<Vec<&str>, AllocError> {
     let mut lent = Vec::with_capacity(alloc, words.len())?;
     for word in words {
@@ -29,7 +29,7 @@ fn lend(alloc: Global, words: &[String]) -> Result<Vec<&str>, AllocError> {
     Ok(lent)
 }
 
-/// Prints an error of the command line, or the help or the version that it asks for, and returns the status.
+/// Prints an error of the command line, the help, or the version, and returns the status.
 fn print_error(rt: &HostRuntime, error: &Error) -> ExitCode {
     let status = if error.use_stderr() { 2 } else { 0 };
     match error.print(rt) {

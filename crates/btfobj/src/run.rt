@@ -1,4 +1,4 @@
-//! What the program does for a request.
+//! Carrying out a request.
 
 use crate::files::{read_file, write_file};
 use btf_table::Btf;
@@ -7,19 +7,19 @@ use std::hash::RandomState;
 use std::process::ExitCode;
 use std::{fmt, io};
 
-/// Why a request fails: the file, and what is wrong with it.
+/// The error of a request: the file, and its error.
 #[derive(Drop)]
 struct Failure<'a> {
     file: &'a str,
     cause: Cause,
 }
 
-/// What is wrong with a file.
+/// The error of a file.
 #[derive(Drop)]
 enum Cause {
     /// It cannot be read or written.
     Io(io::Error),
-    /// The command refuses it.
+    /// The command fails on it.
     Fault(Fault),
 }
 
@@ -33,20 +33,20 @@ impl fmt::Display for Failure<'_> {
     }
 }
 
-/// Does what a request asks for, and returns the status: 0; 1 for a file that is refused, or a check that says no.
+/// Carries out a request, and returns the status: 0 on success, and 1 for an error or a negative check.
 pub fn carry_out(rt: &HostRuntime, request: &Request<'_>) -> ExitCode {
     match answer(rt, request) {
         Ok(true) => ExitCode::SUCCESS,
         Ok(false) => ExitCode::FAILURE,
         Err(failure) => {
-            // There is nothing to be done where standard error fails.
+            // An error of standard error cannot be reported.
             let _ = eprintln!(rt; "{failure}");
             ExitCode::FAILURE
         }
     }
 }
 
-/// Does what a request asks for. False where a check says no.
+/// Carries out a request. Returns false for a negative check.
 fn answer<'a>(rt: &HostRuntime, request: &Request<'a>) -> Result<bool, Failure<'a>> {
     match request {
         Request::Dump { file, selection } => {
@@ -106,7 +106,7 @@ fn hasher<'a>(rt: &HostRuntime, file: &'a str) -> Result<RandomState, Failure<'a
     }
 }
 
-/// The same outcome, where a fault is one of this file.
+/// Attributes the fault of an outcome to this file.
 fn blame<'a, T>(file: &'a str, outcome: Result<T, Fault>) -> Result<T, Failure<'a>> {
     match outcome {
         Ok(value) => Ok(value),
@@ -117,7 +117,7 @@ fn blame<'a, T>(file: &'a str, outcome: Result<T, Fault>) -> Result<T, Failure<'
     }
 }
 
-/// Writes a file that is rewritten.
+/// Rewrites a file.
 fn write_sanitized<'a>(
     rt: &HostRuntime,
     file: &'a str,

@@ -1,4 +1,4 @@
-//! Files that hold a table: objects, and tables alone.
+//! Files with a table: objects, and tables alone.
 
 use crate::fault::Fault;
 use btf_elf::Object;
@@ -6,13 +6,13 @@ use btf_model::Endianness;
 use btf_table::Btf;
 use std::alloc::Global;
 
-/// The name of the section that has the table of an object.
+/// The name of the section with the table of an object.
 const TABLE_SECTION: &str = ".BTF";
 
-/// The name of the section that says which instructions the table's functions, lines and relocations are about.
+/// The name of the section that maps functions, lines and relocations to instructions.
 const EXT_SECTION: &str = ".BTF.ext";
 
-/// A file that holds a table.
+/// A file with a table.
 #[derive(Drop)]
 pub enum Blob<'a> {
     /// An ELF object.
@@ -25,10 +25,11 @@ impl<'a> Blob<'a> {
     ghost use Rattle.std.specs.Prelude.{◌≡◌, true, IfOk};
     ghost use Rattle.btfobj_cli.specs.Blob.{BeginsObject, is_object};
 
-    /// The file of these bytes: an object where they begin with ELF's magic number, and a table where they begin with
-    /// BTF's (`BTF_MAGIC`, 0xeb9f) in either order.
+    /// The file of these bytes: an object if they begin with ELF's magic number, and a table if they begin with BTF's
+    /// magic number (`BTF_MAGIC`, 0xeb9f) in either byte order.
     ///
-    /// `UnknownFormat` where they begin otherwise, and `Object` with the error of `Object::parse`. `OutOfMemory`.
+    /// The error is `UnknownFormat` if they begin otherwise, `Object` with the error of `Object::parse`, or
+    /// `OutOfMemory`.
     pub fn read(alloc: Global, bytes: &'a [u8]) -> Result<Blob<'a>, Fault>
         ensures { IfOk result (λ blob. BeginsObject bytes.now → is_object blob ≡ true) }
     {
@@ -40,7 +41,7 @@ impl<'a> Blob<'a> {
         }
     }
 
-    /// The order of the words.
+    /// The byte order of the words.
     pub fn endianness(&self) -> Endianness {
         match self {
             Blob::Object(object) => object.header().order,
@@ -48,7 +49,8 @@ impl<'a> Blob<'a> {
         }
     }
 
-    /// The table. `NoSection` where an object has none, and `Table` with the error of `Btf::parse`. `OutOfMemory`.
+    /// The table. The error is `NoSection` if an object has none, `Table` with the error of `Btf::parse`, or
+    /// `OutOfMemory`.
     pub fn table(&self, alloc: Global) -> Result<Btf, Fault> {
         let bytes = match self {
             Blob::Object(object) => section(object, TABLE_SECTION)?,
@@ -57,7 +59,7 @@ impl<'a> Blob<'a> {
         Ok(Btf::parse(alloc, bytes, self.endianness())?)
     }
 
-    /// The bytes of `.BTF.ext`. `NoSection` where an object has none, and `NoExt` for a table alone.
+    /// The bytes of `.BTF.ext`. The error is `NoSection` if an object has none, and `NoExt` for a table alone.
     pub fn ext(&self) -> Result<&'a [u8], Fault> {
         match self {
             Blob::Object(object) => section(object, EXT_SECTION),

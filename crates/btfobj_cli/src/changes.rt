@@ -1,4 +1,4 @@
-//! What a rewrite would change.
+//! The changes that a rewrite would make.
 
 use crate::blob::Blob;
 use crate::fault::Fault;
@@ -12,9 +12,9 @@ use std::alloc::Global;
 use std::hash::BuildHasher;
 use std::{fmt, io};
 
-/// Writes which features a file's table needs, and which of them the kernel lacks; and a line for each type that a
-/// rewrite for the kernel changes or adds. Returns whether there is such a type. The errors are those of `sanitize` and
-/// of `Blob::table`, and `Write`.
+/// Writes a line for each feature that a file's table needs, with whether the kernel has the feature, and a line for
+/// each type that a rewrite for the kernel changes or adds. Returns whether there is such a type. The errors are those
+/// of `sanitize` and of `Blob::table`, and `Write`.
 pub fn check<W: io::Write, H: BuildHasher + Clone + Drop>(
     alloc: Global,
     bytes: &[u8],
@@ -59,7 +59,7 @@ pub fn feature_name(feature: BtfFeature) -> &'static str {
     }
 }
 
-/// Writes a line for each type of the new table that the old one doesn't have, and returns whether there is one.
+/// Writes a line for each type of the new table that differs from the old table's, and returns whether there is one.
 fn write_changes<W: fmt::Write>(
     alloc: Global,
     old: &Btf,
@@ -84,7 +84,7 @@ fn write_changes<W: fmt::Write>(
     Ok(changes)
 }
 
-/// Writes what a type becomes.
+/// Writes a change of a type.
 fn write_change<W: fmt::Write>(
     alloc: Global,
     old: (&Btf, &BtfType),
@@ -103,14 +103,14 @@ fn write_change<W: fmt::Write>(
     Ok(())
 }
 
-/// Writes that a type is added.
+/// Writes an addition of a type.
 fn write_addition<W: fmt::Write>(new: &Btf, btf_type: &BtfType, out: &mut W) -> Result<(), Fault> {
     write_type_line(new, btf_type, out)?;
     out.write_str(" is added\n")?;
     Ok(())
 }
 
-/// The bytes of an old type and of a new one, in buffers that are used again.
+/// The bytes of an old type and of a new one, in buffers that are reused.
 #[derive(Drop)]
 struct Spelled {
     old: Vec<u8>,

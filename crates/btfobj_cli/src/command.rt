@@ -152,7 +152,7 @@ fn sanitize<'a>(alloc: Global) -> Result<Command<'a>, AllocError> {
     with_kernel(alloc, command)
 }
 
-/// The arguments that say for which kernel a table is rewritten.
+/// Adds the arguments that describe the kernel of a rewrite.
 fn with_kernel<'a>(alloc: Global, command: Command<'a>) -> Result<Command<'a>, AllocError> {
     let kernel = Arg::new(alloc, "kernel")
         .long("kernel")

@@ -1,4 +1,4 @@
-//! Whether the types of a name are compatible in two tables.
+//! The comparison of the types of a name in two tables.
 
 use crate::fault::Fault;
 use btf_compare::types_are_compatible;
@@ -8,7 +8,7 @@ use btf_words::{BtfError, BtfKind};
 use std::fmt::Write;
 use std::io;
 
-/// The kinds of which a type is looked for, in this order.
+/// The kinds of the types that are looked up, in this order.
 const KINDS: [BtfKind; 9] = [
     BtfKind::Struct,
     BtfKind::Union,
@@ -21,7 +21,7 @@ const KINDS: [BtfKind; 9] = [
     BtfKind::Func,
 ];
 
-/// What is found out of a name.
+/// The outcome of the comparison for a name.
 #[derive(Clone, Copy, Debug, PartialEq, Eq)]
 enum Finding {
     /// The types are compatible.
@@ -34,12 +34,15 @@ enum Finding {
     NoTarget,
 }
 
-/// Writes for each name whether the type of the first table that has it is compatible with that of the second table, as
-/// `types_are_compatible` says. It is the first type of the name among those of the first kind that has one, in this
-/// order: STRUCT, UNION, ENUM, ENUM64, TYPEDEF, INT, FLOAT, FWD, FUNC. In the second table it is the first type of the
-/// name and of the same kind, or of ENUM for ENUM64 and the other way round. Returns whether all are compatible.
+/// Writes for each name whether its types in the two tables are compatible by `types_are_compatible`. Returns whether
+/// all are.
 ///
-/// `Table` with the error of `Btf::id_by_type_name_kind` or of `types_are_compatible`, `Write`, and `OutOfMemory`.
+/// The kinds are tried in this order: STRUCT, UNION, ENUM, ENUM64, TYPEDEF, INT, FLOAT, FWD, FUNC. The first table's
+/// type is the first one of the name with the first kind that has one. The second table's type is the first one of the
+/// name with the same kind, where ENUM and ENUM64 count as the same.
+///
+/// The errors are `Table` with the error of `Btf::id_by_type_name_kind` or of `types_are_compatible`, `Write`, and
+/// `OutOfMemory`.
 pub fn compat<W: io::Write>(
     local: &Btf,
     target: &Btf,
@@ -63,7 +66,7 @@ pub fn compat<W: io::Write>(
     Ok(all)
 }
 
-/// What is found out of a name.
+/// Compares the types of a name.
 fn compare(local: &Btf, target: &Btf, name: &str) -> Result<Finding, Fault> {
     let Some((kind, local_id)) = find_any(local, name)? else {
         return Ok(Finding::NoLocal);
@@ -97,7 +100,7 @@ fn find_any(table: &Btf, name: &str) -> Result<Option<(BtfKind, u32)>, BtfError>
     Ok(None)
 }
 
-/// The first type of a name that has this kind, or the other kind of an enumeration.
+/// The first type of a name with this kind, or with the other kind of enumeration.
 fn find_like(table: &Btf, name: &str, kind: BtfKind) -> Result<Option<u32>, BtfError> {
     let found = find(table, name, kind)?;
     match kind {

@@ -1,4 +1,4 @@
-//! Why a command fails.
+//! The errors of commands.
 
 use btf_elf::ObjectError;
 use btf_object::SanitizeError;
@@ -8,14 +8,14 @@ use std::alloc::{AllocError, AllocFailed};
 use std::fmt;
 use thiserror::Error;
 
-/// Why a command fails on a file.
+/// The error of a command on a file.
 #[derive(Debug, Drop, Error)]
 pub enum Fault {
-    /// The file begins as neither an object nor a table does.
+    /// The file begins neither as an object nor as a table.
     #[error("neither an ELF object nor a BTF table")]
     UnknownFormat,
 
-    /// The file is no object that can be read.
+    /// The file is no valid object.
     #[error("{0}")]
     Object(ObjectError),
 
@@ -23,15 +23,15 @@ pub enum Fault {
     #[error("the object has no section {0}")]
     NoSection(&'static str),
 
-    /// The file is a table, which has no `.BTF.ext` beside it.
+    /// The file is a table alone, so it has no `.BTF.ext`.
     #[error("a BTF table has no section .BTF.ext")]
     NoExt,
 
-    /// The table, or the section `.BTF.ext`, is refused.
+    /// The table, or the section `.BTF.ext`, is invalid.
     #[error("{0}")]
     Table(BtfError),
 
-    /// The object is not rewritten.
+    /// The object cannot be rewritten.
     #[error("{0}")]
     Rewrite(SanitizeError),
 

@@ -1,4 +1,4 @@
-//! What the program `btfobj` does, over bytes and writers: its command line, and an answer for each command.
+//! The program `btfobj` over bytes and writers: its command line, and its commands.
 #![tactic(auto)]
 
 mod blob;

@@ -1,4 +1,4 @@
-//! The commands that write what a file says.
+//! The commands that write the contents of a file.
 
 use crate::blob::Blob;
 use crate::fault::Fault;
@@ -6,8 +6,7 @@ use btf_text::{Selection, TextBuffer, find_layout, write_dump, write_ext, write_
 use std::alloc::Global;
 use std::io::Write;
 
-/// Writes the types of a file's table that are selected, as `write_dump` does. The table is parsed before anything is
-/// written.
+/// Writes the selected types of a file's table, as `write_dump` does. The table is parsed before anything is written.
 pub fn dump<W: Write>(
     alloc: Global,
     bytes: &[u8],

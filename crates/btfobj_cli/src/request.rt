@@ -1,4 +1,4 @@
-//! What a command line asks for.
+//! The request of a command line.
 
 use crate::command::command;
 use crate::rewrite::Rewrite;
@@ -10,35 +10,35 @@ use clap::error::ErrorKind;
 use clap::{ArgMatches, Command, Error};
 use std::alloc::Global;
 
-/// What a command line asks for. A file `-` is standard input, and an output `-` is standard output.
+/// The request of a command line. A file `-` is standard input, and an output `-` is standard output.
 #[derive(Debug, Drop)]
 pub enum Request<'a> {
-    /// The types of a file's table.
+    /// Dumps the types of a file's table.
     Dump {
         file: &'a str,
         selection: Selection<'a>,
     },
-    /// The layout of a structure or a union.
+    /// Writes the layout of a structure or a union.
     Layout {
         file: &'a str,
         name: &'a str,
     },
-    /// What `.BTF.ext` says.
+    /// Writes the contents of `.BTF.ext`.
     Ext {
         file: &'a str,
     },
-    /// What a rewrite would change.
+    /// Writes the changes that a rewrite would make.
     Check {
         file: &'a str,
         rewrite: Rewrite<'a>,
     },
-    /// A file that is rewritten, and the name of the new file.
+    /// Rewrites a file, and writes the new file.
     Sanitize {
         file: &'a str,
         output: &'a str,
         rewrite: Rewrite<'a>,
     },
-    /// Whether types of these names are compatible in two tables.
+    /// Compares the types of these names in two tables.
     Compat {
         local: &'a str,
         target: &'a str,
@@ -46,8 +46,8 @@ pub enum Request<'a> {
     },
 }
 
-/// What the words of a command line ask for, the program's name among them; or what is to be printed instead: what is
-/// wrong with them, help, or the version.
+/// The request of the words of a command line, including the program's name. The error is the text to print instead: an
+/// error of the command line, the help, or the version.
 pub fn read_request<'a>(alloc: Global, words: &'a [&'a str]) -> Result<Request<'a>, Error> {
     let mut command = command(alloc)?;
     let matches = command.try_get_matches_from_mut(words)?;
@@ -83,7 +83,7 @@ pub fn read_request<'a>(alloc: Global, words: &'a [&'a str]) -> Result<Request<'
     }
 }
 
-/// The value of an argument; empty where it was not given, which a required one never is.
+/// The value of an argument; empty if it was not given. A required argument is always given.
 fn text<'a>(matches: &ArgMatches<'a>, id: &str) -> &'a str {
     matches.get_str(id).unwrap_or("")
 }
@@ -96,7 +96,7 @@ fn refusal(command: &mut Command<'_>, message: &str) -> Error {
     }
 }
 
-/// Which types are to be written.
+/// The selection of the types to write.
 fn read_selection<'a>(
     command: &mut Command<'_>,
     matches: &ArgMatches<'a>,
@@ -129,7 +129,7 @@ fn read_range(text: &str) -> Option<(Option<u32>, Option<u32>)> {
     Some((read_end(from)?, read_end(to)?))
 }
 
-/// The end of a range, which may be left out; None where it is no number of 32 bits.
+/// The end of a range, which may be left out; None if it is no number of 32 bits.
 fn read_end(text: &str) -> Option<Option<u32>> {
     if text.is_empty() {
         return Some(None);
@@ -140,14 +140,14 @@ fn read_end(text: &str) -> Option<Option<u32>> {
     }
 }
 
-/// The kind of a name, in any case.
+/// The kind of a name, ignoring case.
 fn kind_of_name(name: &str) -> Option<BtfKind> {
     (1..20)
         .filter_map(|number| BtfKind::try_from(number).ok())
         .find(|kind| btf_text::kind_name(*kind).eq_ignore_ascii_case(name))
 }
 
-/// For what a table is to be rewritten.
+/// The settings of a rewrite.
 fn read_rewrite<'a>(
     command: &mut Command<'_>,
     matches: &ArgMatches<'a>,

@@ -1,4 +1,4 @@
-//! Files that are rewritten for a kernel.
+//! The rewrite of files for a kernel.
 
 ghost use Rattle.std.specs.Prelude.{IfOk};
 ghost use Rattle.std.specs.Option.{option_map};
@@ -18,22 +18,23 @@ use std::alloc::Global;
 use std::collections::HashMap;
 use std::hash::BuildHasher;
 
-/// For what a table is rewritten.
+/// The settings of a rewrite.
 #[derive(Clone, Copy, Debug)]
 pub struct Rewrite<'a> {
-    /// What the kernel has.
+    /// The features of the kernel.
     pub kernel: Kernel,
-    /// What becomes of a DATASEC that has a size and no entries.
+    /// The policy for a DATASEC that has a size and no entries.
     pub policy: FillPolicy,
-    /// The name of the variable that takes the place of functions in `.ksyms`.
+    /// The name of the variable that replaces functions in `.ksyms`.
     pub placeholder: Option<&'a str>,
 }
 
-/// The bytes of a file whose table is rewritten for a kernel, and the features that were asked for. An object is
-/// rewritten as `sanitize_object_with` does, with this hasher. A table alone has no sections and no symbols.
+/// Rewrites the table of a file for a kernel. Returns the bytes of the new file, and the answers for the features that
+/// the rewrite asked about. An object is rewritten as by `sanitize_object_with`, with this hasher. A table alone has no sections and no
+/// symbols.
 ///
-/// `UnknownFormat`, `Rewrite` with the error of `sanitize_object_with`, `Table` with that of `ksyms_of` or of
-/// `rewrite_bytes_with`, and `OutOfMemory`.
+/// The errors are `UnknownFormat`, `Rewrite` with the error of `sanitize_object_with`, `Table` with the error of
+/// `ksyms_of` or of `rewrite_bytes_with`, and `OutOfMemory`.
 pub fn sanitize<H: BuildHasher + Clone + Drop>(
     alloc: Global,
     bytes: &[u8],
@@ -58,7 +59,7 @@ pub fn sanitize<H: BuildHasher + Clone + Drop>(
     }
 }
 
-/// The bytes of a table that is rewritten for a kernel, and the features that were asked for.
+/// Rewrites a table alone. Returns its bytes, and the answers for the features that the rewrite asked about.
 fn sanitize_table(
     alloc: Global,
     bytes: &[u8],

@@ -1,9 +1,9 @@
-//! Command lines, and what they ask for.
+//! Command lines, and their requests.
 
 use btfobj_cli::{Request, read_request};
 
-/// Words of a command line, and what they ask for: a command, `text` for help or the version on standard output, or
-/// `usage` for an error.
+/// Words of a command line, and their request: a command, `text` for help or the version on standard output, or `usage`
+/// for an error.
 static ROWS: [(&[&str], &str); 28] = [
     (&["btfobj", "dump", "a.o"], "dump"),
     (&["btfobj", "dump", "-", "--ids", "3..9"], "dump"),
@@ -94,7 +94,7 @@ fn command_name(request: &Request) -> &'static str {
     }
 }
 
-/// What a command line asks for.
+/// The request of a command line.
 fn outcome(rt: &HostRuntime, words: &'static [&'static str]) -> &'static str {
     let read = read_request(rt.alloc(), words);
     match &read {
@@ -103,7 +103,7 @@ fn outcome(rt: &HostRuntime, words: &'static [&'static str]) -> &'static str {
     }
 }
 
-/// Reports each command line that asks for something else.
+/// Reports each command line that has another request.
 pub fn try_command_lines(rt: &HostRuntime) -> anyhow::Result<()> {
     for (index, (words, asked)) in ROWS.iter().enumerate() {
         let found = outcome(rt, words);

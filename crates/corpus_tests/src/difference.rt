@@ -1,8 +1,8 @@
-//! Differences between what this project writes and what another tool wrote.
+//! Differences between the output of this project and the output of another tool.
 
-/// How lines of `pahole` 1.24 begin, and how the lines that are written in their place do. C has them so: `pahole` writes
-/// the lengths of an array of arrays the other way round, that of an array of functions after their parameters, and a
-/// qualifier of a pointer in front of its type; and it writes `single` for a number of any length.
+/// The beginnings of lines of `pahole` 1.24, and the beginnings of the lines that replace them, which are as in C.
+/// `pahole` writes the lengths of an array of arrays in reverse order, the length of an array of functions after their
+/// parameters, a qualifier of a pointer before its type, and `single` for a floating-point number of any length.
 const STATED: [(&[u8], &[u8]); 5] = [
     (
         b"\tint                        grid[3][2]; ",
@@ -26,7 +26,7 @@ const STATED: [(&[u8], &[u8]); 5] = [
     ),
 ];
 
-/// Whether a line is the one that the other tool wrote, or the one that is stated for it.
+/// Whether a line is the other tool's line, or its stated replacement.
 fn is_same(ours: &[u8], theirs: &[u8]) -> bool {
     if ours == theirs {
         return true;
@@ -41,7 +41,7 @@ fn is_same(ours: &[u8], theirs: &[u8]) -> bool {
     false
 }
 
-/// The number of the first line that the two texts don't share, from 1 on.
+/// The number of the first line that differs between two texts, from 1 on.
 pub fn first_difference(ours: &[u8], theirs: &[u8]) -> Option<usize> {
     let mut lines = theirs.split(|byte| *byte == b'\n');
     let mut number = 0usize;

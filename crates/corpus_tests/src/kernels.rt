@@ -6,11 +6,11 @@ use btf_rewrite_model::FillPolicy;
 use btfobj_cli::{Blob, Rewrite, sanitize};
 use std::hash::RandomState;
 
-/// The versions for which each object is rewritten. Between each and the next one kernels gained features.
+/// The versions for which each object is rewritten. Each has features that the one before it lacks.
 const VERSIONS: [&str; 5] = ["4.18", "5.2", "5.8", "5.13", "6.0"];
 
-/// Rewrites an object for each version, and once more. Reports where a rewrite is refused, where the second one changes
-/// something, and where another section than `.BTF` has changed.
+/// Rewrites an object for each version, and then the result again. Reports a rewrite that fails, a second rewrite that
+/// changes something, and a change of a section other than `.BTF`.
 pub fn try_kernels(rt: &HostRuntime, sample: &str, object: &[u8]) -> anyhow::Result<()> {
     for version in VERSIONS {
         let Some(kernel) = Kernel::of_version(version) else {
@@ -31,7 +31,7 @@ pub fn try_kernels(rt: &HostRuntime, sample: &str, object: &[u8]) -> anyhow::Res
     Ok(())
 }
 
-/// What is wrong with an object that is rewritten.
+/// The fault of a rewritten object.
 fn try_rewrite(
     rt: &HostRuntime,
     object: &[u8],
@@ -55,7 +55,7 @@ fn try_rewrite(
     Ok(None)
 }
 
-/// Whether an object has the sections of another one, with their names and bytes, but for the bytes of `.BTF`.
+/// Whether an object has the sections of another one, with their names and bytes, except for the bytes of `.BTF`.
 fn has_other_sections(old: &Object<'_>, new: &Object<'_>) -> bool {
     if old.sections().len() != new.sections().len() {
         return false;

@@ -1,6 +1,6 @@
-//! Compares what the commands of `btfobj` write of a corpus of objects with what other tools wrote, rewrites each object
-//! for five kernels, and tries malformed copies of two. The objects and the outputs of the other tools are in `data/`,
-//! with the script that made them. It writes a line for each difference, and one for each object.
+//! Compares the output of the commands of `btfobj` for a corpus of objects with the output of other tools, rewrites
+//! each object for five kernels, and tries malformed copies of two objects. The objects and the outputs of the other
+//! tools are in `data/`, with the script that made them. It writes a line for each difference, and one for each object.
 #![tactic(auto)]
 
 mod command_lines;
@@ -25,7 +25,7 @@ fn read(rt: &HostRuntime, sample: &str, tool: &str) -> anyhow::Result<Vec<u8>> {
     Ok(fs::read(rt, name.as_str())?)
 }
 
-/// Tries an object of the corpus.
+/// Tests an object of the corpus.
 fn try_sample(rt: &HostRuntime, sample: &'static str) -> anyhow::Result<()> {
     let object = read(rt, sample, "")?;
     compare_dump(rt, sample, &object, &read(rt, sample, ".bpftool")?)?;

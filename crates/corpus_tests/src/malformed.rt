@@ -1,10 +1,10 @@
-//! Objects that are cut, or have all bits set in a field.
+//! Objects that are truncated, or have all bits set in a field.
 
 use btf_elf::{Object, SectionHeader};
 use btf_text::Selection;
 use btfobj_cli::{Fault, dump, ext};
 
-/// Where a field is.
+/// The position of a field.
 enum Place {
     /// In the file, at this byte.
     File(usize),
@@ -14,8 +14,8 @@ enum Place {
     Section(&'static [u8], usize),
 }
 
-/// The fields of the file header, of section headers, of a symbol, of the table, and of `.BTF.ext`: where each is, how
-/// many bytes it has, and how the error begins that is documented for it where all its bits are set.
+/// The fields of the file header, of section headers, of a symbol, of the table, and of `.BTF.ext`: the position of
+/// each, its number of bytes, and the beginning of the documented error for the field with all bits set.
 static ROWS: [(Place, usize, &str); 22] = [
     (Place::File(0), 4, "neither an ELF object nor a BTF table"),
     (Place::File(4), 1, "ELF class 255 is not supported"),
@@ -93,7 +93,7 @@ static ROWS: [(Place, usize, &str); 22] = [
     (Place::Section(b".BTF.ext", 8), 4, "invalid BTF info"),
 ];
 
-/// The section of a name, and the byte of the file at which its header begins.
+/// The section of a name, and the offset of its header in the file.
 fn section(object: &Object<'_>, name: &[u8]) -> Option<(SectionHeader, usize)> {
     let index = object.section_by_name(name)?;
     let section = object.sections().get(index)?;
@@ -101,7 +101,7 @@ fn section(object: &Object<'_>, name: &[u8]) -> Option<(SectionHeader, usize)> {
     Some((*section, table.checked_add(index.checked_mul(64)?)?))
 }
 
-/// The byte of the file at which a field begins.
+/// The offset of a field in the file.
 fn position(object: &Object<'_>, place: &Place) -> Option<usize> {
     match place {
         Place::File(at) => Some(*at),
@@ -120,15 +120,15 @@ fn set_bits(file: &mut [u8], at: usize, len: usize) {
     }
 }
 
-/// Writes all that an object says.
+/// Writes all contents of an object.
 fn read_all(rt: &HostRuntime, file: &[u8]) -> Result<(), Fault> {
     let mut nowhere = std::io::sink();
     dump(rt.alloc(), file, &Selection::default(), &mut nowhere)?;
     ext(rt.alloc(), file, &mut nowhere)
 }
 
-/// Reports each malformed copy of an object that is not refused as is documented, and each beginning of it that is not
-/// refused.
+/// Reports each malformed copy of an object without the documented error, and each prefix of the object without an
+/// error.
 pub fn try_malformed(rt: &HostRuntime, sample: &str, file: &[u8]) -> anyhow::Result<()> {
     let object = Object::parse(rt.alloc(), file)?;
     for (index, (place, len, error)) in ROWS.iter().enumerate() {
@@ -160,7 +160,7 @@ fn report(
     Ok(())
 }
 
-/// Reports the beginnings of an object, whose section headers are at its end, that are not refused.
+/// Reports the prefixes of an object without an error; its section headers are at its end.
 fn try_cuts(rt: &HostRuntime, sample: &str, file: &[u8]) -> anyhow::Result<()> {
     for len in 0..file.len() {
         if read_all(rt, &file[..len]).is_ok() {

@@ -1,4 +1,4 @@
-//! What the commands write, beside the outputs of other tools.
+//! The outputs of the commands, compared with the outputs of other tools.
 
 use crate::difference::first_difference;
 use btf_elf::Object;
@@ -30,7 +30,7 @@ fn report(
     Ok(())
 }
 
-/// Compares the dump of an object with that of `bpftool`.
+/// Compares the dump of an object with the dump of `bpftool`.
 pub fn compare_dump(
     rt: &HostRuntime,
     sample: &str,
@@ -42,7 +42,7 @@ pub fn compare_dump(
     report(rt, sample, "bpftool", &ours, theirs)
 }
 
-/// Compares the layouts of an object's structures and unions with those of `pahole`.
+/// Compares the layouts of an object's structures and unions with the layouts of `pahole`.
 pub fn compare_layouts(
     rt: &HostRuntime,
     sample: &str,
@@ -60,7 +60,7 @@ pub fn compare_layouts(
     report(rt, sample, "pahole", &ours, theirs)
 }
 
-/// Compares the sections of an object with those that `llvm-readelf` lists.
+/// Compares the sections of an object with the sections that `llvm-readelf` lists.
 pub fn compare_sections(
     rt: &HostRuntime,
     sample: &str,

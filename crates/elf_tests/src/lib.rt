@@ -1,5 +1,5 @@
-//! Tests of objects that a compiler wrote, and of copies that are changed. Expected values are those of readelf, or are
-//! worked by hand from the format.
+//! Tests of objects that a compiler wrote, and of modified copies. The expected values are the output of readelf, or
+//! are computed by hand from the format.
 #![tactic(auto)]
 
 #[cfg(test)]

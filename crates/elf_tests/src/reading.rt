@@ -1,4 +1,4 @@
-//! What the objects say, as readelf lists them.
+//! The contents of the objects, as listed by readelf.
 
 use crate::sample::{big, little};
 use btf_elf::{Endianness, Object};

@@ -5,17 +5,17 @@ use btf_elf::{Object, ObjectError, ParseError};
 use std::alloc::Global;
 use std::test::Fail;
 
-/// Bytes that are written over those of the little-endian object, and the error then.
+/// Bytes that replace some of the little-endian object, and the error of the result.
 struct Malformed {
     at: usize,
     bytes: &'static [u8],
     error: ParseError,
 }
 
-/// Where the section header table begins: section N has its header 64 * N bytes after it.
+/// The offset of the section header table: the header of section N is 64 * N bytes after it.
 const TABLE: usize = 0x1c8;
 
-/// Where `.strtab` begins and ends, and where `.symtab` begins.
+/// The start and the end of `.strtab`, and the start of `.symtab`.
 const STRTAB: usize = 0x162;
 
 const STRTAB_END: usize = 0x1c5;
@@ -123,7 +123,7 @@ static SECTIONS: [Malformed; 10] = [
         bytes: &[0xc7, 1],
         error: ParseError::SectionOverHeaders { index: 6 },
     },
-    // e_shstrndx past the sections, and of a section that is no string table
+    // e_shstrndx past the sections, and e_shstrndx of a section that is no string table
     Malformed {
         at: 62,
         bytes: &[10],
@@ -184,14 +184,14 @@ fn fails_with(alloc: Global, file: &[u8], error: ParseError) -> bool {
     }
 }
 
-/// Whether the little-endian object, changed so, has the error.
+/// Whether the little-endian object with the row's bytes has the row's error.
 fn is_refused(alloc: Global, row: &Malformed) -> Result<bool, Fail> {
     let mut file = little(alloc)?;
     overwrite(&mut file, row.at, row.bytes)?;
     Ok(fails_with(alloc, &file, row.error))
 }
 
-/// Whether each row is refused with its error.
+/// Whether parsing the object of each row fails with the row's error.
 fn are_refused(alloc: Global, rows: &[Malformed]) -> Result<bool, Fail> {
     for row in rows {
         if !is_refused(alloc, row)? {
@@ -219,7 +219,7 @@ fn malformed_symbols_are_refused(rt: HostRuntime) -> Result<(), Fail> {
     Ok(())
 }
 
-/// The error of an object that is cut to `len` bytes: the section header table is at its end.
+/// The error of an object that is truncated to `len` bytes: the section header table is at its end.
 fn error_of_cut(len: usize) -> ParseError {
     if len < 64 {
         ParseError::NotElf
@@ -228,7 +228,7 @@ fn error_of_cut(len: usize) -> ParseError {
     }
 }
 
-/// Whether the object is refused at each shorter length.
+/// Whether parsing the object fails at each shorter length.
 fn are_cuts_refused(alloc: Global, file: &[u8]) -> bool {
     for len in 0..file.len() {
         if !fails_with(alloc, &file[..len], error_of_cut(len)) {

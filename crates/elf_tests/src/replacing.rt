@@ -13,8 +13,8 @@ fn has_section(object: &Object<'_>, index: usize, bytes: &[u8], offset: u64) -> 
     }
 }
 
-/// Whether the new file has `len` bytes, and in the section of an index these, at this offset, and the sections and
-/// symbols that the old one had.
+/// Whether the new file has `len` bytes, these bytes in the section of an index, at this offset, and the sections and
+/// symbols of the old file.
 fn is_replaced(
     alloc: Global,
     index: usize,
@@ -51,7 +51,7 @@ fn longer_bytes_are_put_at_the_end(rt: HostRuntime) -> Result<(), Fail> {
     Ok(())
 }
 
-/// Where the program is put at the end of a file of 1109 bytes, and the length of the file then.
+/// The offset of the program when it is appended to a file of 1109 bytes, and the new length of the file.
 fn place_after_license(alloc: Global) -> Result<(u64, usize), Fail> {
     let file = little(alloc)?;
     let file = Object::parse(alloc, &file)?.with_section(alloc, 6, b"Dual MIT/GPL\0")?;

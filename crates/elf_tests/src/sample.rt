@@ -1,4 +1,4 @@
-//! Two small objects, as a compiler wrote them, and copies of them that are changed.
+//! Two small objects, as written by a compiler, and modified copies of them.
 
 use std::alloc::Global;
 use std::test::Fail;
@@ -100,7 +100,7 @@ pub fn big(alloc: Global) -> Result<Vec<u8>, Fail> {
     spelled(alloc, BIG)
 }
 
-/// Writes bytes over those at an offset. An error where they pass the end.
+/// Overwrites the bytes at an offset. An error if they pass the end.
 pub fn overwrite(file: &mut [u8], at: usize, bytes: &[u8]) -> Result<(), Fail> {
     let rest = file.get_mut(at..).ok_or("the offset is past the end")?;
     let place = rest.get_mut(..bytes.len()).ok_or("the bytes pass the end")?;

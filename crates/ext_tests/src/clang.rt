@@ -86,13 +86,13 @@ fn is_program(table: &Btf, section: &[u8]) -> Result<bool, Fail> {
     Ok(has_kinds(table, &KINDS) && is_written_as(table, section)?)
 }
 
-/// Whether a section of 395 bytes has the program's types, and is written again.
+/// Whether a section of 395 bytes has the program's types, and is written as the same bytes.
 fn is_kept(alloc: Global, section: &[u8], order: Endianness) -> Result<bool, Fail> {
     let table = parsed_blob(alloc, section, order)?;
     Ok(section.len() == 395 && is_program(&table, section)?)
 }
 
-/// Whether the section of a text has the program's types, and is written again.
+/// Whether the section of a text has the program's types, and is written as the same bytes.
 fn is_text_kept(alloc: Global, text: &str, order: Endianness) -> Result<bool, Fail> {
     let section = bytes(alloc, text)?;
     is_kept(alloc, &section, order)
@@ -152,19 +152,19 @@ fn has_records(ext: &BtfExt) -> Result<bool, Fail> {
     Ok(ext.relocations().is_empty() && count_funcs(ext)? == 1 && count_lines(ext)? == 4)
 }
 
-/// Whether a section has those records under a table.
+/// Whether a section has these records, with names from a table.
 fn has_records_under(table: &Btf, section: &[u8], order: Endianness) -> Result<bool, Fail> {
     let ext = BtfExt::parse(section, order, table)?;
     has_records(&ext)
 }
 
-/// Whether the section of a text has.
+/// Whether the section of a text has these records, with names from a table.
 fn has_records_of(alloc: Global, table: &Btf, text: &str, order: Endianness) -> Result<bool, Fail> {
     let section = bytes(alloc, text)?;
     has_records_under(table, &section, order)
 }
 
-/// Whether the section of a text has under the table of another.
+/// Whether the section of a text has these records, with names from the table of another text.
 fn are_counted(alloc: Global, table: &str, ext: &str, order: Endianness) -> Result<bool, Fail> {
     let table = table_of(alloc, table, order)?;
     has_records_of(alloc, &table, ext, order)

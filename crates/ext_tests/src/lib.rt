@@ -1,6 +1,6 @@
-//! Tests of the `.BTF.ext` section, of sections that a compiler wrote, and of the look-ups by name: the relocations of a
-//! section, and the values of variants. Their expected values are worked by hand from the format; what the compiler's
-//! sections hold is listed by other tools.
+//! Tests of the `.BTF.ext` section, of sections that a compiler wrote, and of the look-ups by name: the relocations of
+//! a section, and the values of variants. The expected values are computed by hand from the format; for the compiler's
+//! sections, they are the output of other tools.
 #![tactic(auto)]
 
 #[cfg(test)]

@@ -1,4 +1,4 @@
-//! The section of a program that returns at once, as a compiler writes it.
+//! The section of a program that returns immediately, as written by a compiler.
 
 use crate::records::{has_funcs, has_lines};
 use crate::spelled::{parsed_under, parses_as};
@@ -10,13 +10,13 @@ use std::alloc::Global;
 use std::hash::{BuildHasher, RandomState};
 use std::test::Fail;
 
-/// These bytes, parsed under the table of the program.
+/// These bytes, parsed with the table of the program.
 fn parsed_bytes(alloc: Global, bytes: &[u8], order: Endianness) -> Result<BtfExt, Fail> {
     let table = program_table(alloc, order)?;
     parsed_under(bytes, order, &table)
 }
 
-/// The section, parsed under the table of the program.
+/// The section, parsed with the table of the program.
 fn parsed(alloc: Global, order: Endianness) -> Result<BtfExt, Fail> {
     let bytes = program_ext(alloc, order)?;
     parsed_bytes(alloc, &bytes, order)
@@ -67,7 +67,7 @@ fn is_program<H: BuildHasher>(alloc: Global, ext: &BtfExt<H>) -> Result<bool, Fa
     )
 }
 
-/// Whether the section is read whole.
+/// Whether the section is read completely.
 fn is_whole(alloc: Global, order: Endianness) -> Result<bool, Fail> {
     let ext = parsed(alloc, order)?;
     is_program(alloc, &ext)
@@ -81,7 +81,7 @@ fn section_of_program_is_read(rt: HostRuntime) -> Result<(), Fail> {
     Ok(())
 }
 
-/// Whether the section is read whole with this hasher, and so is its clone.
+/// Whether the section is read completely with this hasher, and its clone is equal.
 fn is_whole_with<H: BuildHasher + Clone>(
     alloc: Global,
     order: Endianness,
@@ -102,7 +102,7 @@ fn section_of_program_is_read_with_random_keys(rt: HostRuntime) -> Result<(), Fa
     Ok(())
 }
 
-/// The range that is refused in the first bytes of the section, so many: where it begins, and its length.
+/// The start and the length of the first invalid range in a prefix of the section of this length.
 fn cut_range(n: usize) -> Option<(usize, usize)> {
     match n {
         0..32 => None,
@@ -111,7 +111,7 @@ fn cut_range(n: usize) -> Option<(usize, usize)> {
     }
 }
 
-/// Whether this is why the first bytes of the section, so many, are refused.
+/// Whether this is the error of parsing a prefix of the section of this length.
 fn is_cut(answer: &Result<BtfExt, BtfError>, n: usize) -> bool {
     match answer {
         Err(BtfError::InvalidHeader) => cut_range(n).is_none(),
@@ -126,7 +126,7 @@ fn is_cut(answer: &Result<BtfExt, BtfError>, n: usize) -> bool {
     }
 }
 
-/// Whether each beginning of the section is refused.
+/// Whether parsing each prefix of the section fails with the expected error.
 fn has_no_beginning(bytes: &[u8], order: Endianness, table: &Btf) -> bool {
     for n in 0..bytes.len() {
         if !is_cut(&BtfExt::parse(&bytes[..n], order, table), n) {
@@ -136,13 +136,13 @@ fn has_no_beginning(bytes: &[u8], order: Endianness, table: &Btf) -> bool {
     bytes.len() == 80
 }
 
-/// Whether each beginning of these bytes is refused under the table of the program.
+/// Whether parsing each prefix of these bytes with the table of the program fails with the expected error.
 fn are_whole(alloc: Global, bytes: &[u8], order: Endianness) -> Result<bool, Fail> {
     let table = program_table(alloc, order)?;
     Ok(has_no_beginning(bytes, order, &table))
 }
 
-/// Whether each beginning of the section is refused under the table of the program.
+/// Whether parsing each prefix of the section with the table of the program fails with the expected error.
 fn refuses_beginnings(alloc: Global, order: Endianness) -> Result<bool, Fail> {
     let bytes = program_ext(alloc, order)?;
     are_whole(alloc, &bytes, order)
@@ -156,7 +156,7 @@ fn each_beginning_of_the_section_is_refused(rt: HostRuntime) -> Result<(), Fail>
     Ok(())
 }
 
-/// Puts the length of the header into its second word.
+/// Writes the length of the header to its second word.
 fn set_header_len(bytes: &mut [u8], len: u32, order: Endianness) {
     if let Some(word) = bytes.get_mut(4..8) {
         word.copy_from_slice(&order.write_u32(len));

@@ -6,7 +6,7 @@ use btf_samples::spelled::ORDERS;
 use std::alloc::Global;
 use std::test::Fail;
 
-/// A section, and what parsing it gives.
+/// A section, and the result of parsing it.
 #[derive(Clone, Copy)]
 struct Row {
     /// The words after the first four bytes, in decimal.
@@ -16,7 +16,7 @@ struct Row {
     text: &'static str,
 }
 
-/// Headers that are cut or filled up with zeros.
+/// Headers that are truncated or padded with zeros.
 static HEADERS: [Row; 4] = [
     Row {
         words: "4",
@@ -41,7 +41,7 @@ static HEADERS: [Row; 4] = [
     },
 ];
 
-/// Ranges that are broken, and names that no table has.
+/// Invalid ranges, and names that the table does not have.
 static BROKEN: [Row; 11] = [
     Row {
         words: "32 0 20 20 0 20 0  8 1 1 0 0",
@@ -74,19 +74,19 @@ static BROKEN: [Row; 11] = [
         zeros: 0,
         text: "invalid BTF info, offset: 32 len: 24 section_len: 56",
     },
-    // A cut section is reported before its name, which no table has.
+    // A truncated section is reported before its name, which the table does not have.
     Row {
         words: "32 0 16 16 0 16 0  8 1 4294967295 0",
         zeros: 0,
         text: "invalid BTF info, offset: 8 len: 34359738360 section_len: 12",
     },
-    // And a range before any section.
+    // A range is reported before any section.
     Row {
         words: "32 0 16 16 4 20 0  8 1 4294967295 0  15",
         zeros: 0,
         text: "invalid BTF info, offset: 48 len: 4 section_len: 52",
     },
-    // More records than fit, of functions, lines and relocations.
+    // More records of functions, lines and relocations than fit.
     Row {
         words: "32 0 16 16 0 16 0  8 0 4294967295 0",
         zeros: 0,
@@ -182,7 +182,7 @@ fn row_bytes(alloc: Global, row: &Row, order: Endianness) -> Result<Vec<u8>, Fai
     Ok(bytes)
 }
 
-/// Whether parsing the section of a row gives what the row says.
+/// Whether parsing the section of a row gives the row's result.
 fn is_row(alloc: Global, row: &Row, order: Endianness) -> Result<bool, Fail> {
     let bytes = row_bytes(alloc, row, order)?;
     parses_as(alloc, &bytes, order, row.text)

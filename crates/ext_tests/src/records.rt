@@ -24,7 +24,7 @@ fn have_func_words(alloc: Global, section: &FuncSecInfo, words: &str) -> Result<
     are_words(alloc, &bytes, words)
 }
 
-/// Whether a section has so many function records, with these words.
+/// Whether a section has this number of function records, with these words.
 fn are_funcs(alloc: Global, section: &FuncSecInfo, count: u32, words: &str) -> Result<bool, Fail> {
     Ok(
         section.num_info == count
@@ -33,7 +33,7 @@ fn are_funcs(alloc: Global, section: &FuncSecInfo, count: u32, words: &str) -> R
     )
 }
 
-/// Whether the clone of a section has.
+/// Whether the clone of a section has this number of function records, with these words.
 fn clone_has_funcs(
     alloc: Global,
     section: &FuncSecInfo,
@@ -44,7 +44,7 @@ fn clone_has_funcs(
     are_funcs(alloc, &clone, count, words)
 }
 
-/// Whether a section and its clone have.
+/// Whether a section and its clone have this number of function records, with these words.
 fn both_have_funcs(
     alloc: Global,
     section: &FuncSecInfo,
@@ -54,7 +54,7 @@ fn both_have_funcs(
     Ok(are_funcs(alloc, section, count, words)? && clone_has_funcs(alloc, section, count, words)?)
 }
 
-/// Whether the section of a name has so many function records, with these words.
+/// Whether the section of a name has this number of function records, with these words.
 pub fn has_funcs<H: BuildHasher>(
     alloc: Global,
     funcs: &FuncInfo<H>,
@@ -72,7 +72,7 @@ fn have_line_words(alloc: Global, section: &LineSecInfo, words: &str) -> Result<
     are_words(alloc, &bytes, words)
 }
 
-/// Whether a section has so many line records, with these words.
+/// Whether a section has this number of line records, with these words.
 fn are_lines(alloc: Global, section: &LineSecInfo, count: u32, words: &str) -> Result<bool, Fail> {
     Ok(
         section.num_info == count
@@ -81,7 +81,7 @@ fn are_lines(alloc: Global, section: &LineSecInfo, count: u32, words: &str) -> R
     )
 }
 
-/// Whether the clone of a section has.
+/// Whether the clone of a section has this number of line records, with these words.
 fn clone_has_lines(
     alloc: Global,
     section: &LineSecInfo,
@@ -92,7 +92,7 @@ fn clone_has_lines(
     are_lines(alloc, &clone, count, words)
 }
 
-/// Whether a section and its clone have.
+/// Whether a section and its clone have this number of line records, with these words.
 fn both_have_lines(
     alloc: Global,
     section: &LineSecInfo,
@@ -102,7 +102,7 @@ fn both_have_lines(
     Ok(are_lines(alloc, section, count, words)? && clone_has_lines(alloc, section, count, words)?)
 }
 
-/// Whether the section of a name has so many line records, with these words.
+/// Whether the section of a name has this number of line records, with these words.
 pub fn has_lines<H: BuildHasher>(
     alloc: Global,
     lines: &LineInfo<H>,
@@ -157,7 +157,7 @@ fn relocations_keep_four_words(rt: HostRuntime) -> Result<(), Fail> {
     Ok(())
 }
 
-/// Whether a section has the records of the last section of the name, and another name has none.
+/// Whether a section has the records of the last section of its name, and another name has none.
 fn has_last(alloc: Global, ext: &BtfExt) -> Result<bool, Fail> {
     Ok(
         has_funcs(alloc, ext.func_info(), "", 1, "3 7")?
@@ -180,7 +180,7 @@ fn the_last_section_of_a_name_counts(rt: HostRuntime) -> Result<(), Fail> {
     Ok(())
 }
 
-/// A record of a function and one of a line, of the least size, and of one word more.
+/// A record of a function and one of a line, of the least size and of one more word.
 static WIDER: [&str; 2] = [
     "32 0 20 20 28 48 0  8 0 1 16 42  16 0 1 24 1 2 3",
     "32 0 24 24 32 56 0  12 0 1 16 42 0  20 0 1 24 1 2 3 0",
@@ -191,7 +191,7 @@ fn cloned_funcs(ext: &BtfExt) -> Result<FuncInfo, Fail> {
     Ok(ext.func_info().try_clone()?)
 }
 
-/// Whether a clone of the function records holds the first words.
+/// Whether a clone of the function records has the first words.
 fn has_first_func_words(alloc: Global, ext: &BtfExt) -> Result<bool, Fail> {
     let funcs = cloned_funcs(ext)?;
     has_funcs(alloc, &funcs, "", 1, "2 42")
@@ -202,18 +202,18 @@ fn cloned_lines(ext: &BtfExt) -> Result<LineInfo, Fail> {
     Ok(ext.line_info().try_clone()?)
 }
 
-/// Whether a clone of the line records holds the first words.
+/// Whether a clone of the line records has the first words.
 fn has_first_line_words(alloc: Global, ext: &BtfExt) -> Result<bool, Fail> {
     let lines = cloned_lines(ext)?;
     has_lines(alloc, &lines, "", 1, "3 1 2 3")
 }
 
-/// Whether both kinds of records hold the first words.
+/// Whether both kinds of records have the first words.
 fn has_first_words(alloc: Global, ext: &BtfExt) -> Result<bool, Fail> {
     Ok(has_first_func_words(alloc, ext)? && has_first_line_words(alloc, ext)?)
 }
 
-/// Whether both kinds of records of these words hold their first words.
+/// Whether both kinds of records of these words have their first words.
 fn keeps_first_words(alloc: Global, words: &str, order: Endianness) -> Result<bool, Fail> {
     let ext = parsed_words(alloc, words, order)?;
     has_first_words(alloc, &ext)

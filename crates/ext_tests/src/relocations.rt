@@ -11,10 +11,10 @@ use std::test::Fail;
 /// Two sections of the name at 1, with a record each.
 const TWO_SECTIONS: &str = "32 0 0 0 0 0 52  16  1 1 1 2 3 4  1 1 5 6 7 8";
 
-/// A section of the name at 1, and one whose name is after all strings.
+/// A section of the name at 1, and one whose name's offset is after all strings.
 const UNREADABLE: &str = "32 0 0 0 0 0 52  16  1 1 1 2 3 4  9 1 5 6 7 8";
 
-/// The `.BTF.ext` section of a header's first four bytes and these words, parsed under a table.
+/// The `.BTF.ext` section of a header's first four bytes and these words, parsed with a table.
 fn ext_of(alloc: Global, words: &str, table: &Btf) -> Result<BtfExt, Fail> {
     let bytes = ext_bytes(alloc, words, Endianness::Little)?;
     parsed_under(&bytes, Endianness::Little, table)

@@ -7,14 +7,14 @@ use std::alloc::Global;
 use std::fmt::Write;
 use std::test::Fail;
 
-/// Adds a section: the offset of its name, and its number of records and of bytes.
+/// Adds the text of a section: the offset of its name, and its numbers of records and of bytes.
 fn push_section(text: &mut String, section: &SecInfo<'_>) -> Result<(), Fail> {
     let len = section.bytes.len();
     write!(text, "{} {} {len}; ", section.name_offset, section.num_info)?;
     Ok(())
 }
 
-/// Adds what an iterator gives next: a section, or the text of an error.
+/// Adds the next item of an iterator: a section, or the text of an error.
 fn push_next(text: &mut String, next: &Result<SecInfo<'_>, BtfError>) -> Result<(), Fail> {
     match next {
         Ok(section) => push_section(text, section),
@@ -22,7 +22,7 @@ fn push_next(text: &mut String, next: &Result<SecInfo<'_>, BtfError>) -> Result<
     }
 }
 
-/// Adds all that an iterator gives.
+/// Adds all items of an iterator.
 fn push_sections(
     text: &mut String,
     data: &[u8],
@@ -35,7 +35,7 @@ fn push_sections(
     Ok(())
 }
 
-/// All that an iterator gives, and then a dot.
+/// All items of an iterator, and then a dot.
 fn sections_text(
     alloc: Global,
     data: &[u8],
@@ -52,7 +52,7 @@ fn are_equal(a: &str, b: &str) -> bool {
     a == b
 }
 
-/// Whether bytes hold sections of this text.
+/// Whether bytes have sections of this text.
 fn has_sections(
     alloc: Global,
     data: &[u8],
@@ -115,7 +115,7 @@ static ROWS: [Row; 8] = [
     },
 ];
 
-/// Whether the words of a row hold its sections.
+/// Whether the words of a row have its sections.
 fn is_row(alloc: Global, row: &Row, order: Endianness) -> Result<bool, Fail> {
     let data = spelled_decimals(alloc, row.words, order)?;
     has_sections(alloc, &data, row.rec_size, order, row.text)
@@ -131,7 +131,7 @@ fn sections_come_one_by_one(rt: HostRuntime) -> Result<(), Fail> {
     Ok(())
 }
 
-/// Whether the first section of bytes holds all bytes after its first two words.
+/// Whether the first section of bytes has all bytes after its first two words.
 fn lends_the_rest(data: &[u8], order: Endianness) -> bool {
     match &SecInfoIter::new(data, 8, order).next() {
         Some(Ok(section)) => data.get(8..) == Some(section.bytes),
@@ -139,7 +139,7 @@ fn lends_the_rest(data: &[u8], order: Endianness) -> bool {
     }
 }
 
-/// Whether that is so of a section of two records.
+/// Whether that holds for a section of two records.
 fn lends_two_records(alloc: Global, order: Endianness) -> Result<bool, Fail> {
     let data = spelled_decimals(alloc, "7 2 1 2 3 4", order)?;
     Ok(lends_the_rest(&data, order))
@@ -153,7 +153,7 @@ fn section_holds_the_bytes_of_its_records(rt: HostRuntime) -> Result<(), Fail> {
     Ok(())
 }
 
-/// What is reported of 1 to 7 bytes.
+/// The error of 1 to 7 bytes.
 static CUTS: [&str; 7] = [
     "invalid BTF info, offset: 0 len: 8 section_len: 1; .",
     "invalid BTF info, offset: 0 len: 8 section_len: 2; .",
@@ -164,13 +164,13 @@ static CUTS: [&str; 7] = [
     "invalid BTF info, offset: 0 len: 8 section_len: 7; .",
 ];
 
-/// Whether so many zero bytes hold sections of this text.
+/// Whether this number of zero bytes has sections of this text.
 fn are_cut(alloc: Global, len: u32, order: Endianness, text: &str) -> Result<bool, Fail> {
     let bytes = [0; 7].get(..len as usize).ok_or("bytes")?;
     has_sections(alloc, bytes, 8, order, text)
 }
 
-/// Whether the first 16 bytes hold a section and so many after them sections of this text.
+/// Whether the first 16 bytes are a section, and this number of bytes after them has sections of this text.
 fn are_cut_after(
     alloc: Global,
     bytes: &[u8],
@@ -183,12 +183,12 @@ fn are_cut_after(
     Ok(follows_a_section(shown.as_str(), text))
 }
 
-/// Whether a text is that of a section of one record and, after it, this one.
+/// Whether a text is the text of a section of one record followed by this text.
 fn follows_a_section(shown: &str, text: &str) -> bool {
     shown.strip_prefix("0 1 8; ") == Some(text)
 }
 
-/// Whether so many zero bytes after a section hold sections of this text.
+/// Whether this number of zero bytes after a section has sections of this text.
 fn is_cut_after_section(
     alloc: Global,
     len: u32,

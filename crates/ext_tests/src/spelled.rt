@@ -1,4 +1,4 @@
-//! `.BTF.ext` sections, spelled from words, and what parsing them gives.
+//! `.BTF.ext` sections from words, and the results of parsing them.
 
 use btf_plain::{BtfError, Endianness};
 use btf_samples::blobs::front;
@@ -35,7 +35,7 @@ fn is_error(alloc: Global, error: &BtfError, text: &str) -> Result<bool, Fail> {
     Ok(are_equal(message.as_str(), text))
 }
 
-/// Whether this text is that of a section: the sizes of the function records and of the line records, and the number of
+/// Whether this text describes a section: the sizes of its function records and line records, and its number of
 /// sections with relocations.
 fn is_section(alloc: Global, ext: &BtfExt, text: &str) -> Result<bool, Fail> {
     let func = ext.func_info_rec_size();
@@ -45,7 +45,7 @@ fn is_section(alloc: Global, ext: &BtfExt, text: &str) -> Result<bool, Fail> {
     Ok(are_equal(message.as_str(), text))
 }
 
-/// Whether this text is that of a section, or of the error where it is refused.
+/// Whether this text describes the section or the error of a result.
 fn is_answer(alloc: Global, answer: &Result<BtfExt, BtfError>, text: &str) -> Result<bool, Fail> {
     match answer {
         Ok(ext) => is_section(alloc, ext, text),
@@ -53,7 +53,7 @@ fn is_answer(alloc: Global, answer: &Result<BtfExt, BtfError>, text: &str) -> Re
     }
 }
 
-/// Whether parsing under a table gives this text.
+/// Whether parsing with a table gives this text.
 fn parses_as_under(
     alloc: Global,
     data: &[u8],
@@ -65,24 +65,24 @@ fn parses_as_under(
     is_answer(alloc, &answer, text)
 }
 
-/// Whether parsing under a table without types or names gives this text.
+/// Whether parsing with a table without types or names gives this text.
 pub fn parses_as(alloc: Global, data: &[u8], order: Endianness, text: &str) -> Result<bool, Fail> {
     let table = Btf::new(alloc)?;
     parses_as_under(alloc, data, order, &table, text)
 }
 
-/// The section of these bytes, parsed under a table.
+/// The section of these bytes, parsed with a table.
 pub fn parsed_under(data: &[u8], order: Endianness, table: &Btf) -> Result<BtfExt, Fail> {
     Ok(BtfExt::parse(data, order, table)?)
 }
 
-/// The section of these bytes, parsed under a table without types or names.
+/// The section of these bytes, parsed with a table without types or names.
 pub fn parsed(alloc: Global, data: &[u8], order: Endianness) -> Result<BtfExt, Fail> {
     let table = Btf::new(alloc)?;
     parsed_under(data, order, &table)
 }
 
-/// The section of these words, parsed under a table without types or names.
+/// The section of these words, parsed with a table without types or names.
 pub fn parsed_words(alloc: Global, words: &str, order: Endianness) -> Result<BtfExt, Fail> {
     let bytes = ext_bytes(alloc, words, order)?;
     parsed(alloc, &bytes, order)

@@ -1,4 +1,4 @@
-//! Values of variants, in tables as they are read and as a rewrite leaves them.
+//! Values of variants, in tables before and after a rewrite.
 
 use btf_above::variant_value;
 use btf_plain::{BtfError, Endianness};
@@ -9,12 +9,12 @@ use std::alloc::Global;
 use std::collections::HashMap;
 use std::test::Fail;
 
-/// Whether a name stands for this value in a type, or for none.
+/// Whether a name has this value in a type, or none.
 fn has_value(table: &Btf, type_id: u32, name: &str, wanted: Option<u64>) -> bool {
     matches!(variant_value(table, type_id, name), Ok(found) if found == wanted)
 }
 
-/// Whether a type is refused under this id, as one without variants.
+/// Whether the error for a type is that the type of this id has no variants.
 fn is_unexpected(table: &Btf, type_id: u32, reported: u32) -> bool {
     matches!(
         variant_value(table, type_id, "A"),
@@ -39,7 +39,7 @@ fn deny_all(alloc: Global, table: &mut Btf) -> Result<(), Fail> {
     Ok(())
 }
 
-/// The table that a table's bytes stand for.
+/// The table that is parsed from a table's bytes.
 fn parsed_again(alloc: Global, table: &Btf) -> Result<Btf, Fail> {
     let bytes = table.to_bytes()?;
     parsed_blob(alloc, &bytes, Endianness::Little)
@@ -91,7 +91,7 @@ fn void_has_no_variants(rt: HostRuntime) -> Result<(), Fail> {
     Ok(())
 }
 
-/// An ENUM whose second variant's name is after all strings, between two of the name A.
+/// An ENUM with two variants of the name A, and between them a variant whose name's offset is after all strings.
 const UNREADABLE: &str = "0 6000003 4  1 7  9 8  1 9";
 
 fn stops_at_what_it_cannot_read(table: &Btf) -> bool {

@@ -1,5 +1,5 @@
-//! Tests of what fits a table to a kernel: the comparison of its types with the kernel's, and the rewrite for kernels
-//! that lack features. Their expected values are worked by hand, from what the comparisons are for, from the plain
+//! Tests of fitting a table to a kernel: the comparison of its types with the kernel's, and the rewrite for kernels
+//! that lack features. The expected values are computed by hand, from the purpose of the comparisons, from the plain
 //! recursion, and from the rules of each kind.
 #![tactic(auto)]
 

@@ -1,9 +1,9 @@
-//! Which kernels have which features.
+//! The features of kernels, by version.
 
 use btf_object::{BtfFeature, Kernel};
 use std::test::Fail;
 
-/// A version and the features that Linux of that version has.
+/// A version, and the features of Linux of that version.
 struct Version {
     text: &'static str,
     features: &'static [BtfFeature],

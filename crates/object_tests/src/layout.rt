@@ -1,4 +1,4 @@
-//! What a rewrite reads of the objects: sizes and offsets as readelf lists them.
+//! The layouts that a rewrite reads from the objects: sizes and offsets as listed by readelf.
 
 use crate::sample::{big, fixed_keys, little};
 use btf_elf::Object;
@@ -7,7 +7,7 @@ use btf_words::SectionIndex;
 use std::alloc::Global;
 use std::test::Fail;
 
-/// A name, and a size or an offset; None where it is not read.
+/// A name, and a size or an offset; None if it is not read.
 struct Row {
     name: &'static str,
     number: Option<u64>,

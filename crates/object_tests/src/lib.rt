@@ -1,5 +1,5 @@
-//! Tests of objects that are rewritten for a kernel. Expected values are those of readelf and bpftool, or are worked by
-//! hand from the format.
+//! Tests of objects that are rewritten for a kernel. The expected values are the output of readelf and bpftool, or are
+//! computed by hand from the format.
 #![tactic(auto)]
 
 #[cfg(test)]

@@ -1,21 +1,21 @@
-//! Objects that are not rewritten: the first cause of each.
+//! Objects that are not rewritten: the first error of each.
 
 use crate::sample::{fixed_keys, little, overwrite};
 use btf_object::{FillPolicy, Kernel, SanitizeError, sanitize_object, sanitize_object_with};
 use std::alloc::Global;
 use std::test::Fail;
 
-/// Bytes that are written over those of the little-endian object, and the text of the error then.
+/// Bytes that replace some of the little-endian object, and the text of the error of the result.
 struct Malformed {
     at: usize,
     bytes: &'static [u8],
     text: &'static str,
 }
 
-/// Where the section header table begins, and in it the header of `.BTF`, section 13.
+/// The offset of the section header table, and the offset in it of the header of `.BTF`, section 13.
 const BTF_HEADER: usize = 0xf98 + 64 * 13;
 
-/// Where the section `.BTF` begins.
+/// The offset of the section `.BTF`.
 const BTF: usize = 0x1c0;
 
 static MALFORMED: [Malformed; 6] = [
@@ -63,7 +63,7 @@ fn has_text(alloc: Global, error: &SanitizeError, text: &str) -> Result<bool, Fa
     Ok(written.as_str() == text)
 }
 
-/// Whether an object is refused with an error of this text.
+/// Whether the rewrite of an object fails with an error of this text.
 fn is_refused(
     alloc: Global,
     file: &[u8],

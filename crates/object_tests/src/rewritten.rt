@@ -17,7 +17,7 @@ struct Kinds {
     kinds: &'static [BtfKind],
 }
 
-/// By the rule of each kind, from the listing in data/program.bpfel.raw.
+/// The expected kinds, by the rule of each kind, from the listing in data/program.bpfel.raw.
 static KINDS: [Kinds; 7] = [
     // FUNC_PROTO and FUNC, from 5.0 on
     Kinds {
@@ -128,7 +128,7 @@ fn has_kinds(btf: &Btf, version: usize) -> bool {
     })
 }
 
-/// Whether the sections of two objects have the same bytes, but for those that are named `.BTF`.
+/// Whether the sections of two objects have the same bytes, except for those with the name `.BTF`.
 fn has_same_sections(old: &Object<'_>, new: &Object<'_>) -> bool {
     let is_same = |(a, b): (&SectionHeader, &SectionHeader)| {
         old.section_name(a) == new.section_name(b)
@@ -139,7 +139,7 @@ fn has_same_sections(old: &Object<'_>, new: &Object<'_>) -> bool {
         && old.sections().iter().zip(new.sections()).all(is_same)
 }
 
-/// Whether an object is rewritten for the version of an index as it should be, and a second time as it is.
+/// Whether the rewrite of an object for the version of an index is correct, and a second rewrite changes nothing.
 fn is_right(alloc: Global, file: &[u8], version: usize) -> Result<bool, Fail> {
     let text = VERSIONS.get(version).ok_or("no such version")?;
     let new = rewritten(alloc, file, text)?;

@@ -3,7 +3,7 @@
 use crate::runs::writes_over;
 use std::test::Fail;
 
-/// A DATASEC of 9 bytes without entries, and what it is with the filler.
+/// A DATASEC of 9 bytes without entries, and the same DATASEC with the filler.
 const SIZED: &str = "1 0f000000 9";
 
 pub(crate) const FILLED: &str = "1 0f000001 9  3 0 9  4 01000000 1 8  1e 0e000000 2 0";
@@ -15,7 +15,7 @@ const BOTH: &str = "1 0f000001 9  4 0 9  4 0f000001 1  4 0 1  7 01000000 1 8  21
 
 const BOTH_STRINGS: &str = "\0.a\0.b\0__aya_datasec_filler_type\0__aya_datasec_filler\0";
 
-/// Lines that fill it.
+/// Lines that fill the DATASEC.
 const FILLING: &str = "\
 little rewrite fill-sized DataSec
 little rewrite DataSec fill-sized
@@ -39,7 +39,7 @@ fn both_sections_get_one_filler(rt: HostRuntime) -> Result<(), Fail> {
     Ok(())
 }
 
-/// Lines that leave it as it is.
+/// Lines that leave the DATASEC unchanged.
 const KEEPING: &str = "\
 little rewrite DataSec
 little rewrite DataSec DataSecZero

@@ -1,4 +1,4 @@
-//! Tests of the program's command lines: statuses, what is written, and the texts.
+//! Tests of the program's command lines: statuses, outputs and messages.
 #![tactic(auto)]
 
 #[cfg(test)]

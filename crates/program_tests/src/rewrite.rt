@@ -1,10 +1,10 @@
-//! Runs of `rewrite`: what is written of a table, and why it is refused.
+//! Runs of `rewrite`: outputs and errors.
 
 use crate::runs::{RECORDS, STRINGS, blob_of, comes_to_over, writes, writes_over, written};
 use std::alloc::Global;
 use std::test::Fail;
 
-/// The records of the program where the kernel has no feature.
+/// The records of the program for a kernel that has no feature.
 const DENIED: &str = "
     0 02000000 2
     1 04000006 18  8 3 0  d 3 20  16 3 40  20 3 60  30 3 80  3f 3 a0
@@ -24,7 +24,7 @@ const DENIED: &str = "
 const SYMBOLS: &str =
     "d 01000000 4 01000020  0 0d000001 1 0 1  1 0c000002 2  3 0e000000 1 1  6 0f000001 0 3 0 0";
 
-/// The same, where the function stands for a variable.
+/// The same records after a variable replaced the function.
 const PLACED: &str =
     "d 01000000 4 01000020  0 0d000001 1 3 1  1 0c000001 2  3 0e000000 1 1  6 0f000001 4 4 0 4";
 
@@ -88,7 +88,7 @@ fn features_are_denied_unless_they_are_named(rt: HostRuntime) -> Result<(), Fail
     Ok(())
 }
 
-/// Lines that place the symbols of the kernel.
+/// Lines that rewrite the symbols of the kernel.
 const PLACING: &str = "\
 little rewrite Func FuncGlobal DataSec ksyms:5 placeholder:4
 little rewrite placeholder:0004 DataSec Func ksyms:05 FuncGlobal
@@ -103,7 +103,7 @@ fn symbols_of_the_kernel_are_placed(rt: HostRuntime) -> Result<(), Fail> {
     Ok(())
 }
 
-/// Whether a line writes what it wrote over a blob again, where that is its input.
+/// Whether a line over its own output for a blob writes the same output.
 fn changes_nothing_again(alloc: Global, line: &str, blob: &[u8]) -> Result<bool, Fail> {
     let (_, first) = written(alloc, line, blob)?;
     writes(alloc, line, &first, &first)
@@ -116,7 +116,7 @@ fn a_second_rewrite_changes_nothing(rt: HostRuntime) -> Result<(), Fail> {
     Ok(())
 }
 
-/// Lines that are refused, and what is reported.
+/// Lines that fail, and the reported errors.
 static REFUSED: [(&str, &str); 7] = [
     (
         "little rewrite Func FuncGlobal DataSec symbol:_license=0 symbol:license=4",

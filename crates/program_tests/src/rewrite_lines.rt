@@ -1,9 +1,9 @@
-//! Lines of `rewrite` that can be read, and lines that can't.
+//! Valid and invalid command lines of `rewrite`.
 
 use crate::runs::{EMPTY, has_usage, writes};
 use std::test::Fail;
 
-/// Lines that can be read.
+/// Valid command lines.
 const READABLE: &str = "\
 little rewrite
 little rewrite Func FuncGlobal DataSec DataSecZero Float DeclTag TypeTag Enum64
@@ -16,7 +16,7 @@ little rewrite section:Func=1 section:section:a=1 symbol:ksyms:5=1
 little rewrite section:a=1 section:a=2 symbol:a=1 section:a=1
 little rewrite section:größe=1 symbol:大小=2";
 
-/// Lines that can't.
+/// Invalid command lines.
 const UNREADABLE: &str = "\
 little rewrite\x20
 little rewrite  Func

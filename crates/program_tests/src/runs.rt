@@ -1,4 +1,4 @@
-//! Runs of the program: statuses, what is written, and the texts.
+//! Runs of the program: statuses, outputs and messages.
 
 use crate::filling::{FILLED, FILLED_STRINGS};
 use btf_cli::run;
@@ -14,7 +14,7 @@ pub(crate) static EMPTY: [u8; 25] = [
 pub(crate) const USAGE: &str =
     "usage: btftool little|big copy|types|size ID|compat ID ID|rewrite WORD..\n";
 
-/// A reader or a writer that fails at once.
+/// A reader or a writer that always fails.
 #[derive(Drop)]
 pub(crate) struct Failing;
 
@@ -34,7 +34,7 @@ impl Write for Failing {
     }
 }
 
-/// The words of a line, which single spaces part.
+/// The words of a line, separated by single spaces.
 pub(crate) fn words(alloc: Global, line: &str) -> Result<Vec<String>, AllocError> {
     let mut words = Vec::new(alloc);
     for word in line.split(' ') {
@@ -43,7 +43,7 @@ pub(crate) fn words(alloc: Global, line: &str) -> Result<Vec<String>, AllocError
     Ok(words)
 }
 
-/// The status of a line over a blob, and what is written on standard output.
+/// The status of a line over a blob, and its standard output.
 pub(crate) fn written(alloc: Global, line: &str, blob: &[u8]) -> Result<(u8, Vec<u8>), Fail> {
     let mut input = blob;
     let mut out = Vec::new(alloc);
@@ -74,13 +74,13 @@ fn fail_with(alloc: Global, words: &[String], status: u8, message: &str) -> bool
     ended == status && are_equal(&err, message.as_bytes())
 }
 
-/// The same of a line.
+/// Whether a line whose input and output fail ends with this status, and with this message on standard error.
 fn fails_with(alloc: Global, line: &str, status: u8, message: &str) -> Result<bool, Fail> {
     let words = words(alloc, line)?;
     Ok(fail_with(alloc, &words, status, message))
 }
 
-/// Whether a line has the usage as its message, and status 2. It is looked at before the input, which would fail.
+/// Whether a line has the usage as its message, and status 2. It is checked before the input, which would fail.
 pub(crate) fn has_usage(alloc: Global, line: &str) -> Result<bool, Fail> {
     fails_with(alloc, line, 2, USAGE)
 }
@@ -118,7 +118,7 @@ fn copies_over_memory(rt: HostRuntime) -> Result<(), Fail> {
     Ok(())
 }
 
-/// The records of a program that passes every packet on, in words.
+/// The records of a program that passes every packet, in words.
 pub(crate) const RECORDS: &str = "
     0 02000000 2
     1 04000006 18  8 3 0  d 3 20  16 3 40  20 3 60  30 3 80  3f 3 a0
@@ -134,7 +134,7 @@ pub(crate) const RECORDS: &str = "
     d9 0f000001 0  b 0 4
 ";
 
-/// Its strings, each of which a zero byte ends. The first is empty.
+/// The strings of the program, each with a zero byte at its end. The first is empty.
 pub(crate) const STRINGS: &str = "\0xdp_md\0data\0data_end\0data_meta\0ingress_ifindex\0\
 rx_queue_index\0egress_ifindex\0__u32\0unsigned int\0ctx\0int\0xdp_pass\0xdp/pass\0\
 /home/dave/dev/bpfd/bpf/xdp_pass.bpf.c\0    return XDP_PASS;\0char\0\
@@ -167,12 +167,12 @@ fn push_header(blob: &mut Vec<u8>, type_len: u32, string_len: u32) -> Result<(),
     push_word(blob, string_len)
 }
 
-/// Adds a word that is spelled in hexadecimal.
+/// Adds a hexadecimal word.
 fn push_spelled(bytes: &mut Vec<u8>, word: &str) -> Result<(), Fail> {
     push_word(bytes, u32::from_str_radix(word, 16)?)
 }
 
-/// The bytes of words that are spelled.
+/// The bytes of the hexadecimal words of a text.
 fn types_of(alloc: Global, records: &str) -> Result<Vec<u8>, Fail> {
     let mut types = Vec::new(alloc);
     for word in records.split_whitespace() {
@@ -199,7 +199,7 @@ pub(crate) fn blob_of(alloc: Global, records: &str, strings: &str) -> Result<Vec
     Ok(blob)
 }
 
-/// The status of a line over a blob, with all that was written after it, as bytes.
+/// The status of a line over a blob, and then all its output, as bytes.
 fn outcome(alloc: Global, line: &str, blob: &[u8]) -> Result<Vec<u8>, Fail> {
     let mut input = blob;
     let mut out = Vec::new(alloc);
@@ -220,13 +220,13 @@ fn push_both(bytes: &mut Vec<u8>, out: &[u8], err: &[u8]) -> Result<(), Fail> {
     Ok(bytes.extend_from_slice(err)?)
 }
 
-/// Whether a line over a blob comes to this: its status, and all that it writes.
+/// Whether a line over a blob has this status and this output.
 pub(crate) fn comes_to(alloc: Global, line: &str, blob: &[u8], told: &str) -> Result<bool, Fail> {
     let answer = outcome(alloc, line, blob)?;
     Ok(are_equal(&answer, told.as_bytes()))
 }
 
-/// The same over the blob of these records and strings.
+/// Whether a line over the blob of these records and strings has this status and this output.
 pub(crate) fn comes_to_over(
     alloc: Global,
     line: &str,
@@ -250,7 +250,7 @@ pub(crate) fn writes_over(
     writes(alloc, line, &blob, &expected)
 }
 
-/// Whether the blob of these records and strings is so long.
+/// Whether the blob of these records and strings has this length.
 fn has_length(alloc: Global, (records, strings): (&str, &str), len: usize) -> Result<bool, Fail> {
     Ok(blob_of(alloc, records, strings)?.len() == len)
 }
@@ -273,14 +273,15 @@ fn names_are_listed_where_they_are_read(rt: HostRuntime) -> Result<(), Fail> {
     let alloc = rt.alloc();
     let line = "little types";
     assert!(rt; comes_to_over(alloc, line, "", "\0", "0 ")?);
-    // A name that cannot be read, and a record of kind 0 where the first text is not empty.
+    // A name that cannot be read, and a record of kind 0 in a table whose first text is not empty.
     assert!(rt; comes_to_over(alloc, line, "9 02000000 0", "\0", "0 1 [PTR]\n")?);
     assert!(rt; comes_to_over(alloc, line, "7 0 9", "text\0", "0 1 [UNKNOWN] text\n")?);
     assert!(rt; comes_to_over(alloc, line, "0 0 0", "text", "0 1 [UNKNOWN]\n")?);
     Ok(())
 }
 
-/// An INT whose name is not UTF-8: a character of three bytes that is cut after two, and two bytes that begin none.
+/// An INT whose name is not UTF-8: the first two bytes of a character of three bytes, and two bytes that begin no
+/// character.
 static NAME_IN_PIECES: [u8; 48] = [
     0x9f, 0xeb, 1, 0, 0x18, 0, 0, 0, 0, 0, 0, 0, 0x10, 0, 0, 0, 0x10, 0, 0, 0, 8, 0, 0, 0, 1, 0, 0,
     0, 0, 0, 0, 1, 4, 0, 0, 0, 0x20, 0, 0, 1, 0, 0x61, 0xe2, 0x82, 0x62, 0xff, 0xff, 0,
@@ -334,7 +335,7 @@ fn comparisons_are_told(rt: HostRuntime) -> Result<(), Fail> {
     Ok(())
 }
 
-/// The table without types, whose header says that four bytes of types are there.
+/// A table without types, whose header has a length of four bytes for the types.
 static CUT_TYPES: [u8; 25] = [
     0x9f, 0xeb, 1, 0, 0x18, 0, 0, 0, 0, 0, 0, 0, 4, 0, 0, 0, 0, 0, 0, 0, 1, 0, 0, 0, 0,
 ];
@@ -348,7 +349,7 @@ fn refused_input_has_the_fault_s_text(rt: HostRuntime) -> Result<(), Fail> {
     Ok(())
 }
 
-/// Lines that can't be read, each after a line break.
+/// Invalid command lines, each after a line break.
 const UNREADABLE: &str = "
 little
 copy

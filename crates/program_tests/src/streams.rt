@@ -31,7 +31,7 @@ impl Read for Slow<'_> {
     }
 }
 
-/// A writer of that kind, with what it took.
+/// A writer of that kind, with the bytes that it received.
 #[derive(Drop)]
 struct Sink {
     taken: Vec<u8>,
@@ -57,11 +57,11 @@ impl Write for Sink {
     }
 }
 
-/// How a stream behaves: how much it moves at once, after how many calls it fails, and how.
+/// The behaviour of a stream: the number of bytes per call, the number of calls before it fails, and the failure.
 #[derive(Clone, Copy)]
 struct Way(usize, Option<usize>, ErrorKind);
 
-/// The status of a line over a slow reader, with all that was written after it.
+/// The status of a line over a slow reader, and then all its output.
 fn read_slowly(alloc: Global, line: &str, blob: &[u8], way: Way) -> Result<String, Fail> {
     let Way(at_once, before, kind) = way;
     let mut input = Slow {
@@ -83,7 +83,7 @@ fn said(alloc: Global, status: u8, bytes: &[u8]) -> Result<String, Fail> {
     Ok(format!(in alloc; "{status} {text}")?)
 }
 
-/// What a slow writer took of a line's output, and the status with the text of the fault.
+/// The part of a line's output that a slow writer received, and the status with the text of the fault.
 fn write_slowly(
     alloc: Global,
     line: &str,
@@ -104,7 +104,7 @@ fn write_slowly(
     Ok((out.taken, text))
 }
 
-/// The table of one INT, and the lines of the five commands over it, with what they write.
+/// The table of one INT, and the lines of the five commands over it, with their outputs.
 fn int(alloc: Global) -> Result<Vec<u8>, Fail> {
     blob_of(alloc, "1 1000000 4 1000020", "\0int\0")
 }
@@ -117,11 +117,12 @@ static LINES: [(&str, &str); 5] = [
     ("little rewrite", INT),
 ];
 
-/// The bytes of that table as a text: those of its magic number are no UTF-8.
+/// The bytes of that table as a text. The bytes of its magic number are no UTF-8.
 const INT: &str = "\u{fffd}\u{fffd}\x01\0\x18\0\0\0\0\0\0\0\x10\0\0\0\x10\0\0\0\x05\0\0\0\
 \x01\0\0\0\0\0\0\x01\x04\0\0\0\x20\0\0\x01\0int\0";
 
-/// How many calls of a reader fail in turn, each with this text, until one run ends well; none where another comes out.
+/// Makes each call of a reader fail in turn. Returns the number of runs that end with this fault before the first run
+/// that succeeds; 0 after any other outcome.
 fn failing_reads(
     alloc: Global,
     line: &str,
@@ -162,14 +163,15 @@ fn memory_refused_while_the_input_is_read(rt: HostRuntime) -> Result<(), Fail> {
     Ok(())
 }
 
-/// Whether bytes are a beginning of those of a text, in which each byte that is no UTF-8 is U+FFFD.
+/// Whether bytes are a prefix of the bytes of a text, in which U+FFFD represents each byte that is no UTF-8.
 fn begins(alloc: Global, taken: &[u8], wanted: &str) -> Result<bool, Fail> {
     let text = String::from_utf8_lossy(alloc, taken)?;
     Ok(wanted.starts_with(&*text))
 }
 
-/// How many calls of a writer that takes `at_once` bytes a call fail in turn, each with the fault's text, until one run
-/// ends well; none where another comes out, or the writer took something else than a beginning of the output.
+/// Makes each call of a writer that accepts `at_once` bytes per call fail in turn. Returns the number of runs that end
+/// with the fault's text before the first run that succeeds; 0 after any other outcome, or if the writer received
+/// anything but a prefix of the output.
 fn failing_writes(
     alloc: Global,
     line: &str,
@@ -203,7 +205,7 @@ fn each_write_fails_in_turn(rt: HostRuntime) -> Result<(), Fail> {
     Ok(())
 }
 
-/// A table of INTs whose listing is longer than the buffer that it is written through, and this listing.
+/// A table of INTs whose listing is longer than the program's buffer, and this listing.
 fn ints(alloc: Global) -> Result<(Vec<u8>, String), Fail> {
     let mut records = String::new(alloc);
     let mut listing = String::new(alloc);
@@ -222,7 +224,7 @@ fn each_write_of_a_long_listing_fails_in_turn(rt: HostRuntime) -> Result<(), Fai
     Ok(())
 }
 
-/// Whether a line has its output over a reader and a writer that behave so.
+/// Whether a line has its output with a reader and a writer of these behaviours.
 fn is_moved(alloc: Global, line: &str, wanted: &str, way: Way) -> Result<bool, Fail> {
     let blob = int(alloc)?;
     let said = read_slowly(alloc, line, &blob, way)?;

@@ -35,7 +35,7 @@ pub fn entry(btf_type: u32, offset: u32, size: u32) -> DataSecEntry {
     }
 }
 
-/// The values 5 at name 7, and 2^32 + 5 at name 9, with a sign.
+/// The signed values 5 at name 7, and 2^32 + 5 at name 9.
 pub fn fallback(alloc: Global) -> Result<Enum64Fallback, AllocError> {
     let first = Enum64VariantFallback {
         name_offset: 7,
@@ -51,7 +51,7 @@ pub fn fallback(alloc: Global) -> Result<Enum64Fallback, AllocError> {
     })
 }
 
-/// Whether a record is written as the bytes of a text in the little order.
+/// Whether a record is written as the bytes of a text in little-endian order.
 fn has_little(alloc: Global, record: BtfType, text: &str) -> Result<bool, Fail> {
     has_bytes(alloc, &record, text, Endianness::Little)
 }
@@ -143,12 +143,12 @@ fn extern_variable() -> BtfType {
     BtfType::Var(Var::new(5, 9, VarLinkage::Extern))
 }
 
-/// The bytes of that variable in the little order, and in the big.
+/// The bytes of that variable in little-endian and in big-endian order.
 const LITTLE_VARIABLE: &str = "05 00 00 00  00 00 00 0e  09 00 00 00  02 00 00 00";
 
 const BIG_VARIABLE: &str = "00 00 00 05  0e 00 00 00  00 00 00 09  00 00 00 02";
 
-/// Whether a record is written as the bytes of a text in the big order.
+/// Whether a record is written as the bytes of a text in big-endian order.
 fn has_big(alloc: Global, record: BtfType, text: &str) -> Result<bool, Fail> {
     has_bytes(alloc, &record, text, Endianness::Big)
 }

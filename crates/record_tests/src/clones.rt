@@ -16,7 +16,7 @@ fn fallback_of(record: &BtfType) -> Option<&Enum64Fallback> {
     }
 }
 
-/// Whether these are the values that `fallback` makes.
+/// Whether these are the values of `fallback`.
 fn are_values(kept: &Enum64Fallback) -> bool {
     match kept.variants.as_slice() {
         [_, last] => kept.signed && last.name_offset == 9 && last.value == 4_294_967_301,
@@ -24,13 +24,13 @@ fn are_values(kept: &Enum64Fallback) -> bool {
     }
 }
 
-/// Whether the clone of a fallback has the values that `fallback` makes.
+/// Whether the clone of a fallback has the values of `fallback`.
 fn clone_has_values(fallback: &Enum64Fallback) -> Result<bool, Fail> {
     let kept = fallback.try_clone()?;
     Ok(are_values(&kept))
 }
 
-/// Whether a record has the fallback that `fallback` makes.
+/// Whether a record has the fallback of `fallback`.
 fn has_fallback(record: &BtfType) -> Result<bool, Fail> {
     match fallback_of(record) {
         Some(fallback) => clone_has_values(fallback),
@@ -68,12 +68,12 @@ fn table_of_union(alloc: Global) -> Result<Btf, Fail> {
     Ok(table)
 }
 
-/// Whether the type of id 1 of a table has the fallback that `fallback` makes.
+/// Whether the type of id 1 of a table has the fallback of `fallback`.
 fn keeps_fallback(table: &Btf) -> Result<bool, Fail> {
     has_fallback(table.type_by_id(1)?)
 }
 
-/// Whether the clone of a table does.
+/// Whether the type of id 1 of a table's clone has the fallback of `fallback`.
 fn clone_keeps_fallback(table: &Btf) -> Result<bool, Fail> {
     let clone = table.try_clone()?;
     keeps_fallback(&clone)
@@ -86,25 +86,25 @@ fn clones_keep_fallbacks(rt: HostRuntime) -> Result<(), Fail> {
     Ok(())
 }
 
-/// A clone of a table with one type more.
+/// A clone of a table, with one more type.
 fn extended(table: &Btf) -> Result<Btf, Fail> {
     let mut clone = table.try_clone()?;
     clone.add_type(BtfType::Unknown)?;
     Ok(clone)
 }
 
-/// Whether a table has so many types, id 0 included.
+/// Whether a table has this number of types, including id 0.
 fn has_length(table: &Btf, length: usize) -> bool {
     table.types().len() == length
 }
 
-/// Whether a clone of a table of one type has two once one is added.
+/// Whether a clone of a table of one type has two types after one is added.
 fn clone_is_extended(table: &Btf) -> Result<bool, Fail> {
     let clone = extended(table)?;
     Ok(has_length(&clone, 3))
 }
 
-/// Whether a table is written as it was before a type is added to its clone, and has these bytes.
+/// Whether the bytes of a table are these, before and after a type is added to its clone.
 fn is_left_alone(table: &Btf, written: &[u8]) -> Result<bool, Fail> {
     Ok(clone_is_extended(table)? && has_length(table, 2) && is_written_as(table, written)?)
 }
@@ -117,7 +117,7 @@ fn clone_of_table_is_a_table_of_its_own(rt: HostRuntime) -> Result<(), Fail> {
     Ok(())
 }
 
-/// Whether a table's type of id 1 has no fallback, and the table is written as these bytes.
+/// Whether a table's type of id 1 has no fallback, and the bytes of the table are these.
 fn has_no_fallback(table: &Btf, written: &[u8]) -> Result<bool, Fail> {
     Ok(fallback_of(table.type_by_id(1)?).is_none() && is_written_as(table, written)?)
 }

@@ -1,6 +1,6 @@
-//! What records with a list print: the text that they printed when each list was a vector. A few items lie in their
-//! record now, and more have a vector, so the numbers of items here are on both sides of where that changes. One kind
-//! stands for the five whose list is one of items alone, and a UNION may keep an ENUM64 beside its own.
+//! The `Debug` text of records with a list. It is the text of a record whose list is a vector. A short list is stored
+//! in its record, and a longer one in a vector, so the tests use numbers of items on both sides of that limit. One kind
+//! represents the five kinds whose list has items alone; a UNION may have the fallback of an ENUM64 too.
 
 use crate::built_records::{fallback, member};
 use btf_plain::Endianness;
@@ -49,7 +49,7 @@ fn proto_prints(alloc: Global, t: &FuncProto) -> Result<bool, AllocError> {
     print_alike(alloc, t, &wanted)
 }
 
-/// The same for a union, which keeps this fallback.
+/// The same for a union with this fallback.
 fn union_prints(
     alloc: Global,
     t: &Union,
@@ -65,7 +65,7 @@ fn union_prints(
     print_alike(alloc, t, &wanted)
 }
 
-/// Whether a record prints what it printed when its list was a vector.
+/// Whether a record prints the text of the record whose list is a vector.
 fn prints(alloc: Global, record: &BtfType) -> Result<bool, AllocError> {
     match record {
         BtfType::FuncProto(t) => proto_prints(alloc, t),
@@ -74,7 +74,7 @@ fn prints(alloc: Global, record: &BtfType) -> Result<bool, AllocError> {
     }
 }
 
-/// Words of items, and of what follows them.
+/// Words of items, and the words after them.
 static WORDS: [u32; 60] = [
     100, 101, 102, 103, 104, 105, 106, 107, 108, 109, 110, 111, 112, 113, 114, 115, 116, 117, 118,
     119, 120, 121, 122, 123, 124, 125, 126, 127, 128, 129, 130, 131, 132, 133, 134, 135, 136, 137,
@@ -82,7 +82,7 @@ static WORDS: [u32; 60] = [
     157, 158, 159,
 ];
 
-/// The record of a kind, with so many items at the front of these words.
+/// The record of a kind, with this number of items from the start of these words.
 fn record_of(alloc: Global, kind: u32, vlen: u8, tail: &[u32]) -> Result<BtfType, Fail> {
     let mut bytes = spelled(
         alloc,
@@ -99,7 +99,7 @@ fn record_prints(alloc: Global, kind: u32, vlen: u8, tail: &[u32]) -> Result<boo
     Ok(prints(alloc, &record)?)
 }
 
-/// Whether the records of a kind print as they should, with 0 to 9 items of so many words, and whatever follows them.
+/// Whether the records of a kind print as they should, with 0 to 9 items of this number of words.
 fn kind_prints(alloc: Global, kind: u32, width: usize) -> Result<bool, Fail> {
     for vlen in 0..10u8 {
         let items = WORDS
@@ -119,7 +119,7 @@ fn records_with_few_and_many_items_print_as_with_vectors(rt: HostRuntime) -> Res
     Ok(())
 }
 
-/// A UNION of two members that keeps a fallback.
+/// A UNION of two members with a fallback.
 fn union_with_fallback(alloc: Global) -> Result<Union, AllocError> {
     let members = vec![in alloc; member(7, 2, 0), member(9, 2, 0)]?;
     Ok(Union::new(1, 8, members, Some(fallback(alloc)?)))

@@ -21,7 +21,7 @@ fn int_answers() -> bool {
 }
 
 fn int_of_another_word_answers() -> bool {
-    // The highest bits of the data word are no part of the encoding, and 3 is none.
+    // The highest bits of the data word are no part of the encoding, and 3 is no encoding.
     let int = Int::new(7, 8, IntEncoding::Char, 3)
         .with_info(0x61ff_0000)
         .with_word(0xf3ff_ff20);
@@ -55,7 +55,7 @@ fn fwd_answers() -> bool {
 fn func_answers() -> bool {
     let mut func = Func::new(7, 8, FuncLinkage::Static).with_info(0x6cff_0001);
     let was_global = func.linkage() == FuncLinkage::Global;
-    // The other bits of info stay.
+    // The other bits of info are unchanged.
     func.set_linkage(FuncLinkage::Extern);
     was_global
         && func.kind() == BtfKind::Func
@@ -148,7 +148,7 @@ fn names_for_types_answer_their_words(rt: HostRuntime) {
     assert!(rt; type_tag_answers());
 }
 
-/// Whether an unsigned ENUM is signed once it is made so, and then unsigned again.
+/// Whether an unsigned ENUM is signed after it is set to signed, and unsigned after it is set to unsigned again.
 fn takes_signs(narrow: &mut Enum) -> bool {
     let was_unsigned = !narrow.is_signed();
     narrow.set_signed(true);
@@ -243,7 +243,7 @@ fn enumerations_answer_their_words(rt: HostRuntime) -> Result<(), Fail> {
     Ok(())
 }
 
-/// A prototype whose second parameter got another name.
+/// A prototype whose second parameter was renamed.
 fn renamed_proto(alloc: Global) -> Result<FuncProto, Fail> {
     let params = vec![in alloc; param(3, 4), param(5, 6)]?;
     let mut proto = FuncProto::new(params, 2);

@@ -9,7 +9,7 @@ use btf_types::Btf;
 use std::alloc::{AllocError, Global};
 use std::test::Fail;
 
-/// A record: its kind, its words, its size, and the one type that it leads to.
+/// A record: its kind, its words, its size, and the type that it refers to.
 type Row = (BtfKind, &'static str, Option<u32>, Option<u32>);
 
 static ROWS: [Row; 22] = [
@@ -48,7 +48,7 @@ fn begins_with(words: &[u32], first: u32) -> bool {
     words.first() == Some(&first)
 }
 
-/// Whether a record has this length, and is what its row says.
+/// Whether a record has this length, and the fields of its row.
 fn answers_row(record: &BtfType, row: &Row, len: usize) -> bool {
     let (kind, _, size, target) = row;
     let composite = *kind == BtfKind::Struct || *kind == BtfKind::Union;
@@ -65,7 +65,7 @@ fn is_row(alloc: Global, record: &BtfType, row: &Row, len: usize) -> Result<bool
     Ok(answers_row(record, row, len) && is_spelled_as(alloc, record, row.1)?)
 }
 
-/// Whether a record has the name of these words, and is written as they are.
+/// Whether a record has the name of these words, and is written as these words.
 fn is_spelled_as(alloc: Global, record: &BtfType, text: &str) -> Result<bool, Fail> {
     Ok(is_named(alloc, record, text)? && has_words(alloc, record, text)?)
 }
@@ -82,7 +82,7 @@ fn begin_with(
     is_row(alloc, &record, row, len)
 }
 
-/// Whether the words of a row are read as the row says, and are written again.
+/// Whether the words of a row are read as the row's record, and the record is written as the words.
 fn is_read(alloc: Global, row: &Row, endianness: Endianness) -> Result<bool, Fail> {
     let bytes = spelled_text(alloc, row.1, endianness)?;
     begin_with(alloc, &bytes, row, bytes.len(), endianness)
@@ -95,7 +95,7 @@ fn with_one_more(alloc: Global, text: &str, endianness: Endianness) -> Result<Ve
     Ok(bytes)
 }
 
-/// Whether what follows the words of a row is not read.
+/// Whether the bytes after the words of a row are not read.
 fn is_read_alone(alloc: Global, row: &Row, endianness: Endianness) -> Result<bool, Fail> {
     let bytes = with_one_more(alloc, row.1, endianness)?;
     begin_with(
@@ -134,17 +134,17 @@ static TO_BE_CUT: [&str; 12] = [
     "0 13000001 8  4 5 1",
 ];
 
-/// Whether an answer is the refusal of no record.
+/// Whether a result is the error of bytes that begin with no record.
 fn is_no_record(answer: &Result<BtfType, BtfError>) -> bool {
     matches!(answer, Err(BtfError::InvalidTypeInfo))
 }
 
-/// Whether bytes are refused as no record.
+/// Whether reading bytes fails because they begin with no record.
 fn is_refused(alloc: Global, bytes: &[u8], endianness: Endianness) -> bool {
     is_no_record(&BtfType::read(alloc, bytes, endianness))
 }
 
-/// Whether each beginning of bytes is refused as no record.
+/// Whether reading each prefix of bytes fails so.
 fn has_no_beginning(alloc: Global, bytes: &[u8], endianness: Endianness) -> bool {
     for len in 0..bytes.len() {
         if !is_refused(alloc, &bytes[..len], endianness) {
@@ -154,7 +154,7 @@ fn has_no_beginning(alloc: Global, bytes: &[u8], endianness: Endianness) -> bool
     true
 }
 
-/// Whether each beginning of the bytes of a text's words is refused as no record.
+/// Whether reading each prefix of the bytes of a text's words fails so.
 fn is_whole(alloc: Global, text: &str, endianness: Endianness) -> Result<bool, Fail> {
     let bytes = spelled_text(alloc, text, endianness)?;
     Ok(has_no_beginning(alloc, &bytes, endianness))
@@ -170,17 +170,17 @@ fn cut_record_of_each_kind_is_refused(rt: HostRuntime) -> Result<(), Fail> {
     Ok(())
 }
 
-/// Words that are read, and what is written of them.
+/// Words that are read, and the words that are written.
 static KEPT: [(&str, &str); 12] = [
     // The third word of FWD and of ARRAY is dropped.
     ("550b 07000000 9", "550b 07000000 0"),
     ("0 03000000 7 1 12 2", "0 03000000 0 1 12 2"),
-    // So are all words of an Unknown, and a linkage of VAR that has no name.
+    // All words of an Unknown are dropped, and so is an unknown linkage of VAR.
     ("7 0 9", "0 0 0"),
     ("7 e0ffffff 9", "0 0 0"),
     ("5 0e000000 9 7", "5 0e000000 9 3"),
     ("5 0e000000 9 ffffffff", "5 0e000000 9 3"),
-    // Spare bits of info are kept, and so are words that have no name.
+    // Spare bits of info are retained, and so are unknown values of words.
     ("0 61ff0000 4 20", "0 61ff0000 4 20"),
     ("0 e2ffffff 6", "0 e2ffffff 6"),
     ("0 01000000 4 f3ffffff", "0 01000000 4 f3ffffff"),
@@ -189,7 +189,7 @@ static KEPT: [(&str, &str); 12] = [
     ("0 06000001 8  1 2", "0 06000001 8  1 2"),
 ];
 
-/// Whether the linkage of a record, if it has one, has no name.
+/// Whether the linkage of a record, if it has one, is unknown.
 fn has_no_known_linkage(record: &BtfType) -> bool {
     match record {
         BtfType::Var(var) => var.linkage() == VarLinkage::Unknown,
@@ -203,7 +203,7 @@ fn keeps(alloc: Global, record: &BtfType, kept: &str) -> Result<bool, Fail> {
     Ok(has_no_known_linkage(record) && has_words(alloc, record, kept)?)
 }
 
-/// Whether the words of a text are read, and some of them kept.
+/// Whether the words of a text are read as a record without a known linkage, and it is written as the other words.
 fn is_kept(alloc: Global, text: &str, kept: &str, endianness: Endianness) -> Result<bool, Fail> {
     let record = record(alloc, text, endianness)?;
     keeps(alloc, &record, kept)
@@ -224,7 +224,7 @@ fn is_int_of(alloc: Global, record: &BtfType, bytes: &[u8]) -> Result<bool, Fail
     Ok(record.kind() == BtfKind::Int && is_spelled(alloc, record, bytes, Endianness::Little)?)
 }
 
-/// Whether bytes in the little order are read as an INT, and written again.
+/// Whether bytes in little-endian order are read as an INT, and written as the same bytes.
 fn is_int(alloc: Global, bytes: &[u8]) -> Result<bool, Fail> {
     let record = read(alloc, bytes, Endianness::Little)?;
     is_int_of(alloc, &record, bytes)
@@ -237,12 +237,12 @@ fn int_whose_info_has_spare_bits_is_written_again(rt: HostRuntime) -> Result<(),
     Ok(())
 }
 
-/// Whether an answer is the refusal of this kind.
+/// Whether a result is the error of this kind.
 fn is_kind_refused(answer: &Result<BtfType, BtfError>, number: u32) -> bool {
     matches!(answer, Err(BtfError::InvalidTypeKind { kind }) if *kind == number)
 }
 
-/// Whether bytes are refused for this kind.
+/// Whether reading bytes fails because of this kind.
 fn are_of_no_kind(alloc: Global, bytes: &[u8], number: u32, endianness: Endianness) -> bool {
     is_kind_refused(&BtfType::read(alloc, bytes, endianness), number)
 }
@@ -250,7 +250,7 @@ fn are_of_no_kind(alloc: Global, bytes: &[u8], number: u32, endianness: Endianne
 /// Spare bits of the info word.
 static SPARE: [u32; 3] = [0, 0xe000_0000, 0x00ff_ffff];
 
-/// Whether a record of this kind is refused for its kind, under these other bits of info.
+/// Whether reading a record of this kind fails because of the kind, with these other bits of info.
 fn has_no_kind(
     alloc: Global,
     number: u32,
@@ -278,7 +278,7 @@ fn kinds_without_a_name_are_refused(rt: HostRuntime) -> Result<(), Fail> {
     Ok(())
 }
 
-/// The bytes of a STRUCT of as many members as can be.
+/// The bytes of a STRUCT with the maximum number of members.
 fn longest_list(alloc: Global, endianness: Endianness) -> Result<Vec<u8>, AllocError> {
     let mut types = spelled(alloc, &[0, 0x0400_ffff, 4], endianness)?;
     for number in 0u32..65535 {
@@ -305,19 +305,19 @@ fn is_longest(
     Ok(count_members(record) == 65535 && is_spelled(alloc, record, types, endianness)?)
 }
 
-/// Whether the record of these bytes is the longest, and is written as the bytes again.
+/// Whether the record of these bytes is the longest, and is written as the same bytes.
 fn is_longest_record(alloc: Global, types: &[u8], endianness: Endianness) -> Result<bool, Fail> {
     let record = read(alloc, types, endianness)?;
     is_longest(alloc, &record, types, endianness)
 }
 
-/// Whether a table's bytes are written as they were read.
+/// Whether a table is written as the bytes that it was read from.
 fn is_kept_blob(alloc: Global, blob: &[u8], endianness: Endianness) -> Result<bool, Fail> {
     let table = parsed_blob(alloc, blob, endianness)?;
     has_table_bytes(&table, blob)
 }
 
-/// Whether the table of these type bytes is written as it was read.
+/// Whether the table of these type bytes is written as the bytes that it was read from.
 fn is_kept_in_table(alloc: Global, types: &[u8], endianness: Endianness) -> Result<bool, Fail> {
     let blob = blob(alloc, types, &[0], endianness)?;
     is_kept_blob(alloc, &blob, endianness)
@@ -345,23 +345,23 @@ fn longest_list_is_read_and_written_again(rt: HostRuntime) -> Result<(), Fail> {
     Ok(())
 }
 
-/// Whether an answer is the refusal of the types.
+/// Whether a result is the error of the types.
 fn are_types_refused(answer: &Result<Btf, BtfError>) -> bool {
     matches!(answer, Err(BtfError::InvalidTypeInfo))
 }
 
-/// Whether the table of these type bytes is refused for its types.
+/// Whether parsing a table of these type bytes fails because of its types.
 fn is_refused_in_table(alloc: Global, types: &[u8], endianness: Endianness) -> Result<bool, Fail> {
     let blob = blob(alloc, types, &[0], endianness)?;
     Ok(are_types_refused(&Btf::parse(alloc, &blob, endianness)))
 }
 
-/// Whether bytes are refused as no record, alone and in a table.
+/// Whether reading bytes fails, as a record and in a table.
 fn are_refused(alloc: Global, types: &[u8], endianness: Endianness) -> Result<bool, Fail> {
     Ok(is_refused(alloc, types, endianness) && is_refused_in_table(alloc, types, endianness)?)
 }
 
-/// Whether the longest list without its last byte is refused.
+/// Whether reading the longest list without its last byte fails.
 fn refuses_short_list(alloc: Global, endianness: Endianness) -> Result<bool, Fail> {
     let mut types = longest_list(alloc, endianness)?;
     types.pop();

@@ -1,4 +1,4 @@
-//! Tests of records, of their kinds and of the errors. Their expected values are worked by hand from the format.
+//! Tests of records, of their kinds and of the errors. The expected values are computed by hand from the format.
 #![tactic(auto)]
 
 #[cfg(test)]

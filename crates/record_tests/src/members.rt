@@ -1,4 +1,4 @@
-//! Members of records, and the kinds that have none.
+//! Members of records, and kinds without members.
 
 use crate::built_records::member;
 use btf_plain::{BtfKind, Endianness, Ptr};
@@ -15,19 +15,19 @@ static FIELDS: [(u32, usize, usize); 4] = [
     (0x8500_0002, 0x0004_0005, 3),
 ];
 
-/// A record of two members, at 0x20 and at 0x03040005, under an info word.
+/// A record of two members with the offset words 0x20 and 0x03040005, and with this info word.
 fn composite(alloc: Global, info: u32) -> Result<BtfType, Fail> {
     let words = [7, info, 8, 1, 2, 0x20, 3, 4, 0x0304_0005];
     let bytes = spelled(alloc, &words, Endianness::Little)?;
     read(alloc, &bytes, Endianness::Little)
 }
 
-/// Whether the first member of a composite record lies at 0x20, and is no bit-field.
+/// Whether the first member of a composite record is at 0x20, and is no bit-field.
 fn is_first(record: &BtfType, first: &BtfMember) -> bool {
     record.member_bit_offset(first) == Some(0x20) && record.member_bit_field_size(first) == Some(0)
 }
 
-/// Whether the last member of a composite record lies at this offset, and has so many bits.
+/// Whether the last member of a composite record is at this offset, and has this number of bits.
 fn is_last(record: &BtfType, last: &BtfMember, offset: usize, bits: usize) -> bool {
     [last.name_offset, last.btf_type] == [3, 4]
         && record.member_bit_offset(last) == Some(offset)
@@ -45,7 +45,7 @@ fn has_members(record: &BtfType, offset: usize, bits: usize) -> bool {
     }
 }
 
-/// Whether the last of a STRUCT's members lies at this offset, and has so many bits.
+/// Whether the last member of a STRUCT is at this offset, and has this number of bits.
 fn struct_ends_with(t: &Struct, offset: usize, bits: usize) -> bool {
     match t.members() {
         [_, last] => {
@@ -62,7 +62,7 @@ fn struct_answers(t: &Struct, info: u32, offset: usize, bits: usize) -> bool {
         && struct_ends_with(t, offset, bits)
 }
 
-/// Whether the last of a UNION's members lies at this offset, and has so many bits.
+/// Whether the last member of a UNION is at this offset, and has this number of bits.
 fn union_ends_with(t: &Union, offset: usize, bits: usize) -> bool {
     match t.members() {
         [_, last] => {
@@ -80,7 +80,7 @@ fn union_answers(t: &Union, info: u32, offset: usize, bits: usize) -> bool {
         && union_ends_with(t, offset, bits)
 }
 
-/// Whether a composite record, and the STRUCT or UNION that it is, end with this member.
+/// Whether a composite record, and its STRUCT or UNION, end with this member.
 fn composite_answers(record: &BtfType, info: u32, offset: usize, bits: usize) -> bool {
     let as_kind = match record {
         BtfType::Struct(t) => struct_answers(t, info, offset, bits),
@@ -90,13 +90,13 @@ fn composite_answers(record: &BtfType, info: u32, offset: usize, bits: usize) ->
     as_kind && record.is_composite() && has_members(record, offset, bits)
 }
 
-/// Whether the record under an info word does.
+/// Whether the record with an info word, and its STRUCT or UNION, end with this member.
 fn field_answers(alloc: Global, info: u32, offset: usize, bits: usize) -> Result<bool, Fail> {
     let record = composite(alloc, info)?;
     Ok(composite_answers(&record, info, offset, bits))
 }
 
-/// A clone of the STRUCT or UNION that a record is.
+/// A clone of the STRUCT or UNION of a record.
 fn clone_within(record: &BtfType) -> Result<BtfType, Fail> {
     Ok(match record {
         BtfType::Struct(t) => BtfType::Struct(t.try_clone()?),
@@ -105,13 +105,13 @@ fn clone_within(record: &BtfType) -> Result<BtfType, Fail> {
     })
 }
 
-/// A clone of the STRUCT or UNION under an info word.
+/// A clone of the STRUCT or UNION with an info word.
 fn cloned(alloc: Global, info: u32) -> Result<BtfType, Fail> {
     let record = composite(alloc, info)?;
     clone_within(&record)
 }
 
-/// Whether the clone of the STRUCT or UNION under an info word does.
+/// Whether the clone of the STRUCT or UNION with an info word ends with this member.
 fn clone_answers(alloc: Global, info: u32, offset: usize, bits: usize) -> Result<bool, Fail> {
     let record = cloned(alloc, info)?;
     Ok(composite_answers(&record, info, offset, bits))

@@ -44,13 +44,13 @@ fn is_whole(
     )
 }
 
-/// Whether bytes are read as a record, and written again.
+/// Whether bytes are read as a record, and the record is written as the bytes.
 fn is_kept(alloc: Global, bytes: &[u8], endianness: Endianness) -> Result<bool, Fail> {
     let record = read(alloc, bytes, endianness)?;
     is_whole(alloc, &record, bytes, endianness)
 }
 
-/// Whether the bytes of a text are read as a record, and written again.
+/// Whether the bytes of a text are read as a record, and the record is written as the bytes.
 fn is_read(alloc: Global, text: &str, endianness: Endianness) -> Result<bool, Fail> {
     let bytes = bytes(alloc, text)?;
     is_kept(alloc, &bytes, endianness)
@@ -81,12 +81,12 @@ fn built_records_are_written(rt: HostRuntime) -> Result<(), Fail> {
 
 #[test]
 fn built_ints_have_their_encoding_and_bits(rt: HostRuntime) {
-    // 32 bytes are 256 bits, which are kept modulo 256.
+    // 32 bytes are 256 bits, and the number of bits is stored modulo 256.
     assert!(rt; Int::new(0, 32, IntEncoding::None, 0).bits() == 0);
     assert!(rt; Int::new(0, 4, IntEncoding::Signed, 0).encoding() == IntEncoding::Signed);
 }
 
-/// Bytes that begin with no record, and the text of their fault.
+/// Bytes that begin with no record, and the text of the error.
 static BROKEN: [(&str, &str); 4] = [
     (
         "00 00 00 00  00 00 00 14  00 00 00 00  00",
@@ -103,7 +103,7 @@ static BROKEN: [(&str, &str); 4] = [
     ("", "invalid BTF type info segment"),
 ];
 
-/// Whether an answer is an error of this text.
+/// Whether a result is an error of this text.
 fn is_error(alloc: Global, answer: &Result<BtfType, BtfError>, text: &str) -> Result<bool, Fail> {
     match answer {
         Ok(_) => Ok(false),
@@ -111,13 +111,13 @@ fn is_error(alloc: Global, answer: &Result<BtfType, BtfError>, text: &str) -> Re
     }
 }
 
-/// Whether reading bytes in the little order is refused with an error of this text.
+/// Whether reading bytes in little-endian order fails with an error of this text.
 fn is_refused(alloc: Global, data: &[u8], text: &str) -> Result<bool, Fail> {
     let answer = BtfType::read(alloc, data, Endianness::Little);
     is_error(alloc, &answer, text)
 }
 
-/// Whether reading the bytes of a text is refused with an error of this text.
+/// Whether reading the bytes of a text fails with an error of this text.
 fn is_refused_with(alloc: Global, data: &str, text: &str) -> Result<bool, Fail> {
     let data = bytes(alloc, data)?;
     is_refused(alloc, &data, text)

@@ -9,7 +9,7 @@ use btf_samples::spelled::spelled_decimals;
 use btf_types::{Btf, BtfExt};
 use std::test::Fail;
 
-/// A `.BTF.ext` section of two relocation sections, whose names stand at 1.
+/// A `.BTF.ext` section of two relocation sections, whose names are at offset 1.
 const RELOCATIONS: &str = "32 0 0 0 0 0 52  16  1 1 1 2 3 4  1 1 5 6 7 8";
 
 /// The value of the variant "B" of the last type.

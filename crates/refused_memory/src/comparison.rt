@@ -6,7 +6,7 @@ use btf_plain::BtfError;
 use btf_types::{Btf, fields_are_compatible, types_are_compatible, types_are_compatible_traced};
 use std::test::Fail;
 
-/// Compares, and adds the pairs that the traced comparison starts.
+/// Compares, and reports the pairs that the traced comparison starts.
 fn compare(work: &str, btf: &Btf, starts: &mut Vec<(u32, u32)>) -> Result<bool, BtfError> {
     match work {
         "fields" => fields_are_compatible(btf, 1, btf, 2),

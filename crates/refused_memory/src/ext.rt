@@ -1,4 +1,4 @@
-//! The `.BTF.ext` section of the program of the kernel's documentation, and sections of too short records.
+//! The `.BTF.ext` section of the program in the kernel's documentation, and sections of records that are too short.
 
 use crate::probe::Probe;
 use crate::report::{Report, Show};
@@ -41,8 +41,8 @@ impl Show for Section<'_> {
     }
 }
 
-/// Does the work on a section that was parsed. The bytes of a section's records are made of a copy of it, so that the
-/// copy's memory is requested before.
+/// Does the work on a parsed section. The bytes of a section's records are made from a copy of the section, so that the
+/// copy is allocated before the call.
 fn done_on(
     work: &str,
     probe: &Probe,
@@ -97,7 +97,7 @@ fn one_record(probe: &Probe, part: &str, rec_size: u32, least: u32) -> Result<Ve
     Ok(data)
 }
 
-/// Sections of one record each, whose sizes go from 0 to the least of the part.
+/// Sections of one record each, with record sizes from 0 to the least of the part.
 fn sizes_to_least(probe: &Probe, part: &str) -> Result<Vec<Vec<u8>>, Fail> {
     let least = if part == "func" { 8u32 } else { 16 };
     let mut sections = Vec::new(probe.alloc);
@@ -109,7 +109,7 @@ fn sizes_to_least(probe: &Probe, part: &str) -> Result<Vec<Vec<u8>>, Fail> {
     Ok(sections)
 }
 
-/// How many sections are refused for what they are.
+/// The number of sections that are refused because they are invalid.
 fn refused(sections: &[Vec<u8>], order: Endianness, btf: &Btf) -> Result<u64, BtfError> {
     let mut count = 0u64;
     for data in sections {

@@ -1,8 +1,8 @@
-//! Calls of the library, one of whose requests for memory is refused: `refused_memory WORK TABLE ORDER BEFORE AFTER`.
+//! Allocation-failure injection for calls of the library: `refused_memory WORK TABLE ORDER BEFORE AFTER`.
 //!
-//! The program asks for memory BEFORE times, makes one call, asks for memory AFTER times, and writes what came out: a
-//! refused call is made again. Which request is refused is up to who runs it: `scripts/refusals` has the toolchain
-//! refuse one of the process, puts each of the call's in that place in turn, and compares.
+//! The program makes BEFORE allocations, one call, and AFTER allocations, and writes the results. If the call fails, it
+//! is made again. The caller of the program selects the failing allocation: `scripts/refusals` has the toolchain fail
+//! the nth allocation of the process, makes each allocation of the call the nth one in turn, and compares the results.
 #![tactic(auto)]
 
 mod above;
@@ -42,7 +42,7 @@ fn order_of(word: &str) -> Endianness {
     }
 }
 
-/// Does the work, and writes down what came out.
+/// Does the work, and reports the results.
 fn done(work: &str, probe: &Probe, blob: &[u8], report: &mut Report) -> Result<(), Fail> {
     match work {
         "parse" | "clone" | "clone_kept" | "to_bytes" | "new" => table::made(

@@ -1,4 +1,4 @@
-//! Calls on an object file, which is made around a table.
+//! Calls on an object file that contains a table.
 
 use crate::probe::Probe;
 use crate::report::Report;
@@ -14,7 +14,7 @@ const NAMES_LEN: u32 = 45;
 
 const NAMES: &[u8] = b"\0.BTF\0.names\0.symbols\0.data/foo\0foo\0_license\0";
 
-/// A section: the words of its header that are not 0.
+/// A section: the non-zero words of its header.
 #[derive(Clone, Copy)]
 struct Section {
     name: u32,
@@ -25,7 +25,7 @@ struct Section {
     entry_size: u32,
 }
 
-/// Writes a number of 64 bits that has no more than 32.
+/// Writes a number of at most 32 bits as one of 64 bits.
 fn push_long(bytes: &mut Vec<u8>, value: u32, order: Endianness) -> Result<(), AllocError> {
     let words = match order {
         Endianness::Little => [value, 0],
@@ -128,7 +128,7 @@ fn object_of(alloc: Global, table: &[u8], order: Endianness) -> Result<Vec<u8>, 
     Ok(bytes)
 }
 
-/// How many symbols a file has.
+/// The number of symbols of a file.
 fn symbols(alloc: Global, file: &[u8]) -> Result<u64, BtfError> {
     match Object::parse(alloc, file) {
         Ok(object) => Ok(object.symbol_count() as u64),
@@ -137,7 +137,7 @@ fn symbols(alloc: Global, file: &[u8]) -> Result<u64, BtfError> {
     }
 }
 
-/// A file with its own bytes in the place of its table.
+/// A file whose table is replaced by the bytes of the file.
 fn replaced(alloc: Global, object: &Object<'_>) -> Result<Vec<u8>, BtfError> {
     match object.with_section(alloc, 1, object.bytes()) {
         Ok(file) => Ok(file),
@@ -155,7 +155,7 @@ fn sanitized(alloc: Global, file: &[u8], kernel: &Kernel) -> Result<Vec<u8>, Btf
     }
 }
 
-/// Makes a call on an object around the table.
+/// Makes a call on an object that contains the table.
 pub fn done(work: &str, probe: &Probe, blob: &[u8], report: &mut Report) -> Result<(), Fail> {
     let (alloc, file) = (probe.alloc, object_of(probe.alloc, blob, probe.order)?);
     match work {

@@ -1,4 +1,4 @@
-//! Requests for memory before a call and after it.
+//! Allocations before a call and after it.
 
 use crate::report::{Report, Show};
 use btf_plain::{BtfError, Endianness};
@@ -6,7 +6,7 @@ use btf_types::Btf;
 use std::alloc::Global;
 use std::test::Fail;
 
-/// How a call is made: with which allocator, in which byte order, and after and before how many other requests.
+/// The settings of a call: the allocator, the byte order, and the numbers of allocations before and after the call.
 #[derive(Clone, Copy)]
 pub struct Probe {
     pub alloc: Global,
@@ -15,7 +15,7 @@ pub struct Probe {
     after: usize,
 }
 
-/// How many requests in a row are granted, of so many.
+/// Makes this number of allocations, and returns the number of those that succeed before the first failure.
 fn granted(alloc: Global, count: usize) -> usize {
     for done in 0..count {
         if Vec::<u8>::with_capacity(alloc, 1).is_err() {
@@ -35,8 +35,8 @@ impl Probe {
         }
     }
 
-    /// Makes a call that changes nothing of this value, and makes it again if it fails; writes down what it returns, and
-    /// what the calls that take no memory say of the value before it and after it.
+    /// Makes a call that does not change this value, and makes it again if it fails. Reports its results, and the
+    /// results of calls that allocate nothing on the value before it and after it.
     pub fn twice<S: Show, T: Show + Drop, F: Fn() -> Result<T, BtfError>>(
         &self,
         value: &S,
@@ -53,8 +53,8 @@ impl Probe {
         Ok(())
     }
 
-    /// Makes a call that changes a table, and makes it again if it is refused; writes down what it returns, and what the
-    /// table is before it and after it.
+    /// Makes a call that changes a table, and makes it again if it fails. Reports its results, and the table before it
+    /// and after it.
     pub fn twice_on<T: Show + Drop, F: Fn(&mut Btf) -> Result<T, BtfError>>(
         &self,
         btf: &mut Btf,
@@ -71,19 +71,19 @@ impl Probe {
         Ok(())
     }
 
-    /// Makes the requests that come before the call.
+    /// Makes the allocations before the call.
     pub fn begin(&self, report: &mut Report) -> Result<(), Fail> {
         let granted = granted(self.alloc, self.before);
         report.count("before", granted)
     }
 
-    /// The same, after the value that the call works on is written down.
+    /// Reports the value that the call works on, and makes the allocations before the call.
     pub fn begin_on<S: Show>(&self, value: &S, report: &mut Report) -> Result<(), Fail> {
         report.value("table", value)?;
         self.begin(report)
     }
 
-    /// Makes the requests that come after the call, and writes down what it returned.
+    /// Makes the allocations after the call, and reports the call's result.
     pub fn end<T: Show>(
         &self,
         first: &Result<T, BtfError>,
@@ -94,7 +94,8 @@ impl Probe {
         report.result("first", first)
     }
 
-    /// The same, with what the value is then. Whether the call is to be made again, since it failed.
+    /// Makes the allocations after the call, and reports the call's result and the value after it. Returns whether the
+    /// call has failed, and so is made again.
     pub fn end_on<S: Show, T: Show>(
         &self,
         first: &Result<T, BtfError>,

@@ -8,7 +8,8 @@ use btf_types::Btf;
 use std::alloc::Global;
 use std::test::Fail;
 
-/// What is made of the records of a table: records, or bytes. There is room for all, so that no request is made for it.
+/// The output for the records of a table: records, or bytes. Its capacity is sufficient, so that it allocates nothing
+/// during the call.
 #[derive(Drop)]
 struct Made {
     records: Vec<BtfType>,
@@ -23,7 +24,7 @@ impl Made {
         })
     }
 
-    /// Reads so many records at the front of bytes.
+    /// Reads this number of records from the start of bytes.
     fn read(&mut self, probe: &Probe, bytes: &[u8], count: usize) -> Result<(), BtfError> {
         let mut rest = bytes;
         for _ in 0..count {
@@ -55,7 +56,7 @@ impl Made {
     fn make(&mut self, work: &str, probe: &Probe, blob: &[u8], btf: &Btf) -> Result<(), BtfError> {
         match work {
             "read_type" => {
-                // The records stand after the header.
+                // The records are after the header.
                 let bytes = blob.get(24..).unwrap_or(&[]);
                 self.read(probe, bytes, btf.types().len().saturating_sub(1))
             }
@@ -64,7 +65,7 @@ impl Made {
         }
     }
 
-    /// A line of what was made.
+    /// A line of the output.
     fn report(&self, name: &str, report: &mut Report) -> Result<(), Fail> {
         if self.bytes.is_empty() {
             report.value(name, &self.records)

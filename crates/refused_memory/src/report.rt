@@ -1,4 +1,4 @@
-//! What a work writes down, a line for each name.
+//! The report of a work, with a line for each name.
 
 use btf_items::Enum64VariantFallback;
 use btf_plain::{BtfError, Endianness};
@@ -9,13 +9,13 @@ use std::fmt::Write;
 use std::hash::BuildHasher;
 use std::test::Fail;
 
-/// The lines, in memory that is there before the call.
+/// The lines, in memory that is allocated before the call.
 #[derive(Drop)]
 pub struct Report {
     text: String,
 }
 
-/// What a report can have a line of.
+/// A value that a report can show in a line.
 pub trait Show {
     fn show(&self, out: &mut String) -> Result<(), Fail>;
 }
@@ -125,7 +125,7 @@ impl Show for Vec<BtfType> {
     }
 }
 
-/// Writes down the relocation records of a section.
+/// Reports the relocation records of a section.
 fn show_relocations(section: &(u32, Vec<[u32; 4]>), out: &mut String) -> Result<(), Fail> {
     write!(out, " {}", section.0)?;
     for words in &section.1 {
@@ -157,13 +157,13 @@ impl<H: BuildHasher> Show for BtfExt<H> {
     }
 }
 
-/// Writes down a kept variant.
+/// Reports a variant of a fallback.
 fn show_variant(variant: &Enum64VariantFallback, out: &mut String) -> Result<(), Fail> {
     write!(out, " {}={}", variant.name_offset, variant.value)?;
     Ok(())
 }
 
-/// Writes down what a UNION keeps of an ENUM64, if it does.
+/// Reports the fallback of a UNION that replaced an ENUM64, if it has one.
 fn show_fallback(record: &BtfType, out: &mut String) -> Result<(), Fail> {
     let BtfType::Union(union) = record else {
         return Ok(());
@@ -178,7 +178,7 @@ fn show_fallback(record: &BtfType, out: &mut String) -> Result<(), Fail> {
     Ok(())
 }
 
-/// Writes down what walks say of an id.
+/// Reports the results of walks from an id.
 fn show_walks(btf: &Btf, id: u32, out: &mut String) -> Result<(), Fail> {
     let resolved = btf.resolve_type(id).unwrap_or(u32::MAX);
     let size = btf.type_size(id).unwrap_or(usize::MAX);
@@ -186,7 +186,7 @@ fn show_walks(btf: &Btf, id: u32, out: &mut String) -> Result<(), Fail> {
     Ok(())
 }
 
-/// Writes down the name of an id where it is UTF-8, as both calls return it that take no memory then.
+/// Reports the name of an id if it is UTF-8, by both calls that return a name and allocate nothing for such a name.
 fn show_name(btf: &Btf, id: u32, out: &mut String) -> Result<(), Fail> {
     let record = btf.type_by_id(id)?;
     if let Ok(BtfStr::Borrowed(name)) = btf.type_name(record) {
@@ -198,7 +198,7 @@ fn show_name(btf: &Btf, id: u32, out: &mut String) -> Result<(), Fail> {
     Ok(())
 }
 
-/// Writes down the fallbacks of a table, and what the calls that take no memory say of its types.
+/// Reports the fallbacks of a table, and the results of calls that allocate nothing on its types.
 fn show_types(btf: &Btf, out: &mut String) -> Result<(), Fail> {
     write!(out, " {}", btf.is_empty())?;
     let mut id = 0u32;
@@ -219,7 +219,7 @@ impl Show for Btf {
 }
 
 impl Report {
-    /// An empty report, with room for all that the works write.
+    /// An empty report, with sufficient capacity for every work.
     pub fn new(alloc: Global) -> Result<Self, AllocError> {
         let text = String::with_capacity(alloc, 1 << 18)?;
         Ok(Report { text })
@@ -243,7 +243,7 @@ impl Report {
         Ok(())
     }
 
-    /// A line of what a call returned.
+    /// A line of a call's result.
     pub fn result<T: Show>(
         &mut self,
         name: &str,
@@ -258,7 +258,7 @@ impl Report {
         }
     }
 
-    /// Lines of what a call returned that was made again, and of what the value is then.
+    /// Lines of the result of a call that was made again, and of the value after it.
     pub fn last<S: Show, T: Show>(
         &mut self,
         outcome: &Result<T, BtfError>,

@@ -20,7 +20,7 @@ fn known(alloc: Global) -> Result<Layout, AllocError> {
     Layout::of(alloc, &SECTIONS, &SYMBOLS)
 }
 
-/// What a kernel has, and whether its symbols are named.
+/// The features of a kernel, and whether the ids of its symbols are given.
 #[derive(Clone, Copy)]
 struct Kernel {
     has_symbols: bool,
@@ -78,12 +78,12 @@ impl Kernel {
     }
 }
 
-/// What a rewrite asked of its predicate, and what the resolver remembers of it. There is room for all.
+/// The questions of a rewrite to its predicate, and the answers that the resolver caches. The capacity is sufficient.
 #[derive(Drop)]
 struct Asked {
     calls: Vec<BtfFeature>,
     answers: Vec<FeatureAnswer>,
-    /// What the resolver says when it is asked again for the features that it remembers.
+    /// The resolver's answers when it is asked again about the cached features.
     again: Vec<FeatureAnswer>,
 }
 
@@ -97,7 +97,7 @@ impl Asked {
     }
 }
 
-/// Rewrites a table, and writes down what was asked.
+/// Rewrites a table, and reports the questions and answers.
 fn rewrite(
     kernel: Kernel,
     program: &Layout,
@@ -174,7 +174,7 @@ pub fn whole(work: &str, probe: &Probe, blob: &[u8], report: &mut Report) -> Res
     rewritten_twice(kernel, probe, &program, &mut btf, report)
 }
 
-/// The step of the kernel's symbols alone, with a placeholder of functions or without.
+/// Makes the step of the kernel's symbols alone, with a placeholder of functions or without.
 fn fixup(work: &str, btf: &mut Btf) -> Result<(), BtfError> {
     let last = last_id(btf);
     let placeholder_id = (work == "ksyms").then(|| last.wrapping_sub(1));

@@ -1,4 +1,4 @@
-//! Tables: made, changed, and looked into.
+//! Tables: made, changed, and read.
 
 use crate::probe::Probe;
 use crate::report::Report;
@@ -21,7 +21,7 @@ fn make(work: &str, probe: &Probe, blob: &[u8], btf: &Btf) -> Result<Btf, BtfErr
 pub fn made(work: &str, probe: &Probe, blob: &[u8], report: &mut Report) -> Result<(), Fail> {
     let mut btf = Btf::parse(probe.alloc, blob, probe.order)?;
     if work == "clone_kept" {
-        // A UNION keeps the variants of the ENUM64 that it stands in for.
+        // A UNION has the variants of the ENUM64 that it replaced as its fallback.
         deny_all(probe.alloc, &mut btf)?;
     }
     if work == "to_bytes" {
@@ -52,14 +52,14 @@ pub fn named(work: &str, probe: &Probe, blob: &[u8], report: &mut Report) -> Res
         "string_at" => probe.twice(&btf, report, || btf.string_at(1)),
         "type_name" => probe.twice(&btf, report, || btf.type_name(last)),
         "err_type_name" => probe.twice(&btf, report, || btf.err_type_name(last)),
-        // A name with U+FFFD is compared with the texts that bytes are read as.
+        // A name with U+FFFD is compared with the texts of bytes that are not UTF-8.
         _ => probe.twice(&btf, report, || {
             btf.id_by_type_name_kind("\u{fffd}A", BtfKind::Int)
         }),
     }
 }
 
-/// Parses bytes that need not be those of a table.
+/// Parses bytes that need not be a valid table.
 pub fn parsed(probe: &Probe, blob: &[u8], report: &mut Report) -> Result<(), Fail> {
     probe.twice(&(), report, || Btf::parse(probe.alloc, blob, probe.order))
 }

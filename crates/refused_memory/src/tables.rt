@@ -1,4 +1,4 @@
-//! The tables that the works are done on, by name.
+//! The tables of the works, by name.
 
 use btf_plain::Endianness;
 use btf_samples::blobs::blob;
@@ -17,7 +17,7 @@ static TABLES: [Table; 23] = [
     Table("lossy", "1 01000000 4 20", b"\0\xffA\0"),
     // All kinds.
     Table("kinds", KINDS, b"\0a\0b\0"),
-    // The six kinds that have a list, each with eight items and more.
+    // The six kinds that have a list, each with eight items or more.
     Table("lists", LISTS, b"\0a\0b\0"),
     // A pointer to a prototype that takes it.
     Table("ring", "0 02000000 2  0 0d000001 0 0 1", b"\0"),
@@ -29,20 +29,20 @@ static TABLES: [Table; 23] = [
     ),
     // Prototypes with two parameters of the next one each, and an INT.
     Table("nested", NESTED, b"\0"),
-    // A prototype with nine parameters, which a comparison remembers.
+    // A prototype with nine parameters, which a comparison records.
     Table(
         "long",
         "0 0d000009 0 0 2 0 2 0 2 0 2 0 2 0 2 0 2 0 2 0 2  0 1000000 4 20",
         b"\0",
     ),
-    // Two prototypes, the pairs of whose parameters share a bucket, and the INTs that they take.
+    // Two prototypes whose pairs of parameters all share a bucket, and the INTs that they take.
     Table("flood", FLOOD, b"\0"),
     Table(
         "records",
         "0 04000001 4 0 3 0  0 05000001 4 0 3 0  0 04000000 4",
         b"\0",
     ),
-    // An ENUM whose variants have names that are not UTF-8, but for the last one.
+    // An ENUM whose variants have names that are not UTF-8, except for the last one.
     Table("lossy_variants", "0 06000002 4  1 1 4 2", b"\0\xffA\0B\0"),
     // Names that are not UTF-8, of two ENUMs.
     Table("lossy_enums", "1 06000000 4  1 06000000 4", b"\0\xffA\0"),
@@ -61,7 +61,7 @@ static TABLES: [Table; 23] = [
         "1 1000000 4 1000020  0 d000002 0 0 1 0 1",
         b"\0int\0",
     ),
-    // The size of a section is not known, after names were made for a prototype.
+    // The size of a section is unknown, after the rewrite has made names for a prototype.
     Table(
         "unknown_section",
         "1 1000000 4 1000020  0 d000001 0 0 1  5 f000000 0",
@@ -97,11 +97,11 @@ static TABLES: [Table; 23] = [
     ),
 ];
 
-/// A table of pointers and one more record: its name, how many pointers it has, and the words of that record.
+/// A table of pointers and one more record: its name, the number of pointers, and the words of that record.
 struct PointerTable(&'static str, usize, &'static str);
 
-/// Beside the type of id 0, seven pointers fill the vector of types. The record after them is cut in its third word, has
-/// an unknown kind, or lacks the word after its third.
+/// The type of id 0 and seven pointers fill the vector of types. The record after them is truncated in its third word,
+/// has an unknown kind, or lacks the word after its third.
 static POINTERS: [PointerTable; 6] = [
     PointerTable("seven", 7, ""),
     PointerTable("eight", 7, "0 2000000 0"),
@@ -134,8 +134,8 @@ const LISTS: &str = "0 d000008 0 1 1 1 2 1 3 1 4 1 5 1 6 3 1 0 0 \
     1 1300000a 8 1 0 0 1 1 0 1 2 0 1 3 0 1 4 0 1 5 0 1 6 0 1 7 0 1 8 0 3 9 1 \
     3 f000008 10 1 0 1 1 1 1 1 2 1 1 3 1 1 4 1 1 5 1 1 6 1 1 7 1";
 
-/// Prototypes 1 and 2, of 40 parameters each, which are INTs of ids 3 to 66. The ids of the second are those for which
-/// the number of each pair ends in six zeros, by which a comparison finds its bucket (`spread` of `btf_compare`).
+/// Prototypes 1 and 2, of 40 parameters each, which are INTs of ids 3 to 66. The ids of the second prototype are chosen
+/// so that the hash of each pair, which selects its bucket, ends in six zeros (`spread` of `btf_compare`).
 const FLOOD: &str = "0 d000028 0 \
     0 3  0 4  0 5  0 6  0 7  0 8  0 9  0 a  0 b  0 c  0 d  0 e  0 f  0 10  0 11  0 12  0 13  0 14  0 15  0 16 \
     0 17  0 18  0 19  0 1a  0 1b  0 1c  0 1d  0 1e  0 1f  0 20  0 21  0 22  0 23  0 24  0 25  0 26  0 27  0 28  0 29  0 2a \
@@ -168,7 +168,7 @@ fn deep(alloc: Global, order: Endianness) -> Result<Vec<u8>, Fail> {
     Ok(types)
 }
 
-/// The records of so many pointers, and the words of another record.
+/// The records of this number of pointers, and the words of another record.
 fn after_pointers(
     alloc: Global,
     count: usize,
@@ -183,7 +183,7 @@ fn after_pointers(
     Ok(types)
 }
 
-/// The records of a table that is not written out above, by its name; None where it is.
+/// The records of a generated table, by its name; None if the table is in a list above.
 fn made(alloc: Global, name: &str, order: Endianness) -> Result<Option<Vec<u8>>, Fail> {
     for table in &POINTERS {
         if table.0 == name {

@@ -1,4 +1,4 @@
-//! Tests of tables: read, written and looked up. Their expected values are worked by hand from the format.
+//! Tests of tables: read, written and looked up. The expected values are computed by hand from the format.
 #![tactic(auto)]
 
 #[cfg(test)]

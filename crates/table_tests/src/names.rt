@@ -8,7 +8,7 @@ use btf_types::{Btf, BtfStr};
 use std::alloc::Global;
 use std::test::Fail;
 
-/// Whether an offset is refused, and the refusal names it.
+/// Whether reading an offset fails, with the offset in the error.
 fn is_no_text(table: &Btf, place: u32) -> bool {
     matches!(
         table.string_at(place),
@@ -33,7 +33,7 @@ fn add_twice(table: &mut Btf, text: &str) -> Result<(u32, u32), BtfError> {
     Ok((first, second))
 }
 
-/// The offsets of a text that is added to a new table twice.
+/// The two offsets of a text that is added to a new table twice.
 fn offsets_in_new(alloc: Global, text: &str) -> Result<(u32, u32), Fail> {
     let mut table = Btf::new(alloc)?;
     Ok(add_twice(&mut table, text)?)
@@ -68,13 +68,13 @@ fn is_written_with_foo(alloc: Global, table: &Btf) -> Result<bool, Fail> {
     have_foo(alloc, &bytes)
 }
 
-/// Whether a table is, once `foo` is added to it.
+/// Whether a table is written as such bytes after `foo` is added to it.
 fn takes_foo(alloc: Global, table: &mut Btf) -> Result<bool, Fail> {
     let place = table.add_string("foo")?;
     Ok(place == 1 && is_written_with_foo(alloc, table)?)
 }
 
-/// Whether a new table is.
+/// Whether a new table is written as such bytes after `foo` is added to it.
 fn new_takes_foo(alloc: Global) -> Result<bool, Fail> {
     let mut table = Btf::new(alloc)?;
     takes_foo(alloc, &mut table)
@@ -86,18 +86,18 @@ fn texts_are_read_at_their_offsets(rt: HostRuntime) -> Result<(), Fail> {
     Ok(())
 }
 
-/// Whether a text is lent by its table.
+/// Whether a text is borrowed from its table.
 fn is_borrowed(text: &BtfStr<'_>) -> bool {
     matches!(text, BtfStr::Borrowed(_))
 }
 
-/// Whether the text at an offset is lent by the table.
+/// Whether the text at an offset is borrowed from the table.
 fn is_lent(table: &Btf, place: u32) -> Result<bool, BtfError> {
     let text = table.string_at(place)?;
     Ok(is_borrowed(&text))
 }
 
-/// Whether bytes that are not UTF-8 are replaced, and others lent.
+/// Whether a text that is not UTF-8 is replaced, and another one borrowed.
 fn replaces_some(table: &Btf) -> Result<bool, BtfError> {
     Ok(
         is_text(table, 1, "\u{fffd}A")?
@@ -107,7 +107,7 @@ fn replaces_some(table: &Btf) -> Result<bool, BtfError> {
     )
 }
 
-/// Whether that is so in a table of a byte that is not UTF-8 and an `A`.
+/// Whether that holds in a table of a byte that is not UTF-8 and an `A`.
 fn table_replaces_some(alloc: Global) -> Result<bool, Fail> {
     let table = parsed(alloc, &[], b"\x00\xff\x41\x00")?;
     Ok(replaces_some(&table)?)
@@ -124,7 +124,7 @@ fn takes_first_text(table: &mut Btf) -> Result<bool, BtfError> {
     Ok(is_no_text(table, 0) && table.add_string("")? == 0)
 }
 
-/// Whether that is so of a table without strings.
+/// Whether that holds for a table without strings.
 fn table_takes_first_text(alloc: Global) -> Result<bool, Fail> {
     let mut table = parsed(alloc, &[], b"")?;
     Ok(takes_first_text(&mut table)?)
@@ -136,18 +136,18 @@ fn a_table_may_have_no_strings(rt: HostRuntime) -> Result<(), Fail> {
     Ok(())
 }
 
-/// What the search for a name and a kind gives.
+/// The result of a search for a name and a kind.
 #[derive(Clone, Copy, PartialEq)]
 enum Found {
     Id(u32),
-    /// No type has the name, which the refusal names.
+    /// No type has the name in the error.
     Nothing,
     /// The first type of the kind has no readable name.
     Unreadable(usize),
     Other,
 }
 
-/// What the search for a name and a kind gives.
+/// Searches for a name and a kind.
 fn search(table: &Btf, name: &str, kind: BtfKind) -> Found {
     match &table.id_by_type_name_kind(name, kind) {
         Ok(id) => Found::Id(*id),
@@ -155,7 +155,7 @@ fn search(table: &Btf, name: &str, kind: BtfKind) -> Found {
     }
 }
 
-/// What the refusal of a search for a name gives.
+/// The result of a failed search for a name.
 fn refusal(error: &BtfError, name: &str) -> Found {
     match error {
         BtfError::UnknownBtfTypeName { type_name } if type_name.as_str() == name => Found::Nothing,
@@ -183,7 +183,7 @@ fn table_of_ints(alloc: Global) -> Result<Btf, Fail> {
     Ok(table)
 }
 
-/// What the search for `int` and a kind in that table gives.
+/// The result of the search for `int` and a kind in that table.
 fn searched_ints(alloc: Global, kind: BtfKind) -> Result<Found, Fail> {
     let table = table_of_ints(alloc)?;
     Ok(search(&table, "int", kind))
@@ -202,7 +202,7 @@ fn is_named(table: &Btf, record: &BtfType, name: &str) -> Result<bool, BtfError>
     Ok(are_equal(read.as_str(), name))
 }
 
-/// Whether the name of a type for errors is this, or nothing.
+/// Whether the name of a type for errors is this; None if it has none.
 fn is_named_in_errors(table: &Btf, record: &BtfType, name: Option<&str>) -> Result<bool, BtfError> {
     let read = table.err_type_name(record)?;
     Ok(is_name(&read, name))
@@ -238,7 +238,7 @@ fn types_have_names(rt: HostRuntime) -> Result<(), Fail> {
     Ok(())
 }
 
-/// What the search for an empty name and no kind in a new table gives.
+/// The result of the search for an empty name and no kind in a new table.
 fn searched_new(alloc: Global) -> Result<Found, Fail> {
     let table = Btf::new(alloc)?;
     Ok(search(&table, "", BtfKind::Unknown))
@@ -250,14 +250,14 @@ fn id_zero_has_the_empty_name(rt: HostRuntime) -> Result<(), Fail> {
     Ok(())
 }
 
-/// Names and kinds, and what of the small program has them.
+/// Names and kinds, and the results of the search in the small program.
 static PROGRAM: [(&str, BtfKind, Found); 3] = [
     ("__u32", BtfKind::Typedef, Found::Id(3)),
     ("xdp_pass", BtfKind::Func, Found::Id(7)),
     ("xdp_pass", BtfKind::Var, Found::Nothing),
 ];
 
-/// What the search for a name and a kind in the table of the program gives.
+/// The result of the search for a name and a kind in the table of the program.
 fn searched_program(alloc: Global, name: &str, kind: BtfKind) -> Result<Found, Fail> {
     let table = program_table(alloc, Endianness::Little)?;
     Ok(search(&table, name, kind))

@@ -1,4 +1,4 @@
-//! The table of a small program, in both orders: whole, cut, and with another length of its types.
+//! The table of a small program, in both byte orders: complete, truncated, and with another length of its types.
 
 use btf_plain::{BtfError, Endianness};
 use btf_records::{BtfMember, BtfType};
@@ -15,13 +15,13 @@ fn is_program(table: &Btf, blob: &[u8]) -> Result<bool, Fail> {
     Ok(has_kinds(table, &KINDS) && is_written_as(table, blob)?)
 }
 
-/// Whether these bytes are a table in an order with the program's types, and are written again.
+/// Whether these bytes are a table in an order with the program's types, and the table is written as the bytes.
 fn are_kept(alloc: Global, blob: &[u8], order: Endianness) -> Result<bool, Fail> {
     let table = parsed_blob(alloc, blob, order)?;
     is_program(&table, blob)
 }
 
-/// Whether the table in an order has its types, and is written as it was read.
+/// Whether the table in an order has its types, and is written as the bytes that it was read from.
 fn is_kept(alloc: Global, order: Endianness) -> Result<bool, Fail> {
     let blob = program(alloc, order, TYPE_LEN)?;
     are_kept(alloc, &blob, order)
@@ -87,7 +87,7 @@ fn last_member_of_program_has_its_type(rt: HostRuntime) -> Result<(), Fail> {
     Ok(())
 }
 
-/// Whether bytes are refused for their header.
+/// Whether parsing bytes fails because of their header.
 fn has_invalid_header(alloc: Global, bytes: &[u8], order: Endianness) -> bool {
     matches!(
         Btf::parse(alloc, bytes, order),
@@ -95,7 +95,7 @@ fn has_invalid_header(alloc: Global, bytes: &[u8], order: Endianness) -> bool {
     )
 }
 
-/// Whether the table in an order is refused in the other.
+/// Whether parsing the table of one byte order in the other order fails.
 fn is_refused_in(alloc: Global, order: Endianness, other: Endianness) -> Result<bool, Fail> {
     let bytes = program(alloc, order, TYPE_LEN)?;
     Ok(has_invalid_header(alloc, &bytes, other))
@@ -103,13 +103,13 @@ fn is_refused_in(alloc: Global, order: Endianness, other: Endianness) -> Result<
 
 #[test]
 fn program_in_the_other_order_is_refused(rt: HostRuntime) -> Result<(), Fail> {
-    // The other order reads the header length as 0x18000000.
+    // In the other byte order, the header length is 0x18000000.
     assert!(rt; is_refused_in(rt.alloc(), Endianness::Little, Endianness::Big)?);
     assert!(rt; is_refused_in(rt.alloc(), Endianness::Big, Endianness::Little)?);
     Ok(())
 }
 
-/// The least length of a beginning that is not refused for its header, or the length of all bytes.
+/// The least length of a prefix whose header is valid, or the length of all bytes.
 fn first_kept(alloc: Global, bytes: &[u8], order: Endianness) -> usize {
     for len in 0..bytes.len() {
         if !has_invalid_header(alloc, &bytes[..len], order) {
@@ -119,7 +119,7 @@ fn first_kept(alloc: Global, bytes: &[u8], order: Endianness) -> usize {
     bytes.len()
 }
 
-/// The least length of a beginning of the table that is not refused for its header.
+/// The least length of a prefix of the table whose header is valid.
 fn first_kept_of_program(alloc: Global, order: Endianness) -> Result<usize, Fail> {
     let blob = program(alloc, order, TYPE_LEN)?;
     Ok(first_kept(alloc, &blob, order))
@@ -151,8 +151,8 @@ fn is_written_up_to(table: &Btf, blob: &[u8], len: usize) -> Result<bool, Fail> 
     Ok(are_records(&written, blob, len))
 }
 
-/// Whether the answer for a length of the types is as it should be: the table up to there where a record ends, and
-/// else a refusal.
+/// Whether the result for a length of the types is correct: the table up to there if a record ends there, and otherwise
+/// an error.
 fn is_answer(answer: &Result<Btf, BtfError>, blob: &[u8], len: u32) -> Result<bool, Fail> {
     match answer {
         Ok(table) => Ok(ENDS.contains(&len) && is_written_up_to(table, blob, len as usize)?),
@@ -161,13 +161,13 @@ fn is_answer(answer: &Result<Btf, BtfError>, blob: &[u8], len: u32) -> Result<bo
     }
 }
 
-/// Whether these bytes, with this length of the types, are read as far as the records are whole.
+/// Whether the result of parsing these bytes, with this length of the types, is correct.
 fn are_read(alloc: Global, blob: &[u8], len: u32) -> Result<bool, Fail> {
     let answer = Btf::parse(alloc, blob, Endianness::Little);
     is_answer(&answer, blob, len)
 }
 
-/// Whether the table with this length of its types is read as far as its records are whole.
+/// Whether the result of parsing the table with this length of its types is correct.
 fn keeps_whole_records(alloc: Global, len: u32) -> Result<bool, Fail> {
     let blob = program(alloc, Endianness::Little, len)?;
     are_read(alloc, &blob, len)

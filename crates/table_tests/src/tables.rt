@@ -20,12 +20,12 @@ const EMPTY: &str = "
     00
 ";
 
-/// Whether a table is an empty one in the little order.
+/// Whether a table is empty and in little-endian order.
 fn is_empty(alloc: Global, table: &Btf) -> Result<bool, Fail> {
     Ok(table.endianness() == Endianness::Little && has_text(alloc, table, EMPTY)?)
 }
 
-/// Whether a new table is.
+/// Whether a new table is empty and in little-endian order.
 fn new_is_empty(alloc: Global) -> Result<bool, Fail> {
     let table = Btf::new(alloc)?;
     is_empty(alloc, &table)
@@ -43,13 +43,13 @@ const OTHER_FRONT: &str = "
     00
 ";
 
-/// Whether the table of these bytes is written as they are.
+/// Whether the table of these bytes is written as the same bytes.
 fn is_kept(alloc: Global, blob: &[u8]) -> Result<bool, Fail> {
     let table = parsed_blob(alloc, blob, Endianness::Little)?;
     is_written_as(&table, blob)
 }
 
-/// Whether the table of the bytes of a text is.
+/// Whether the table of the bytes of a text is written as the same bytes.
 fn is_text_kept(alloc: Global, text: &str) -> Result<bool, Fail> {
     let blob = bytes(alloc, text)?;
     is_kept(alloc, &blob)
@@ -61,7 +61,7 @@ fn magic_version_and_flags_are_kept(rt: HostRuntime) -> Result<(), Fail> {
     Ok(())
 }
 
-/// The bytes of one record, its kind, and the bytes that are written of it.
+/// The bytes of one record, its kind, and the written bytes of the record.
 #[derive(Clone, Copy)]
 struct Row {
     read: &'static str,
@@ -75,7 +75,7 @@ static ROWS: [Row; 3] = [
         kind: BtfKind::Unknown,
         written: "00 00 00 00  00 00 00 00  00 00 00 00",
     },
-    // A linkage that has no name.
+    // An unknown linkage.
     Row {
         read: "05 00 00 00  00 00 00 0e  09 00 00 00  07 00 00 00",
         kind: BtfKind::Var,
@@ -89,13 +89,13 @@ static ROWS: [Row; 3] = [
     },
 ];
 
-/// The table of the type bytes of a text, and of no strings.
+/// The table of the type bytes of a text, without strings.
 fn table_of(alloc: Global, text: &str) -> Result<Btf, Fail> {
     let types = bytes(alloc, text)?;
     parsed(alloc, &types, &[])
 }
 
-/// Whether a record has this kind, and a linkage, if it is a VAR, that has no name.
+/// Whether a record has this kind, and, if it is a VAR, an unknown linkage.
 fn is_kind(record: &BtfType, kind: BtfKind) -> bool {
     match record {
         BtfType::Var(var) if var.linkage() != VarLinkage::Unknown => false,
@@ -108,24 +108,24 @@ fn has_one_type(table: &Btf, kind: BtfKind) -> Result<bool, BtfError> {
     Ok(is_kind(table.type_by_id(1)?, kind) && table.types().len() == 2)
 }
 
-/// The bytes of a table with the type bytes of a text, and no strings.
+/// The bytes of a table with the type bytes of a text, without strings.
 fn blob_of(alloc: Global, text: &str) -> Result<Vec<u8>, Fail> {
     let types = bytes(alloc, text)?;
     blob(alloc, &types, &[], Endianness::Little)
 }
 
-/// Whether a table is written with the type bytes of a text, and no strings.
+/// Whether a table is written with the type bytes of a text, without strings.
 fn has_types(alloc: Global, table: &Btf, text: &str) -> Result<bool, Fail> {
     let wanted = blob_of(alloc, text)?;
     has_table_bytes(table, &wanted)
 }
 
-/// Whether a table has the one type of a row, and is written as the row says.
+/// Whether a table has the one type of a row, and is written as the row's written bytes.
 fn has_row(alloc: Global, table: &Btf, row: &Row) -> Result<bool, Fail> {
     Ok(has_one_type(table, row.kind)? && has_types(alloc, table, row.written)?)
 }
 
-/// Whether the record of a row is read and written as the row says.
+/// Whether the record of a row is read with the row's kind, and written as the row's written bytes.
 fn is_row(alloc: Global, row: &Row) -> Result<bool, Fail> {
     let table = table_of(alloc, row.read)?;
     has_row(alloc, &table, row)
@@ -143,7 +143,7 @@ fn signed_int(name_offset: u32) -> BtfType {
     BtfType::Int(Int::new(name_offset, 4, IntEncoding::Signed, 0))
 }
 
-/// Adds an INT of 4 bytes with a sign under a name, and returns the offset of the name and the id.
+/// Adds a signed INT of 4 bytes with a name, and returns the offset of the name and the id.
 fn add_int(table: &mut Btf, name: &str) -> Result<[u32; 2], BtfError> {
     let name = table.add_string(name)?;
     let id = table.add_type(signed_int(name))?;
@@ -173,13 +173,13 @@ fn add_two_ints(table: &mut Btf) -> Result<([u32; 2], [u32; 2]), BtfError> {
     Ok((first, second))
 }
 
-/// Whether an empty table is written as `TWO_INTS` once two are added.
+/// Whether an empty table is written as `TWO_INTS` after two INTs are added.
 fn takes_two_ints(alloc: Global, table: &mut Btf) -> Result<bool, Fail> {
     let added = add_two_ints(table)?;
     Ok(added == ([1, 1], [5, 2]) && is_int(table, 2, 5)? && has_text(alloc, table, TWO_INTS)?)
 }
 
-/// Whether a new table does.
+/// Whether a new table is written as `TWO_INTS` after two INTs are added.
 fn new_takes_two_ints(alloc: Global) -> Result<bool, Fail> {
     let mut table = Btf::new(alloc)?;
     takes_two_ints(alloc, &mut table)

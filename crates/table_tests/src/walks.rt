@@ -1,4 +1,4 @@
-//! Walks from type to type: what modifiers lead to, and sizes.
+//! Walks from type to type: resolving modifiers, and sizes.
 
 use btf_plain::{BtfError, Const, Endianness, Int, IntEncoding};
 use btf_records::BtfType;
@@ -8,7 +8,7 @@ use btf_types::Btf;
 use std::alloc::Global;
 use std::test::Fail;
 
-/// What a walk gives: an id or a size, or why it is refused, with the id that the refusal names.
+/// The result of a walk: an id or a size, or an error with its id.
 #[derive(Clone, Copy, PartialEq)]
 enum Given {
     Is(usize),
@@ -19,7 +19,7 @@ enum Given {
     Other,
 }
 
-/// What a refusal gives.
+/// The result for an error.
 fn refusal(error: &BtfError) -> Given {
     match error {
         BtfError::UnknownBtfType { type_id } => Given::Unknown(*type_id),
@@ -30,7 +30,7 @@ fn refusal(error: &BtfError) -> Given {
     }
 }
 
-/// What an id resolves to.
+/// The id that an id resolves to.
 fn resolved(table: &Btf, id: u32) -> Given {
     match &table.resolve_type(id) {
         Ok(id) => Given::Is(*id as usize),
@@ -46,7 +46,7 @@ fn sized(table: &Btf, id: u32) -> Given {
     }
 }
 
-/// A type, what it resolves to, and its size.
+/// A type, the id that it resolves to, and its size.
 #[derive(Clone, Copy)]
 struct Walk {
     id: u32,
@@ -54,12 +54,12 @@ struct Walk {
     size: Given,
 }
 
-/// Whether a walk from a type gives what it should.
+/// Whether the walks from a type give the results of the row.
 fn is_walk(table: &Btf, walk: &Walk) -> bool {
     resolved(table, walk.id) == walk.resolved && sized(table, walk.id) == walk.size
 }
 
-/// The first type from which a walk gives something else than it should.
+/// The first type from which a walk gives another result.
 fn first_wrong(table: &Btf, walks: &[Walk]) -> Option<u32> {
     for walk in walks {
         if !is_walk(table, walk) {
@@ -69,7 +69,7 @@ fn first_wrong(table: &Btf, walks: &[Walk]) -> Option<u32> {
     None
 }
 
-/// Adds INT 1, and CONSTs that lead from each id up to the last to the id below.
+/// Adds INT 1, and CONSTs from each id up to the last to the id below.
 fn add_consts(table: &mut Btf, last: u32) -> Result<(), BtfError> {
     table.add_type(BtfType::Int(Int::new(0, 4, IntEncoding::Signed, 0)))?;
     for to in 1..last {
@@ -91,7 +91,7 @@ fn first_wrong_of(alloc: Global, words: &str, walks: &[Walk]) -> Result<Option<u
     Ok(first_wrong(&table, walks))
 }
 
-/// What the last CONSTs lead to.
+/// The results of walks from the last CONSTs.
 static CONSTS: [Walk; 2] = [
     Walk {
         id: 32,
@@ -121,7 +121,7 @@ fn a_walk_looks_at_32_types(rt: HostRuntime) -> Result<(), Fail> {
 /// A TYPEDEF of itself, an ARRAY of one of itself, an ARRAY of two of itself, and a PTR to itself.
 const LOOPS: &str = "0 08000000 1  0 03000000 0 2 1 1  0 03000000 0 3 1 2  0 02000000 4";
 
-/// Walks from types that lead to themselves, and from ids without a size or a type.
+/// Walks from types that refer to themselves, and from ids without a size or a type.
 static LOOP_WALKS: [Walk; 6] = [
     Walk {
         id: 0,
@@ -283,7 +283,7 @@ fn arrays_of_arrays_are_multiplied(rt: HostRuntime) -> Result<(), Fail> {
     Ok(())
 }
 
-/// The number of a table's types, id 0 included, and whether that one is the only one.
+/// The number of a table's types, including id 0, and whether that is the only one.
 fn length(table: &Btf) -> (usize, bool) {
     (table.types().len(), table.is_empty())
 }
@@ -311,7 +311,7 @@ fn types_are_counted(rt: HostRuntime) -> Result<(), Fail> {
     Ok(())
 }
 
-/// What id 0 of a new table resolves to.
+/// The id that id 0 of a new table resolves to.
 fn zero_of_new(alloc: Global) -> Result<Given, Fail> {
     let table = Btf::new(alloc)?;
     Ok(resolved(&table, 0))

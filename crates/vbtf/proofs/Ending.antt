@@ -1,11 +1,11 @@
--- How a call ends in which an allocation failed, or that was refused.
+-- The outcome of a call in which an allocation failed, or that returned an error.
 use Rattle.std.proofs.Common.{inl, inr, ℕ}
 use Rattle.std.specs.Prelude.{Option, Some, None, Result, Err, IfSome}
 use Rattle.btf_model.specs.Refusal.{Refusal}
 use Rattle.vbtf.specs.declared.fault.Fault.{Fault}
 use Rattle.vbtf.specs.Status.{ReportsError, Fails, EndsOrNoMemory, EndsFindingOrNoMemory}
 
--- by the refusal of an error
+-- the outcome of an error, by its refusal
 pub refused : {Y : Type 0} (status : ℕ) (fault : Fault) (o : Option Refusal) (P : Result Y Refusal → Type 0)
     → IfSome o (λ r. P (Err r)) → ReportsError status fault o → Fails status fault P
 refused status fault (Some r) P holds reported = inr (r, reported, holds)

@@ -1,4 +1,4 @@
--- The answers that a rewrite gets are what the bits of a kernel say.
+-- The answers that a rewrite gets are the bits of a kernel.
 use Rattle.std.proofs.Common.{◌≡◌, ℕ, List, [], ◌∷◌, Bool, Option, None, Some, Result, Ok, Err, IfOk, sym, subst}
 use Rattle.std.specs.Prelude.{IfSome}
 use Rattle.arrayvec.specs.declared.array_vec.ArrayVec.{ArrayVec}
@@ -15,7 +15,7 @@ use Rattle.btf_words.specs.declared.error.BtfError.{BtfError}
 use Rattle.btf_words.specs.Error.{MeetsOrNoMemory, refusal_of}
 use Rattle.vbtf.specs.Kernel.{has_bit, AreOf, RewritesFor}
 
--- a predicate that answers so, whatever it is called for
+-- a predicate that gives these answers for every feature
 pub all_of : {F : Type 0} (step : F → BtfFeature → Bool → F → Type 0) (features : ℕ) (Is : F → Type 0)
     → ((f g : F) (feature : BtfFeature) (granted : Bool) → Is f → step f feature granted g → (granted ≡ has_bit features feature) × Is g)
     → (before : F) (answers : List FeatureAnswer) (after : F) → Is before → Called step before answers after → AreOf features answers
@@ -36,7 +36,7 @@ for_kernel features policy old ids layout new asked (Ok a) of is rewrites =
 for_kernel features policy old ids layout new asked (Err e) of is refused =
     some_map (refusal_of e) (λ r found. (asked, of, found)) refused
 
--- the same of tables and layouts that are equal
+-- the same for equal tables and layouts
 pub for_handle : (features : ℕ) (policy : FillPolicy) (ids : Option KsymsIds) (t old : Table) (l layout : Layout) (n new : Table) (r : Result (List FeatureAnswer) Refusal)
     → t ≡ old → l ≡ layout → new ≡ n → RewritesFor features policy t ids l n r → RewritesFor features policy old ids layout new r
 for_handle features policy ids t old l layout n new r same_old same_layout same_new rewrites =

@@ -11,11 +11,11 @@ use Rattle.vbtf.specs.declared.program.Named.{Named}
 use Rattle.btf_rewrite_model.specs.Pass.{Layout}
 use Rattle.vbtf.specs.Program.{name_in, number_named, layout_named, IsReadable, AreReadable}
 
--- the value of a place past the end
+-- the value at an index past the end
 abbrev pub no_entry : Named
 no_entry = record { at = 0; len = 0; number = 0 }
 
--- the number of an entry that has the name, or else this
+-- the number of an entry that has the name, or otherwise this
 abbrev pub number_or : List ℕ → Named → List ℕ → Option ℕ → Option ℕ
 number_or names entry name rest = if bytes_eq (name_in names entry) name then Some entry.number else rest
 
@@ -23,7 +23,7 @@ or_assoc : (b : Bool) (number : ℕ) (rest first : Option ℕ) → option_or (if
 or_assoc true number rest first = refl
 or_assoc false number rest first = refl
 
--- the last entry is looked at first
+-- the last entry comes first
 push_entry : (names : List ℕ) (entries : List Named) (entry : Named) (name : List ℕ) → number_named names (entries ++ entry ∷ []) name ≡ number_or names entry name (number_named names entries name)
 push_entry names [] entry name = refl
 push_entry names (e ∷ entries) entry name =
@@ -48,7 +48,7 @@ next_readable names entries i before this lt =
     subst (λ (n : ℕ). AreReadable names (take n entries)) next
     (subst (λ es. AreReadable names es) (sym (take-suc entries i no_entry lt)) (all_push (IsReadable names) (take i entries) (slice_index_or entries i no_entry) before this))
 
--- what a map has where an entry is put into it
+-- the contents of a map after the insertion of an entry
 pub section_kept : (b : Bool) (section : SectionIndex × ℕ) (old : Option (SectionIndex × ℕ)) (rest : Option ℕ) → option_map (λ (s : SectionIndex × ℕ). s.1) old ≡ rest
     → option_map (λ (s : SectionIndex × ℕ). s.1) (cond b (Some section) old) ≡ (if b then Some section.1 else rest)
 section_kept true section old rest is = refl
@@ -58,7 +58,7 @@ pub symbol_kept : (b : Bool) (offset : ℕ) (old rest : Option ℕ) → old ≡ 
 symbol_kept true offset old rest is = refl
 symbol_kept false offset old rest is = is
 
--- what the maps have is what the entries say, whatever the name
+-- the maps have the numbers of the entries, for every name
 pub layout_is : (layout : Layout) (names others : List ℕ) (sections symbols : List Named) → ((name : List ℕ) → layout.sections name ≡ number_named names sections name)
     → ((name : List ℕ) → layout.symbols name ≡ number_named others symbols name) → layout ≡ layout_named names sections others symbols
 layout_is layout names others sections symbols sizes offsets =

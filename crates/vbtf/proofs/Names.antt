@@ -2,13 +2,13 @@
 use Rattle.std.proofs.Common.{◌≡◌, ℕ, zero, suc, List, [], ◌∷◌, ◌++◌, take, length, refl, sym, ap, ◌∙◌}
 use Rattle.std.proofs.Math.Seq.{take-append_seam}
 
--- as many bytes as a front has are that front
+-- the first bytes of a list, by the length of a prefix, are that prefix
 pub take_taken : (k : ℕ) (xs : List ℕ) → take (length (take k xs)) xs ≡ take k xs
 take_taken zero xs = refl
 take_taken (suc k) [] = refl
 take_taken (suc k) (x ∷ xs) = ap (λ (ys : List ℕ). x ∷ ys) (take_taken k xs)
 
--- a buffer that begins with a front of a name
+-- a buffer that begins with a prefix of a name
 pub front_of : (k n : ℕ) (name front back : List ℕ) → n ≡ length (take k name) → front ≡ take n name → take n (front ++ back) ≡ take k name
 front_of k n name front back is same =
     let e : front ≡ take k name = same ∙ ap (λ (m : ℕ). take m name) is ∙ take_taken k name in

@@ -1,4 +1,4 @@
--- What an object is rewritten for, by the arguments of C.
+-- The target of the rewrite of an object, by the arguments of C.
 use Rattle.std.proofs.Common.{◌≡◌, ℕ, Bool, List, Option, ap, ◌∙◌}
 use Rattle.std.proofs.Math.Path.{fun_ext}
 use Rattle.btf_rewrite_model.specs.declared.feature.BtfFeature.{BtfFeature}

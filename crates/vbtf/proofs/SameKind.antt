@@ -1,4 +1,4 @@
--- The kind of a number is one.
+-- The kind of a number is unique.
 use Rattle.std.proofs.Common.{◌≡◌, ap}
 use Rattle.std.specs.Prelude.{Option, Some, None}
 use Rattle.btf_model.specs.Record.{Kind, Unknown}

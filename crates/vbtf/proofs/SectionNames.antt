@@ -1,4 +1,4 @@
--- The names that a map has sections under.
+-- The section names of a map.
 use Rattle.std.proofs.Common.{◌≡◌, ◌∙◌, ℕ, Bool, false, ◌||◌, List, [], ◌∷◌, Option, Some, None, refl, sym, ap, length, Global, Result, Ok, Err}
 use Rattle.std.specs.Prelude.{map, option_map, is_some, string_bytes}
 use Rattle.std.specs.HashMap as hash
@@ -38,33 +38,33 @@ member_name : (name : List ℕ) (ks : List (String Global)) → is_member bytes_
 member_name name [] = refl
 member_name name (k ∷ ks) = ap (λ (b : Bool). bytes_eq name (string_bytes k) || b) (member_name name ks)
 
--- the keys of a map are the names that it has something under
+-- the keys of a map are the names for which it has something
 pub names_are : {X S : Type 0} (m : HashMap (String Global) X S) → hash.IsUnique string_eq m → AreNames (get_by_text m) (names_in (hash.keys m))
 names_are m unique = record {
   distinct = distinct_names (hash.keys m) unique;
   each = λ name. member_name name (hash.keys m) ∙ sym (is_some-lookup (is_text name) m.entries);
 }
 
--- ---- what is seen under the names
+-- ---- the values under the names
 
 is_some_seen : {X Y : Type 0} (f : X → Y) (o : Option X) → is_some (option_map f o) ≡ is_some o
 is_some_seen f None = refl
 is_some_seen f (Some x) = refl
 
--- the same names have something where it is seen by a function
+-- the same names have something if the values are mapped by a function
 pub seen_names : {X Y : Type 0} (f : X → Y) (found : List ℕ → Option X) (seen : List ℕ → Option Y) (names : List (List ℕ)) → ((name : List ℕ) → option_map f (found name) ≡ seen name) → AreNames found names → AreNames seen names
 seen_names f found seen names is are = record {
   distinct = are.distinct;
   each = λ name. are.each name ∙ sym (is_some_seen f (found name)) ∙ ap is_some (is name);
 }
 
--- a map's length counts them
+-- the length of a map is the number of its names
 pub counted : {X Y S : Type 0} (f : X → Y) (m : HashMap (String Global) X S) (seen : List ℕ → Option Y) (count : ℕ) → ((name : List ℕ) → option_map f (get_by_text m name) ≡ seen name) → hash.IsUnique string_eq m → count ≡ length m.entries → CountsNames seen count
 counted f m seen count is unique len =
     let ks = hash.keys m in
     (names_in ks, seen_names f (get_by_text m) seen (names_in ks) is (names_are m unique), len ∙ sym (length-keys_of m.entries) ∙ sym (length-map ks string_bytes))
 
--- a list of names is one of what is seen
+-- a list of the names of a map is a list of the names of its mapped values
 listed_seen : {X Y : Type 0} (f : X → Y) (found : List ℕ → Option X) (seen : List ℕ → Option Y) (answer : Result (List ℕ) Refusal) → ((name : List ℕ) → option_map f (found name) ≡ seen name) → ListsNames found answer → ListsNames seen answer
 listed_seen f found seen answer is listed = (listed.0, seen_names f found seen listed.0 is listed.1, listed.2)
 

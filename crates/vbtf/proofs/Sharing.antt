@@ -1,4 +1,4 @@
--- A `&` to a loan is made where one to its value is. Assumes `Logic`.
+-- A `&` to a loan is made from a `&` to its value. Assumes `Logic`.
 use Prim.Native.Nat.{ℕ}
 use mathlib.Core.List.{[], ◌∷◌}
 use seplogic.Ra.Ura.{Ura}
@@ -15,7 +15,7 @@ use denote.Moves.{moves_from}
 use denote.Steps.{nothing}
 use denote.Struct.Lending.{Lends}
 
--- a share of a lifetime's token, with what is shared for that lifetime, is shared for as long as the share is borrowed
+-- A share of a lifetime's token and a value shared for that lifetime: the value is shared while the share is borrowed.
 module _ {M : Type 1} {𝓤 : Ura M} (𝓛 : Logic 𝓤) (t : Lft → Fml) (L : ShrLaws t) (a : ℕ) (e : Share) where
   open 𝓛 use {H, A}
 

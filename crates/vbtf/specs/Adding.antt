@@ -1,4 +1,4 @@
--- How a call ends that adds to a table.
+-- The outcomes of a call that adds to a table.
 use Rattle.std.specs.Prelude.{◌≡◌, ◌≢◌, ◌⊎◌, ℕ, List, length, Option, Some, None, Result, Ok, Err}
 use Rattle.btf_model.specs.Blob.{ReadsFront}
 use Rattle.btf_model.specs.Record.{Record}
@@ -10,16 +10,17 @@ use Rattle.vbtf.specs.declared.fault.Fault.{Fault}
 use Rattle.vbtf.specs.declared.handle.Handle.{Handle}
 use Rattle.vbtf.specs.Status.{Reports, Fails, no_memory}
 
--- How a call ends that adds to the table of a handle: with status 0 and the place, and the handle owns the new table; or
--- with a refusal, or a failed allocation, and the handle owns the unchanged table.
+-- The outcomes of a call that adds to the table of a handle: status 0 and the position, and the handle owns the new
+-- table; or an error or a failed allocation, and the handle owns the unchanged table.
 abbrev pub Adds : ℕ → Handle → Handle → ℕ → Fault → Result ℕ Refusal → Table → Type 0
 Adds status old new value fault place table =
     (new.state ≡ 1)
     × (((status ≡ 0) × (Ok value ≡ place) × (new.opened ≡ record old.opened { btf = table }))
     ⊎ ((new.opened ≡ old.opened) × Fails status fault (λ answer. answer ≡ place)))
 
--- What adding the type of a record that bytes are returns: its id, and the table has it; none where bytes follow the
--- record; or why no record begins the bytes, or why it has no room. In these two cases the table is unchanged.
+-- The result of adding the type of a record in bytes: the id, and the table has the type; none if bytes follow the
+-- record; or the error if the bytes begin with no record or the type does not fit. In the last two cases the table is
+-- unchanged.
 abbrev pub AddsRecord : Endianness → List ℕ → Table → Table → Result (Option ℕ) Refusal → Type 0
 AddsRecord order bytes old new (Ok (Some id)) =
     (r : Record) × ReadsFront order bytes (Ok r) × (record_len r ≡ length bytes) × (Ok id ≡ type_place r old)
@@ -30,8 +31,8 @@ AddsRecord order bytes old new (Err refusal) =
     (new ≡ old) × (ReadsFront order bytes (Err refusal) ⊎ ((r : Record) × ReadsFront order bytes (Ok r)
     × (record_len r ≡ length bytes) × (Err refusal ≡ type_place r old)))
 
--- How a call ends that adds a type: with status 0 and its id, with status 102 where bytes follow the record, with a
--- refusal, or with a failed allocation. What was opened beside the table is unchanged.
+-- The outcomes of a call that adds a type: status 0 and its id, status 102 if bytes follow the record, an error, or a
+-- failed allocation. The `.BTF.ext` of the handle is unchanged.
 abbrev pub EndsAddingType : ℕ → Endianness → List ℕ → Handle → Handle → ℕ → Fault → Type 0
 EndsAddingType status order bytes old new id fault =
     (new.state ≡ 1) × (new.opened.ext ≡ old.opened.ext)

@@ -20,8 +20,8 @@ use Rattle.vbtf.specs.Status.{Reports, no_memory}
 abbrev pub OpenedExt : Type 0
 OpenedExt = BtfExt RandomState DefaultHasher
 
--- What opening returns: true, and what is opened has what the bytes say, in names that the table's strings have; false
--- where a .BTF.ext is open, or why the bytes are refused. In these two cases what is opened is unchanged.
+-- The result of opening: true, and the opened .BTF.ext has the contents of the bytes, with names in the table's
+-- strings; false if a .BTF.ext is open; or the error of the bytes. In the last two cases nothing changes.
 abbrev pub AddsExt : Endianness → List ℕ → Opened → Opened → Result Bool Refusal → Type 0
 AddsExt order bytes old new (Ok true) =
     (old.ext ≡ None) × (ext : OpenedExt) × (new ≡ record old { ext = Some ext })
@@ -30,8 +30,7 @@ AddsExt order bytes old new (Ok false) = (ext : OpenedExt) × (old.ext ≡ Some 
 AddsExt order bytes old new (Err refusal) =
     (old.ext ≡ None) × (new ≡ old) × IsExt order bytes old.btf.strings (Err refusal)
 
--- How a call ends that opens it: with status 0, with status 102 where one is open, with a refusal, or with a failed
--- allocation.
+-- The outcomes of a call that opens it: status 0, status 102 if one is open, an error, or a failed allocation.
 abbrev pub EndsOpeningExt : ℕ → Endianness → List ℕ → Handle → Handle → Fault → Type 0
 EndsOpeningExt status order bytes old new fault =
     (new.state ≡ 1)
@@ -40,16 +39,16 @@ EndsOpeningExt status order bytes old new fault =
     ⊎ ((status ≡ no_memory) × (new.opened ≡ old.opened))
     ⊎ ((refusal : Refusal) × Reports status fault refusal × AddsExt order bytes old.opened new.opened (Err refusal)))
 
--- These are the names under which something is found, each once, in any order.
+-- These are the names for which a look-up finds something, each once, in any order.
 pub record AreNames {X : Type 0} (found : List ℕ → Option X) (names : List (List ℕ)) : Type 0 where
   pub distinct : IsDistinct bytes_eq names
   pub each : (name : List ℕ) → is_member bytes_eq names name ≡ is_some (found name)
 
--- the number of names under which something is found
+-- the number of names for which a look-up finds something
 abbrev pub CountsNames : {X : Type 0} → (List ℕ → Option X) → ℕ → Type 0
 CountsNames found count = (names : List (List ℕ)) × AreNames found names × (count ≡ length names)
 
--- These are the lengths of its records, and the numbers of its sections.
+-- These are the lengths of the records of a .BTF.ext, and the numbers of its sections.
 pub record HasSizes (ext : OpenedExt) (sizes : ExtSizes) : Type 0 where
   pub func_size : sizes.func_size ≡ (said ext).func_size
   pub line_size : sizes.line_size ≡ (said ext).line_size

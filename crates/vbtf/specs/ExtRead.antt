@@ -1,4 +1,4 @@
--- What C reads of a .BTF.ext.
+-- The parts of a .BTF.ext that C reads.
 use Rattle.std.specs.Prelude.{◌≡◌, ℕ, zero, suc, List, [], ◌∷◌, ◌++◌, Option, Some, None, unwrap_or, Result, Ok, Err}
 use Rattle.std.specs.List.{flat_map}
 use Rattle.btf_ext.specs.BtfExt.{ext as said}
@@ -11,7 +11,7 @@ use Rattle.vbtf.specs.Ext.{OpenedExt, AreNames}
 abbrev pub zero_ended : List (List ℕ) → List ℕ
 zero_ended texts = flat_map (λ text. text ++ 0 ∷ []) texts
 
--- The names under which something is found, each once, in any order and with a zero byte after it; never a refusal.
+-- The names for which a look-up finds something, each once, in any order, with a zero byte after it; never an error.
 abbrev pub ListsNames : {X : Type 0} → (List ℕ → Option X) → Result (List ℕ) Refusal → Type 0
 ListsNames found answer = (names : List (List ℕ)) × AreNames found names × (answer ≡ Ok (zero_ended names))
 
@@ -20,7 +20,7 @@ abbrev pub NamesOf : OpenedExt → ℕ → Result (List ℕ) Refusal → Type 0
 NamesOf ext zero = ListsNames (said ext).func
 NamesOf ext (suc n) = ListsNames (said ext).line
 
--- A section of relocations has the name at this string offset, with status 0; or status 103 says that there is none.
+-- Status 0, and a section of relocations has the name at this string offset; or status 103, and there is none.
 abbrev pub HasSectionName : ℕ → ℕ → Option RelocationSection → Type 0
 HasSectionName status name (Some section) = (status ≡ 0) × (name ≡ section.0)
 HasSectionName status name None = status ≡ 103

@@ -1,4 +1,4 @@
--- What a handle owns.
+-- The ownership of a handle.
 use Rattle.std.specs.Prelude.{ℕ, zero, suc, List, [], ◌∷◌, ◌≡◌, refl, Bool, true, false}
 use mathlib.Core.Path.{ap}
 use Rattle.std.specs.Coded.{Coded, code_by, coded_list, coded_bool}
@@ -53,12 +53,12 @@ loan_owns R p x life share = fsep (flft (life ∷ []) share) (lent_at R p x (lif
 abbrev pub may_free : Ty → Ptr → Fml
 may_free = ghosts.dealloc_token (record { memory = record { seal = tt } })
 
--- What a handle owns, by its state: nothing, what it opened in its box, or a share of a loan of that.
+-- What a handle owns, by its state: nothing, a box with its table, or a share of a loan of such a box.
 abbrev pub held : Ptr → ℕ → Opened → ℕ → Share → Fml
 held p zero o life share = ftrue
 held p (suc zero) o life share = box_owns may_free the_row p o
 held p (suc (suc n)) o life share = loan_owns the_row p o life share
 
--- How what is opened is stored.
+-- How an opened table is stored.
 abbrev pub coded_opened : Coded Opened
 coded_opened = the_row.coded

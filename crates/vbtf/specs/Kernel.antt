@@ -1,4 +1,4 @@
--- What C says of a kernel, and what a rewrite asked about it.
+-- The description of a kernel by C, and the features that a rewrite asked about.
 use Rattle.std.specs.Prelude.{◌≡◌, ℕ, ◌/◌, ◌%◌, ◌^◌, ◌==◌, ◌⊎◌, Bool, List, map, take, length, Option, Some, None, Result, Ok, Err, if◌then◌else◌}
 use Rattle.std.specs.List.{AllByRecursion}
 use Rattle.btf_model.specs.Refusal.{Refusal}
@@ -18,7 +18,7 @@ use Rattle.vbtf.specs.declared.fault.Fault.{Fault}
 use Rattle.vbtf.specs.declared.handle.Handle.{Handle}
 use Rattle.vbtf.specs.Status.{Fails}
 
--- the bit of a feature is set
+-- whether the bit of a feature is set
 abbrev pub has_bit : ℕ → BtfFeature → Bool
 has_bit features f = features / 2 ^ number f % 2 == 1
 
@@ -26,29 +26,29 @@ has_bit features f = features / 2 ^ number f % 2 == 1
 abbrev pub policy_chosen : Kernel → FillPolicy
 policy_chosen kernel = if kernel.fill_sized == 0 then KeepSized else FillSized
 
--- an id, or none where it is 0
+-- an id, or None if it is 0
 abbrev pub id_or_none : ℕ → Option ℕ
 id_or_none id = if id == 0 then None else Some id
 
--- the ids of `.ksyms`, where there is one
+-- the ids of `.ksyms`, if there is one
 abbrev pub ids_chosen : Kernel → Option KsymsIds
 ids_chosen kernel = if kernel.ksyms == 0 then None else Some (ksyms_ids kernel.ksyms (id_or_none kernel.placeholder))
 
--- each answer is what the kernel's bits say
+-- each answer is the kernel's bit
 abbrev pub AreOf : ℕ → List FeatureAnswer → Type 0
 AreOf features answers = AllByRecursion (λ answer. answer.granted ≡ has_bit features answer.feature) answers
 
--- The number of a feature, and 1 for one that is granted.
+-- 1 if the feature of the answer is granted, and otherwise 0
 abbrev pub granted_number : FeatureAnswer → ℕ
 granted_number answer = if answer.granted then 1 else 0
 
--- What is reported are the answers, in order.
+-- The reported features are those of the answers, in order.
 pub record ListsAnswers (asked : Asked) (answers : List FeatureAnswer) : Type 0 where
   pub count : asked.count ≡ length answers
   pub features : take asked.count asked.features ≡ map (λ answer. number answer.feature) answers
   pub granted : take asked.count asked.granted ≡ map granted_number answers
 
--- The rewrite of a table for a kernel with these features ends so: with the answers that it got, or with a refusal.
+-- The outcomes of the rewrite of a table for a kernel with these features: the answers that it got, or an error.
 abbrev pub RewritesFor : ℕ → FillPolicy → Table → Option KsymsIds → Layout → Table
     → Result (List FeatureAnswer) Refusal → Type 0
 RewritesFor features policy old ids layout new (Ok listed) =
@@ -58,8 +58,8 @@ RewritesFor features policy old ids layout new (Err refusal) =
     (answers : List FeatureAnswer) × AreOf features answers
     × Rewrites {X = List FeatureAnswer} policy old ids layout answers new (Err refusal)
 
--- How a rewrite ends that C asks for: with status 0, and the handle owns the rewritten table; or with a refusal, or
--- a failed allocation, and the handle owns the table as it was.
+-- The outcomes of a rewrite for C: status 0, and the handle owns the rewritten table; or an error or a failed
+-- allocation, and the handle owns the unchanged table.
 abbrev pub EndsRewriting : ℕ → Kernel → Layout → Handle → Handle → Asked → Fault → Type 0
 EndsRewriting status kernel layout old new asked fault =
     (new.state ≡ 1) × (new.opened.ext ≡ old.opened.ext)

@@ -1,4 +1,4 @@
--- An object that is rewritten for a kernel, as C asks for it.
+-- The rewrite of an object for a kernel, for C.
 use Rattle.std.specs.Prelude.{◌≡◌, ◌⊎◌, ℕ, List, [], Option, Some, None, if◌then◌else◌, length, ◌==◌}
 use Rattle.btf_elf_model.specs.declared.error.ParseError.{ParseError}
 use Rattle.btf_elf_model.specs.declared.error.ParseError.TheVariants as parse
@@ -17,11 +17,11 @@ use Rattle.vbtf.specs.declared.fault.Fault.{Fault}
 use Rattle.vbtf.specs.declared.kernel.Asked.{Asked}
 use Rattle.vbtf.specs.declared.kernel.Kernel.{Kernel}
 
--- a name, or none where it is empty
+-- a name, or None if it is empty
 abbrev pub name_or_none : List ℕ → Option (List ℕ)
 name_or_none name = if length name == 0 then None else Some name
 
--- what an object is rewritten for, by the kernel and the name of a placeholder
+-- the target of the rewrite of an object, by the kernel and the name of a placeholder
 abbrev pub target_chosen : Kernel → List ℕ → Target
 target_chosen kernel placeholder = record {
   has = has_bit kernel.features;
@@ -29,7 +29,7 @@ target_chosen kernel placeholder = record {
   placeholder = name_or_none placeholder;
 }
 
--- The place of an error of bytes that are no object, from 1 on.
+-- The position of an error in `ParseError`, from 1 on.
 abbrev pub place_of : ParseError → ℕ
 place_of parse.NotElf = 1
 place_of (parse.UnsupportedClass class) = 2
@@ -44,7 +44,7 @@ place_of (parse.BadSectionName index) = 10
 place_of parse.BadSymbolTable = 11
 place_of (parse.BadSymbolName index) = 12
 
--- The class, the encoding, or the index of the section or symbol, that the error names; 0 where it names none.
+-- The detail of an error: a class, an encoding, or the index of a section or symbol; 0 if it has none.
 abbrev pub detail_of : ParseError → ℕ
 detail_of (parse.UnsupportedClass class) = class
 detail_of (parse.UnsupportedEncoding encoding) = encoding
@@ -69,8 +69,8 @@ ReportsCause status fault (Section replace.OutOfMemory) = ReportsNoMemory status
 ReportsCause status fault (Section e) = (status ≡ 106) × (fault.number ≡ 106)
 ReportsCause status fault OutOfMemory = ReportsNoMemory status fault
 
--- How a call ends that rewrites an object: with the rewritten one in the buffer, if there is room, and what was asked;
--- or with the first cause, and the buffer is unchanged.
+-- The outcomes of a call that rewrites an object: the rewritten object in the buffer, if it fits, and the answers of
+-- the kernel; or the first error, and the buffer is unchanged.
 abbrev pub EndsSanitizing : ℕ → List ℕ → Target → List ℕ → List ℕ → ℕ → Asked → Fault → Type 0
 EndsSanitizing status object target old new needed asked fault =
     ((file : List ℕ) × (answers : List FeatureAnswer) × IsSanitized object target file answers

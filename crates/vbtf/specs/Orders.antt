@@ -10,11 +10,11 @@ abbrev pub order_named : ℕ → Endianness
 order_named zero = Little
 order_named (suc n) = Big
 
--- The order in which the first two bytes are the magic 0xeb9f: big where they are eb and 9f, else little.
+-- The order in which the first two bytes are the magic 0xeb9f: big if they are eb and 9f, otherwise little.
 abbrev pub order_by_magic : List ℕ → Endianness
 order_by_magic bytes = if starts_with ◌==◌ bytes (235 ∷ 159 ∷ []) then Big else Little
 
--- The byte order of a number for these bytes: as above, and 2 for the one that their magic says.
+-- The byte order of a number for these bytes: as above, and 2 for the order of their magic.
 abbrev pub order_chosen : ℕ → List ℕ → Endianness
 order_chosen (suc (suc n)) bytes = order_by_magic bytes
 order_chosen n bytes = order_named n

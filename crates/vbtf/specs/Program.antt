@@ -25,7 +25,7 @@ number_named names (entry ∷ entries) name =
     option_or (number_named names entries name)
     (if bytes_eq (name_in names entry) name then Some entry.number else None)
 
--- what the entries say of sections and of symbols
+-- the layout that the entries of sections and of symbols give
 abbrev pub layout_named : List ℕ → List Named → List ℕ → List Named → Layout
 layout_named section_names sections symbol_names symbols =
     record { sections = number_named section_names sections; symbols = number_named symbol_names symbols }

@@ -1,4 +1,4 @@
--- The first words of a type, as C reads them.
+-- The first words of a type, in the form that C reads.
 -- Source: the kernel's BTF documentation, "Type Encoding", `struct btf_type`.
 use Rattle.std.specs.Prelude.{◌≡◌, ◌≤◌, ℕ, List, length, Some, Result, Ok, Err, slice_get}
 use Rattle.btf_model.specs.Record.{Record, kind_number}
@@ -12,7 +12,7 @@ pub record AreWords (words : TypeWords) (r : Record) : Type 0 where
   pub info : words.info ≡ r.info
   pub third : words.size_or_type ≡ r.third
 
--- The words of the type of an id, or that there is none.
+-- The words of the type of an id, or the error if there is none.
 abbrev pub WordsOf : List Record → ℕ → Result TypeWords Refusal → Type 0
 WordsOf records id (Ok words) = (r : Record) × (slice_get records id ≡ Some r) × AreWords words r
 WordsOf records id (Err refusal) = (length records ≤ id) × (refusal ≡ UnknownBtfType id)

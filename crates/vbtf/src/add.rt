@@ -1,4 +1,4 @@
-//! Changes of a table: a string more, a type more.
+//! Additions to a table: a string, or a type.
 
 ghost use Rattle.std.specs.Prelude.{◌≡◌, ◌≢◌, ◌<◌, ◌≤◌, OnErr};
 ghost use Rattle.std.specs.Str.{IsUtf8};
@@ -15,8 +15,8 @@ use std::alloc::Global;
 
 /// Adds a text and a zero byte to the strings of the table that a handle owns.
 ///
-/// Status 6 where the strings would be too long, 20 where an allocation fails, 101 where the handle's state is not 1,
-/// and 102 where the text is not UTF-8; the table then stays as it was.
+/// Status 6 if the strings would be too long, 20 if an allocation fails, 101 if the handle's state is not 1,
+/// and 102 if the text is not UTF-8; the table is then unchanged.
 #[unsafe(no_mangle)]
 pub extern "C" fn vbtf_raw_add_string(
     alloc: Global,
@@ -50,12 +50,12 @@ pub extern "C" fn vbtf_raw_add_string(
     }
 }
 
-/// Adds the type whose record these bytes are to the table that a handle owns, and writes its id. `order` is the byte
-/// order of the record: 0 for little, 1 for big.
+/// Adds a type to the table that a handle owns, and writes its id. The bytes are its record. `order` is the byte order
+/// of the record: 0 for little, 1 for big.
 ///
-/// Status 4 where no kind has the number of the record's kind; 2 where the bytes end before the record does, or the
-/// types would be too long; 20 where an allocation fails; 101 where the handle's state is not 1; 102 where bytes follow
-/// the record, or the order is another number. The table then stays as it was.
+/// Status 4 if no kind has the number of the record's kind; 2 if the bytes end before the record does, or the
+/// types would be too long; 20 if an allocation fails; 101 if the handle's state is not 1; 102 if bytes follow
+/// the record, or the order is another number. The table is then unchanged.
 #[unsafe(no_mangle)]
 pub extern "C" fn vbtf_raw_add_type(
     alloc: Global,
@@ -89,7 +89,7 @@ pub extern "C" fn vbtf_raw_add_type(
     }
 }
 
-/// Adds the type whose record these bytes are, and returns its id. None where bytes follow the record.
+/// Adds the type of a record in bytes, and returns its id. Returns None if bytes follow the record.
 fn add_record(
     alloc: Global,
     btf: &mut Btf,

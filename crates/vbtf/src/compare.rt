@@ -1,4 +1,4 @@
-//! Comparing types of two tables.
+//! Comparisons of types of two tables.
 
 ghost use Rattle.std.specs.Prelude.{◌≡◌, ◌≢◌, ◌⊎◌, [], List};
 ghost use Rattle.btf_model.specs.Fields.{Fields, Pair};
@@ -10,9 +10,9 @@ use crate::fault::{CLOSED, Fault, report};
 use crate::handle::{Handle, lent};
 use btf::{fields_are_compatible, types_are_compatible};
 
-/// Whether the types of two fields are compatible, as a relocation of a field wants them.
+/// Whether the types of two fields are compatible, as a relocation of a field requires.
 ///
-/// Status 6, 9, 10 or 12 with the first cause of refusal, 20 where an allocation fails, and 101 where the state of one
+/// Status 6, 9, 10 or 12 with the first error, 20 if an allocation fails, and 101 if the state of one
 /// of the handles is not 2.
 #[unsafe(no_mangle)]
 pub extern "C" fn vbtf_lent_fields_compatible(
@@ -49,9 +49,9 @@ pub extern "C" fn vbtf_lent_fields_compatible(
     }
 }
 
-/// Whether two types are compatible, as a relocation of a type wants them.
+/// Whether two types are compatible, as a relocation of a type requires.
 ///
-/// Status 9, 10 or 12 with the first cause of refusal, 20 where an allocation fails, and 101 where the state of one of
+/// Status 9, 10 or 12 with the first error, 20 if an allocation fails, and 101 if the state of one of
 /// the handles is not 2.
 #[unsafe(no_mangle)]
 pub extern "C" fn vbtf_lent_types_compatible(

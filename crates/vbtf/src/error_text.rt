@@ -8,9 +8,9 @@ use crate::write::fill;
 use btf::BtfError;
 use std::alloc::{AllocError, Global};
 
-/// The library's text of an error, in UTF-8 and with no zero byte after it. Of a name it has as much as the error does.
+/// The library's text of an error, in UTF-8, without a zero byte at the end. It has as much of a name as the error has.
 ///
-/// Status 100 where the buffer has too little room, and stays as it was; 20 where an allocation fails; 102 where the
+/// Status 100 if the buffer is too small (it is then unchanged); 20 if an allocation fails; 102 if the
 /// number is that of no error of the library.
 #[unsafe(no_mangle)]
 pub extern "C" fn vbtf_raw_error_text(
@@ -46,7 +46,7 @@ fn name_of(fault: &Fault) -> &[u8] {
     fault.name.get(..len).unwrap_or(&[])
 }
 
-/// The error of a fault's number, with what the fault says beside it.
+/// The error of a fault's number, with the fault's fields.
 fn error_of(fault: &Fault, name: String) -> BtfError {
     let id = fault.id;
     let (offset, len) = (fault.offset as usize, fault.len as usize);

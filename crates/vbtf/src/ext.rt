@@ -15,28 +15,28 @@ use crate::seed::keyed_by;
 use btf::{BtfError, BtfExt, Endianness};
 use std::alloc::Global;
 
-/// How long the records of `.BTF.ext` are, in bytes, and how many sections have some.
+/// The lengths of the records of `.BTF.ext` in bytes, and the numbers of sections that have records.
 #[repr(C)]
 #[derive(Drop)]
 pub struct ExtSizes {
-    /// The length of a function record as the section has it; 0 where there are none.
+    /// The length of a function record in the section; 0 if there are none.
     pub func_size: u64,
-    /// The length of a line record as the section has it; 0 where there are none.
+    /// The length of a line record in the section; 0 if there are none.
     pub line_size: u64,
-    /// The sections that have function records, by name.
+    /// The number of section names with function records.
     pub func_sections: u64,
-    /// The sections that have line records, by name.
+    /// The number of section names with line records.
     pub line_sections: u64,
-    /// The sections of relocation records.
+    /// The number of sections of relocation records.
     pub relocation_sections: u64,
 }
 
-/// Opens a `.BTF.ext` over the table that a handle owns; the names of its sections are read in the table. `order` is
-/// the byte order: 0 for little, 1 for big, 2 for the one that the magic says. `seed` is a random number that the keys
-/// of the maps' hasher are made of: an attacker who knows it can choose names of sections that collide.
+/// Opens a `.BTF.ext` over the table that a handle owns; the names of its sections are read from the table. `order` is
+/// the byte order: 0 for little, 1 for big, 2 for the order of the magic. `seed` is a random number from which the keys
+/// of the maps' hasher are derived. An attacker who knows it can choose names of sections that collide.
 ///
-/// Status 1, 6 or 7 with the first cause of refusal, 20 where an allocation fails, 101 where the handle's state is not
-/// 1, and 102 where the table has a `.BTF.ext` already, or the order is another number. What the handle has opened is
+/// Status 1, 6 or 7 with the first error, 20 if an allocation fails, 101 if the handle's state is not
+/// 1, and 102 if the table has a `.BTF.ext` already, or the order is another number. What the handle has opened is
 /// then unchanged.
 #[unsafe(no_mangle)]
 pub extern "C" fn vbtf_raw_open_ext(
@@ -84,7 +84,7 @@ pub extern "C" fn vbtf_close_ext(alloc: Global, table: &mut Handle)
 
 /// The lengths of the records of `.BTF.ext`, and the numbers of its sections.
 ///
-/// Status 101 where the handle's state is not 2, or the table has no `.BTF.ext`.
+/// Status 101 if the handle's state is not 2, or the table has no `.BTF.ext`.
 #[unsafe(no_mangle)]
 pub extern "C" fn vbtf_lent_ext(table: &mut Handle, sizes: &mut ExtSizes) -> u32
     ensures sized { table.old.state ≡ 2 → (ext : OpenedExt) → table.old.opened.ext ≡ Some ext
@@ -105,7 +105,7 @@ pub extern "C" fn vbtf_lent_ext(table: &mut Handle, sizes: &mut ExtSizes) -> u32
     0
 }
 
-/// Adds the `.BTF.ext` that these bytes are; false where there is one already. An error leaves `opened` unchanged.
+/// Adds the `.BTF.ext` of these bytes; false if there is one already. An error leaves `opened` unchanged.
 fn add_ext(
     opened: &mut Opened,
     data: &[u8],
@@ -128,7 +128,7 @@ fn add_ext(
     Ok(true)
 }
 
-/// The sizes of what is opened; None without `.BTF.ext`.
+/// The sizes of the open `.BTF.ext`; None if there is none.
 fn sizes_of(opened: &Opened) -> Option<ExtSizes>
     ensures { MatchOption result (opened.now.ext ≡ None)
         (λ sizes. (ext : OpenedExt) × (opened.now.ext ≡ Some ext) × HasSizes ext sizes) }

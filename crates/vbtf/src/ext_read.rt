@@ -19,10 +19,10 @@ use std::alloc::{AllocError, Global};
 use std::collections::HashMap;
 use std::hash::RandomState;
 
-/// The names of the sections that have function records (part 0) or line records (part 1) in `.BTF.ext`, each once, with
-/// a zero byte after it, and in no particular order.
+/// The names of the sections that have function records (part 0) or line records (part 1) in `.BTF.ext`. Each name is
+/// listed once, with a zero byte after it, in no particular order.
 ///
-/// Status 100 where the buffer has too little room, and stays as it was; 20 where an allocation fails; 101 where the
+/// Status 100 if the buffer is too small (it is then unchanged); 20 if an allocation fails; 101 if the
 /// handle's state is not 2, or the table has no `.BTF.ext`; 102 for another part.
 #[unsafe(no_mangle)]
 pub extern "C" fn vbtf_lent_ext_names(
@@ -53,7 +53,7 @@ pub extern "C" fn vbtf_lent_ext_names(
 /// The string offset of the name of a relocation section, by the section's index from 0 on. Several sections may have
 /// one name.
 ///
-/// Status 101 where the handle's state is not 2, or the table has no `.BTF.ext`; 103 where there are not as many
+/// Status 101 if the handle's state is not 2, or the table has no `.BTF.ext`; 103 if there are fewer
 /// sections.
 #[unsafe(no_mangle)]
 pub extern "C" fn vbtf_lent_ext_section(table: &mut Handle, index: u32, name: &mut u32) -> u32
@@ -71,11 +71,12 @@ pub extern "C" fn vbtf_lent_ext_section(table: &mut Handle, index: u32, name: &m
     status
 }
 
-/// The records of a section of the program, by its name, as little-endian words: of a function record (part 0) the
-/// place of the instruction, counted in instructions, and the type; of a line record (part 1) that place, the offsets
-/// of the file's name and of the line's text, and the word of line and column. There are none under another name.
+/// The records of a section of the program, by its name, as little-endian words. A function record (part 0) has the
+/// offset of the instruction, in instructions, and the type. A line record (part 1) has the offset of the instruction,
+/// the string offsets of the file's name and of the line's text, and the word of line and column. An unknown name has
+/// no records.
 ///
-/// Status 100 where the buffer has too little room, and stays as it was; 20 where an allocation fails; 101 where the
+/// Status 100 if the buffer is too small (it is then unchanged); 20 if an allocation fails; 101 if the
 /// handle's state is not 2, or the table has no `.BTF.ext`; 102 for another part, or a name that is not UTF-8.
 #[unsafe(no_mangle)]
 pub extern "C" fn vbtf_lent_ext_records(
@@ -113,8 +114,8 @@ pub extern "C" fn vbtf_lent_ext_records(
 /// The relocations of a section of the program, by its name, four words each: the byte offset of the instruction, the
 /// type, the string offset of the access string, and the kind. `needed` counts words.
 ///
-/// Status 100 where the buffer has too little room, and stays as it was; 6 with the first name of a section that cannot
-/// be read; 20 where an allocation fails; 101 where the handle's state is not 2, or the table has no `.BTF.ext`; 102
+/// Status 100 if the buffer is too small (it is then unchanged); 6 with the first name of a section that cannot
+/// be read; 20 if an allocation fails; 101 if the handle's state is not 2, or the table has no `.BTF.ext`; 102
 /// for a name that is not UTF-8.
 #[unsafe(no_mangle)]
 pub extern "C" fn vbtf_lent_ext_relocations(

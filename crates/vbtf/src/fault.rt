@@ -1,4 +1,4 @@
-//! Statuses, and what C learns of an error.
+//! Statuses, and the details of an error for C.
 
 ghost use Rattle.std.specs.Prelude.{◌≡◌, length, min};
 ghost use Rattle.btf_words.specs.Error.{refusal_of};
@@ -15,16 +15,16 @@ pub(crate) const NO_ROOM: u32 = 100;
 /// The handle does not have the state that the call needs.
 pub(crate) const CLOSED: u32 = 101;
 
-/// An argument has no meaning, as a byte order of 2 or a text that is not UTF-8.
+/// An argument is invalid, such as a byte order of 2 or a text that is not UTF-8.
 pub(crate) const INVALID_ARGUMENT: u32 = 102;
 
 /// The type has no item of an index, or no variant of a name.
 pub(crate) const NO_ITEM: u32 = 103;
 
-/// The bytes of a name that a fault has room for.
+/// The maximum number of bytes of a name in a fault.
 pub(crate) const NAME_ROOM: usize = 255;
 
-/// What an error says beside its status. Fields that the error does not have are zero.
+/// The details of an error. Fields that the error does not have are zero.
 #[repr(C)]
 #[derive(Drop)]
 pub struct Fault {
@@ -38,13 +38,13 @@ pub struct Fault {
     pub len: u64,
     /// The length of a section in bytes.
     pub section_len: u64,
-    /// How many bytes of `name` there are.
+    /// The number of bytes in `name`.
     pub name_len: u32,
     /// The first bytes of a name.
     pub name: [u8; 255],
 }
 
-/// Writes a status with no name.
+/// Writes a status without a name.
 fn write(fault: &mut Fault, number: u32, id: u32, offset: u64, len: u64, section_len: u64) -> u32
     ensures status { result ≡ number }
     ensures number { fault.new.number ≡ number }
@@ -72,7 +72,7 @@ pub(crate) fn report_number(fault: &mut Fault, number: u32, id: u32, offset: u64
     write(fault, number, id, offset, 0, 0)
 }
 
-/// How many bytes of a name a fault has room for.
+/// The number of bytes of a name that fit in a fault.
 fn name_len(name: &[u8]) -> usize
     ensures { result ≡ min name_room (length name.now) }
 {
@@ -97,7 +97,7 @@ fn write_name(fault: &mut Fault, number: u32, name: &str) -> u32
     number
 }
 
-/// Writes what an error says, and returns its status: its place among the errors, from 1 on.
+/// Writes the details of an error, and returns its status: its position among the errors, from 1 on.
 pub(crate) fn report(error: BtfError, fault: &mut Fault) -> u32
     ensures { ReportsError result fault.new (refusal_of error) }
 {

@@ -1,4 +1,4 @@
-//! The handle that C keeps of a table.
+//! The handle through which C holds a table.
 
 ghost use Rattle.std.specs.Prelude.{◌≡◌, ◌≢◌, ℕ};
 ghost use Rattle.std.specs.Option.{MatchOption};
@@ -20,16 +20,16 @@ pub(crate) const OWNED: u32 = 1;
 /// The state of a handle that holds a share of a loan.
 pub(crate) const LENT: u32 = 2;
 
-/// What C keeps of a table: a pointer and a state. A handle of zeroes is closed.
+/// A handle of a table: a pointer and a state. A handle of zeroes is closed.
 ///
 /// In state 1 the handle owns the table, and `vbtf_close` frees it. In state 2 it holds a share of a loan of the table:
-/// the table can be read through it, and stays as it is for as long as such a handle is in use.
+/// the table can be read through it, and does not change while such a handle is in use.
 #[repr(C)]
 #[derive(Drop)]
 pub struct Handle {
     at: *mut u8,
     state: u32,
-    /// What the handle has opened, where it is not closed.
+    /// The table and the `.BTF.ext` of the handle, if it is not closed.
     pub ghost opened: { Opened } by { coded_opened },
     /// The lifetime of the loan, and the share of its token, in state 2.
     pub ghost life: { ℕ },
@@ -108,7 +108,7 @@ impl Handle {
 
 unsafe impl Send for Handle {}
 
-/// The share of a loan that a handle holds; the handle is then closed. None where its state is another.
+/// Takes the share of a loan out of a handle, and closes the handle. None if it is not in state 2.
 pub(crate) fn lent(table: &mut Handle) -> Option<Loan<Opened>>
     ensures { MatchOption result ((table.old.state ≢ 2) × (table.new ≡ table.old))
         (λ loan. (table.old.state ≡ 2) × (loan.at ≡ table.old.at) × (loan.value ≡ table.old.opened)
@@ -120,7 +120,7 @@ pub(crate) fn lent(table: &mut Handle) -> Option<Loan<Opened>>
     Some(replace(table, Handle::none()).to_loan())
 }
 
-/// The table that a handle owns; the handle is then closed. None where its state is another.
+/// Takes the table out of a handle, and closes the handle. None if it is not in state 1.
 pub(crate) fn taken(alloc: Global, table: &mut Handle) -> Option<Box<Opened>>
     ensures { MatchOption result ((table.old.state ≢ 1) × (table.new ≡ table.old))
         (λ whole. (table.old.state ≡ 1) × (table.new.state ≡ 0) × (whole.value ≡ table.old.opened)) }

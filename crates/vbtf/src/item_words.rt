@@ -1,4 +1,4 @@
-//! What an item of a type is in words.
+//! The words of an item of a type.
 
 ghost use Rattle.std.specs.Prelude.{◌≡◌, ◌<◌, ℕ, List, [], ◌∷◌, length, refl};
 ghost use Rattle.std.proofs.Common.{lit<};
@@ -10,7 +10,7 @@ use btf::{BtfArray, BtfEnum, BtfEnum64, BtfMember, BtfParam, DataSecEntry};
 /// At most three words.
 #[derive(Drop)]
 pub struct Words {
-    /// How many words there are.
+    /// The number of words.
     pub(crate) count: u32,
     /// The words. Those after them are 0.
     pub(crate) words: [u32; 3],
@@ -22,7 +22,7 @@ pub(crate) struct Single(pub(crate) u32);
 
 /// An item of a type.
 pub(crate) trait ItemWords {
-    /// How many words an item has.
+    /// The number of words of an item.
     ghost width: { ℕ };
 
     /// The words of an item.
@@ -32,7 +32,7 @@ pub(crate) trait ItemWords {
     fn words(&self) -> Words
         ensures { HasWords result.count result.words (item_words self.now) };
 
-    /// An item has a word.
+    /// An item has at least one word.
     ghost some_word: { 0 < width };
 
     /// Each item has the same number of words.

@@ -19,7 +19,7 @@ use std::slice::from_ref;
 pub struct Item {
     /// The info word of the type.
     pub info: u32,
-    /// How many words the item has.
+    /// The number of words of the item.
     pub count: u32,
     /// The words of the item, in the order of the record. Those after them are 0.
     pub words: [u32; 3],
@@ -29,11 +29,11 @@ pub struct Item {
 ///
 /// A STRUCT and a UNION have members (name offset, type, offset), an ENUM has variants (name offset, value), an ENUM64
 /// has variants (name offset, low half, high half), a FUNC_PROTO has parameters (name offset, type), and a DATASEC has
-/// entries (type, offset, size). Of these kinds, vlen is the number of items. An INT has one item (data word), and so
-/// have an ARRAY (element type, index type, length), a VAR (linkage) and a DECL_TAG (component index). The other kinds
+/// entries (type, offset, size). For these kinds, vlen is the number of items. The following kinds have one item: INT
+/// (data word), ARRAY (element type, index type, length), VAR (linkage) and DECL_TAG (component index). The other kinds
 /// have none.
 ///
-/// Status 9 where no type has the id, 103 where the type has no item of the index, and 101 where the handle's state is
+/// Status 9 if no type has the id, 103 if the type has no item of the index, and 101 if the handle's state is
 /// not 2.
 #[unsafe(no_mangle)]
 pub extern "C" fn vbtf_lent_item(

@@ -1,4 +1,4 @@
-//! What C says of a kernel, and what a rewrite asked about it.
+//! The description of a kernel by C, and the features that a rewrite asked about.
 
 ghost use Rattle.std.specs.Prelude.{◌≡◌, ◌≤◌, length};
 ghost use Rattle.vbtf.specs.Kernel.{has_bit, policy_chosen, ids_chosen, ListsAnswers};
@@ -12,20 +12,20 @@ pub struct Kernel {
     /// A bit for each feature that the kernel has, by its number from 0 on: Func, FuncGlobal, DataSec, DataSecZero,
     /// Float, DeclTag, TypeTag, Enum64.
     pub features: u32,
-    /// Whether a DATASEC that has a size and no entries gets one where the kernel takes none without: not where this is
-    /// 0.
+    /// If this is not 0, a DATASEC that has a size and no entries gets an entry for a kernel that rejects a DATASEC
+    /// without entries.
     pub fill_sized: u32,
-    /// The id of the DATASEC `.ksyms`, or 0 where there is none.
+    /// The id of the DATASEC `.ksyms`, or 0 if there is none.
     pub ksyms: u32,
-    /// The id of the variable that takes the place of functions in it, or 0 where there is none.
+    /// The id of the variable that replaces functions in it, or 0 if there is none.
     pub placeholder: u32,
 }
 
-/// What a rewrite asked, in order.
+/// The features that a rewrite asked about, in order.
 #[repr(C)]
 #[derive(Drop)]
 pub struct Asked {
-    /// How many features it asked about.
+    /// The number of features.
     pub count: u32,
     /// Their numbers.
     pub features: [u8; 8],
@@ -41,7 +41,7 @@ impl Kernel {
         (self.features >> (feature as u32)) % 2 == 1
     }
 
-    /// What becomes of DATASECs that have a size and no entries.
+    /// The policy for DATASECs that have a size and no entries.
     pub(crate) fn policy(&self) -> FillPolicy
         ensures { result ≡ policy_chosen self.now }
     {
@@ -71,7 +71,7 @@ impl Kernel {
 }
 
 impl Asked {
-    /// Writes what was asked, in order.
+    /// Writes the answers, in order.
     pub(crate) fn list(&mut self, answers: &[FeatureAnswer])
         requires { length answers.now ≤ 8 }
         ensures { ListsAnswers self.new answers.now }

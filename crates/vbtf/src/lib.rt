@@ -1,8 +1,8 @@
 //! Tables of BTF for C: a static library over `btf`.
 //!
-//! C keeps a table behind a [`Handle`](handle::Handle), `struct { void *at; uint32_t state; }`. A handle of zeroes is
+//! C holds a table by a [`Handle`](handle::Handle), `struct { void *at; uint32_t state; }`. A handle of zeroes is
 //! closed. `vbtf_new` and `vbtf_raw_parse` open it, so that it owns a table (state 1); `vbtf_close` frees the table. A
-//! table has at most one `.BTF.ext` beside it, which `vbtf_raw_open_ext` reads and `vbtf_close_ext` frees.
+//! table has at most one `.BTF.ext`, which `vbtf_raw_open_ext` reads and `vbtf_close_ext` frees.
 //!
 //! The calls named `vbtf_lent_..` only read. They take a handle in state 2, which C makes as a copy of an open handle,
 //! and leave it unchanged. Any number of such copies can be used at the same time, also by several threads. C
@@ -12,10 +12,10 @@
 //! - While a copy is in use, its handle is not changed or closed.
 //! - The functions `malloc`, `realloc` and `free` are one allocator.
 //!
-//! Each exported function restates the clauses of the call that it makes. It returns a status: 0 for an answer; 1 to 20
-//! for an error of `btf`, by its place in `BtfError`; 100 for a buffer that is too small; 101 for a handle whose state
-//! is not the one that the call needs; 102 for an argument that has no meaning; 103 for an item or a variant that the
-//! type does not have; 104 to 106 for an object that is not rewritten. For 1 to 20 and 104 the fault says more.
+//! Each exported function restates the clauses of the call that it makes. It returns a status: 0 for success; 1 to 20
+//! for an error of `btf`, by its position in `BtfError`; 100 for a buffer that is too small; 101 for a handle in
+//! another state than the call needs; 102 for an invalid argument; 103 for an item or a variant that the type does not
+//! have; 104 to 106 for an object that is not rewritten. For 1 to 20 and 104 the fault has details.
 #![tactic(auto)]
 
 mod add;

@@ -26,15 +26,16 @@ const NO_TABLE: u32 = 105;
 /// The bytes of the section `.BTF` cannot be replaced.
 const NOT_REPLACEABLE: u32 = 106;
 
-/// Writes an object, with the table in its section `.BTF` rewritten for a kernel, to a buffer, its length in bytes to
-/// `needed`, and reports what was asked. `placeholder` is the name of the variable that takes the place of functions in
-/// `.ksyms`; it is empty where there is none. The ids of `kernel` are not read, since the object's table has names. `seed`
-/// is a random number, with which the names of sections and symbols are hashed.
+/// Rewrites the table in the section `.BTF` of an object for a kernel. Writes the new object to a buffer, its length in
+/// bytes to `needed`, and the features that the rewrite asked about to `asked`. `placeholder` is the name of the
+/// variable that replaces functions in `.ksyms`; it is empty if there is none. The ids of `kernel` are not read,
+/// because the object's table has names. `seed` is a random number, with which the names of sections and symbols are
+/// hashed.
 ///
-/// Status 100 where the buffer has too little room, and stays as it was. 104 where the bytes are no object; `id` is then
-/// the place of the error in `ParseError`, from 1 on, and `offset` what it names. 105 where no section is `.BTF`; 1 to
-/// 19 with the first error of the table or of its rewrite; 106 where the section's bytes cannot be replaced; 20 where an
-/// allocation fails; 102 where the placeholder's name is not UTF-8.
+/// Status 100 if the buffer is too small (it is then unchanged). 104 if the bytes are no object; `id` is then
+/// the position of the error in `ParseError`, from 1 on, and `offset` its detail. 105 if no section is `.BTF`; 1 to
+/// 19 with the first error of the table or of its rewrite; 106 if the section's bytes cannot be replaced; 20 if an
+/// allocation fails; 102 if the placeholder's name is not UTF-8.
 #[unsafe(no_mangle)]
 pub extern "C" fn vbtf_raw_sanitize_object(
     alloc: Global,
@@ -69,7 +70,7 @@ pub extern "C" fn vbtf_raw_sanitize_object(
     }
 }
 
-/// A name, or none where it is empty.
+/// A name, or None if it is empty.
 fn named(name: &str) -> Option<&str>
     ensures { option_map (λ text. text.now) result ≡ name_or_none name.now }
 {
@@ -79,7 +80,7 @@ fn named(name: &str) -> Option<&str>
     Some(name)
 }
 
-/// Writes why an object is not rewritten, and returns the status.
+/// Writes the cause for which an object is not rewritten, and returns the status.
 fn report_cause(error: SanitizeError, fault: &mut Fault) -> u32
     ensures { ReportsCause result fault.new error }
 {
@@ -102,7 +103,7 @@ fn report_cause(error: SanitizeError, fault: &mut Fault) -> u32
     }
 }
 
-/// The place of an error of bytes that are no object, from 1 on.
+/// The position of an error in `ParseError`, from 1 on.
 fn place(error: &ParseError) -> u32
     ensures { result ≡ place_of error.now }
 {
@@ -122,7 +123,7 @@ fn place(error: &ParseError) -> u32
     }
 }
 
-/// What an error of bytes that are no object names: a class, an encoding, or the index of a section or symbol; else 0.
+/// The detail of an error in `ParseError`: a class, an encoding, or the index of a section or symbol; otherwise 0.
 fn detail(error: &ParseError) -> u64
     ensures { result ≡ detail_of error.now }
 {

@@ -16,7 +16,7 @@ use std::alloc::Global;
 
 /// Opens a handle with an empty table in little-endian order.
 ///
-/// Status 20 where an allocation fails, and 102 where the handle is not closed; it stays as it was.
+/// Status 20 if an allocation fails, and 102 if the handle is not closed; it is then unchanged.
 #[unsafe(no_mangle)]
 pub extern "C" fn vbtf_new(alloc: Global, table: &mut Handle, fault: &mut Fault) -> u32
     ensures opened { table.old.state ≡ 0
@@ -36,10 +36,10 @@ pub extern "C" fn vbtf_new(alloc: Global, table: &mut Handle, fault: &mut Fault)
 }
 
 /// Opens a handle with the table that a blob represents. `order` is the byte order: 0 for little, 1 for big, 2 for the
-/// one that the magic at the beginning of the blob says.
+/// order of the magic at the beginning of the blob.
 ///
-/// Status 1, 2 or 4 with the first cause of refusal, 20 where an allocation fails, and 102 where the handle is not
-/// closed or the order is another number; the handle then stays as it was.
+/// Status 1, 2 or 4 with the first error, 20 if an allocation fails, and 102 if the handle is not
+/// closed or the order is another number; the handle is then unchanged.
 #[unsafe(no_mangle)]
 pub extern "C" fn vbtf_raw_parse(
     alloc: Global,
@@ -51,7 +51,7 @@ pub extern "C" fn vbtf_raw_parse(
     ensures opened { table.old.state ≡ 0 → order ≤ 2
         → Opens result table.old table.new fault.new
         (Parses (order_chosen order «data».now) «data».now) }
-    // Bytes that are a table are not refused.
+    // An error means that the bytes are no table.
     ensures only_table { table.old.state ≡ 0 → order ≤ 2
         → (t : Table) → IsTable (order_chosen order «data».now) «data».now t
         → Opens result table.old table.new fault.new (λ answer. answer ≡ Ok t) }
@@ -73,7 +73,7 @@ pub extern "C" fn vbtf_raw_parse(
     }
 }
 
-/// Frees the table that a handle owns, and closes the handle. A handle in another state stays as it is.
+/// Frees the table that a handle owns, and closes the handle. A handle in another state is unchanged.
 #[unsafe(no_mangle)]
 pub extern "C" fn vbtf_close(alloc: Global, table: &mut Handle)
     ensures closed { table.old.state ≡ 1 → table.new.state ≡ 0 }
@@ -84,7 +84,7 @@ pub extern "C" fn vbtf_close(alloc: Global, table: &mut Handle)
     }
 }
 
-/// The table of an answer, in a box, with no `.BTF.ext`.
+/// The table of a result, in a box, without a `.BTF.ext`.
 fn boxed(alloc: Global, answer: Result<Btf, BtfError>) -> Result<Box<Opened>, BtfError>
     ensures { MatchResult result
         (λ whole. (answer ≡ Ok whole.value.btf) × (whole.value.ext ≡ None))

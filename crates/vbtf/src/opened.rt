@@ -1,4 +1,4 @@
-//! What a handle has opened.
+//! The table and the `.BTF.ext` of an open handle.
 
 use btf::{Btf, BtfExt};
 use std::hash::RandomState;

@@ -18,7 +18,7 @@ pub(crate) fn named_order(order: u32) -> Option<Endianness>
     }
 }
 
-/// The byte order of a number for these bytes: 0 for little, 1 for big, 2 for the one that their magic says. None for
+/// The byte order of a number for these bytes: 0 for little, 1 for big, 2 for the order of their magic. None for
 /// another number.
 pub(crate) fn chosen_order(order: u32, bytes: &[u8]) -> Option<Endianness>
     ensures { MatchOption result (2 < order)
@@ -30,7 +30,7 @@ pub(crate) fn chosen_order(order: u32, bytes: &[u8]) -> Option<Endianness>
     }
 }
 
-/// The byte order in which the first two bytes are the magic 0xeb9f; little where they are that in neither.
+/// The byte order in which the first two bytes are the magic 0xeb9f; little if they are the magic in neither order.
 fn order_by_magic(bytes: &[u8]) -> Endianness
     ensures { result ≡ order_by_magic bytes.now }
 {

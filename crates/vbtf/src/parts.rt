@@ -6,7 +6,7 @@ ghost use Rattle.std.specs.Box.Ownership.{box_owns};
 use std::alloc::Allocator;
 use std::marker::Model;
 
-/// A box taken apart: the pointer to its block, and the allocator.
+/// The parts of a box: the pointer to its block, and the allocator.
 pub(crate) struct Parts<T, A: Allocator> {
     pub(crate) at: *mut T,
     pub(crate) alloc: A,

@@ -13,7 +13,7 @@ use std::str;
 #[repr(C)]
 #[derive(Drop)]
 pub struct Named {
-    /// Where the name begins in the buffer, in bytes.
+    /// The offset of the name in the buffer, in bytes.
     pub at: u32,
     /// The length of the name in bytes.
     pub len: u32,
@@ -29,8 +29,8 @@ pub(crate) struct Program {
 }
 
 impl Program {
-    /// The sections and symbols of these entries; of a name that is there several times, the last one. None where a
-    /// name is not in its buffer, or is not UTF-8.
+    /// The sections and symbols of these entries. If several entries have one name, the last one counts. None if a name
+    /// is not in its buffer, or is not UTF-8.
     pub(crate) fn read(
         alloc: Global,
         section_names: &[u8],
@@ -57,7 +57,7 @@ impl Program {
     }
 }
 
-/// The name of an entry. None where it is not in the buffer, or is not UTF-8.
+/// The name of an entry. None if it is not in the buffer, or is not UTF-8.
 fn name_of<'a>(names: &'a [u8], entry: &Named) -> Option<&'a str>
     ensures some { IfSome result (λ name. (name.now ≡ name_in names.now entry.now)
         × IsReadable names.now entry.now) }
@@ -68,7 +68,7 @@ fn name_of<'a>(names: &'a [u8], entry: &Named) -> Option<&'a str>
     str::from_utf8(bytes).ok()
 }
 
-/// The sizes of the sections of these entries, each with an index that is not read. None where a name cannot be read.
+/// The sizes of the sections of these entries. Their indices are not used. None if a name cannot be read.
 fn read_sections(
     alloc: Global,
     names: &[u8],
@@ -90,7 +90,7 @@ fn read_sections(
     Ok(Some(map))
 }
 
-/// The offsets of the symbols of these entries. None where a name cannot be read.
+/// The offsets of the symbols of these entries. None if a name cannot be read.
 fn read_symbols(
     alloc: Global,
     names: &[u8],

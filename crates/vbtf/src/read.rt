@@ -14,9 +14,9 @@ use crate::fault::{CLOSED, Fault, INVALID_ARGUMENT, report};
 use crate::handle::{Handle, lent};
 use btf::{Btf, BtfError, BtfKind, BtfType};
 
-/// How many types a table has, the type of id 0 among them.
+/// The number of types of a table, including the type of id 0.
 ///
-/// Status 101 where the handle's state is not 2.
+/// Status 101 if the handle's state is not 2.
 #[unsafe(no_mangle)]
 pub extern "C" fn vbtf_lent_count(table: &mut Handle, count: &mut u64) -> u32
     ensures counted { table.old.state ≡ 2
@@ -32,14 +32,14 @@ pub extern "C" fn vbtf_lent_count(table: &mut Handle, count: &mut u64) -> u32
     0
 }
 
-/// How many types a table has.
+/// The number of types of a table.
 fn count_of(table: &Btf) -> u64
     ensures { result ≡ length table.now.records }
 {
     table.types().as_slice().len() as u64
 }
 
-/// The first words of a type: what it is, and how it is named.
+/// The first words of a type: its kind, its name, and its size or type.
 #[repr(C)]
 #[derive(Drop)]
 pub struct TypeWords {
@@ -56,7 +56,7 @@ pub struct TypeWords {
 
 /// The first words of a type.
 ///
-/// Status 9 where no type has the id, and 101 where the handle's state is not 2.
+/// Status 9 if no type has the id, and 101 if the handle's state is not 2.
 #[unsafe(no_mangle)]
 pub extern "C" fn vbtf_lent_type(
     table: &mut Handle,
@@ -83,11 +83,11 @@ pub extern "C" fn vbtf_lent_type(
     }
 }
 
-/// The least id of a type of this kind and name. The kind is a number from 0 to 19, and the name has no zero byte at
+/// The least id of a type with this kind and name. The kind is a number from 0 to 19, and the name has no zero byte at
 /// its end.
 ///
-/// Status 6 where a type of the kind with a lower id has a name that cannot be read, 11 where no type has the kind and
-/// the name, 20 where an allocation fails, 101 where the handle's state is not 2, and 102 where the name is not UTF-8
+/// Status 6 if a type of the kind with a lower id has a name that cannot be read, 11 if no type has the kind and
+/// the name, 20 if an allocation fails, 101 if the handle's state is not 2, and 102 if the name is not UTF-8
 /// or no kind has the number.
 #[unsafe(no_mangle)]
 pub extern "C" fn vbtf_lent_find(
@@ -162,7 +162,7 @@ fn third_word(btf_type: &BtfType) -> u32
     }
 }
 
-/// The id of a kind and a name; None where the name is not UTF-8, or no kind has the number.
+/// The id of a kind and a name; None if the name is not UTF-8, or no kind has the number.
 fn find(table: &Btf, name: &[u8], kind: u32) -> Option<Result<u32, BtfError>>
     ensures { MatchOption result ((IsUtf8 name.now → ⊥) ⊎ (slice_get kinds kind ≡ None))
         (λ answer. IsUtf8 name.now × (k : Kind) × (slice_get kinds kind ≡ Some k)

@@ -16,12 +16,12 @@ use arrayvec::ArrayVec;
 use btf::{Btf, BtfError, BtfFeature, BtfFeatureResolver, FeatureAnswer};
 use std::alloc::Global;
 
-/// Rewrites the table that a handle owns for a kernel, and reports what was asked about that. `sections` has the sizes
-/// of the program's sections and `symbols` the offsets of its symbols; their names are in `section_names` and
-/// `symbol_names`, which can be the string tables of an object.
+/// Rewrites the table that a handle owns for a kernel, and reports the features that the rewrite asked about.
+/// `sections` has the sizes of the program's sections, and `symbols` the offsets of its symbols. Their names are in
+/// `section_names` and `symbol_names`, which can be the string tables of an object.
 ///
-/// Status 2, 6, 9, 10, 13, 14 or 15 with the first cause of refusal, 20 where an allocation fails, 101 where the
-/// handle's state is not 1, and 102 where a name is not in its buffer, or is not UTF-8; the table then stays as it was.
+/// Status 2, 6, 9, 10, 13, 14 or 15 with the first error, 20 if an allocation fails, 101 if the
+/// handle's state is not 1, and 102 if a name is not in its buffer, or is not UTF-8; the table is then unchanged.
 #[unsafe(no_mangle)]
 pub extern "C" fn vbtf_raw_rewrite(
     alloc: Global,
@@ -42,13 +42,13 @@ pub extern "C" fn vbtf_raw_rewrite(
     ensures unreadable { table.old.state ≡ 1 → (AreReadable section_names.now sections.now
         × AreReadable symbol_names.now symbols.now → ⊥)
         → ((result ≡ INVALID_ARGUMENT) ⊎ (result ≡ no_memory)) × (table.new ≡ table.old) }
-    // A walk that meets no VAR, FUNC, FUNC_PROTO, DATASEC or DECL_TAG finds the size that it found.
+    // The size of a type does not change if its walk meets no VAR, FUNC, FUNC_PROTO, DATASEC or DECL_TAG.
     ensures sizes { result ≡ 0 → KeepsSizes table.old.opened.btf table.new.opened.btf }
-    // An id resolves to what it resolved to, unless that is a FUNC.
+    // An id resolves to the same id as before, unless that was a FUNC.
     ensures resolutions { result ≡ 0 → KeepsResolutions table.old.opened.btf table.new.opened.btf }
-    // A name has the value in an ENUM or ENUM64 that it had, also where a UNION took its place.
+    // The value of each name in an ENUM or ENUM64 does not change, even if a UNION replaces the type.
     ensures values { result ≡ 0 → KeepsValues table.old.opened.btf table.new.opened.btf }
-    // No type is taken away, and at most four are appended.
+    // No type is removed, and at most four are appended.
     ensures appended { result ≡ 0 → AppendsAtMost 4 table.old.opened.btf table.new.opened.btf }
 {
     if table.seen() != OWNED {
@@ -73,7 +73,7 @@ pub extern "C" fn vbtf_raw_rewrite(
     }
 }
 
-/// Rewrites a table for a kernel, and returns what was asked. An error leaves the table as it was.
+/// Rewrites a table for a kernel, and returns the answers that it got. An error leaves the table unchanged.
 fn rewritten(
     btf: &mut Btf,
     program: &Program,

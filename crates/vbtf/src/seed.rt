@@ -1,4 +1,4 @@
-//! Keys of a hasher, from a number that C draws.
+//! Keys of a hasher, from a random number of the caller.
 
 use std::hash::RandomState;
 use std::io;
@@ -9,7 +9,7 @@ use std::random::RandomSource;
 struct Seed(u64);
 
 impl RandomSource for Seed {
-    /// The bytes of the number, again and again. Never fails.
+    /// Repeats the bytes of the number. Never fails.
     fn fill_bytes(&self, bytes: &mut [u8]) -> io::Result<()> {
         let word = self.0.to_le_bytes();
         for (index, byte) in bytes.iter_mut().enumerate() {
@@ -19,8 +19,8 @@ impl RandomSource for Seed {
     }
 }
 
-/// A hash builder whose keys are made of a number. An attacker who does not know the number cannot choose names that
-/// collide.
+/// A hash builder whose keys are derived from a number. An attacker who does not know the number cannot choose names
+/// that collide.
 pub(crate) fn keyed_by(seed: u64) -> io::Result<RandomState> {
     RandomState::new(&Seed(seed))
 }

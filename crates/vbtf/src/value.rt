@@ -9,11 +9,11 @@ use crate::fault::{CLOSED, Fault, INVALID_ARGUMENT, NO_ITEM, report};
 use crate::handle::{Handle, lent};
 use btf::variant_value;
 
-/// The value of the first variant of a name, in the enumeration that a type resolves to: an ENUM, whose values have
-/// zeros above their 32 bits, an ENUM64, or a UNION that took the place of an ENUM64 in this table.
+/// The value of the first variant of a name, in the enumeration that a type resolves to: an ENUM, whose values of 32
+/// bits are zero-extended, an ENUM64, or a UNION that replaced an ENUM64 in this table.
 ///
-/// Status 6, 9, 10 or 12 with the first cause of refusal, 20 where an allocation fails, 101 where the handle's state is
-/// not 2, 102 where the name is not UTF-8, and 103 where no variant has the name.
+/// Status 6, 9, 10 or 12 with the first error, 20 if an allocation fails, 101 if the handle's state is
+/// not 2, 102 if the name is not UTF-8, and 103 if no variant has the name.
 #[unsafe(no_mangle)]
 pub extern "C" fn vbtf_lent_value(
     table: &mut Handle,

@@ -9,7 +9,7 @@ use crate::handle::{Handle, lent};
 
 /// The size of a type in bytes.
 ///
-/// Status 2, 9, 10 or 12 with the first cause on the walk, and 101 where the handle's state is not 2.
+/// Status 2, 9, 10 or 12 with the first error of the walk, and 101 if the handle's state is not 2.
 #[unsafe(no_mangle)]
 pub extern "C" fn vbtf_lent_size(
     table: &mut Handle,
@@ -36,9 +36,9 @@ pub extern "C" fn vbtf_lent_size(
     }
 }
 
-/// The id of the first type that is no modifier, where modifiers lead from each to the next.
+/// The id of the type that an id resolves to: the first type after its modifiers.
 ///
-/// Status 9 or 12 with the first cause on the walk, and 101 where the handle's state is not 2.
+/// Status 9 or 12 with the first error of the walk, and 101 if the handle's state is not 2.
 #[unsafe(no_mangle)]
 pub extern "C" fn vbtf_lent_resolve(
     table: &mut Handle,

@@ -1,4 +1,4 @@
-//! Bytes for C.
+//! Texts and blobs in buffers of C.
 
 ghost use Rattle.std.specs.Prelude.{◌≡◌, ◌≢◌, Ok};
 ghost use Rattle.btf_model.specs.Blob.{canon};
@@ -9,10 +9,10 @@ use crate::fault::{CLOSED, Fault, NO_ROOM, report};
 use crate::handle::{Handle, lent};
 use btf::Btf;
 
-/// Writes the text at a string offset to a buffer, with no zero byte after it, and its length in bytes to `needed`.
+/// Writes the text at a string offset to a buffer, without a zero byte after it, and its length in bytes to `needed`.
 ///
-/// Status 100 where the buffer has too little room, and stays as it was; 6 where no text can be read at the offset, 20
-/// where an allocation fails, and 101 where the handle's state is not 2.
+/// Status 100 if the buffer is too small (it is then unchanged); 6 if no text can be read at the offset, 20
+/// if an allocation fails, and 101 if the handle's state is not 2.
 #[unsafe(no_mangle)]
 pub extern "C" fn vbtf_lent_text(
     table: &mut Handle,
@@ -36,7 +36,7 @@ pub extern "C" fn vbtf_lent_text(
 
 /// Writes the blob of a table to a buffer, and its length in bytes to `needed`.
 ///
-/// Status 100 where the buffer has too little room, and stays as it was; 20 where an allocation fails, and 101 where
+/// Status 100 if the buffer is too small (it is then unchanged); 20 if an allocation fails, and 101 where
 /// the handle's state is not 2.
 #[unsafe(no_mangle)]
 pub extern "C" fn vbtf_lent_bytes(
@@ -80,7 +80,7 @@ fn write_bytes(table: &Btf, out: &mut [u8], needed: &mut u64, fault: &mut Fault)
     }
 }
 
-/// Writes items to the beginning of a buffer that has room for them, and how many they are to `needed`.
+/// Writes items to the beginning of a buffer if they fit, and the number of items to `needed`.
 pub(crate) fn fill<T: Copy>(items: &[T], out: &mut [T], needed: &mut u64) -> u32
     ensures { Fills items.now out.old out.new needed.new result }
 {

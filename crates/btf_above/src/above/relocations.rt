@@ -13,9 +13,9 @@ use btf_table::Btf;
 use std::alloc::Global;
 use std::hash::BuildHasher;
 
-/// The relocation records of the sections of this name, in order: of each record the first four words, as
-/// [`BtfExt::relocations`] has them. The records of two sections of one name follow one another; where no section has
-/// the name, there are none. Names are read in `btf`, the table that `ext` was parsed with, and compared as
+/// The relocation records of the sections of this name, in order: the first four words of each record, as
+/// [`BtfExt::relocations`] gives them. If several sections have the name, the list has the records of each; if none
+/// has it, the list is empty. Names are read from `btf`, the table that `ext` was parsed with, and compared as
 /// `Btf::string_at` reads them.
 ///
 /// A relocation record (the kernel's BTF documentation, ".BTF.ext section", `struct bpf_core_relo`) has the byte offset
@@ -23,10 +23,10 @@ use std::hash::BuildHasher;
 ///
 /// # Errors
 ///
-/// The names of all sections are read, in order, whatever their texts.
+/// All section names are read, in order, even after a match.
 ///
 /// - `InvalidStringOffset` of the first name that cannot be read.
-/// - `OutOfMemory` where there is no memory for the records, or for a name that is not UTF-8.
+/// - `OutOfMemory` if an allocation fails: for the records, or for a name that is not UTF-8.
 pub fn relocations_of<H: BuildHasher>(
     alloc: Global,
     ext: &BtfExt<H>,
@@ -36,7 +36,7 @@ pub fn relocations_of<H: BuildHasher>(
     // The records of the sections of this name, or the first name that cannot be read.
     ensures words { MeetsOrNoMemory (λ v. v.items) result
         (Words btf.now.strings (said ext.now).relocations name.now) }
-    // No other records, and no other cause.
+    // The result is unique: no other records, and no other error.
     ensures only { (answer : Result (List (List ℕ)) Refusal)
         → Words btf.now.strings (said ext.now).relocations name.now answer
         → IsOrNoMemory (λ v. v.items) result answer }

@@ -12,35 +12,33 @@ use btf_plain::BtfError;
 use btf_records::BtfType;
 use btf_table::Btf;
 
-/// The value of the first variant of this name, in the enumeration that a type id resolves to; `None` where no variant
-/// has the name.
+/// The value of the first variant of this name, in the enumeration that a type id resolves to; `None` if no variant has
+/// the name.
 ///
-/// The id is resolved first, as [`Btf::resolve_type`] does. An ENUM (the kernel's BTF documentation, "BTF_KIND_ENUM")
-/// has values of 32 bits, which get zeros above them, also where they are signed: -1 is 4294967295. An ENUM64
-/// ("BTF_KIND_ENUM64") has values of 64 bits, as two's complement where they are signed. A UNION that a rewrite left in
-/// place of an ENUM64 has the ENUM64's names and values, so a rewrite changes no value that this finds; the bytes of a
-/// table do not keep them.
+/// The id is resolved first, as by [`Btf::resolve_type`]. The values of an ENUM (the kernel's BTF documentation,
+/// "BTF_KIND_ENUM") have 32 bits and are zero-extended even if they are signed: -1 is 4294967295. The values of an
+/// ENUM64 ("BTF_KIND_ENUM64") have 64 bits, in two's complement if they are signed. A UNION that a rewrite put in place
+/// of an ENUM64 has the ENUM64's names and values, so a rewrite changes no result of this function. The bytes of a
+/// table do not record these names and values.
 ///
-/// Names are compared as [`Btf::string_at`] reads them: bytes that are not UTF-8 are read with U+FFFD in place of each
-/// longest piece that is none.
+/// Names are compared as [`Btf::string_at`] reads them, with U+FFFD in place of each longest piece that is not UTF-8.
 ///
 /// # Errors
 ///
-/// The first cause, in this order:
+/// The first error in this order:
 ///
-/// - `UnknownBtfType` of the id that has no type, on the way from `type_id` to the type that it resolves to.
-/// - `MaximumTypeDepthReached` of `type_id` where the first 32 types are modifiers.
-/// - `UnexpectedBtfType` of the id that `type_id` resolves to, where that type is none of the three; id 0, which is no
-///   type, is among these.
-/// - `InvalidStringOffset` of a variant's name that cannot be read, where no variant before it has the name.
-/// - `OutOfMemory` where the name of a variant is not UTF-8, and there is no memory for its text.
+/// - `UnknownBtfType` of an id without a type, met while `type_id` is resolved.
+/// - `MaximumTypeDepthReached` of `type_id` if the first 32 types are modifiers.
+/// - `UnexpectedBtfType` of the id that `type_id` resolves to, if its type is none of the three; so it is for id 0.
+/// - `InvalidStringOffset` of a variant's name that cannot be read, if no earlier variant has the name.
+/// - `OutOfMemory` if the name of a variant is not UTF-8, and the allocation of its text fails.
 pub fn variant_value(btf: &Btf, type_id: u32, name: &str) -> Result<Option<u64>, BtfError>
-    // The value, that there is none, or the first cause of refusal.
+    // The value, None, or the first error.
     ensures value { MeetsOrNoMemory (λ v. v) result (Value btf.now type_id name.now) }
-    // No other value, and no other cause.
+    // The result is unique: no other value, and no other error.
     ensures only { (answer : Result (Option ℕ) Refusal) → Value btf.now type_id name.now answer
         → IsOrNoMemory (λ v. v) result answer }
-    // Where the names of the type's variants are UTF-8, no memory is taken.
+    // If the names of the type's variants are UTF-8, nothing is allocated.
     ensures no_memory { NamesAreUtf8 btf.now type_id
         → Meets (λ v. v) result (Value btf.now type_id name.now) }
 {
@@ -48,8 +46,8 @@ pub fn variant_value(btf: &Btf, type_id: u32, name: &str) -> Result<Option<u64>,
     value_at(btf, id, name)
 }
 
-/// The value of the first variant of this name in the enumeration of a known id, or `UnexpectedBtfType` of the id where
-/// its type is none.
+/// The value of the first variant of this name in the enumeration of a known id. If the type of the id is no
+/// enumeration, the error is `UnexpectedBtfType` of the id.
 fn value_at(btf: &Btf, type_id: u32, name: &str) -> Result<Option<u64>, BtfError>
     requires { type_id < length btf.now.records }
     ensures value { MeetsOrNoMemory (λ v. v) result

@@ -14,14 +14,14 @@ use btf_table::Btf;
 
 /// A variant of an enumeration.
 pub trait Variant {
-    /// The variant as the definitions have it.
+    /// The variant in the model's terms.
     ghost variant: { Self → model.Variant };
 
     /// The string offset of the name.
     fn name_offset(&self) -> u32
         ensures { result ≡ (variant self.now).name };
 
-    /// The value in 64 bits, with zeros above one of 32.
+    /// The value in 64 bits; a value of 32 bits is zero-extended.
     fn value(&self) -> u64
         ensures { result ≡ (variant self.now).value };
 }
@@ -62,7 +62,7 @@ impl Variant for Enum64VariantFallback {
     }
 }
 
-/// The value of the first variant of this name; `InvalidStringOffset` of a name before it that cannot be read.
+/// The value of the first variant of this name, or `InvalidStringOffset` of an earlier name that cannot be read.
 pub fn find_value<V: Variant>(
     btf: &Btf,
     variants: &[V],
@@ -70,7 +70,7 @@ pub fn find_value<V: Variant>(
 ) -> Result<Option<u64>, BtfError>
     ensures found { MeetsOrNoMemory (λ v. v) result
         (FindsVariant btf.now.strings name.now (map V.variant variants.now)) }
-    // Memory is taken only for names that are not UTF-8.
+    // Only names that are not UTF-8 need an allocation.
     ensures no_memory { HaveUtf8Names btf.now.strings (map V.variant variants.now)
         → Meets (λ v. v) result
         (FindsVariant btf.now.strings name.now (map V.variant variants.now)) }

@@ -1,4 +1,4 @@
-//! Records under the names of sections.
+//! Records by the names of sections.
 
 ghost use Rattle.std.specs.Prelude.{◌≡◌, ℕ, ◌*◌, ◌<◌, ◌≤◌, List, None, Ok, Err, IfOk, OnOk, IfErr, IfSome, unwrap_or};
 ghost use Rattle.btf_model.specs.Ext.{Records, IsSection, instruction_records, no_records};
@@ -19,17 +19,17 @@ use std::hash::{BuildHasher, BuildHasherDefault, FoldHasher};
 
 /// The records of one section of a program: its function records, or its line records.
 pub trait SectionRecords: Sized + Drop {
-    /// How many words of a record are read.
+    /// The number of words of a record that are read.
     ghost width: { ℕ };
 
-    /// What the records say.
+    /// The records in the model's terms.
     ghost records: { Self → Records };
 
-    /// No records. No memory is taken.
+    /// No records, without an allocation.
     fn empty(alloc: Global) -> Self
         ensures { records result ≡ no_records };
 
-    /// The records of a section, which have so many bytes each.
+    /// Reads the records of a section; `rec_size` is the number of bytes of each.
     fn read(
         alloc: Global,
         section: &SecInfo<'_>,
@@ -51,12 +51,12 @@ pub trait SectionRecords: Sized + Drop {
 pub struct BySection<S, H: BuildHasher = BuildHasherDefault<FoldHasher>> {
     /// The records of each section, under its name.
     pub sections: HashMap<String, S, H>,
-    /// The map does not lend its own.
+    /// The allocator; the map does not give access to its own.
     alloc: Global,
 }
 
 impl<S: SectionRecords, H: BuildHasher> BySection<S, H> {
-    /// No section, in a map with this hasher. No memory is taken.
+    /// No section, in a map with this hasher, without an allocation.
     fn with_hasher(alloc: Global, hash_builder: H) -> Self
         ensures { (name : List ℕ) → by_name S.records result name ≡ None }
     {
@@ -66,11 +66,11 @@ impl<S: SectionRecords, H: BuildHasher> BySection<S, H> {
         }
     }
 
-    /// The records of a part's sections, under their names, in a map with this hasher. Of a name the last section
-    /// counts.
+    /// Reads the records of a part's sections into a map with this hasher. If several sections have the same name, the
+    /// last one counts.
     ///
-    /// Of each section in turn: `InvalidInfo` as `SecInfoIter` has it, and `InvalidStringOffset` where its name can't
-    /// be read.
+    /// For each section in turn, the error is `InvalidInfo` as `SecInfoIter` reports it, or `InvalidStringOffset` if
+    /// its name can't be read.
     pub(crate) fn read(
         alloc: Global,
         part: &Part<'_>,
@@ -87,7 +87,8 @@ impl<S: SectionRecords, H: BuildHasher> BySection<S, H> {
         let sections = readable_sections(alloc, part, endianness, btf)?;
         let mut info = Self::with_hasher(alloc, hash_builder);
         let mut taken = BTreeSet::new(alloc);
-        // The last section of a name counts, so at an offset that was met its name has records already.
+        // The loop goes backwards because the last section of a name counts. If the offset was met before, the name has
+        // records already.
         for section in sections.iter().rev() {
             let is_new = taken.insert(section.name_offset)?;
             if is_new {
@@ -97,9 +98,9 @@ impl<S: SectionRecords, H: BuildHasher> BySection<S, H> {
         Ok(info)
     }
 
-    /// Adds the records of a section under its name. A name that has records keeps them, and then no record is read.
+    /// Adds the records of a section under its name. If the name has records already, they stay, and nothing is read.
     ///
-    /// `InvalidStringOffset` where the name can't be read.
+    /// The error is `InvalidStringOffset` if the name can't be read.
     fn add(
         &mut self,
         section: &SecInfo<'_>,
@@ -125,7 +126,7 @@ impl<S: SectionRecords, H: BuildHasher> BySection<S, H> {
         Ok(())
     }
 
-    /// A copy of the records under a name, or of none. `OutOfMemory` is the only error.
+    /// A copy of the records under a name; no records if the name has none. `OutOfMemory` is the only error.
     pub fn get(&self, name: &str) -> Result<S, BtfError>
         ensures { IsOrNoMemory S.records result
             (Ok (unwrap_or (by_name S.records self.now name.now) no_records)) }

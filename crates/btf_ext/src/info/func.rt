@@ -13,14 +13,15 @@ use btf_plain::{BtfError, Endianness};
 use std::alloc::{AllocError, Global};
 use std::hash::{BuildHasherDefault, FoldHasher};
 
-/// The number of bytes that a function record is written in.
+/// The number of bytes of a written function record.
 const FUNC_LEN: usize = 8;
 
-/// Where a function begins, and its type (the kernel's documentation, ".BTF.ext section", `struct bpf_func_info`).
+/// The first instruction of a function, and its type (the kernel's documentation, ".BTF.ext section",
+/// `struct bpf_func_info`).
 #[derive(Copy, Clone, Debug)]
 #[allow(non_camel_case_types)]
 pub struct bpf_func_info {
-    /// The place of the function's first instruction in its section, counted in instructions.
+    /// The offset of the function's first instruction in its section, in instructions.
     pub insn_off: u32,
     /// The id of the FUNC.
     pub type_id: u32,
@@ -56,7 +57,7 @@ pub struct FuncSecInfo {
 }
 
 impl FuncSecInfo {
-    /// No records. No memory is taken.
+    /// No records, without an allocation.
     pub fn new(alloc: Global) -> Self
         ensures { func_records result ≡ no_records }
     {
@@ -66,7 +67,7 @@ impl FuncSecInfo {
         }
     }
 
-    /// The number of records that there are.
+    /// The number of records in the list.
     pub fn len(&self) -> usize
         ensures { result ≡ length self.now.func_info.items }
     {

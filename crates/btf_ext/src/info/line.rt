@@ -13,7 +13,7 @@ use btf_plain::{BtfError, Endianness};
 use std::alloc::{AllocError, Global};
 use std::hash::{BuildHasherDefault, FoldHasher};
 
-/// The number of bytes that a line record is written in.
+/// The number of bytes of a written line record.
 const LINE_LEN: usize = 16;
 
 /// The line of source that an instruction comes from (the kernel's documentation, ".BTF.ext section",
@@ -21,7 +21,7 @@ const LINE_LEN: usize = 16;
 #[derive(Copy, Clone, Debug)]
 #[allow(non_camel_case_types)]
 pub struct bpf_line_info {
-    /// The place of the instruction in its section, counted in instructions.
+    /// The offset of the instruction in its section, in instructions.
     pub insn_off: u32,
     /// The string offset of the name of the file.
     pub file_name_off: u32,
@@ -62,7 +62,7 @@ pub struct LineSecInfo {
 }
 
 impl LineSecInfo {
-    /// No records. No memory is taken.
+    /// No records, without an allocation.
     pub fn new(alloc: Global) -> Self
         ensures { line_records result ≡ no_records }
     {
@@ -72,7 +72,7 @@ impl LineSecInfo {
         }
     }
 
-    /// The number of records that there are.
+    /// The number of records in the list.
     pub fn len(&self) -> usize
         ensures { result ≡ length self.now.line_info.items }
     {

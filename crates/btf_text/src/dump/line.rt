@@ -38,7 +38,7 @@ pub fn kind_name(kind: BtfKind) -> &'static str {
     }
 }
 
-/// Writes a type: its own line, and those of its list.
+/// Writes a type: its own line, and the lines of its items.
 pub fn write_type<W: Write>(
     out: &mut W,
     table: &Btf,
@@ -52,8 +52,8 @@ pub fn write_type<W: Write>(
     Ok(())
 }
 
-/// Writes the first line of a type in a dump, without the id in front and without its end: the kind, the name, and what
-/// the type's words say, but for the items of its list. The errors are those of `write_dump`.
+/// Writes the first line of a type in a dump, without the id and without the end of the line: the kind, the name, and
+/// the fields of the type, without its items. The errors are those of `write_dump`.
 pub fn write_type_line<W: Write>(
     table: &Btf,
     btf_type: &BtfType,
@@ -66,7 +66,7 @@ pub fn write_type_line<W: Write>(
     Ok(())
 }
 
-/// Writes what the words of a type say, without its list.
+/// Writes the fields of a type, without its items.
 fn write_words<W: Write>(out: &mut W, btf_type: &BtfType) -> fmt::Result {
     match btf_type {
         BtfType::Unknown => Ok(()),
@@ -132,7 +132,7 @@ fn write_list<W: Write>(out: &mut W, table: &Btf, btf_type: &BtfType) -> Result<
     }
 }
 
-/// Writes the id of the type that a type leads to.
+/// Writes the id of the type that a type refers to.
 fn write_target<W: Write>(out: &mut W, target: u32) -> fmt::Result {
     write!(out, " type_id={target}")
 }
@@ -142,7 +142,7 @@ fn write_size<W: Write>(out: &mut W, size: u32, vlen: usize) -> fmt::Result {
     write!(out, " size={size} vlen={vlen}")
 }
 
-/// Writes what an integer says.
+/// Writes the fields of an integer.
 fn write_int<W: Write>(out: &mut W, int: &Int) -> fmt::Result {
     let (size, offset, bits) = (int.size(), int.offset(), int.bits());
     let encoding = match int.encoding() {
@@ -158,7 +158,7 @@ fn write_int<W: Write>(out: &mut W, int: &Int) -> fmt::Result {
     )
 }
 
-/// How the values of an enumeration are read.
+/// The signedness of an enumeration's values.
 fn encoding_text(signed: bool) -> &'static str {
     if signed {
         " encoding=SIGNED"
@@ -167,7 +167,7 @@ fn encoding_text(signed: bool) -> &'static str {
     }
 }
 
-/// What a forward declaration declares: bit 31 of its info word is set for a union.
+/// The kind of type that a forward declaration declares: bit 31 of its info word is set for a union.
 fn forward_text(info: u32) -> &'static str {
     if info >> 31 == 1 {
         " fwd_kind=union"
@@ -176,7 +176,7 @@ fn forward_text(info: u32) -> &'static str {
     }
 }
 
-/// The name of a linkage.
+/// The name of a function's linkage.
 fn func_linkage_text(linkage: &FuncLinkage) -> &'static str {
     match linkage {
         FuncLinkage::Static => "static",
@@ -186,7 +186,7 @@ fn func_linkage_text(linkage: &FuncLinkage) -> &'static str {
     }
 }
 
-/// The name of a linkage.
+/// The name of a variable's linkage.
 fn var_linkage_text(linkage: &VarLinkage) -> &'static str {
     match linkage {
         VarLinkage::Static => "static",

@@ -88,7 +88,7 @@ pub fn write_params<W: Write>(
     Ok(())
 }
 
-/// Writes a line for each variable of a data section, with the kind and the name of its type where the table has it.
+/// Writes a line for each variable of a data section, with the kind and the name of its type if the table has the type.
 pub fn write_entries<W: Write>(
     out: &mut W,
     table: &Btf,

@@ -1,4 +1,4 @@
-//! Which types are written.
+//! The selection of the types that are written.
 
 use crate::error::TextError;
 use crate::word::text_at;
@@ -6,14 +6,14 @@ use btf_records::BtfType;
 use btf_table::Btf;
 use btf_words::BtfKind;
 
-/// Which types of a table are written: those that meet each condition that is given.
+/// A selection of types of a table: the types that meet all of the given conditions.
 #[derive(Clone, Copy, Debug, Default)]
 pub struct Selection<'a> {
     /// The least id.
     pub from: Option<u32>,
-    /// The end of the ids, which is not among them.
+    /// The end of the ids, exclusive.
     pub to: Option<u32>,
-    /// The name of the type itself.
+    /// The name of the type.
     pub name: Option<&'a str>,
     /// The kind of the type.
     pub kind: Option<BtfKind>,

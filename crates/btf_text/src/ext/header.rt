@@ -21,14 +21,14 @@ pub struct Parts<'a> {
     pub relocations: Part<'a>,
 }
 
-/// Where the header says that the records of a topic are.
+/// The fields of the header for the range of a topic.
 #[derive(Clone, Copy)]
 struct Range {
-    /// The byte of the header at which the offset is.
+    /// The position of the offset in the header, in bytes.
     offset: usize,
-    /// The byte of the header at which the length is.
+    /// The position of the length in the header, in bytes.
     len: usize,
-    /// The size that a record has at least.
+    /// The least size of a record.
     least: usize,
 }
 
@@ -53,7 +53,7 @@ fn range_of(topic: Topic) -> Range {
     }
 }
 
-/// The word at a byte of a header; 0 where the header has fewer bytes.
+/// The word at a position of a header; 0 if the header is shorter.
 fn word_at(header: &[u8], at: usize, endianness: Endianness) -> u32 {
     match header.get(at..) {
         Some(bytes) => match bytes.first_chunk::<4>() {
@@ -64,11 +64,11 @@ fn word_at(header: &[u8], at: usize, endianness: Endianness) -> u32 {
     }
 }
 
-/// The parts that bytes have.
+/// The parts in the bytes of a `.BTF.ext` section.
 ///
-/// `InvalidHeader` for fewer than 8 bytes, or fewer than the header's length. `InvalidInfo` for the first range that
-/// passes the end, or that is not empty and doesn't begin with the size of its records, or with a size that is too
-/// small.
+/// The error is `InvalidHeader` for fewer than 8 bytes, or fewer than the header's length. It is `InvalidInfo` for the
+/// first range that passes the end, or that is not empty and is shorter than the word of its record size, or whose
+/// record size is too small.
 pub fn read_parts(data: &[u8], endianness: Endianness) -> Result<Parts<'_>, BtfError> {
     if data.len() < 8 {
         return Err(BtfError::InvalidHeader);
@@ -84,7 +84,7 @@ pub fn read_parts(data: &[u8], endianness: Endianness) -> Result<Parts<'_>, BtfE
     })
 }
 
-/// The part of a topic, in the bytes that follow the header.
+/// The part of a topic, in the bytes after the header.
 fn read_part<'a>(
     header: &[u8],
     rest: &'a [u8],

@@ -7,7 +7,7 @@ use btf_plain::Endianness;
 use btf_table::Btf;
 use std::fmt::Write;
 
-/// Writes the line of a record. Words that the record doesn't have are 0.
+/// Writes the line of a record. Missing words are 0.
 pub fn write_record<W: Write>(
     table: &Btf,
     topic: Topic,
@@ -33,7 +33,7 @@ fn read_words(record: &[u8], endianness: Endianness) -> [u32; 4] {
     words
 }
 
-/// Writes where a function begins, and which one it is (`struct bpf_func_info`).
+/// Writes the first instruction of a function, and its type (`struct bpf_func_info`).
 fn write_function<W: Write>(table: &Btf, words: &[u32; 4], out: &mut W) -> Result<(), TextError> {
     let [offset, type_id, _, _] = words;
     write!(out, "\tfunction insn_off={offset} type_id={type_id} ")?;
@@ -42,7 +42,7 @@ fn write_function<W: Write>(table: &Btf, words: &[u32; 4], out: &mut W) -> Resul
     Ok(())
 }
 
-/// Writes which line an instruction comes from, and its text (`struct bpf_line_info`).
+/// Writes the source line of an instruction, and its text (`struct bpf_line_info`).
 fn write_line<W: Write>(table: &Btf, words: &[u32; 4], out: &mut W) -> Result<(), TextError> {
     let [offset, file, text, line_col] = words;
     let (line, column) = (line_col >> 10, line_col & 0x3ff);
@@ -57,7 +57,7 @@ fn write_line<W: Write>(table: &Btf, words: &[u32; 4], out: &mut W) -> Result<()
     Ok(())
 }
 
-/// Writes which instruction is relocated, and by what (`struct bpf_core_relo`).
+/// Writes the relocated instruction, and the relocation (`struct bpf_core_relo`).
 fn write_relocation<W: Write>(table: &Btf, words: &[u32; 4], out: &mut W) -> Result<(), TextError> {
     let [offset, type_id, access, kind] = words;
     write!(out, "\trelocation insn_off={offset} type_id={type_id} ")?;
@@ -82,7 +82,7 @@ fn write_type_name<W: Write>(table: &Btf, type_id: u32, out: &mut W) -> Result<(
     }
 }
 
-/// The name of a kind of relocations, as libbpf has it (`enum bpf_core_relo_kind`, `core_relo_kind_str`).
+/// The name of a kind of relocations in libbpf (`enum bpf_core_relo_kind`, `core_relo_kind_str`).
 fn relocation_name(kind: u32) -> Option<&'static str> {
     let name = match kind {
         0 => "byte_off",

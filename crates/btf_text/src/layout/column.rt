@@ -5,13 +5,13 @@ use crate::error::TextError;
 /// The width of the types of members.
 const TYPE_WIDTH: usize = 26;
 
-/// By how much types are narrower in each structure inside another one.
+/// The decrease of the width of types in each nested structure.
 const NESTED_WIDTH: usize = 8;
 
 /// The width of the names of a structure's members.
 const NAME_WIDTH: usize = 23;
 
-/// The width of the names of members of a union that is inside no other type.
+/// The width of the names of members of an outermost union.
 const UNION_NAME_WIDTH: usize = 21;
 
 /// The columns of the lines of members.
@@ -24,8 +24,8 @@ pub struct Columns {
 }
 
 impl Columns {
-    /// The columns of a structure or a union that is inside `outer` others. Below a width of 0 `pahole` makes the types
-    /// wider again, and the whole narrower.
+    /// The columns of a structure or a union that is nested in `outer` others. If the width of types would be negative,
+    /// `pahole` makes it wider again, and the whole narrower.
     pub fn of(is_union: bool, outer: usize) -> Columns {
         let names = if is_union {
             UNION_NAME_WIDTH
@@ -44,14 +44,14 @@ impl Columns {
         pad(line, self.types)
     }
 
-    /// Adds spaces after a type and a name, one at least.
+    /// Adds spaces after a type and a name, at least one.
     pub fn pad_name(&self, line: &mut String) -> Result<(), TextError> {
         line.push_str(" ")?;
         pad(line, self.whole)
     }
 
-    /// Adds spaces after the parenthesis that closes a type, a name and a semicolon. The name has `len` bytes with the
-    /// space in front of it; what is between it and the semicolon isn't counted.
+    /// Adds spaces after the parenthesis that closes a type, a name and a semicolon. The name and the space before it
+    /// have `len` bytes; the text between the name and the semicolon isn't counted.
     pub fn pad_closing(&self, line: &mut String, len: usize) -> Result<(), TextError> {
         let spaces = self.whole.saturating_sub(len.saturating_add(2));
         for _ in 0..spaces {

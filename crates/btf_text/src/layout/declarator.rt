@@ -1,4 +1,4 @@
-//! A type of C, taken apart: what it is of, and the pointers, arrays and prototypes around that.
+//! The parts of a type of C: its base, and the pointers, arrays and prototypes around the base.
 
 use crate::error::TextError;
 use btf_records::{BtfType, FuncProto};
@@ -14,7 +14,7 @@ pub struct Qualifiers {
     pub restrict: bool,
 }
 
-/// What is around a type.
+/// A pointer, an array or a prototype around a type.
 #[derive(Clone, Copy)]
 pub enum Step<'a> {
     /// A pointer to a pointer, with qualifiers of its own.
@@ -27,25 +27,25 @@ pub enum Step<'a> {
     Prototype(&'a FuncProto),
 }
 
-/// A type, taken apart.
+/// The parts of a type.
 #[derive(Drop)]
 pub struct Declarator<'a> {
-    /// What is written beside the name, the outermost first: of a pointer to an array, the pointer. It ends with the
-    /// innermost array or function.
+    /// The parts that are written beside the name, the outermost first: the pointer of a pointer to an array, for
+    /// example. The last is the innermost array or function.
     pub steps: Vec<Step<'a>>,
-    /// The pointers inside of these, which are written beside the base, the outermost first.
+    /// The pointers inside the steps, which are written beside the base, the outermost first.
     pub pointers: Vec<Qualifiers>,
-    /// The id of the type that is none of these.
+    /// The id of the base: the type inside all of these.
     pub base: u32,
-    /// The qualifiers of that type, or of the elements of an array.
+    /// The qualifiers of the base, or of the elements of an array.
     pub qualifiers: Qualifiers,
 }
 
 impl<'a> Declarator<'a> {
-    /// The type of an id, taken apart. Tags of types are left out.
+    /// The parts of the type of an id. Tags of types are left out.
     ///
-    /// `Table` with `UnknownBtfType` of an id that is unknown, or with `MaximumTypeDepthReached` where the first 32
-    /// types lead on. `OutOfMemory`.
+    /// The errors are `Table` with `UnknownBtfType` of an unknown id, `Table` with `MaximumTypeDepthReached` if the
+    /// first 32 types refer to another one, and `OutOfMemory`.
     pub fn of(alloc: Global, table: &'a Btf, type_id: u32) -> Result<Declarator<'a>, TextError> {
         let mut made = Declarator {
             steps: Vec::new(alloc),
@@ -64,7 +64,7 @@ impl<'a> Declarator<'a> {
         Err(TextError::Table(BtfError::MaximumTypeDepthReached { type_id }))
     }
 
-    /// Adds what a type says, and returns the id of the type that it leads to; None where it is the base.
+    /// Adds a type, and returns the id of the type that it refers to; None if it is the base.
     fn add(&mut self, btf_type: &'a BtfType) -> Result<Option<u32>, TextError> {
         match btf_type {
             BtfType::Const(_) => self.qualifiers.constant = true,

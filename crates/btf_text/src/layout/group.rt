@@ -1,4 +1,4 @@
-//! Structures and unions, and where their members are.
+//! Structures and unions, and the positions of their members.
 
 use btf_items::BtfMember;
 use btf_records::BtfType;
@@ -10,7 +10,7 @@ use btf_words::BtfError;
 pub struct Group<'a> {
     /// The type, which is a STRUCT or a UNION.
     btf_type: &'a BtfType,
-    /// Whether it is a union, whose members share their place.
+    /// Whether it is a union, whose members overlap.
     pub is_union: bool,
     /// The size in bytes.
     pub size: u32,
@@ -18,23 +18,23 @@ pub struct Group<'a> {
     pub members: &'a [BtfMember],
 }
 
-/// Where a member is in its structure.
+/// The position of a member in its structure.
 #[derive(Clone, Copy)]
 pub struct Place {
-    /// The byte at which the member begins; of a bit-field, at which the integer that has its bits begins.
+    /// The first byte of the member; for a bit-field, the first byte of the integer that contains its bits.
     pub byte: u64,
-    /// The bit at which the member begins.
+    /// The first bit of the member.
     pub bit: u64,
-    /// The number of bits of a bit-field; 0 of another member.
+    /// The number of bits of a bit-field; 0 for another member.
     pub bits: u64,
     /// The size of the member's type in bytes.
     pub size: u64,
-    /// Whether an array without elements is one of any length there: the member is the last one, and not the first.
+    /// Whether an array without elements is a flexible array here: the member is the last one, and not the first.
     pub is_flexible: bool,
 }
 
 impl<'a> Group<'a> {
-    /// The structure or union that a type is; None of other kinds.
+    /// The structure or union of a type; None for a type of another kind.
     pub fn of(btf_type: &'a BtfType) -> Option<Group<'a>> {
         match btf_type {
             BtfType::Struct(t) => Some(Group {
@@ -58,8 +58,8 @@ impl<'a> Group<'a> {
         u64::from(self.size) * 8
     }
 
-    /// Where the member of this index is. The integer of a bit-field begins at a multiple of its own size. The errors are
-    /// those of `Btf::type_size`.
+    /// The position of the member of this index. The integer of a bit-field begins at a multiple of its own size. The
+    /// errors are those of `Btf::type_size`.
     pub fn place(&self, table: &Btf, index: usize, member: &BtfMember) -> Result<Place, BtfError> {
         let size = table.type_size(member.btf_type)? as u64;
         let bit = self.btf_type.member_bit_offset(member).unwrap_or(0) as u64;

@@ -1,13 +1,13 @@
-//! Bytes and bits between the members of a structure that no member has.
+//! Holes: bytes and bits between the members of a structure.
 
 use crate::layout::group::Place;
 
-/// What no member has in front of a member.
+/// The hole before a member.
 #[derive(Clone, Copy)]
 pub struct Hole {
     /// The number of bytes.
     pub bytes: u64,
-    /// The number of bits beside them, between bit-fields.
+    /// The number of further bits, between bit-fields.
     pub bits: u64,
 }
 
@@ -18,9 +18,9 @@ pub struct Pass {
     seen: u64,
     /// Whether the last member is a bit-field.
     in_bit_field: bool,
-    /// The end of the integer that has the last bit-field, in bits.
+    /// The end of the integer that contains the last bit-field, in bits.
     integer_end: u64,
-    /// The size of that integer in bits.
+    /// The size of the integer in bits.
     integer_size: u64,
 }
 
@@ -35,7 +35,8 @@ impl Pass {
         }
     }
 
-    /// Goes over a member, and returns the hole in front of it. A member that begins before the last one ends has none.
+    /// Advances to a member, and returns the hole before it. A member that begins before the end of the last one has no
+    /// hole.
     pub fn step(&mut self, place: &Place) -> Hole {
         let start = place.bit;
         let mut hole = Hole { bytes: 0, bits: 0 };
@@ -59,7 +60,7 @@ impl Pass {
         hole
     }
 
-    /// The last member is none of a bit-field, and ends at this bit.
+    /// The last member is no bit-field, and ends at this bit.
     fn leave_bit_fields(&mut self, end: u64) {
         self.seen = end;
         self.in_bit_field = false;
@@ -67,8 +68,8 @@ impl Pass {
         self.integer_end = end;
     }
 
-    /// The last member is a bit-field that ends at this bit. Its integer is a new one where it ends after the last one,
-    /// or is larger.
+    /// The last member is a bit-field that ends at this bit. Its integer is a new one if it ends after the last one, or
+    /// is larger.
     fn enter_bit_field(&mut self, place: &Place, end: u64) {
         let size = place.size.saturating_mul(8);
         self.seen = end;
@@ -82,7 +83,7 @@ impl Pass {
         }
     }
 
-    /// What no member has at the end of a structure that has this many bits.
+    /// The padding at the end of a structure that has this many bits.
     pub fn padding(&self, bits: u64) -> Hole {
         let mut hole = Hole { bytes: 0, bits: 0 };
         let mut seen = self.seen;

@@ -12,7 +12,7 @@ use btf_records::{BtfType, Enum};
 use btf_table::{Btf, BtfStr};
 use std::fmt::Write;
 
-/// The name of a member; empty where none can be read.
+/// The name of a member; empty if it can't be read.
 pub fn member_name<'a>(table: &'a Btf, member: &BtfMember) -> Result<BtfStr<'a>, TextError> {
     match text_at(table, member.name_offset)? {
         Some(name) => Ok(name),
@@ -55,7 +55,7 @@ pub fn write_plain<W: Write>(
     Ok(())
 }
 
-/// Writes what follows the lines of a member's type: the name, and where the member is.
+/// Writes the end of a member after the lines of its type: the name, and the position of the member.
 pub fn write_closing<W: Write>(
     page: &mut Page<'_, W>,
     level: &Level<'_>,
@@ -98,7 +98,7 @@ fn add_bits(line: &mut String, place: &Place) -> Result<(), TextError> {
     Ok(())
 }
 
-/// Adds the remark that says the offset and the size of a member, in a structure that begins at the byte `base` of the
+/// Adds the remark with the offset and the size of a member, in a structure that begins at the byte `base` of the
 /// outermost one.
 fn add_offset(line: &mut String, place: &Place, base: u64) -> Result<(), TextError> {
     let (size, byte) = (place.size, base.saturating_add(place.byte));

@@ -12,7 +12,7 @@ use btf_items::BtfMember;
 use btf_records::BtfType;
 use std::fmt::Write;
 
-/// How deep structures without a name are written inside one another.
+/// The maximum nesting depth of structures without a name that are written.
 const DEPTH_LIMIT: u32 = 16;
 
 /// A structure or union that is being written.
@@ -20,15 +20,15 @@ const DEPTH_LIMIT: u32 = 16;
 pub struct Level<'a> {
     /// The structure or union itself.
     pub group: Group<'a>,
-    /// The byte of the outermost structure at which it begins.
+    /// Its offset in the outermost structure, in bytes.
     pub base: u64,
-    /// The number of tabulators in front of its members.
+    /// The number of tabs before its members.
     pub indent: usize,
     /// The columns of its lines.
     pub columns: Columns,
     /// Whether the outermost one is a union.
     is_in_union: bool,
-    /// How much deeper structures without a name are still written.
+    /// The remaining nesting depth of structures without a name.
     depth: u32,
 }
 
@@ -47,7 +47,7 @@ impl<'a> Level<'a> {
         }
     }
 
-    /// A structure or union that is the type of a member; None where that would be too deep.
+    /// A structure or union that is the type of a member; None if that would be too deep.
     fn inner(&self, group: Group<'a>, place: &Place) -> Option<Level<'a>>
         ensures { IfSome result (λ inner. inner.depth + 1 ≡ self.now.depth) }
     {
@@ -63,7 +63,7 @@ impl<'a> Level<'a> {
     }
 }
 
-/// Writes the lines of the members of a structure, and returns what they add up to.
+/// Writes the lines of the members of a structure, and returns their sums.
 #[cycle(members)]
 pub fn write_struct<'a, W: Write>(
     page: &mut Page<'a, W>,
@@ -80,7 +80,8 @@ pub fn write_struct<'a, W: Write>(
     Ok(progress)
 }
 
-/// Writes the lines of the members of a union. The remarks on cache lines begin anew with each of them, and after them.
+/// Writes the lines of the members of a union. The remarks on cache lines begin anew with each member, and after the
+/// last.
 #[cycle(members)]
 pub fn write_union<'a, W: Write>(
     page: &mut Page<'a, W>,
@@ -95,7 +96,7 @@ pub fn write_union<'a, W: Write>(
     Ok(())
 }
 
-/// Writes a member: its line, or where its type has no name, the lines of the type.
+/// Writes a member: its line, or the lines of its type if that has no name.
 #[cycle(members)]
 fn write_member<'a, W: Write>(
     page: &mut Page<'a, W>,
@@ -115,8 +116,8 @@ fn write_member<'a, W: Write>(
     }
 }
 
-/// Writes the lines of a type without a name, up to the parenthesis that closes it. False, and nothing is written, where
-/// the type has no lines, or they would be too deep or too many.
+/// Writes the lines of a type without a name, up to the parenthesis that closes it. If the type has no lines, or they
+/// would be too deep or too many, it writes nothing and returns false.
 #[cycle(members)]
 fn write_nested<'a, W: Write>(
     page: &mut Page<'a, W>,

@@ -1,4 +1,4 @@
-//! What is written, and what has been seen so far.
+//! The output of a layout, and the state from line to line.
 
 use crate::error::TextError;
 use crate::layout::group::Group;
@@ -13,28 +13,28 @@ use std::fmt::Write;
 /// The number of bytes of a cache line.
 pub const CACHE_LINE: u64 = 64;
 
-/// How many members of structures without a name are written at most. A structure of C names each type without a name
-/// once, so this bounds the lines of a table that names one many times.
+/// The maximum number of written members of structures without a name. In C, each type without a name is used once.
+/// This limit bounds the output for a hostile table that uses one many times.
 const NESTED_LIMIT: u32 = 1_000_000;
 
-/// A text that is written, the line that is being made, and what is remembered from line to line.
+/// The output, the current line, and the state from line to line.
 #[derive(Drop)]
 pub struct Page<'a, W> {
     pub alloc: Global,
     pub table: &'a Btf,
     pub out: &'a mut W,
-    /// The line that is being made.
+    /// The current line.
     pub line: String,
-    /// The cache line in which the last member began.
+    /// The cache line of the first byte of the last member.
     cache_line: u64,
-    /// How many members of structures without a name may still be written.
+    /// The remaining number of members of structures without a name.
     nested_left: u32,
     /// The padding of structures that are members, by id.
     paddings: BTreeMap<u32, u64>,
 }
 
 impl<'a, W: Write> Page<'a, W> {
-    /// A page on which nothing is written.
+    /// An empty page.
     pub fn new(alloc: Global, table: &'a Btf, out: &'a mut W) -> Page<'a, W> {
         Page {
             alloc,
@@ -47,7 +47,7 @@ impl<'a, W: Write> Page<'a, W> {
         }
     }
 
-    /// Writes the line that has been made, and begins a new one.
+    /// Writes the current line, and begins a new one.
     pub fn end_line(&mut self) -> fmt::Result {
         self.out.write_str(self.line.as_str())?;
         self.out.write_str("\n")?;
@@ -55,7 +55,7 @@ impl<'a, W: Write> Page<'a, W> {
         Ok(())
     }
 
-    /// Writes tabulators.
+    /// Writes tabs.
     pub fn indent(&mut self, count: usize) -> fmt::Result {
         for _ in 0..count {
             self.out.write_str("\t")?;
@@ -63,7 +63,8 @@ impl<'a, W: Write> Page<'a, W> {
         Ok(())
     }
 
-    /// Takes leave to write this many members of a structure without a name.
+    /// Whether this number of members of a structure without a name may be written; if so, it is subtracted from the
+    /// remaining number.
     pub fn allows_nested(&mut self, count: usize) -> bool {
         let Ok(count) = u32::try_from(count) else {
             return false;
@@ -77,17 +78,17 @@ impl<'a, W: Write> Page<'a, W> {
         }
     }
 
-    /// The cache line in which the last member began, as remarks have it.
+    /// The cache line of the first byte of the last member, for remarks.
     pub fn cache_line(&self) -> u64 {
         self.cache_line
     }
 
-    /// Makes this the cache line in which the last member began.
+    /// Sets the cache line of the first byte of the last member.
     pub fn set_cache_line(&mut self, cache_line: u64) {
         self.cache_line = cache_line;
     }
 
-    /// Writes a remark where the member at this byte begins in another cache line than the last one.
+    /// Writes a remark if the member at this byte begins in another cache line than the last one.
     pub fn write_boundary(&mut self, byte: u64, indent: usize) -> fmt::Result {
         let cache_line = byte / CACHE_LINE;
         if cache_line <= self.cache_line {
@@ -108,8 +109,8 @@ impl<'a, W: Write> Page<'a, W> {
         self.out.write_str(" --- */\n")
     }
 
-    /// The bytes at the end of the structure of an id that none of its members has; 0 of other types. It is computed
-    /// once for each id.
+    /// The number of bytes of padding at the end of the structure of an id; 0 for other types. It is computed once for
+    /// each id.
     pub fn padding_of(&mut self, type_id: u32) -> Result<u64, TextError> {
         if let Some(padding) = self.paddings.get(&type_id) {
             return Ok(*padding);
@@ -120,12 +121,12 @@ impl<'a, W: Write> Page<'a, W> {
     }
 }
 
-/// The end of a word for this many things.
+/// The plural ending of a word for this number of things.
 pub fn plural(count: u64) -> &'static str {
     if count == 1 { "" } else { "s" }
 }
 
-/// The bytes at the end of the structure of an id that none of its members has; 0 of other types.
+/// The number of bytes of padding at the end of the structure of an id; 0 for other types.
 fn padding(table: &Btf, type_id: u32) -> Result<u64, BtfError> {
     let group = match Group::of(table.type_by_id(type_id)?) {
         Some(group) if !group.is_union => group,

@@ -1,4 +1,4 @@
-//! How far the members of a structure are written.
+//! The progress of writing the members of a structure.
 
 use crate::error::TextError;
 use crate::layout::group::Place;
@@ -7,36 +7,36 @@ use crate::layout::members::Level;
 use crate::layout::page::{Page, plural};
 use std::fmt::Write;
 
-/// How far the members of a structure are written, and what they add up to.
+/// The progress of writing the members of a structure, and their sums.
 #[derive(Clone, Copy)]
 pub struct Progress {
     pass: Pass,
-    /// The byte at which the last member begins.
+    /// The first byte of the last member.
     last: Option<u64>,
-    /// What no member of the last member's own type has at its end, in bytes.
+    /// The padding at the end of the last member's type, in bytes.
     padding: u64,
-    /// The sizes of the members that are no bit-fields, in bytes.
+    /// The sum of the sizes of the members that are no bit-fields, in bytes.
     pub bytes: u64,
-    /// The sizes of the bit-fields, in bits.
+    /// The sum of the sizes of the bit-fields, in bits.
     pub bits: u64,
-    /// How many holes of bytes there are.
+    /// The number of holes of bytes.
     pub holes: u32,
-    /// How many bytes they have.
+    /// The sum of the bytes of these holes.
     pub hole_bytes: u64,
-    /// How many holes of bits there are.
+    /// The number of holes of bits.
     pub bit_holes: u32,
-    /// How many bits they have.
+    /// The sum of the bits of these holes.
     pub hole_bits: u64,
-    /// How many members have a type with bytes at its end that no member has.
+    /// The number of members whose type has padding at its end.
     pub paddings: u32,
-    /// How many such bytes there are.
+    /// The sum of the bytes of this padding.
     pub padding_bytes: u64,
-    /// What no member has at the end of the structure.
+    /// The padding at the end of the structure.
     pub end: Hole,
 }
 
 impl Progress {
-    /// Nothing is written of a structure that has this many bits.
+    /// The progress before the first member of a structure that has this many bits.
     pub fn new(bits: u64) -> Progress {
         Progress {
             pass: Pass::new(bits),
@@ -54,7 +54,7 @@ impl Progress {
         }
     }
 
-    /// Writes the remarks between the last member and the next one, which is at this place.
+    /// Writes the remarks between the last member and the next one, which is at this position.
     pub fn step<W: Write>(
         &mut self,
         page: &mut Page<'_, W>,
@@ -74,7 +74,7 @@ impl Progress {
         Ok(())
     }
 
-    /// Adds a member, and the hole in front of it.
+    /// Adds a member, and the hole before it.
     fn add(&mut self, place: &Place, hole: &Hole) {
         if place.bits > 0 {
             self.bits = self.bits.saturating_add(place.bits);
@@ -91,7 +91,7 @@ impl Progress {
         }
     }
 
-    /// The type of the member that comes now has this many bytes at its end that none of its own members has.
+    /// Sets the padding at the end of the current member's type, in bytes.
     pub fn set_padding(&mut self, padding: u64) {
         self.padding = padding;
         if padding > 0 {
@@ -117,8 +117,7 @@ impl Progress {
     }
 }
 
-/// Writes the remarks after a member: the bytes at the end of its type, and the hole after it. Returns whether there
-/// are any.
+/// Writes the remarks after a member: the padding of its type, and the hole after it. Returns whether there are any.
 fn write_remarks<W: Write>(
     page: &mut Page<'_, W>,
     indent: usize,

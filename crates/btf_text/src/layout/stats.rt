@@ -7,7 +7,7 @@ use crate::layout::progress::Progress;
 use std::fmt;
 use std::fmt::Write;
 
-/// Writes the size of a structure, what its members and holes add up to, and what is after the last member.
+/// Writes the size of a structure, the sums of its members and holes, and the padding after the last member.
 pub fn write_stats<W: Write>(
     page: &mut Page<'_, W>,
     group: &Group<'_>,
@@ -30,7 +30,7 @@ pub fn write_stats<W: Write>(
     Ok(())
 }
 
-/// Writes what the members of a structure that has holes add up to, and how many holes there are.
+/// Writes the sums of the members of a structure that has holes, and the number of holes.
 fn write_sums<W: Write>(out: &mut W, progress: &Progress) -> fmt::Result {
     let (bytes, holes, hole_bytes) = (progress.bytes, progress.holes, progress.hole_bytes);
     if bytes > 0 {
@@ -46,7 +46,7 @@ fn write_sums<W: Write>(out: &mut W, progress: &Progress) -> fmt::Result {
     Ok(())
 }
 
-/// Writes what the bit-fields of a structure that has holes add up to.
+/// Writes the sums of the bit-fields of a structure that has holes.
 fn write_bit_sums<W: Write>(out: &mut W, progress: &Progress) -> fmt::Result {
     let (bits, holes, hole_bits) = (progress.bits, progress.bit_holes, progress.hole_bits);
     write!(out, "\t/* sum bitfield members: {bits} bits")?;
@@ -59,7 +59,7 @@ fn write_bit_sums<W: Write>(out: &mut W, progress: &Progress) -> fmt::Result {
     out.write_str(" */\n")
 }
 
-/// Writes what no member has at the end of a structure, and at the ends of its members' types.
+/// Writes the padding at the end of a structure, and at the ends of its members' types.
 fn write_ends<W: Write>(out: &mut W, progress: &Progress) -> fmt::Result {
     let (bytes, bits) = (progress.end.bytes, progress.end.bits);
     let (paddings, padding_bytes) = (progress.paddings, progress.padding_bytes);

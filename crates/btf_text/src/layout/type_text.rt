@@ -7,7 +7,7 @@ use btf_items::BtfParam;
 use btf_records::BtfType;
 use btf_table::Btf;
 
-/// How deep prototypes are written inside one another.
+/// The maximum nesting depth of prototypes that are written.
 pub const PROTOTYPE_LIMIT: u32 = 8;
 
 /// The length of a line in bytes after which no further parameter is written.
@@ -32,7 +32,7 @@ pub fn add_base(
     Ok(())
 }
 
-/// Adds the pointers that belong to the base of a type, whose own text is there.
+/// Adds the pointers that belong to the base of a type, after the text of the base.
 pub fn add_stars(line: &mut String, declarator: &Declarator<'_>) -> Result<(), TextError> {
     for pointer in declarator.pointers.iter().rev() {
         line.push_str("*")?;
@@ -53,7 +53,7 @@ fn add_base_qualifiers(line: &mut String, qualifiers: &Qualifiers) -> Result<(),
     Ok(())
 }
 
-/// Adds a space for each qualifier of a base, as `pahole` does after its name where a pointer follows, or in a list of
+/// Adds a space for each qualifier of a base, as `pahole` does after the name if a pointer follows, or in a list of
 /// parameters.
 fn add_gap(line: &mut String, qualifiers: &Qualifiers) -> Result<(), TextError> {
     if qualifiers.constant {
@@ -79,7 +79,7 @@ fn add_pointer_qualifiers(line: &mut String, qualifiers: &Qualifiers) -> Result<
     Ok(())
 }
 
-/// The word of C in front of the name of a type.
+/// The keyword of C before the name of a type.
 pub fn keyword(btf_type: &BtfType) -> &'static str {
     match btf_type {
         BtfType::Struct(_) => "struct",
@@ -109,7 +109,7 @@ fn add_name(line: &mut String, table: &Btf, type_id: u32) -> Result<(), TextErro
     }
 }
 
-/// Adds a name, or what is in the place of none.
+/// Adds a name, or the text for a missing one.
 fn add_known_name(line: &mut String, name: &str) -> Result<(), TextError> {
     if name.is_empty() {
         line.push_str("{...}")?;
@@ -119,8 +119,8 @@ fn add_known_name(line: &mut String, name: &str) -> Result<(), TextError> {
     Ok(())
 }
 
-/// Adds the name of what a declarator declares, and the pointers, arrays and functions beside it. An array without
-/// elements is written without a length if `is_flexible`.
+/// Adds the declared name, and the pointers, arrays and functions beside it. An array without elements is written
+/// without a length if `is_flexible`.
 #[cycle(type_text)]
 pub fn add_declared(
     line: &mut String,
@@ -144,7 +144,7 @@ pub fn add_declared(
     Ok(())
 }
 
-/// Adds the pointers that are written in front of a name.
+/// Adds the pointers that are written before a name.
 fn add_left(line: &mut String, steps: &[Step<'_>]) -> Result<(), TextError> {
     for step in steps.iter().rev() {
         match step {
@@ -162,7 +162,7 @@ fn add_left(line: &mut String, steps: &[Step<'_>]) -> Result<(), TextError> {
     Ok(())
 }
 
-/// Adds the parameters of a function, in parentheses. Those that would make the line too long are left out.
+/// Adds the parameters of a function, in parentheses. Parameters that would make the line too long are left out.
 #[cycle(type_text)]
 fn add_params(
     line: &mut String,

@@ -1,4 +1,4 @@
-//! What a relocation engine asks of a program's table and a kernel's.
+//! The comparisons of a relocation engine, between a program's table and a kernel's.
 
 use crate::digest::Digest;
 use crate::kernel::kernel_input;
@@ -30,7 +30,7 @@ fn look_up(local: &Btf, target: &Btf, id: u32) -> Result<u32, BtfError> {
     target.id_by_type_name_kind(name.as_str(), record.kind())
 }
 
-/// Looks so many types of the local table up in the target.
+/// Looks this number of types of the local table up in the target.
 fn look_up_some(random: &mut Random, local: &Btf, target: &Btf, count: u32, digest: &mut Digest) {
     let types = u32::try_from(local.types().len()).unwrap_or(0);
     let share = types / count.max(1);
@@ -40,7 +40,7 @@ fn look_up_some(random: &mut Random, local: &Btf, target: &Btf, count: u32, dige
     }
 }
 
-/// Relocates against kernels: each type is compared with that of an equal id, and some are looked up by name.
+/// Relocates against kernels: compares each type with the type of the same id, and looks some up by name.
 pub fn relocate(
     alloc: Global,
     random: &mut Random,

@@ -7,7 +7,7 @@ use btf::{Btf, BtfType, Endianness};
 use std::alloc::Global;
 use std::test::Fail;
 
-/// Adds the parts of a type with a list, but for the names, which many lists share.
+/// Adds the items of a type, except for the names, which many lists share.
 fn list_items(record: &BtfType, digest: &mut Digest) {
     match record {
         BtfType::Enum(enumeration) => {
@@ -24,7 +24,7 @@ fn list_items(record: &BtfType, digest: &mut Digest) {
     }
 }
 
-/// Adds where the members of a structure or a union lie.
+/// Adds the positions of the members of a structure or a union.
 fn list_members(record: &BtfType, digest: &mut Digest) {
     if let Some(members) = record.members() {
         for member in members {
@@ -34,7 +34,7 @@ fn list_members(record: &BtfType, digest: &mut Digest) {
     }
 }
 
-/// Adds a type: its kind, its name, its size, and what it stands for.
+/// Adds a type: its kind, its name, its size, and the type that it resolves to.
 fn list_type(table: &Btf, id: u32, record: &BtfType, digest: &mut Digest) -> Result<(), Fail> {
     digest.add(record.kind() as u64);
     digest.add_bytes(table.type_name(record)?.as_str().as_bytes());

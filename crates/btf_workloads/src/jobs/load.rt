@@ -8,7 +8,7 @@ use btf::{Btf, BtfExt, BtfFeatureResolver, Endianness, relocations_of};
 use std::alloc::Global;
 use std::test::Fail;
 
-/// Adds what `.BTF.ext` says of a section of code.
+/// Adds the records of `.BTF.ext` for a section of code.
 fn add_section(
     alloc: Global,
     ext: &BtfExt,
@@ -27,7 +27,7 @@ fn add_section(
     Ok(())
 }
 
-/// Adds what `.BTF.ext` says of all sections of code of a program.
+/// Adds the records of `.BTF.ext` for all sections of code of a program.
 fn add_sections(
     alloc: Global,
     program: &Program,
@@ -90,7 +90,7 @@ fn load_each(
     Ok(())
 }
 
-/// Loads programs of about so many functions.
+/// Loads programs of about this number of functions.
 pub fn load(alloc: Global, random: &mut Random, size: u32, rounds: u32) -> Result<Digest, Fail> {
     let mut digest = Digest::new();
     let mut programs = programs(alloc, random, size)?;

@@ -20,7 +20,7 @@ pub fn copy(alloc: Global, random: &mut Random, types: u32, rounds: u32) -> Resu
     Ok(digest)
 }
 
-/// The place of a feature in a number that says which ones a kernel has.
+/// The bit of a feature in the number of a kernel's features.
 pub fn bit(feature: BtfFeature) -> u32 {
     match feature {
         BtfFeature::Func => 1,

@@ -1,4 +1,4 @@
-//! What the comparison of types gives, and the pairs that it starts.
+//! The answers of the comparison of types, and the pairs that it starts.
 
 use btf_plain::{BtfError, Endianness};
 use btf_reference::plain_comparison::compare_plainly;
@@ -8,7 +8,7 @@ use btf_types::{Btf, types_are_compatible, types_are_compatible_traced};
 use std::alloc::{AllocError, Global};
 use std::test::Fail;
 
-/// An answer, with the id that a refusal names.
+/// A result of a comparison, with the id of an error.
 #[derive(Clone, Copy, Debug, PartialEq, Drop)]
 pub enum Answer {
     Is(bool),
@@ -18,7 +18,7 @@ pub enum Answer {
     Other,
 }
 
-/// What an answer says.
+/// The `Answer` of a result.
 pub fn answer_of(answer: &Result<bool, BtfError>) -> Answer {
     match answer {
         Ok(compatible) => Answer::Is(*compatible),
@@ -40,13 +40,12 @@ fn untraced(local: &Btf, target: &Btf, pair: (u32, u32)) -> Answer {
     answer_of(&types_are_compatible(local, pair.0, target, pair.1))
 }
 
-/// Whether a list has the pair that it held before, and then these.
+/// Whether a list has the pair that it had before, and then these.
 fn are_listed(list: Pairs<'_>, starts: Pairs<'_>) -> bool {
     list.first() == Some(&(9, 9)) && list.get(1..) == Some(starts)
 }
 
-/// Whether the comparison of a pair gives this, with and without a list, and lists these pairs after what the list
-/// held.
+/// Whether the comparison of a pair gives this answer, with and without a list, and appends these pairs to the list.
 fn gives_with(
     local: &Btf,
     target: &Btf,
@@ -60,7 +59,7 @@ fn gives_with(
         && are_listed(list, starts)
 }
 
-/// Whether the comparison of a pair gives this and starts these pairs.
+/// Whether the comparison of a pair gives this answer and starts these pairs.
 pub fn gives(
     alloc: Global,
     local: &Btf,
@@ -73,7 +72,7 @@ pub fn gives(
     Ok(gives_with(local, target, pair, answer, starts, &mut list))
 }
 
-/// The pairs of a list, each at its first place only.
+/// The pairs of a list, each at its first occurrence only.
 fn firsts(alloc: Global, pairs: Pairs<'_>) -> Result<Vec<(u32, u32)>, AllocError> {
     let mut firsts = Vec::new(alloc);
     for pair in pairs {
@@ -84,7 +83,7 @@ fn firsts(alloc: Global, pairs: Pairs<'_>) -> Result<Vec<(u32, u32)>, AllocError
     Ok(firsts)
 }
 
-/// Whether the comparison gives this and starts these pairs, each at its first place.
+/// Whether the comparison gives this answer and starts these pairs, each at its first occurrence.
 fn gives_firsts(
     alloc: Global,
     local: &Btf,
@@ -119,13 +118,13 @@ fn is_plain_with(
     gives_firsts(alloc, local, target, pair, answer, starts)
 }
 
-/// Whether the comparison of a pair gives what the plain recursion does, and starts the same pairs.
+/// Whether the comparison of a pair gives the answer of the plain recursion, and starts the same pairs.
 pub fn is_plain(alloc: Global, local: &Btf, target: &Btf, pair: (u32, u32)) -> Result<bool, Fail> {
     let mut starts = Vec::new(alloc);
     is_plain_with(alloc, local, target, pair, &mut starts)
 }
 
-/// A table of the records of these words, and of no strings.
+/// A table of the records of these words, without strings.
 pub fn table_of_words(alloc: Global, words: &[u32]) -> Result<Btf, Fail> {
     let types = spelled(alloc, words, Endianness::Little)?;
     parsed(alloc, &types, &[])

@@ -22,7 +22,7 @@ struct Row {
     answer: Answer,
 }
 
-/// An ENUM and an ENUM64, each of which has one name. Neither has values.
+/// An ENUM and an ENUM64, each with a name and without values.
 const ENUM_A: Table = Table {
     words: "1 06000000 4",
     strings: "\0e___a\0",
@@ -89,7 +89,7 @@ static KINDS: [(Table, (u32, u32), Answer); 7] = [
     (LOOPS, (2, 2), Answer::Is(true)),
 ];
 
-/// What the comparison of a pair gives.
+/// The answer of the comparison of a pair.
 fn compared(local: &Btf, target: &Btf, pair: (u32, u32)) -> Answer {
     answer_of(&fields_are_compatible(local, pair.0, target, pair.1))
 }
@@ -99,7 +99,7 @@ fn built(alloc: Global, table: Table) -> Result<Btf, Fail> {
     table_of(alloc, table.words, table.strings)
 }
 
-/// What the comparison of a pair of types of a table and of another gives.
+/// The answer of the comparison of a pair of types of a table and of another one.
 fn compared_with(
     alloc: Global,
     local: &Btf,
@@ -110,7 +110,7 @@ fn compared_with(
     Ok(compared(local, &target, pair))
 }
 
-/// What the comparison of a pair of types of two tables gives.
+/// The answer of the comparison of a pair of types of two tables.
 fn compared_in(
     alloc: Global,
     local: Table,

@@ -1,11 +1,11 @@
-//! The comparison of types in long and nested tables, and in each small one.
+//! The comparison of types in long and nested tables, and in all small ones of a form.
 
 use crate::comparison::answers::{Answer, Pairs, gives, is_plain, table_of_words};
 use btf_types::Btf;
 use std::alloc::{AllocError, Global};
 use std::test::Fail;
 
-/// Whether the comparison of a type with itself gives this and starts these pairs.
+/// Whether the comparison of a type with itself gives this answer and starts these pairs.
 fn gives_alone(
     alloc: Global,
     table: &Btf,
@@ -16,7 +16,8 @@ fn gives_alone(
     gives(alloc, table, table, (id, id), answer, starts)
 }
 
-/// Whether the comparison of a type with itself gives this and starts these pairs, as the plain recursion does.
+/// Whether the comparison of a type with itself gives this answer and starts these pairs, and so does the plain
+/// recursion.
 fn gives_plainly(
     alloc: Global,
     table: &Btf,
@@ -27,7 +28,7 @@ fn gives_plainly(
     Ok(gives_alone(alloc, table, id, answer, starts)? && is_plain(alloc, table, table, (id, id))?)
 }
 
-/// The words of INT 1, and PTRs that lead from each id up to this one to the id below.
+/// The words of INT 1, and of PTRs from each id up to this one to the id below.
 fn pointers(alloc: Global, last: u32) -> Result<Vec<u32>, AllocError> {
     let mut types = vec![in alloc; 0, 0x0100_0000, 4, 0x20]?;
     for to in 1..last {
@@ -36,13 +37,13 @@ fn pointers(alloc: Global, last: u32) -> Result<Vec<u32>, AllocError> {
     Ok(types)
 }
 
-/// The table of those words.
+/// The table of these PTRs.
 fn table_of_pointers(alloc: Global, last: u32) -> Result<Btf, Fail> {
     let types = pointers(alloc, last)?;
     table_of_words(alloc, &types)
 }
 
-/// Whether the comparison of the last of those PTRs with itself gives this.
+/// Whether the comparison of the last of these PTRs with itself gives this answer.
 fn last_pointer_gives(alloc: Global, last: u32, answer: Answer) -> Result<bool, Fail> {
     let table = table_of_pointers(alloc, last)?;
     gives_alone(alloc, &table, last, answer, &[(last, last)])
@@ -55,14 +56,14 @@ fn a_walk_has_32_positions(rt: HostRuntime) -> Result<(), Fail> {
     Ok(())
 }
 
-/// The words of those PTRs up to id 32, and of FUNC_PROTO 33, which takes and returns the last.
+/// The words of these PTRs up to id 32, and of FUNC_PROTO 33, which takes and returns the last.
 fn settled(alloc: Global) -> Result<Vec<u32>, AllocError> {
     let mut types = pointers(alloc, 32)?;
     types.extend_from_slice(&[0, 0x0d00_0001, 0x20, 0, 0x20])?;
     Ok(types)
 }
 
-/// The table of those words.
+/// The table of these PTRs and the FUNC_PROTO.
 fn settled_table(alloc: Global) -> Result<Btf, Fail> {
     let types = settled(alloc)?;
     table_of_words(alloc, &types)
@@ -77,7 +78,7 @@ fn settled_pair_does_not_end_a_walk(rt: HostRuntime) -> Result<(), Fail> {
 }
 
 /// The words of an INT that begins at bit 1, of one that begins at bit 0, of FUNC_PROTO 3 with a parameter of this
-/// type, and of PTRs that lead from id 34 to the prototype.
+/// type, and of a chain of PTRs from id 34 to the prototype.
 fn walk_to_prototype(alloc: Global, param: u32) -> Result<Vec<u32>, AllocError> {
     let mut types = vec![in alloc; 0, 0x0100_0000, 4, 0x0001_0020, 0, 0x0100_0000, 4, 0x20]?;
     types.extend_from_slice(&[0, 0x0d00_0001, 0, 0, param])?;
@@ -87,13 +88,13 @@ fn walk_to_prototype(alloc: Global, param: u32) -> Result<Vec<u32>, AllocError> 
     Ok(types)
 }
 
-/// The table of those words.
+/// The table of this chain.
 fn table_of_walk(alloc: Global, param: u32) -> Result<Btf, Fail> {
     let types = walk_to_prototype(alloc, param)?;
     table_of_words(alloc, &types)
 }
 
-/// Whether a walk whose last position is a FUNC_PROTO with a parameter of this type gives this.
+/// Whether a walk whose last position is a FUNC_PROTO with a parameter of this type gives this answer.
 fn last_position_gives(alloc: Global, param: u32, answer: Answer) -> Result<bool, Fail> {
     let table = table_of_walk(alloc, param)?;
     gives_plainly(alloc, &table, 34, answer, &[(34, 34), (param, param)])
@@ -106,7 +107,7 @@ fn parameters_of_the_last_position_are_compared(rt: HostRuntime) -> Result<(), F
     Ok(())
 }
 
-/// The words of FUNC_PROTO 1 without parameters, and of FUNC_PROTO 2 with as many as can be, of type 0.
+/// The words of FUNC_PROTO 1 without parameters, and of FUNC_PROTO 2 with the maximum number of parameters, of type 0.
 fn longest_prototype(alloc: Global) -> Result<Vec<u32>, AllocError> {
     let mut types = vec![in alloc; 0, 0x0d00_0000, 0, 0, 0x0d00_ffff, 0]?;
     for _ in 0..65535 {
@@ -115,7 +116,7 @@ fn longest_prototype(alloc: Global) -> Result<Vec<u32>, AllocError> {
     Ok(types)
 }
 
-/// The table of those words.
+/// The table of these two FUNC_PROTOs.
 fn table_of_longest(alloc: Global) -> Result<Btf, Fail> {
     let types = longest_prototype(alloc)?;
     table_of_words(alloc, &types)
@@ -144,7 +145,7 @@ fn as_many_parameters_as_can_be_are_compared(rt: HostRuntime) -> Result<(), Fail
     Ok(())
 }
 
-/// Adds the words of a FUNC_PROTO that takes so many parameters of this type and returns 0.
+/// Adds the words of a FUNC_PROTO that takes this number of parameters of this type and returns 0.
 fn push_taking(types: &mut Vec<u32>, params: u32, id: u32) -> Result<(), AllocError> {
     types.extend_from_slice(&[0, 0x0d00_0000 | params, 0])?;
     for _ in 0..params {
@@ -153,7 +154,7 @@ fn push_taking(types: &mut Vec<u32>, params: u32, id: u32) -> Result<(), AllocEr
     Ok(())
 }
 
-/// The words of FUNC_PROTOs that take so many parameters of the next id each, up to the one below this id.
+/// The words of FUNC_PROTOs up to the one before this id; each takes this number of parameters of the next id.
 fn nested(alloc: Global, last: u32, params: u32) -> Result<Vec<u32>, AllocError> {
     let mut types = Vec::new(alloc);
     for id in 1..last {
@@ -162,14 +163,14 @@ fn nested(alloc: Global, last: u32, params: u32) -> Result<Vec<u32>, AllocError>
     Ok(types)
 }
 
-/// Those words, and at the end an INT.
+/// The words of these FUNC_PROTOs, and of an INT at the end.
 fn nested_to_int(alloc: Global, last: u32, params: u32) -> Result<Vec<u32>, AllocError> {
     let mut types = nested(alloc, last, params)?;
     types.extend_from_slice(&[0, 0x0100_0000, 4, 0x20])?;
     Ok(types)
 }
 
-/// Those words, and at the end a FUNC_PROTO that takes the first.
+/// The words of these FUNC_PROTOs, and at the end of a FUNC_PROTO that takes the first.
 fn nested_to_first(alloc: Global, last: u32) -> Result<Vec<u32>, AllocError> {
     let mut types = nested(alloc, last, 1)?;
     push_taking(&mut types, 1, 1)?;
@@ -185,20 +186,20 @@ fn each_with_itself(alloc: Global, last: u32) -> Result<Vec<(u32, u32)>, AllocEr
     Ok(pairs)
 }
 
-/// Whether the comparison of the first of a table's types with itself gives this, and starts each pair of an id with
+/// Whether the comparison of a table's first type with itself gives this answer, and starts each pair of an id with
 /// itself.
 fn starts_each(alloc: Global, table: &Btf, last: u32, answer: Answer) -> Result<bool, Fail> {
     let starts = each_with_itself(alloc, last)?;
     gives_alone(alloc, table, 1, answer, &starts)
 }
 
-/// Whether that is so of the table of these words.
+/// Whether the comparison does so for the table of these words.
 fn words_start_each(alloc: Global, types: &[u32], last: u32, answer: Answer) -> Result<bool, Fail> {
     let table = table_of_words(alloc, types)?;
     starts_each(alloc, &table, last, answer)
 }
 
-/// Whether types that are nested so deep are compatible, and start each pair once.
+/// Whether types of this nesting depth are compatible, and start each pair once.
 fn nested_are_compatible(alloc: Global, last: u32, params: u32) -> Result<bool, Fail> {
     let types = nested_to_int(alloc, last, params)?;
     words_start_each(alloc, &types, last, Answer::Is(true))
@@ -206,7 +207,7 @@ fn nested_are_compatible(alloc: Global, last: u32, params: u32) -> Result<bool, 
 
 #[test]
 fn no_pair_is_walked_twice(rt: HostRuntime) -> Result<(), Fail> {
-    // A comparison that walked settled pairs again would make 2^21 - 1 walks of the first, and 2^101 - 1 of the second.
+    // A comparison that walked known pairs again would make 2^21 - 1 walks for the first, and 2^101 - 1 for the second.
     for last in [21, 101] {
         assert!(rt; nested_are_compatible(rt.alloc(), last, 2)?, "{last}");
     }
@@ -219,7 +220,7 @@ fn nesting_is_not_limited(rt: HostRuntime) -> Result<(), Fail> {
     Ok(())
 }
 
-/// Whether types that are nested in a circle of this length are refused.
+/// Whether the comparison of types that are nested in a cycle of this length is an error.
 fn circle_is_refused(alloc: Global, last: u32) -> Result<bool, Fail> {
     let types = nested_to_first(alloc, last)?;
     words_start_each(alloc, &types, last, Answer::TooDeep(1))
@@ -234,7 +235,7 @@ fn circle_of_any_length_is_refused(rt: HostRuntime) -> Result<(), Fail> {
 /// The number of prototypes with up to two parameters of types 1 to 4 that return type 0 or 1.
 const PROTOTYPES: u32 = 42;
 
-/// Adds the words of one of those prototypes.
+/// Adds the words of one of these prototypes.
 fn push_prototype(types: &mut Vec<u32>, number: u32) -> Result<(), AllocError> {
     let returns = number % 2;
     let params = number / 2 % 21;
@@ -249,7 +250,7 @@ fn push_prototype(types: &mut Vec<u32>, number: u32) -> Result<(), AllocError> {
     }
 }
 
-/// The words of three of them, ids 1 to 3, and of INT 4.
+/// The words of three of these prototypes, ids 1 to 3, and of INT 4.
 fn prototypes(alloc: Global, number: u32) -> Result<Vec<u32>, AllocError> {
     let mut types = Vec::new(alloc);
     push_prototype(&mut types, number % PROTOTYPES)?;
@@ -259,25 +260,25 @@ fn prototypes(alloc: Global, number: u32) -> Result<Vec<u32>, AllocError> {
     Ok(types)
 }
 
-/// The table of those words.
+/// The table of these prototypes and the INT.
 fn table_of_prototypes(alloc: Global, number: u32) -> Result<Btf, Fail> {
     let types = prototypes(alloc, number)?;
     table_of_words(alloc, &types)
 }
 
-/// Whether the first prototype is compared plainly, with itself and with the second.
+/// Whether the comparison of the first prototype, with itself and with the second, equals the plain recursion.
 fn are_compared_plainly(alloc: Global, table: &Btf) -> Result<bool, Fail> {
     Ok(is_plain(alloc, table, table, (1, 1))? && is_plain(alloc, table, table, (1, 2))?)
 }
 
-/// Whether the prototypes of the table of a number are.
+/// Whether the comparison in the table of a number equals the plain recursion.
 fn is_compared_plainly(alloc: Global, number: u32) -> Result<bool, Fail> {
     let table = table_of_prototypes(alloc, number)?;
     are_compared_plainly(alloc, &table)
 }
 
-/// All 74,088 tables. Parameters of type 0, which is compatible as type 4 is, and other types that are returned would
-/// make many more.
+/// All 74,088 tables. Parameters of type 0, which is compatible as type 4 is, and other return types would make many
+/// more tables.
 #[test]
 fn small_tables_are_compared_plainly(rt: HostRuntime) -> Result<(), Fail> {
     for number in 0..PROTOTYPES * PROTOTYPES * PROTOTYPES {

@@ -30,18 +30,19 @@ fn pairs(alloc: Global, text: &str) -> Result<Vec<(u32, u32)>, Fail> {
 #[derive(Clone, Copy)]
 struct Row(&'static str, (u32, u32), Answer, &'static str);
 
-/// Whether the comparison of a row's pair gives what the row says, in these tables.
+/// Whether the comparison of a row's pair in these tables gives the row's answer and pairs.
 fn gives_row(alloc: Global, local: &Btf, target: &Btf, row: &Row) -> Result<bool, Fail> {
     let starts = pairs(alloc, row.3)?;
     gives(alloc, local, target, row.1, row.2, &starts)
 }
 
-/// Whether the comparison of a row's pair gives what the row and the plain recursion say, in these tables.
+/// Whether the comparison of a row's pair in these tables gives the row's answer and pairs, and those of the plain
+/// recursion.
 fn answers_row(alloc: Global, local: &Btf, target: &Btf, row: &Row) -> Result<bool, Fail> {
     Ok(gives_row(alloc, local, target, row)? && is_plain(alloc, local, target, row.1)?)
 }
 
-/// Whether the comparison of a row's pair gives what the row and the plain recursion say.
+/// Whether the comparison of a row's pair gives the row's answer and pairs, and those of the plain recursion.
 fn is_row(alloc: Global, row: &Row) -> Result<bool, Fail> {
     let table = table_of(alloc, row.0, "")?;
     answers_row(alloc, &table, &table, row)
@@ -130,14 +131,14 @@ static OF_PROTOTYPES: [Row; 7] = [
     Row(SAME, (8, 7), Answer::Unknown(8), ""),
     Row("0 0d000001 0  0 9", (1, 1), Answer::Unknown(9), "1 1"),
     Row("0 02000000 9", (1, 1), Answer::Unknown(9), "1 1"),
-    // Of two types that can't be found the local one is reported.
+    // If both types can't be found, the local one is reported.
     Row(
         "0 0d000001 0  0 8  0 0d000001 0  0 9",
         (1, 2),
         Answer::Unknown(8),
         "1 2",
     ),
-    // A parameter is not looked up before its turn comes.
+    // A parameter is not looked up before the comparison reaches it.
     Row(UNKNOWN, (1, 1), Answer::Is(false), "1 1  2 2"),
 ];
 
@@ -157,7 +158,7 @@ static OPEN: [Row; 3] = [
         Answer::TooDeep(1),
         "1 1",
     ),
-    // From the prototype on: the walk of the pointers comes to the prototypes, and these take open pointers.
+    // From the prototype on: the walk of the pointers reaches the prototypes, and these take open pointers.
     Row(
         "0 02000000 2  0 0d000001 0  0 1",
         (2, 2),
@@ -201,13 +202,13 @@ fn walks_that_come_to_their_beginning_go_on(rt: HostRuntime) -> Result<(), Fail>
     Ok(())
 }
 
-/// Pairs of types of the small program. A TYPEDEF and the INT that it names are of two kinds.
+/// Pairs of types of the small program. A TYPEDEF and the INT that it names have different kinds.
 static OF_PROGRAM: [Row; 2] = [
     Row("", (3, 4), Answer::Is(false), "3 4"),
     Row("", (5, 5), Answer::Is(true), "5 5  1 1"),
 ];
 
-/// Whether the comparison of a row's pair of types of the small program gives what the row says.
+/// Whether the comparison of a row's pair of types of the small program gives the row's answer and pairs.
 fn is_row_of_program(alloc: Global, row: &Row) -> Result<bool, Fail> {
     let table = program_table(alloc, Endianness::Little)?;
     answers_row(alloc, &table, &table, row)
@@ -224,7 +225,7 @@ fn types_of_program_are_compared(rt: HostRuntime) -> Result<(), Fail> {
 /// The words of a local table: FUNC_PROTO 1 takes INT 2.
 const LOCAL: &str = "0 0d000001 0  0 2  0 01000000 4 20";
 
-/// The words of a target table, INT 1, and FUNC_PROTO 2 takes it, and pairs of types of both.
+/// The words of a target table, in which FUNC_PROTO 2 takes INT 1, and pairs of types of the local table and of it.
 static OF_TWO_TABLES: [Row; 3] = [
     Row(
         "0 01000000 4 20  0 0d000001 0  0 1",
@@ -246,13 +247,13 @@ static OF_TWO_TABLES: [Row; 3] = [
     ),
 ];
 
-/// Whether the comparison with a row's table gives what the row says.
+/// Whether the comparison of the given table with a row's table gives the row's answer and pairs.
 fn is_row_under(alloc: Global, local: &Btf, row: &Row) -> Result<bool, Fail> {
     let target = table_of(alloc, row.0, "")?;
     answers_row(alloc, local, &target, row)
 }
 
-/// Whether the comparison of the local table with a row's gives what the row says.
+/// Whether the comparison of the local table with a row's table gives the row's answer and pairs.
 fn is_row_of_two(alloc: Global, row: &Row) -> Result<bool, Fail> {
     let local = table_of(alloc, LOCAL, "")?;
     is_row_under(alloc, &local, row)

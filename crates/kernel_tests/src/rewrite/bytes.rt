@@ -14,14 +14,14 @@ fn are_equal(bytes: &[u8], wanted: &[u8]) -> bool {
     bytes == wanted
 }
 
-/// What is asked for the table of a small program, and granted by a kernel that has it all.
+/// The answers for the table of a small program, from a kernel that has all features.
 static ALL: [(BtfFeature, bool); 3] = [
     (BtfFeature::Func, true),
     (BtfFeature::FuncGlobal, true),
     (BtfFeature::DataSec, true),
 ];
 
-/// Bytes rewritten for a kernel that has all features, and whether the answers are `ALL`.
+/// Rewrites bytes for a kernel that has all features, and returns whether the answers are `ALL`.
 fn granted_all(
     alloc: Global,
     program: &Layout,
@@ -43,7 +43,7 @@ fn granted_all(
     Ok((written, are_all))
 }
 
-/// Whether bytes are rewritten as these for a kernel that has all features.
+/// Whether the rewrite of bytes for a kernel that has all features gives these bytes.
 fn are_made(
     alloc: Global,
     program: &Layout,
@@ -56,7 +56,7 @@ fn are_made(
     Ok(are_all && are_equal(&written, wanted))
 }
 
-/// The program's bytes once its last type, a DATASEC, has its size.
+/// The program's bytes after its last type, a DATASEC, got its size.
 fn sized_program(alloc: Global) -> Result<Vec<u8>, Fail> {
     let mut bytes = program(alloc, Endianness::Little, TYPE_LEN)?;
     if let Some(byte) = bytes.get_mut(276) {
@@ -65,19 +65,19 @@ fn sized_program(alloc: Global) -> Result<Vec<u8>, Fail> {
     Ok(bytes)
 }
 
-/// Whether bytes are rewritten as the program's with its size.
+/// Whether the rewrite of bytes gives the program's bytes with the size.
 fn are_sized(alloc: Global, known: &Layout, data: &[u8]) -> Result<bool, Fail> {
     let wanted = sized_program(alloc)?;
     are_made(alloc, known, data, Endianness::Little, None, &wanted)
 }
 
-/// Whether the program's bytes are.
+/// Whether the rewrite of the program's bytes gives the bytes with the size.
 fn program_is_sized(alloc: Global, known: &Layout) -> Result<bool, Fail> {
     let read = program(alloc, Endianness::Little, TYPE_LEN)?;
     are_sized(alloc, known, &read)
 }
 
-/// Whether the program's bytes with the size are, for which there is nothing left to do.
+/// Whether the rewrite does not change the program's bytes with the size.
 fn sized_program_stays(alloc: Global, known: &Layout) -> Result<bool, Fail> {
     let read = sized_program(alloc)?;
     are_sized(alloc, known, &read)
@@ -107,10 +107,10 @@ const PLAIN_RECORDS: &str = "
     d9 04000001 1  d0 b 0
 ";
 
-/// What is asked for the program's table, and denied by a kernel that has no feature.
+/// The answers for the program's table, from a kernel that has no feature.
 static NONE: [(BtfFeature, bool); 2] = [(BtfFeature::Func, false), (BtfFeature::DataSec, false)];
 
-/// Bytes rewritten for a kernel that has no feature, and whether the answers are `NONE`.
+/// Rewrites bytes for a kernel that has no feature, and returns whether the answers are `NONE`.
 fn denied_all(alloc: Global, program: &Layout, data: &[u8]) -> Result<(Vec<u8>, bool), Fail> {
     let mut resolver = BtfFeatureResolver::new(|_| false);
     let (written, answers) = rewrite_bytes(
@@ -126,7 +126,7 @@ fn denied_all(alloc: Global, program: &Layout, data: &[u8]) -> Result<(Vec<u8>, 
     Ok((written, are_none))
 }
 
-/// Whether bytes are rewritten as these for a kernel that has no feature.
+/// Whether the rewrite of bytes for a kernel that has no feature gives these bytes.
 fn are_made_plain(
     alloc: Global,
     program: &Layout,
@@ -137,13 +137,13 @@ fn are_made_plain(
     Ok(are_none && are_equal(&written, wanted))
 }
 
-/// Whether these bytes are rewritten as those of `PLAIN_RECORDS`, 517 too.
+/// Whether the rewrite of these bytes gives the 517 bytes of `PLAIN_RECORDS`.
 fn are_plain(alloc: Global, program: &Layout, data: &[u8]) -> Result<bool, Fail> {
     let wanted = table_bytes(alloc, PLAIN_RECORDS, STRINGS, Endianness::Little)?;
     Ok(wanted.len() == 517 && are_made_plain(alloc, program, data, &wanted)?)
 }
 
-/// Whether the program's bytes are.
+/// Whether the rewrite of the program's bytes gives the bytes of `PLAIN_RECORDS`.
 fn program_is_plain(alloc: Global, unknown: &Layout) -> Result<bool, Fail> {
     let read = program(alloc, Endianness::Little, TYPE_LEN)?;
     are_plain(alloc, unknown, &read)
@@ -161,7 +161,7 @@ fn program_is_rewritten_for_an_old_kernel(rt: HostRuntime) -> Result<(), Fail> {
 const SYMBOL: &str =
     "d 1000000 4 1000020  0 d000001 1 0 1  1 c000002 2  3 e000000 1 1  6 f000001 0 3 0 0";
 
-/// What becomes of them.
+/// The records of `SYMBOL` after the rewrite.
 const NEW_SYMBOL: &str =
     "d 1000000 4 1000020  0 d000001 1 3 1  1 c000001 2  3 e000000 1 1  6 f000001 4 4 0 4";
 
@@ -173,13 +173,13 @@ const IDS: KsymsIds = KsymsIds {
     placeholder_id: Some(4),
 };
 
-/// Whether bytes are rewritten as the new words in an order.
+/// Whether the rewrite of bytes gives the new words in a byte order.
 fn are_new(alloc: Global, unknown: &Layout, data: &[u8], order: Endianness) -> Result<bool, Fail> {
     let wanted = table_bytes(alloc, NEW_SYMBOL, SYMBOL_STRINGS, order)?;
     are_made(alloc, unknown, data, order, Some(IDS), &wanted)
 }
 
-/// Whether the old words in an order are.
+/// Whether the rewrite of the old words in a byte order gives the new words.
 fn is_symbol_new(alloc: Global, unknown: &Layout, order: Endianness) -> Result<bool, Fail> {
     let read = table_bytes(alloc, SYMBOL, SYMBOL_STRINGS, order)?;
     are_new(alloc, unknown, &read, order)
@@ -194,8 +194,8 @@ fn symbols_are_rewritten_in_the_order_of_the_bytes(rt: HostRuntime) -> Result<()
     Ok(())
 }
 
-/// Whether this is why bytes are refused: bytes that are no table before anything is asked, and others for the size of
-/// a section.
+/// Whether this is the expected error: for bytes that are no table, an error before any question; for others, the error
+/// of a section's size.
 fn is_refusal(error: &BtfError, answers: &[FeatureAnswer], is_table: bool) -> bool {
     match error {
         BtfError::InvalidHeader => !is_table && answers.is_empty(),
@@ -206,7 +206,7 @@ fn is_refusal(error: &BtfError, answers: &[FeatureAnswer], is_table: bool) -> bo
     }
 }
 
-/// Whether bytes are refused so.
+/// Whether the rewrite of bytes fails with the expected error.
 fn are_refused(alloc: Global, program: &Layout, data: &[u8], is_table: bool) -> bool {
     let mut resolver = BtfFeatureResolver::new(|_| true);
     match &rewrite_bytes(
@@ -223,13 +223,13 @@ fn are_refused(alloc: Global, program: &Layout, data: &[u8], is_table: bool) -> 
     }
 }
 
-/// Whether bytes are refused, and the first 23 of them.
+/// Whether the rewrite fails for bytes, and for their first 23.
 fn are_refused_and_cut(alloc: Global, program: &Layout, data: &[u8]) -> Result<bool, Fail> {
     let cut = data.get(..23).ok_or("cut")?;
     Ok(are_refused(alloc, program, cut, false) && are_refused(alloc, program, data, true))
 }
 
-/// Whether a table with a section of no known size is refused, and its beginning.
+/// Whether the rewrite fails for a table with a section of unknown size, and for the beginning of the table.
 fn section_is_refused(alloc: Global, unknown: &Layout) -> Result<bool, Fail> {
     let bytes = table_bytes(alloc, "1 f000000 0", "\0.x\0", Endianness::Little)?;
     are_refused_and_cut(alloc, unknown, &bytes)

@@ -11,7 +11,7 @@ use std::test::Fail;
 
 const FILLER: &str = "__aya_datasec_filler_type\0__aya_datasec_filler\0";
 
-/// A DATASEC of 9 bytes without entries, whose section is not known.
+/// Rewrites of a DATASEC of 9 bytes without entries, whose section is unknown.
 static FILLED: [Case; 4] = [
     Case {
         words: "1 f000000 9",
@@ -40,7 +40,7 @@ static FILLED: [Case; 4] = [
         appended: "_a\0",
         answers: &[(BtfFeature::DataSec, false)],
     },
-    // The table that the first makes, once more.
+    // The result of the first rewrite, rewritten again.
     Case {
         words: "1 f000001 9  3 0 9  4 1000000 1 8  1e e000000 2 0",
         strings: "\0.a\0__aya_datasec_filler_type\0__aya_datasec_filler\0",
@@ -51,7 +51,7 @@ static FILLED: [Case; 4] = [
     },
 ];
 
-/// It stays, and is not asked about.
+/// The DATASEC stays, and no question is asked about it.
 static KEPT: Case = Case {
     words: "1 f000000 9",
     strings: "\0.a\0",
@@ -61,7 +61,7 @@ static KEPT: Case = Case {
     answers: &[(BtfFeature::DataSec, true)],
 };
 
-/// A DATASEC of 9 bytes and one of size 0, whose section has size 0: both get the filler that the first one makes.
+/// A DATASEC of 9 bytes, and one of size 0 whose section has size 0: both get the filler of the first one.
 static BESIDE: Case = Case {
     words: "1 f000000 9  4 f000000 0",
     strings: "\0.a\0.b\0",
@@ -82,7 +82,7 @@ fn empty_section(alloc: Global) -> Result<Layout, AllocError> {
     Ok(program)
 }
 
-/// Whether the rewrite of a case's table under a policy asks for what the case says.
+/// Whether the rewrite of a case's table under a policy gets the case's answers.
 fn asks(program: &Layout, table: &mut Btf, policy: FillPolicy, case: &Case) -> Result<bool, Fail> {
     let granted = case.granted;
     let mut resolver = BtfFeatureResolver::new(|feature| granted.contains(&feature));
@@ -96,7 +96,7 @@ fn asks(program: &Layout, table: &mut Btf, policy: FillPolicy, case: &Case) -> R
     Ok(are_answers(answers.as_slice(), case.answers))
 }
 
-/// Whether the rewrite of a case's table under a policy asks for and makes what the case says.
+/// Whether the rewrite of a case's table under a policy gets the case's answers and gives the case's table.
 fn is_filled(
     alloc: Global,
     program: &Layout,
@@ -107,7 +107,7 @@ fn is_filled(
     Ok(asks(program, &mut table, policy, case)? && is_new(alloc, &table, case)?)
 }
 
-/// The bytes that a case's bytes are rewritten as under a policy, and whether the answers are the case's.
+/// Rewrites a case's bytes under a policy, and returns whether the answers are the case's.
 fn rewritten(
     alloc: Global,
     program: &Layout,
@@ -135,7 +135,7 @@ fn are_equal(bytes: &[u8], wanted: &[u8]) -> bool {
     bytes == wanted
 }
 
-/// Whether a case's bytes are rewritten under a policy as the case says.
+/// Whether the rewrite of these bytes under a policy gives the case's answers and table.
 fn are_filled(
     alloc: Global,
     program: &Layout,
@@ -147,7 +147,7 @@ fn are_filled(
     Ok(are_said && are_equal(&written, &new_bytes(alloc, case)?))
 }
 
-/// The same of the bytes that its words make.
+/// Whether the rewrite of the bytes of a case's words does so.
 fn bytes_are_filled(
     alloc: Global,
     program: &Layout,

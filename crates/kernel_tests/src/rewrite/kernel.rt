@@ -1,4 +1,4 @@
-//! What the tests of rewrites share: what a kernel has, and what a rewrite for it makes.
+//! Shared parts of the tests of rewrites: the features of a kernel, and the result of a rewrite for it.
 
 use btf_plain::Endianness;
 use btf_samples::blobs::{table_bytes, table_of};
@@ -27,20 +27,20 @@ pub fn known(alloc: Global) -> Result<Layout, AllocError> {
     Layout::of(alloc, &SECTIONS, &SYMBOLS)
 }
 
-/// A table, what a kernel has, and what a rewrite for that kernel makes of the table.
+/// A table, the features of a kernel, and the result of a rewrite of the table for that kernel.
 #[derive(Clone, Copy)]
 pub struct Case {
     /// The words of the types.
     pub words: &'static str,
-    /// The strings, each of which a zero byte ends.
+    /// The strings, each with a zero byte at its end.
     pub strings: &'static str,
     /// The features that the kernel has.
     pub granted: &'static [BtfFeature],
-    /// The words of the types afterwards.
+    /// The words of the types after the rewrite.
     pub new_words: &'static str,
     /// The strings that are appended.
     pub appended: &'static str,
-    /// What the predicate is asked for, and what it grants.
+    /// The features that the predicate is asked about, with its answers.
     pub answers: &'static [(BtfFeature, bool)],
 }
 
@@ -51,13 +51,13 @@ fn new_strings(alloc: Global, case: &Case) -> Result<String, AllocError> {
     Ok(strings)
 }
 
-/// The bytes that a case's rewritten table is written as.
+/// The bytes of a case's rewritten table.
 pub fn new_bytes(alloc: Global, case: &Case) -> Result<Vec<u8>, Fail> {
     let strings = new_strings(alloc, case)?;
     table_bytes(alloc, case.new_words, strings.as_str(), Endianness::Little)
 }
 
-/// Whether a table is written as a case's rewritten table.
+/// Whether the bytes of a table are those of a case's rewritten table.
 pub fn is_new(alloc: Global, table: &Btf, case: &Case) -> Result<bool, Fail> {
     let wanted = new_bytes(alloc, case)?;
     has_table_bytes(table, &wanted)
@@ -73,7 +73,7 @@ pub fn are_answers(answers: &[FeatureAnswer], wanted: &[(BtfFeature, bool)]) -> 
     answers.len() == wanted.len()
 }
 
-/// Whether a rewrite of a case's table returns the answers that the case says, and its resolver keeps them.
+/// Whether a rewrite of a case's table returns the case's answers, and its resolver caches them.
 fn asks(
     program: &Layout,
     table: &mut Btf,
@@ -92,7 +92,7 @@ fn asks(
     Ok(returned && are_answers(resolver.answers(), case.answers))
 }
 
-/// Whether the rewrite of a case's table asks for and makes what the case says.
+/// Whether the rewrite of this table gets the case's answers and gives the case's table.
 fn makes(
     alloc: Global,
     program: &Layout,
@@ -113,7 +113,7 @@ fn is_rewritten_under(
     makes(alloc, program, &mut table, ksyms, case)
 }
 
-/// Whether the rewrite of a case's table asks for and makes what the case says.
+/// Whether the rewrite of a case's table gets the case's answers and gives the case's new table.
 pub fn is_rewritten(alloc: Global, ksyms: Option<KsymsIds>, case: &Case) -> Result<bool, Fail> {
     let program = known(alloc)?;
     is_rewritten_under(alloc, &program, ksyms, case)

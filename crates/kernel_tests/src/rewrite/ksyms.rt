@@ -1,4 +1,4 @@
-//! The step that makes ordinary variables of the kernel's symbols.
+//! The step that changes the kernel's symbols to ordinary variables.
 
 use btf_plain::BtfError;
 use btf_samples::blobs::table_of;
@@ -7,7 +7,7 @@ use btf_types::Btf;
 use std::alloc::Global;
 use std::test::Fail;
 
-/// A table, the ids that the step is given, and the table after it.
+/// A table, the ids that are passed to the step, and the table after it.
 #[derive(Clone, Copy)]
 struct Step {
     words: &'static str,
@@ -28,7 +28,7 @@ static STEPS: [Step; 2] = [
         new_words: "1 e000000 3 1  b f000001 4 1 0 4  12 1000000 4 1000020",
         new_strings: "\0init_task\0.ksyms\0int\0",
     },
-    // A placeholder stands for an extern function.
+    // A placeholder replaces an extern function.
     Step {
         words: FUNCTION,
         strings: FUNCTION_STRINGS,
@@ -51,13 +51,13 @@ const FUNCTION: &str =
 
 const FUNCTION_STRINGS: &str = "\0f\0ph\0.ksyms\0int\0";
 
-/// Whether a step makes of its table what it says.
+/// Whether a step changes this table to the new table of the row.
 fn makes(alloc: Global, table: &mut Btf, step: &Step) -> Result<bool, Fail> {
     table.fixup_ksyms_datasec(step.datasec_id, step.placeholder_id)?;
     is_table(alloc, table, step.new_words, step.new_strings)
 }
 
-/// Whether a step makes what it says.
+/// Whether a step changes the table of the row to its new table.
 fn is_made(alloc: Global, step: &Step) -> Result<bool, Fail> {
     let mut table = table_of(alloc, step.words, step.strings)?;
     makes(alloc, &mut table, step)
@@ -71,7 +71,7 @@ fn symbols_become_variables(rt: HostRuntime) -> Result<(), Fail> {
     Ok(())
 }
 
-/// Why a step is refused, with the id that the refusal names.
+/// The error of a step, with the id in it.
 #[derive(Clone, Copy, Debug, PartialEq)]
 enum Why {
     NoRefusal,
@@ -80,7 +80,7 @@ enum Why {
     Other,
 }
 
-/// A table, the ids that the step is given, and why it is refused.
+/// A table, the ids that are passed to the step, and its error.
 #[derive(Clone, Copy)]
 struct Refusal {
     words: &'static str,
@@ -131,7 +131,7 @@ static REFUSALS: [Refusal; 5] = [
     },
 ];
 
-/// Why a step of a table is refused.
+/// The error of a step of a table.
 fn refused(table: &mut Btf, refusal: &Refusal) -> Why {
     match &table.fixup_ksyms_datasec(refusal.datasec_id, refusal.placeholder_id) {
         Ok(()) => Why::NoRefusal,
@@ -141,13 +141,13 @@ fn refused(table: &mut Btf, refusal: &Refusal) -> Why {
     }
 }
 
-/// Whether a step of a table is refused as it says, and leaves the table.
+/// Whether a step of this table fails with the error of the row, and leaves the table unchanged.
 fn refuses(alloc: Global, table: &mut Btf, refusal: &Refusal) -> Result<bool, Fail> {
     let why = refused(table, refusal);
     Ok(why == refusal.why && is_table(alloc, table, refusal.words, refusal.strings)?)
 }
 
-/// Whether a step is refused as it says, and leaves the table.
+/// Whether a step of the row's table fails with the error of the row, and leaves the table unchanged.
 fn is_refused(alloc: Global, refusal: &Refusal) -> Result<bool, Fail> {
     let mut table = table_of(alloc, refusal.words, refusal.strings)?;
     refuses(alloc, &mut table, refusal)

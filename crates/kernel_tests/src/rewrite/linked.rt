@@ -1,4 +1,4 @@
-//! Rewrites of types that look at others: functions, sections, ENUM64, and the kernel's symbols.
+//! Rewrites of types that depend on others: functions, sections, ENUM64, and the kernel's symbols.
 
 use crate::rewrite::kernel::{Case, is_new, is_rewritten, new_bytes};
 use btf_plain::Endianness;
@@ -80,7 +80,7 @@ static PROTOTYPES: [Case; 4] = [
         appended: "param0\0param1\0",
         answers: &[(BtfFeature::Func, true)],
     },
-    // A parameter with a name, one without, and one that stands for any further arguments.
+    // A parameter with a name, one without, and one that represents variable arguments.
     Case {
         words: "1 1000000 4 1000020  0 d000003 0 1 1 0 1 0 0",
         strings: "\0int\0",
@@ -194,7 +194,7 @@ static DENIED_SECTIONS: [Case; 5] = [
         appended: "",
         answers: &[(BtfFeature::DataSec, false)],
     },
-    // The largest offset in bytes that is one in bits too.
+    // The largest offset in bytes whose number of bits fits too.
     Case {
         words: "0 1000000 4 20  0 f000001 0 1 1fffffff 4",
         strings: "\0",
@@ -283,7 +283,7 @@ fn are_values(fallback: &Enum64Fallback) -> bool {
     }
 }
 
-/// Whether a record is a UNION that holds the values of `WIDE_ENUM` besides; nothing for another record.
+/// Whether a record is a UNION with the values of `WIDE_ENUM` as its fallback; None for another record.
 fn values_held(record: &BtfType) -> Option<bool> {
     match record {
         BtfType::Union(union) => Some(union.enum64_fallback().is_some_and(are_values)),
@@ -291,36 +291,36 @@ fn values_held(record: &BtfType) -> Option<bool> {
     }
 }
 
-/// The same of the first type of a table.
+/// Whether the first type of a table is such a UNION; None for another record.
 fn first_values_held(table: &Btf) -> Result<Option<bool>, Fail> {
     Ok(values_held(table.type_by_id(1)?))
 }
 
-/// Rewrites a table for a kernel that has no feature, and returns the number of features that were asked for.
+/// Rewrites a table for a kernel that has no feature, and returns the number of features that the rewrite asked about.
 fn rewrite_for_none(program: &Layout, table: &mut Btf) -> Result<usize, Fail> {
     let mut resolver = BtfFeatureResolver::new(|_| false);
     table.fixup_and_sanitize(&program.sections, &program.symbols, None, &mut resolver)?;
     Ok(resolver.answers().len())
 }
 
-/// Whether a rewrite of a table asks for so many features, and the values are held after it.
+/// Whether a rewrite of a table asks about this number of features, and the table has the values after it.
 fn holds_values(program: &Layout, table: &mut Btf, asked: usize) -> Result<bool, Fail> {
     Ok(rewrite_for_none(program, table)? == asked && first_values_held(table)? == Some(true))
 }
 
-/// Whether these bytes have no place for the values.
+/// Whether the table that is parsed from these bytes lacks the values.
 fn hold_no_values(alloc: Global, written: &[u8]) -> Result<bool, Fail> {
     let table = parsed_blob(alloc, written, Endianness::Little)?;
     Ok(first_values_held(&table)? == Some(false))
 }
 
-/// Whether the bytes of a table have no place for the values.
+/// Whether the table that is parsed from a table's bytes lacks the values.
 fn loses_values(alloc: Global, table: &Btf) -> Result<bool, Fail> {
     let written = table.to_bytes()?;
     hold_no_values(alloc, &written)
 }
 
-/// Whether a table holds the values once it is rewritten, and once it is rewritten again, which asks for nothing.
+/// Whether a table has the values after a rewrite, and after a second one, which asks about nothing.
 fn keeps_values(alloc: Global, program: &Layout, table: &mut Btf) -> Result<bool, Fail> {
     Ok(
         holds_values(program, table, 1)?
@@ -330,7 +330,7 @@ fn keeps_values(alloc: Global, program: &Layout, table: &mut Btf) -> Result<bool
     )
 }
 
-/// Whether the table of `WIDE_ENUM` does.
+/// Whether the table of `WIDE_ENUM` has the values after both rewrites.
 fn wide_enum_keeps_values(alloc: Global, program: &Layout) -> Result<bool, Fail> {
     let mut table = table_of(alloc, WIDE_ENUM.words, WIDE_ENUM.strings)?;
     keeps_values(alloc, program, &mut table)
@@ -343,7 +343,7 @@ fn values_of_wide_enums_are_held(rt: HostRuntime) -> Result<(), Fail> {
     Ok(())
 }
 
-/// Symbols of the kernel, and the ids that the program gives of them.
+/// Symbols of the kernel, and their ids in the program.
 static SYMBOLS: [(Case, KsymsIds); 3] = [
     // An extern variable that a DATASEC names.
     (
@@ -360,7 +360,7 @@ static SYMBOLS: [(Case, KsymsIds); 3] = [
             placeholder_id: None,
         },
     ),
-    // An extern function, and a variable that stands for it.
+    // An extern function, and a variable that replaces it.
     (
         Case {
             words: "d 1000000 4 1000020  0 d000001 1 0 1  1 c000002 2  3 e000000 1 1  6 f000001 0 3 0 0",
@@ -383,7 +383,7 @@ static SYMBOLS: [(Case, KsymsIds); 3] = [
             placeholder_id: Some(4),
         },
     ),
-    // Strings whose last has no end: the text that is appended first ends it.
+    // The last string lacks its zero byte: the first appended text ends it.
     (
         Case {
             words: "0 f000000 0  1 c000000 0",

@@ -1,4 +1,4 @@
-//! What a resolver asks of its predicate, in rewrites and alone.
+//! The questions that a resolver asks its predicate, in rewrites and alone.
 
 use crate::rewrite::kernel::are_answers;
 use btf_samples::blobs::table_of;
@@ -9,7 +9,7 @@ use std::alloc::Global;
 use std::mem;
 use std::test::Fail;
 
-/// Whether a resolver that is asked for Float, Func and Float makes two calls, of which the first alone is granted.
+/// Whether a resolver that is asked for Float, Func and Float makes two calls, and only the first is granted.
 fn asks_twice() -> bool {
     let mut calls = 0u32;
     let mut resolver = BtfFeatureResolver::new(|_| {
@@ -41,7 +41,7 @@ fn a_new_answer_is_no(rt: HostRuntime) {
 /// Two FLOATs.
 const FLOATS: &str = "0 10000000 4  0 10000000 8";
 
-/// Whether a rewrite under a predicate that says yes once and no from then on asks once.
+/// Whether a rewrite asks once, if the predicate answers yes once and no from then on.
 fn asks_first(program: &Layout, table: &mut Btf) -> Result<bool, Fail> {
     let mut is_first = true;
     let mut resolver = BtfFeatureResolver::new(move |_| mem::replace(&mut is_first, false));
@@ -54,7 +54,7 @@ fn asks_first(program: &Layout, table: &mut Btf) -> Result<bool, Fail> {
     Ok(are_answers(answers.as_slice(), &[(BtfFeature::Float, true)]))
 }
 
-/// Whether it does, and leaves a table of FLOATs.
+/// Whether it asks once, and leaves a table of FLOATs unchanged.
 fn keeps_floats(alloc: Global, program: &Layout, table: &mut Btf) -> Result<bool, Fail> {
     Ok(asks_first(program, table)? && is_table(alloc, table, FLOATS, "\0")?)
 }
@@ -74,10 +74,10 @@ fn the_first_answer_holds(rt: HostRuntime) -> Result<(), Fail> {
 /// A FLOAT, a TYPE_TAG of it, another FLOAT, and a DECL_TAG of the first.
 const TAGS: &str = "0 10000000 4  0 12000000 1  0 10000000 8  0 11000000 1 ffffffff";
 
-/// What becomes of them where TYPE_TAG alone is denied.
+/// The records of `TAGS` after a rewrite, if only TYPE_TAG is denied.
 const NEW_TAGS: &str = "0 10000000 4  0 a000000 1  0 10000000 8  0 11000000 1 ffffffff";
 
-/// Whether a rewrite under a predicate that says yes at its first and third call makes three.
+/// Whether a rewrite makes three calls, if the predicate answers yes at its first and third call.
 fn asks_three_times(program: &Layout, table: &mut Btf) -> Result<bool, Fail> {
     let mut calls = 0u32;
     let mut resolver = BtfFeatureResolver::new(|_| {
@@ -98,7 +98,7 @@ fn asks_three_times(program: &Layout, table: &mut Btf) -> Result<bool, Fail> {
     Ok(are_answers(answers.as_slice(), &wanted) && calls == 3)
 }
 
-/// Whether it does, and rewrites the table of tags.
+/// Whether it makes three calls, and rewrites the table of tags.
 fn rewrites_tags(alloc: Global, program: &Layout, table: &mut Btf) -> Result<bool, Fail> {
     Ok(asks_three_times(program, table)? && is_table(alloc, table, NEW_TAGS, "\0")?)
 }

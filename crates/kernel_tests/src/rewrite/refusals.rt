@@ -1,4 +1,4 @@
-//! Rewrites that are refused.
+//! Rewrites that fail.
 
 use crate::rewrite::kernel::{are_answers, known};
 use btf_plain::BtfError;
@@ -9,19 +9,19 @@ use btf_types::{Btf, BtfFeature, BtfFeatureResolver, FeatureAnswer, KsymsIds};
 use std::alloc::Global;
 use std::test::Fail;
 
-/// A table whose rewrite is refused.
+/// A table whose rewrite fails.
 #[derive(Clone, Copy)]
 struct Case {
     /// The words of the types.
     words: &'static str,
-    /// The strings, each of which a zero byte ends.
+    /// The strings, each with a zero byte at its end.
     strings: &'static str,
     /// The features that the kernel has.
     granted: &'static [BtfFeature],
     ksyms: Option<KsymsIds>,
     /// The text of the error.
     text: &'static str,
-    /// What the predicate was asked for until then, and what it granted.
+    /// The features that the predicate was asked about until then, with its answers.
     answers: &'static [(BtfFeature, bool)],
 }
 
@@ -44,7 +44,7 @@ static CASES: [Case; 11] = [
         text: "Unable to determine the size of section `.wide`",
         answers: &[(BtfFeature::DataSec, true)],
     },
-    // A function's name that would lie in what the rewrite appends.
+    // A function's name whose offset is among the strings that the rewrite appends.
     Case {
         words: "0 1000000 4 20  0 d000001 0 0 1  1 c000000 2",
         strings: "\0",
@@ -53,7 +53,7 @@ static CASES: [Case; 11] = [
         text: "invalid BTF string offset: 1",
         answers: &[(BtfFeature::Func, true)],
     },
-    // A function's name that has no end.
+    // A function's name without a zero byte.
     Case {
         words: "0 f000000 0  1 c000000 0",
         strings: "\0f",
@@ -62,7 +62,7 @@ static CASES: [Case; 11] = [
         text: "invalid BTF string offset: 1",
         answers: &[(BtfFeature::DataSec, false)],
     },
-    // An offset in bytes that has more than 32 bits as one in bits.
+    // An offset in bytes whose number of bits has more than 32 bits.
     Case {
         words: "0 1000000 4 20  0 f000001 0 1 20000000 4",
         strings: "\0",
@@ -71,7 +71,7 @@ static CASES: [Case; 11] = [
         text: "invalid BTF type info segment",
         answers: &[(BtfFeature::DataSec, false)],
     },
-    // The id of an entry that would name what the rewrite appends.
+    // The id of an entry is that of a type that the rewrite appends.
     Case {
         words: "0 13000000 8  0 f000001 0 3 0 4",
         strings: "\0",
@@ -119,7 +119,7 @@ static CASES: [Case; 11] = [
         text: "BTF type that is not VAR was found in DATASEC",
         answers: &[],
     },
-    // What was done for the kernel's symbols is lost with a refusal after it.
+    // The changes for the kernel's symbols are undone by a later error.
     Case {
         words: "1 e000000 0 2  b f000001 0 1 0 0  b f000000 0",
         strings: "\0init_task\0.ksyms\0",
@@ -143,7 +143,7 @@ fn has_text(alloc: Global, error: &BtfError, text: &str) -> Result<bool, Fail> {
     Ok(are_equal(message.as_str(), text))
 }
 
-/// Whether an error and what was asked are those of a case.
+/// Whether an error and the answers are those of a case.
 fn is_refusal(
     alloc: Global,
     error: &BtfError,
@@ -153,7 +153,7 @@ fn is_refusal(
     Ok(are_answers(answers, case.answers) && has_text(alloc, error, case.text)?)
 }
 
-/// Whether the rewrite of a case's table is refused as the case says.
+/// Whether the rewrite of this table fails with the case's error.
 fn refuses(alloc: Global, program: &Layout, table: &mut Btf, case: &Case) -> Result<bool, Fail> {
     let granted = case.granted;
     let mut resolver = BtfFeatureResolver::new(|feature| granted.contains(&feature));
@@ -168,7 +168,7 @@ fn refuses(alloc: Global, program: &Layout, table: &mut Btf, case: &Case) -> Res
     }
 }
 
-/// Whether it is, and the table is then written as before.
+/// Whether it fails so, and the bytes of the table are as before.
 fn refuses_and_stays(
     alloc: Global,
     program: &Layout,
@@ -183,7 +183,7 @@ fn is_refused_under(alloc: Global, program: &Layout, case: &Case) -> Result<bool
     refuses_and_stays(alloc, program, &mut table, case)
 }
 
-/// Whether the rewrite of a case's table is refused as the case says, and leaves the table.
+/// Whether the rewrite of a case's table fails with the case's error, and leaves the table unchanged.
 fn is_refused(alloc: Global, case: &Case) -> Result<bool, Fail> {
     let program = known(alloc)?;
     is_refused_under(alloc, &program, case)

@@ -1,10 +1,10 @@
-//! Rewrites of types that stand alone.
+//! Rewrites of types that depend on no others.
 
 use crate::rewrite::kernel::{Case, is_rewritten};
 use btf_types::BtfFeature;
 use std::test::Fail;
 
-/// Types that are rewritten without a look at others.
+/// Rewrites of these types.
 static SINGLE: [Case; 7] = [
     Case {
         words: "1 10000000 4  1 10000000 8",

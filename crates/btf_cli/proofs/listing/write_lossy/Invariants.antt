@@ -1,5 +1,5 @@
--- What was taken, with the text of the bytes that are left, is the text of all the bytes. Where there was room for all of
--- it, what was taken is in the buffer.
+-- The text that was written, followed by the text of the remaining bytes, is the text of all the bytes. If there was
+-- room for all of it, the written text is in the buffer.
 use Rattle.std.proofs.Common.{◌≡◌, ℕ, List, ◌++◌}
 use Rattle.std.specs.Str.Chunks.{utf8_chunks_rest}
 use Rattle.std.specs.Str.Lossy.{utf8_lossy}

@@ -5,7 +5,7 @@ use Rattle.btf_cli.proofs.Rewritings.{layout_is, IsFor, rewritten_answer, rewrit
 use Rattle.btf_cli.proofs.rewrite.rewritten.Goals as goal
 use Rattle.btf_cli.proofs.rewrite.rewritten.Goals.{After-rewrite_bytes_with}
 
--- what was asked was answered as the words say, and the maps have what they say
+-- the answers and the maps are the request's
 for_request : (c : After-rewrite_bytes_with) → IsFor c.args.request (layout_of c.in_ok-sections.sections c.in_ok-symbols.symbols) c.policy.result c.rewrite_bytes_with.new.resolver.1 c.requires.0
 for_request c =
     let before : c.new-resolver.result.0.0.now ≡ c.args.request = ap (λ r. r.0.0.now) c.new-resolver.ensures in

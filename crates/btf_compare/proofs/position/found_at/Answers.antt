@@ -1,4 +1,4 @@
-use Rattle.btf_compare.proofs.Positions.{no_local_type, no_target_type, found_at_ends, if_owed}
+use Rattle.btf_compare.proofs.Positions.{no_local_type, no_target_type, found_at_ends, if_prototypes}
 use Rattle.btf_compare.proofs.position.found_at.Goals as goal
 use Rattle.btf_compare.specs.Pairs.{pair_of}
 
@@ -12,4 +12,4 @@ pub returns-in-Ok-resolved-clause-position : goal.returns-in-Ok-resolved-clause-
 returns-in-Ok-resolved-clause-position c = found_at_ends c.args.local.now c.args.target.now (pair_of c.args.at) _ _ c.types_at.result c.in-Ok.ensures c.in-Ok-resolved.ensures c.types_at.ensures.position
 
 pub returns-in-Ok-resolved-clause-ids : goal.returns-in-Ok-resolved-clause-ids
-returns-in-Ok-resolved-clause-ids c = if_owed c.args.local.now c.args.target.now (pair_of c.args.at) _ c.types_at.result (c.in-Ok.ensures.0, c.in-Ok-resolved.ensures.0) c.types_at.ensures.ids
+returns-in-Ok-resolved-clause-ids c = if_prototypes c.args.local.now c.args.target.now (pair_of c.args.at) _ c.types_at.result (c.in-Ok.ensures.0, c.in-Ok-resolved.ensures.0) c.types_at.ensures.ids

@@ -1,7 +1,7 @@
 use Rattle.std.proofs.Common.{◌∙◌, sym, ap}
 use Rattle.btf_model.specs.Compat.{prototypes}
 use Rattle.btf_records.specs.BtfType.{record_of}
-use Rattle.btf_compare.proofs.Positions.{as_many_parameters, few_owed, other_parameters}
+use Rattle.btf_compare.proofs.Positions.{as_many_parameters, few_pending, other_parameters}
 use Rattle.btf_compare.proofs.position.prototypes.Goals as goal
 
 pub returns-then-params-others-clause-position : goal.returns-then-params-others-clause-position
@@ -16,4 +16,4 @@ returns-clause-position c is =
     ∙ ap (λ t. prototypes c.args.local.now (record_of t)) (sym c.in-FuncProto.is))
 
 pub returns-clause-few : goal.returns-clause-few
-returns-clause-few c = few_owed c.params-params.result.now c.params-others.result.now c.args.local.now.info c.params-params.ensures.count
+returns-clause-few c = few_pending c.params-params.result.now c.params-others.result.now c.args.local.now.info c.params-params.ensures.count

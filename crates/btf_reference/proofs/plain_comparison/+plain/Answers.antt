@@ -32,42 +32,42 @@ compared-returns t c =
 
 -- ---- parameters
 
-pub paid-returns-in_default : goal.paid-returns-in_default
-paid-returns-in_default t c =
+pub compared_parameters-returns-in_default : goal.compared_parameters-returns-in_default
+compared_parameters-returns-in_default t c =
     all_paid_lists c.args.local.now c.args.target.now (map pair_of c.args.above.now) (pairs (types_of c.args.params.now) (types_of c.args.others.now)) c.args.starts.now.items (none_owed c.args.params.now c.args.others.now c.in_default.ensures.cases)
 
-pub paid-returns-in_default-split_first : goal.paid-returns-in_default-split_first
-paid-returns-in_default-split_first t c =
+pub compared_parameters-returns-in_default-split_first : goal.compared_parameters-returns-in_default-split_first
+compared_parameters-returns-in_default-split_first t c =
     all_paid_lists c.args.local.now c.args.target.now (map pair_of c.args.above.now) (pairs (types_of c.args.params.now) (types_of c.args.others.now)) c.args.starts.now.items
     (none_owed_there c.args.params.now c.args.others.now c.in_default-split_first.ensures.cases)
 
-pub paid-returns-in-Err : goal.paid-returns-in-Err
-paid-returns-in-Err t c =
+pub compared_parameters-returns-in-Err : goal.compared_parameters-returns-in-Err
+compared_parameters-returns-in-Err t c =
     unresolved_lists c.args.local.now c.args.target.now (map pair_of c.args.above.now) (pairs (types_of c.args.params.now) (types_of c.args.others.now)) _ _ c.in-Err.e c.args.starts.now.items
     (owed_first c.args.params.now c.args.others.now c.in-Some.params.now c.in-Some-split_first.others.now c.in-Some.param.now c.in-Some-split_first.other.now c.in-Some.ensures.cases.0 c.in-Some-split_first.ensures.cases.0) c.in-Err.ensures
 
-pub paid-returns-then-not-is_true : goal.paid-returns-then-not-is_true
-paid-returns-then-not-is_true t c =
+pub compared_parameters-returns-then-not-is_true : goal.compared_parameters-returns-then-not-is_true
+compared_parameters-returns-then-not-is_true t c =
     other_lists c.args.local.now c.args.target.now (map pair_of c.args.above.now) (pairs (types_of c.args.params.now) (types_of c.args.others.now)) _ _ (pair_of c.in-Ok.pair) c.in_ok-answer.answer c.args.starts.now.items c.compared.new.starts.items
     (owed_first c.args.params.now c.args.others.now c.in-Some.params.now c.in-Some-split_first.others.now c.in-Some.param.now c.in-Some-split_first.other.now c.in-Some.ensures.cases.0 c.in-Some-split_first.ensures.cases.0) c.in-Ok.ensures
     (λ is. false≢true (sym c.if-not-is_true.true ∙ c.is_true.ensures.1 is)) c.in_ok-answer.ensures
 
-pub paid-returns : goal.paid-returns
-paid-returns t c =
-    ok_more _ _ c.paid.result
+pub compared_parameters-returns : goal.compared_parameters-returns
+compared_parameters-returns t c =
+    ok_more _ _ c.compared_parameters.result
     (λ answer.
     next_lists c.args.local.now c.args.target.now (map pair_of c.args.above.now) (pairs (types_of c.args.params.now) (types_of c.args.others.now)) _ _ (pair_of c.in-Ok.pair) answer c.args.starts.now.items c.compared.new.starts.items _
     (owed_first c.args.params.now c.args.others.now c.in-Some.params.now c.in-Some-split_first.others.now c.in-Some.param.now c.in-Some-split_first.other.now c.in-Some.ensures.cases.0 c.in-Some-split_first.ensures.cases.0) c.in-Ok.ensures
     (subst (λ (r : Result Bool BtfError). Lists (Plain c.args.local.now c.args.target.now (map pair_of c.args.above.now) (pair_of c.in-Ok.pair)) r c.args.starts.now.items c.compared.new.starts.items) (c.is_true.ensures.0 c.if-not-is_true.false) c.in_ok-answer.ensures))
-    c.paid.ensures
+    c.compared_parameters.ensures
 
 -- ---- a walk
 
 pub walked-returns-then-left-eq0 : goal.walked-returns-then-left-eq0
 walked-returns-then-left-eq0 t c = deep_lists c.args.local.now c.args.target.now (map pair_of c.args.above.now) c.args.left c.args.at c.args.starts.now.items (omega arith)
 
-pub walked-returns-in-Told : goal.walked-returns-in-Told
-walked-returns-in-Told t c = told_lists c.args.local.now c.args.target.now (map pair_of c.args.above.now) (c.args.left - 1) c.args.left (pair_of c.args.at) c.in-Told.answer c.args.starts.now.items (omega arith) c.in-Told.ensures
+pub walked-returns-in-Decided : goal.walked-returns-in-Decided
+walked-returns-in-Decided t c = told_lists c.args.local.now c.args.target.now (map pair_of c.args.above.now) (c.args.left - 1) c.args.left (pair_of c.args.at) c.in-Decided.answer c.args.starts.now.items (omega arith) c.in-Decided.ensures
 
 pub walked-returns-in-On : goal.walked-returns-in-On
 walked-returns-in-On t c =
@@ -77,13 +77,13 @@ walked-returns-in-On t c =
 
 pub walked-returns-then-not-is_true : goal.walked-returns-then-not-is_true
 walked-returns-then-not-is_true t c =
-    unpaid_walk_lists c.args.local.now c.args.target.now (map pair_of c.args.above.now) _ (c.args.left - 1) c.args.left (pair_of c.args.at) (pair_of c.in-Owes.next) c.in_ok-answer-in-Owes.answer c.args.starts.now.items c.paid.new.starts.items (omega arith) c.in-Owes.ensures
-    (λ is. false≢true (sym c.if-not-is_true.true ∙ c.is_true.ensures.1 is)) c.in_ok-answer-in-Owes.ensures
+    unpaid_walk_lists c.args.local.now c.args.target.now (map pair_of c.args.above.now) _ (c.args.left - 1) c.args.left (pair_of c.args.at) (pair_of c.in-Prototypes.next) c.in_ok-answer-in-Prototypes.answer c.args.starts.now.items c.compared_parameters.new.starts.items (omega arith) c.in-Prototypes.ensures
+    (λ is. false≢true (sym c.if-not-is_true.true ∙ c.is_true.ensures.1 is)) c.in_ok-answer-in-Prototypes.ensures
 
 pub walked-returns-else-not-is_true : goal.walked-returns-else-not-is_true
 walked-returns-else-not-is_true t c =
-    ok_more _ _ c.walked-in-Owes.result
+    ok_more _ _ c.walked-in-Prototypes.result
     (λ answer.
-    paid_walk_lists c.args.local.now c.args.target.now (map pair_of c.args.above.now) (pairs (types_of c.in-Owes.params.now) (types_of c.in-Owes.others.now)) (c.args.left - 1) c.args.left (pair_of c.args.at) (pair_of c.in-Owes.next) answer c.args.starts.now.items c.paid.new.starts.items _ (omega arith) c.in-Owes.ensures
-    (subst (λ (r : Result Bool BtfError). Lists (Paid c.args.local.now c.args.target.now (map pair_of c.args.above.now) (pairs (types_of c.in-Owes.params.now) (types_of c.in-Owes.others.now))) r c.args.starts.now.items c.paid.new.starts.items) (c.is_true.ensures.0 c.if-not-is_true.false) c.in_ok-answer-in-Owes.ensures))
-    c.walked-in-Owes.ensures
+    paid_walk_lists c.args.local.now c.args.target.now (map pair_of c.args.above.now) (pairs (types_of c.in-Prototypes.params.now) (types_of c.in-Prototypes.others.now)) (c.args.left - 1) c.args.left (pair_of c.args.at) (pair_of c.in-Prototypes.next) answer c.args.starts.now.items c.compared_parameters.new.starts.items _ (omega arith) c.in-Prototypes.ensures
+    (subst (λ (r : Result Bool BtfError). Lists (Paid c.args.local.now c.args.target.now (map pair_of c.args.above.now) (pairs (types_of c.in-Prototypes.params.now) (types_of c.in-Prototypes.others.now))) r c.args.starts.now.items c.compared_parameters.new.starts.items) (c.is_true.ensures.0 c.if-not-is_true.false) c.in_ok-answer-in-Prototypes.ensures))
+    c.walked-in-Prototypes.ensures

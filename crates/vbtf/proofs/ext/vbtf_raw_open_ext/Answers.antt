@@ -7,7 +7,7 @@ use Rattle.vbtf.proofs.ExtOpening.{adds_same}
 use Rattle.vbtf.proofs.ext.vbtf_raw_open_ext.Goals as goal
 use Rattle.vbtf.proofs.ext.vbtf_raw_open_ext.Goals.{After-owner}
 
--- what is opened is the handle's
+-- the opened .BTF.ext is the handle's
 same_old : (c : After-owner) → c.deref_mut.result.now ≡ c.args.table.now.opened
 same_old c = c.deref_mut.ensures.value ∙ c.in-Some-taken.ensures.2
 

@@ -11,7 +11,7 @@ use Rattle.vbtf.proofs.Kernels.{carried, for_handle}
 use Rattle.vbtf.proofs.rewrite.vbtf_raw_rewrite.Goals as goal
 use Rattle.vbtf.proofs.rewrite.vbtf_raw_rewrite.Goals.{After-owner}
 
--- what is rewritten is what the handle has opened
+-- the handle's opened table is rewritten
 same_opened : (c : After-owner) → c.deref_mut.result.now ≡ c.args.table.now.opened
 same_opened c = c.deref_mut.ensures.value ∙ c.in-Some.ensures.2 ∙ ap (λ h. h.opened) c.seen.ensures.1
 
@@ -27,7 +27,7 @@ same_new c = ap (λ o. o.btf) c.owner.ensures.1
 same_ext : (c : After-owner) → c.owner.result.opened.ext ≡ c.args.table.now.opened.ext
 same_ext c = ap (λ o. o.ext) c.owner.ensures.1 ∙ ap (λ o. o.ext) (same_opened c)
 
--- the maps have what the entries say
+-- the maps have the numbers of the entries
 same_layout : (c : After-owner) → layout_of c.in-Ok-Some.program.sections c.in-Ok-Some.program.symbols ≡ layout_named c.args.section_names.now c.args.sections.now c.args.symbol_names.now c.args.symbols.now
 same_layout c = subst (λ o. IfSome o (λ p. layout_of p.sections p.symbols ≡ layout_named c.args.section_names.now c.args.sections.now c.args.symbol_names.now c.args.symbols.now)) c.in-Ok-Some.field-0-is c.in-Ok-Some.ensures.some
 

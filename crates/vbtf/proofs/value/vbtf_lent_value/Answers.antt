@@ -6,7 +6,7 @@ use Rattle.vbtf.specs.declared.opened.Opened.{Opened}
 use Rattle.vbtf.proofs.Ending.{finding_refused}
 use Rattle.vbtf.proofs.value.vbtf_lent_value.Goals as goal
 
--- what was found in a table under a name is found in an equal one, and under an equal name
+-- the value of a name in a table is the value of an equal name in an equal table
 same : (id : ℕ) (old new : Opened) (name other : List ℕ) (answer result : Result (Option ℕ) BtfError)
     → old ≡ new → name ≡ other → answer ≡ result
     → MeetsOrNoMemory (λ v. v) answer (Value old.btf id name) → MeetsOrNoMemory (λ v. v) result (Value new.btf id other)

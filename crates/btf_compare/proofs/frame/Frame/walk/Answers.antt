@@ -13,16 +13,16 @@ use Rattle.btf_compare.proofs.frame.Frame.walk.Goals as goal
 pub positions-init : goal.positions-init
 positions-init c = record { walks = WalksTo.here; pair = refl }
 
-pub returns-in_err-answer-in-Told-clause-comes : goal.returns-in_err-answer-in-Told-clause-comes
-returns-in_err-answer-in-Told-clause-comes c =
+pub returns-in_err-answer-in-Decided-clause-comes : goal.returns-in_err-answer-in-Decided-clause-comes
+returns-in_err-answer-in-Decided-clause-comes c =
     let given = err_from_is_err_and c.from_residual.result c.from_residual.ensures.1 in
-    rw (given.1, given.2) (subst (λ (r : Result Bool BtfError). Meets (λ b. b) r (λ a. IsNext c.args.local.now c.args.target.now (frame_of c.positions.self) (runs.Ends a))) c.in_err-answer-in-Told.was
-    (told c.args.local.now c.args.target.now c.positions.self c.in-Told.answer c.positions-test.true c.in-Told.ensures.position))
+    rw (given.1, given.2) (subst (λ (r : Result Bool BtfError). Meets (λ b. b) r (λ a. IsNext c.args.local.now c.args.target.now (frame_of c.positions.self) (runs.Ends a))) c.in_err-answer-in-Decided.was
+    (told c.args.local.now c.args.target.now c.positions.self c.in-Decided.answer c.positions-test.true c.in-Decided.ensures.position))
 
-pub returns-in-Told-clause-comes : goal.returns-in-Told-clause-comes
-returns-in-Told-clause-comes c =
-    subst (λ (r : Result Bool BtfError). Meets (λ b. b) r (λ a. IsNext c.args.local.now c.args.target.now (frame_of c.positions.self) (runs.Ends a))) c.in_ok-answer-in-Told.was
-    (told c.args.local.now c.args.target.now c.positions.self c.in-Told.answer c.positions-test.true c.in-Told.ensures.position)
+pub returns-in-Decided-clause-comes : goal.returns-in-Decided-clause-comes
+returns-in-Decided-clause-comes c =
+    subst (λ (r : Result Bool BtfError). Meets (λ b. b) r (λ a. IsNext c.args.local.now c.args.target.now (frame_of c.positions.self) (runs.Ends a))) c.in_ok-answer-in-Decided.was
+    (told c.args.local.now c.args.target.now c.positions.self c.in-Decided.answer c.positions-test.true c.in-Decided.ensures.position)
 
 pub positions-preserved-in-On : goal.positions-preserved-in-On
 positions-preserved-in-On c = record {
@@ -33,12 +33,12 @@ positions-preserved-in-On c = record {
 
 pub positions-preserved : goal.positions-preserved
 positions-preserved c =
-    let found = c.in-Owes.found in
-    let here : AreAt c.args.local.now c.args.target.now c.positions.self found = record { finds = c.in-Owes.ensures.position; resolves = c.in-Owes.ensures.ids; within = c.positions-test.true; few = c.in-Owes.ensures.few } in
+    let found = c.in-Prototypes.found in
+    let here : AreAt c.args.local.now c.args.target.now c.positions.self found = record { finds = c.in-Prototypes.ensures.position; resolves = c.in-Prototypes.ensures.ids; within = c.positions-test.true; few = c.in-Prototypes.ensures.few } in
     record {
-      walks = WalksTo.past (frame_of c.positions.self) (frame_of c.go_on-in-Owes.new.self) (pair_of found.ids) c.positions.invariant.walks
-          (goes_past c.args.local.now c.args.target.now c.positions.self found here c.go_on-in-Owes.new.self c.go_on-in-Owes.ensures) (sym c.contains.ensures ∙ c.if-not-contains.false) (omega (arith, c.if-self-gt0.false));
-      pair = ap (λ (f : Frame). f.pair) c.go_on-in-Owes.ensures ∙ c.positions.invariant.pair;
+      walks = WalksTo.past (frame_of c.positions.self) (frame_of c.go_on-in-Prototypes.new.self) (pair_of found.ids) c.positions.invariant.walks
+          (goes_past c.args.local.now c.args.target.now c.positions.self found here c.go_on-in-Prototypes.new.self c.go_on-in-Prototypes.ensures) (sym c.contains.ensures ∙ c.if-not-contains.false) (omega (arith, c.if-self-gt0.false));
+      pair = ap (λ (f : Frame). f.pair) c.go_on-in-Prototypes.ensures ∙ c.positions.invariant.pair;
     }
 
 pub returns-clause-comes : goal.returns-clause-comes

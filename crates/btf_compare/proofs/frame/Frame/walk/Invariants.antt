@@ -10,4 +10,4 @@ invariant-positions l = record {
 }
 
 abbrev pub decreases-positions : goal.decreases-positions
-decreases-positions l = walk_limit - l.self.gone
+decreases-positions l = walk_limit - l.self.taken

@@ -12,18 +12,18 @@ use Rattle.btf_compare.proofs.pair_table.PairTable.insert.Goals.{After-index_mut
 at : (c : After-index_mut-bucket) → c.bucket_of-index.result ≡ bucket_of c.self.inside.mask (length c.self.inside.buckets.items) c.args.pair
 at c = c.bucket_of-index.ensures ∙ ap (λ (n : ℕ). bucket_of c.self.inside.mask n c.args.pair) (c.len.ensures ∙ c.self.inside.buckets.ok.0)
 
--- what is said of a pair, and how many there are, is as before room was made
+-- a split changes neither the value of a pair nor the number of entries
 same_values : (c : After-index_mut-bucket) (ids : ℕ × ℕ) → value_of (layout c.self.inside.buckets.items c.self.inside.mask c.self.inside.further.entries) ids ≡ value_of c.args.self.now ids
 same_values c ids = ap (λ t. value_of t ids) c.self.view_is ∙ c.in_ok-make_room.ensures.values ids
 
 same_counts : (c : After-index_mut-bucket) → count_in (layout c.self.inside.buckets.items c.self.inside.mask c.self.inside.further.entries) ≡ count_in c.args.self.now
 same_counts c = ap count_in c.self.view_is ∙ c.in_ok-make_room.ensures.counts
 
--- one more pair comes into the buckets
+-- the buckets take one more pair
 some_left : (c : After-index_mut-bucket) → 0 < c.self.inside.left
 some_left c = omega (arith, c.self.invariant.1, subst HasRoom (sym c.self.view_is) c.in_ok-make_room.ensures.room)
 
--- the pair is not in the ordered map, which has one entry more then
+-- the pair was not in the ordered map, so the map gains an entry
 gone : (c : After-index_mut-bucket) → values_in c.self.inside.further.entries c.args.pair ≡ None
 gone c =
     let t = c.self.inside in

@@ -27,7 +27,7 @@ index_mut-requires c =
     let s = (goal.at.index_mut-requires c).After-len-many in
     rw (sym c.len-many.ensures, many s) (next_within t.buckets.items t.mask t.further.entries c.self.invariant.0)
 
--- ---- what is there after it
+-- ---- the table after the split
 
 items : (c : After-push_reserved) → c.push_reserved.new.self.items ≡ set c.self.inside.buckets.items (c.len-many.result - (c.self.inside.mask / 2 + 1)) c.split-stay.result.0 ++ c.split-stay.result.1 ∷ []
 items c =

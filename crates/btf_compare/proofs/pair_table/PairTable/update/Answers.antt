@@ -23,11 +23,11 @@ map_sets c = ((c.get_mut.follows.holds c.args.progress).3 (search rules)).0
 map_long : (c : In-Some) → length (c.get_mut.follows.lender c.args.progress).entries ≡ length c.self.inside.further.entries
 map_long c = (c.get_mut.follows.holds c.args.progress).2
 
--- a value that is written there was there
+-- an entry whose value changes was there
 map_some : (c : In-Some) → values_in c.self.inside.further.entries c.args.pair ≡ None → ⊥
 map_some c none = none-some _ (sym none ∙ sym (c.in-Some.ensures.value))
 
--- its bucket has none of it
+-- its bucket has no entry of the pair
 not_here : (c : In-Some) → values_in (entries_of c.index_mut.result.now) c.args.pair ≡ None
 not_here c = none_is _ (sym c.if-not-set.ensures.found)
 

@@ -1,4 +1,4 @@
--- A handle goes to another thread where the table may.
+-- A handle can be sent to another thread if the table can.
 use Rattle.std.specs.Prelude.{ℕ, zero, suc, [], ◌∷◌}
 use mir.Raw.{raw}
 use base.Fraction.{full_share}

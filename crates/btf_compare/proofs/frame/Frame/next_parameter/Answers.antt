@@ -2,7 +2,7 @@ use Rattle.std.proofs.Common.{refl, sym}
 use Rattle.std.proofs.lemmas.Result.{err_from_is_err_and}
 use Rattle.btf_compare.specs.Pairs.{pair_of}
 use Rattle.btf_compare.proofs.Steps.{refused, waits}
-use Rattle.btf_compare.proofs.frame.Frame.pay.Goals as goal
+use Rattle.btf_compare.proofs.frame.Frame.next_parameter.Goals as goal
 
 pub returns-in_err-pair-clause-next : goal.returns-in_err-pair-clause-next
 returns-in_err-pair-clause-next c =
