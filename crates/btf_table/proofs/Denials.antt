@@ -12,7 +12,7 @@ use Rattle.btf_records.specs.declared.btf_type.BtfType.{BtfType}
 use Rattle.btf_rules.specs.InPlace.{denied}
 use Rattle.btf_model.specs.Table.{Table, type_bytes}
 use Rattle.btf_table.specs.declared.table.Btf.TheInside.{Inside}
-use Rattle.btf_table.specs.Btf.{table_of, IsKept}
+use Rattle.btf_table.specs.Btf.{table_of, IsConsistent}
 use Rattle.btf_table.specs.Changes.{put_all, each, changed}
 use Rattle.btf_table.specs.declared.table.changes.Changes.{Changes}
 use Rattle.btf_table.proofs.Put.{length-put}
@@ -94,8 +94,8 @@ one_denied ids k id old types d new lt id_is inside before words fallback tail k
     }
 
 -- A table retains its invariant.
-pub kept_denied : (b : Inside) (types : Vec BtfType Global) (ids : List ℕ) → IsKept b → AreIds (length b.types.items) ids → AreDenied ids b.types.items types.items → IsKept (record b { types = types })
-kept_denied b types ids kept inside d =
+pub consistent_denied : (b : Inside) (types : Vec BtfType Global) (ids : List ℕ) → IsConsistent b → AreIds (length b.types.items) ids → AreDenied ids b.types.items types.items → IsConsistent (record b { types = types })
+consistent_denied b types ids kept inside d =
     let rs : List Record = map record_of types.items in
     let head = deny_first (length b.types.items) ids unknown kept.first.0 inside in
     let first : rs ≡ unknown ∷ head.0 = d.records ∙ ap (deny_all ids) kept.first.1 ∙ head.1 in

@@ -9,7 +9,7 @@ use Rattle.btf_records.specs.BtfType.{record_of, fallback_of}
 use Rattle.btf_records.specs.declared.btf_type.BtfType.{BtfType}
 use Rattle.btf_table.specs.declared.table.Btf.TheInside.{Inside}
 use Rattle.btf_table.specs.declared.table.changes.Changes.{Changes}
-use Rattle.btf_table.specs.Btf.{table_of, IsKept}
+use Rattle.btf_table.specs.Btf.{table_of, IsConsistent}
 use Rattle.btf_table.specs.Changes.{put_all, put_back, replaced, each, AreInside, AreOf, changed, undone, Undoes}
 use Rattle.btf_table.specs.declared.table.changes.Undo.{Undo}
 
@@ -95,7 +95,7 @@ pub changed_each : {X : Type 0} (f : BtfType → X) (cs : List (ℕ × BtfType))
 changed_each f cs xs ys inside =
     map-put f cs (xs ++ ys) ∙ ap (put_all (each f cs)) (map-append f xs ys) ∙ put_front f cs (map f xs) (map f ys) (subst (λ (n : ℕ). AreInside n cs) (sym (length-map xs f)) inside)
 
-module _ (b : Inside) (c : Changes) (strings : Vec ℕ Global) (types : Vec BtfType Global) (kept : IsKept b) (of : AreOf (table_of b) c) (added : strings.items ≡ b.strings.items ++ c.new_strings.items)
+module _ (b : Inside) (c : Changes) (strings : Vec ℕ Global) (types : Vec BtfType Global) (kept : IsConsistent b) (of : AreOf (table_of b) c) (added : strings.items ≡ b.strings.items ++ c.new_strings.items)
     (put : types.items ≡ put_all c.types.items (b.types.items ++ c.new_types.items)) where
   abbrev after : Inside
   after = record b { strings = strings; types = types; type_len = c.type_len }
@@ -112,8 +112,8 @@ module _ (b : Inside) (c : Changes) (strings : Vec ℕ Global) (types : Vec BtfT
       (ap (map record_of) put ∙ changed_each record_of c.types.items b.types.items c.new_types.items inside)
       ∙ ap (λ (fs : List (Option Fallback)). record (changed t c) { fallbacks = fs }) (ap (map fallback_of) put ∙ changed_each fallback_of c.types.items b.types.items c.new_types.items inside)
 
-  pub kept_changed : IsKept after
-  kept_changed =
+  pub consistent_changed : IsConsistent after
+  consistent_changed =
       let head : (rest : List Record) × (put_all (each record_of c.types.items) (unknown ∷ kept.first.0) ≡ unknown ∷ rest) = first_stays record_of (length (table_of b).records) c.types.items unknown kept.first.0 of.ids in
       record {
         magic = kept.magic;
@@ -187,7 +187,7 @@ taken_back f cs xs ys n is =
     ap (take n) (sym (map-put_back f (replaced cs (xs ++ ys)) (put_all cs (xs ++ ys))) ∙ ap (map f) (put_back_all cs (xs ++ ys))) ∙ take-map f n (xs ++ ys) ∙ ap (map f) (front_is xs ys n is)
 
 -- With the replaced elements the changes can be reverted.
-pub undoes : (b : Inside) (c : Changes) (strings : Vec ℕ Global) (types : Vec BtfType Global) → IsKept b → AreOf (table_of b) c → strings.items ≡ b.strings.items ++ c.new_strings.items → types.items ≡ put_all c.types.items (b.types.items ++ c.new_types.items)
+pub undoes : (b : Inside) (c : Changes) (strings : Vec ℕ Global) (types : Vec BtfType Global) → IsConsistent b → AreOf (table_of b) c → strings.items ≡ b.strings.items ++ c.new_strings.items → types.items ≡ put_all c.types.items (b.types.items ++ c.new_types.items)
     → (undo : Undo) → undo.types.items ≡ replaced c.types.items (b.types.items ++ c.new_types.items) → undo.string_len ≡ length b.strings.items → undo.count ≡ length b.types.items → undo.type_len ≡ b.type_len
     → Undoes undo (table_of (record b { strings = strings; types = types; type_len = c.type_len })) (table_of b)
 undoes b c strings types kept of added put undo old string_len count type_len =
@@ -227,9 +227,9 @@ view_undone b undo old strings types undoes cut put =
     (ap (map fallback_of) put ∙ sym (take-map fallback_of undo.count (put_back undo.types.items b.types.items)) ∙ ap (take undo.count) (map-put_back fallback_of undo.types.items b.types.items))
     ∙ undoes.table
 
-pub kept_undone : (b : Inside) (undo : Undo) (old : Table) (strings : Vec ℕ Global) (types : Vec BtfType Global) → IsKept b → Undoes undo (table_of b) old → strings.items ≡ take undo.string_len b.strings.items → types.items ≡ take undo.count (put_back undo.types.items b.types.items)
-    → IsKept (record b { strings = strings; types = types; type_len = undo.type_len })
-kept_undone b undo old strings types kept undoes cut put =
+pub consistent_undone : (b : Inside) (undo : Undo) (old : Table) (strings : Vec ℕ Global) (types : Vec BtfType Global) → IsConsistent b → Undoes undo (table_of b) old → strings.items ≡ take undo.string_len b.strings.items → types.items ≡ take undo.count (put_back undo.types.items b.types.items)
+    → IsConsistent (record b { strings = strings; types = types; type_len = undo.type_len })
+consistent_undone b undo old strings types kept undoes cut put =
     let view = view_undone b undo old strings types undoes cut put in
     record {
       magic = kept.magic;

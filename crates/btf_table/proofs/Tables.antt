@@ -26,26 +26,26 @@ use Rattle.btf_table.specs.declared.table.header.Header.{Header}
 use Rattle.btf_table.specs.Denied.{AllHaveKinds}
 use Rattle.btf_table.proofs.KnownKinds.{one_more_kind}
 use Rattle.btf_table.specs.Header.{header}
-use Rattle.btf_table.specs.Btf.{table_of, IsKept}
+use Rattle.btf_table.specs.Btf.{table_of, IsConsistent}
 
 -- the type section without id 0
 types_after : (order : Endianness) (types : List BtfType) (rs : List Record) → map record_of types ≡ unknown ∷ rs → flat_map (spell order) (drop 1 (map record_of types)) ≡ flat_map (spell order) rs
 types_after order types rs h = ap (λ (xs : List Record). flat_map (spell order) (drop 1 xs)) h
 
 -- ids have 32 bits each record except the first has at least 12 bytes
-pub long_types : (b : Inside) → IsKept b → 12 * length b.types.items ≤ length (type_bytes (table_of b)) + 12
+pub long_types : (b : Inside) → IsConsistent b → 12 * length b.types.items ≤ length (type_bytes (table_of b)) + 12
 long_types b h =
     let rs = h.first.0 in
     omega (arith, ap length (types_after b.endianness b.types.items rs h.first.1), records_are_long b.endianness rs, ap length h.first.1, length-map b.types.items record_of)
 
-pub few_types : (b : Inside) → IsKept b → length b.types.items < 2 ^ 32
+pub few_types : (b : Inside) → IsConsistent b → length b.types.items < 2 ^ 32
 few_types b h =
     let rs = h.first.0 in
     omega (arith, h.limit, h.types, ap length (types_after b.endianness b.types.items rs h.first.1), records_are_long b.endianness rs, ap length h.first.1, length-map b.types.items record_of)
 
 -- the invariant holds with one more type
-pub kept_push : (b : Inside) (types : Vec BtfType Global) (t : BtfType) (size : ℕ) (k : Kind) → IsKept b → kind_of (record_of t).info ≡ Some k → types.items ≡ b.types.items ++ t ∷ [] → size ≡ 12 + 4 * length (record_of t).tail → b.type_len + size ≤ section_limit → IsKept (record b { types = types; type_len = b.type_len + size })
-kept_push b types t size k h kind is size-is fits =
+pub consistent_push : (b : Inside) (types : Vec BtfType Global) (t : BtfType) (size : ℕ) (k : Kind) → IsConsistent b → kind_of (record_of t).info ≡ Some k → types.items ≡ b.types.items ++ t ∷ [] → size ≡ 12 + 4 * length (record_of t).tail → b.type_len + size ≤ section_limit → IsConsistent (record b { types = types; type_len = b.type_len + size })
+consistent_push b types t size k h kind is size-is fits =
     let order = b.endianness in
     let rs = h.first.0 in
     let r = record_of t in
@@ -67,8 +67,8 @@ pub read_len : (order : Endianness) (bytes : List ℕ) (types : List BtfType) (r
 read_len order bytes types rs is h = sym (ap length (types_after order types rs is) ∙ length-records order bytes rs h)
 
 -- a table with the invariant can be written
-pub kept_is_valid : (b : Inside) → IsKept b → AllByRecursion IsWhole (map record_of (drop 1 b.types.items)) → IsValid (table_of b)
-kept_is_valid b h whole =
+pub consistent_is_valid : (b : Inside) → IsConsistent b → AllByRecursion IsWhole (map record_of (drop 1 b.types.items)) → IsValid (table_of b)
+consistent_is_valid b h whole =
     let rs = h.first.0 in
     let behind : map record_of (drop 1 b.types.items) ≡ rs = sym (drop-map record_of 1 b.types.items) ∙ ap (drop 1) h.first.1 in
     record {

@@ -21,7 +21,7 @@ table_of b = record {
 
 -- The invariant of a `Btf`: the header's numbers fit their types, both sections are within their limit, `type_len` is
 -- the length of the type section, record 0 is Unknown, and each record has a kind.
-pub record IsKept (b : Inside) : Type 0 where
+pub record IsConsistent (b : Inside) : Type 0 where
   pub magic : b.magic < 2 ^ 16
   pub version : b.version < 2 ^ 8
   pub flags : b.flags < 2 ^ 8

@@ -15,8 +15,8 @@ AreFound strings find found =
     → (name : List ℕ) × (text_at strings offset ≡ Ok name) × (in_a_word (find name) ≡ Some n)
 
 -- A DATASEC retains the name at each of these string offsets, on a kernel that has DATASECs (true) or has none (false).
-abbrev pub AreKept : List ℕ → BTreeMap ℕ Bool → Type 0
-AreKept strings kept =
+abbrev pub AreUnchanged : List ℕ → BTreeMap ℕ Bool → Type 0
+AreUnchanged strings kept =
     (offset : ℕ) (granted : Bool) → get nat_cmp kept offset ≡ Some granted
     → (name : List ℕ) × (text_at strings offset ≡ Ok name)
     × ((if granted then replaced slash dot name else replaced dot underscore name) ≡ name)
@@ -24,6 +24,6 @@ AreKept strings kept =
 -- All cached entries are correct for these strings and this layout.
 pub record AreRead (strings : List ℕ) (layout : Layout) (names : ReadNames) : Type 0 where
   pub end : IsReadableEnd strings names.readable_end
-  pub kept : AreKept strings names.kept
+  pub kept : AreUnchanged strings names.kept
   pub sizes : AreFound strings layout.sections names.sizes
   pub offsets : AreFound strings layout.symbols names.offsets

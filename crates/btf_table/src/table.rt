@@ -69,11 +69,11 @@ impl Model for Btf {
 
     ghost Value = { Table };
 
-    ghost use Rattle.btf_table.specs.Btf.{table_of, IsKept};
+    ghost use Rattle.btf_table.specs.Btf.{table_of, IsConsistent};
 
     ghost view = { table_of };
 
-    ghost invariant = { IsKept };
+    ghost invariant = { IsConsistent };
 }
 
 impl Btf {

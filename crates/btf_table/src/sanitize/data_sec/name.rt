@@ -11,7 +11,7 @@ ghost use Rattle.btf_rewrite_model.specs.Rule.{name_or};
 ghost use Rattle.btf_words.specs.Error.{IsOrNoMemory};
 ghost use Rattle.btf_table.specs.Adding.{strings_end, HasRoom, Adds};
 ghost use Rattle.btf_rules.specs.Checked.{checked};
-ghost use Rattle.btf_table.specs.ReadNames.{AreKept};
+ghost use Rattle.btf_table.specs.ReadNames.{AreUnchanged};
 
 use crate::sanitize::read_names::LONG_NAME;
 use crate::table::{Btf, Changes};
@@ -43,7 +43,7 @@ pub fn new_name(
     granted: bool,
 ) -> Result<u32, BtfError>
     requires room { HasRoom btf.now changes.old }
-    requires kept { AreKept btf.now.strings kept.old }
+    requires kept { AreUnchanged btf.now.strings kept.old }
     ensures answer { (p : Pass) → p.table ≡ btf.now → has p features.DataSec ≡ granted
         → IsOrNoMemory (λ o. o) result (checked
         (first_fault (is_read (text_at btf.now.strings data_sec.now.name)
@@ -54,7 +54,7 @@ pub fn new_name(
     ensures adds { (p : Pass) → p.table ≡ btf.now → has p features.DataSec ≡ granted
         → OnOk result (Adds btf.now changes.old changes.new
         (renaming p (text_at btf.now.strings data_sec.now.name)) []) }
-    ensures kept { OnOk result (AreKept btf.now.strings kept.new) }
+    ensures kept { OnOk result (AreUnchanged btf.now.strings kept.new) }
 {
     let offset = data_sec.name_offset();
     if is_kept(kept, offset, granted) {

@@ -7,7 +7,7 @@ use Rattle.btf_model.specs.Table.{Table}
 use Rattle.btf_table.specs.Btf.{table_of}
 use Rattle.btf_table.specs.declared.table.changes.Undo.{Undo}
 use Rattle.btf_table.specs.declared.table.Btf.TheInside.{Inside}
-use Rattle.btf_table.proofs.Put.{view_changed, kept_changed, undoes}
+use Rattle.btf_table.proofs.Put.{view_changed, consistent_changed, undoes}
 use Rattle.btf_table.proofs.table.Btf.apply.Goals as goal
 
 of : (c : goal.After-drop-changes-3) → AreOf (table_of c.self.inside) c.args.changes
@@ -22,7 +22,7 @@ types c =
     ∙ ap (put_all c.args.changes.types.items) (c.deref_mut.ensures.value ∙ c.in_ok-append.ensures.items ∙ ap (λ (xs : List BtfType). xs ++ c.args.changes.new_types.items) c.in_ok-reserve-2.ensures.items)
 
 pub invariant_of-self-2 : goal.invariant_of-self-2
-invariant_of-self-2 c = kept_changed c.self.inside c.args.changes c.extend_from_slice.new.self (with_items c.append.new.self c.swap_types.new.types) c.self.invariant (of c) (strings c) (types c)
+invariant_of-self-2 c = consistent_changed c.self.inside c.args.changes c.extend_from_slice.new.self (with_items c.append.new.self c.swap_types.new.types) c.self.invariant (of c) (strings c) (types c)
 
 pub returns-clause-ok : goal.returns-clause-ok
 returns-clause-ok c = view_changed c.self.inside c.args.changes c.extend_from_slice.new.self (with_items c.append.new.self c.swap_types.new.types) c.self.invariant (of c) (strings c) (types c) ∙ ap (λ t. changed t c.args.changes) c.self.view_is

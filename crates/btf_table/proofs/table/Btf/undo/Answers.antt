@@ -3,7 +3,7 @@ use Rattle.std.proofs.lemmas.List.{with_items_is}
 use Rattle.btf_model.specs.Table.{Table}
 use Rattle.btf_table.specs.Changes.{put_back, Undoes}
 use Rattle.btf_table.specs.Btf.{table_of}
-use Rattle.btf_table.proofs.Put.{view_undone, kept_undone}
+use Rattle.btf_table.proofs.Put.{view_undone, consistent_undone}
 use Rattle.btf_table.proofs.table.Btf.undo.Goals as goal
 
 types : (c : goal.After-drop-undo) → c.truncate.new.self.items ≡ take c.args.undo.count (put_back c.args.undo.types.items c.self.inside.types.items)
@@ -15,7 +15,7 @@ undoes : (c : goal.After-drop-undo) (old : Table) → Undoes c.args.undo c.args.
 undoes c old is = subst (λ t. Undoes c.args.undo t old) (sym c.self.view_is) is
 
 pub invariant_of-self : goal.invariant_of-self
-invariant_of-self c = kept_undone c.self.inside c.args.undo c.requires.0 c.truncate-2.new.self c.truncate.new.self c.self.invariant (undoes c c.requires.0 c.requires.1) c.truncate-2.ensures.items (types c)
+invariant_of-self c = consistent_undone c.self.inside c.args.undo c.requires.0 c.truncate-2.new.self c.truncate.new.self c.self.invariant (undoes c c.requires.0 c.requires.1) c.truncate-2.ensures.items (types c)
 
 pub returns : goal.returns
 returns c = λ old is. view_undone c.self.inside c.args.undo old c.truncate-2.new.self c.truncate.new.self (undoes c old is) c.truncate-2.ensures.items (types c)
