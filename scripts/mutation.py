@@ -1,4 +1,4 @@
-"""Mutants: what their files change, in which functions, and what the prover reports of them.
+"""Mutants: the changes in their files, the changed functions, and the prover's reports on them.
 
 A file of mutants is a must-fail edit of `rt ci`: lines `file: PATH`, `old: TEXT` and `new: TEXT`. Other lines are
 comments. A file `*_words_mistaken` holds several mutants of one struct.
@@ -20,15 +20,15 @@ WIDTH = 120
 
 KILLED, SURVIVED, WRONG, NOT_APPLICABLE = "killed", "survived", "killed for the wrong reason", "not applicable"
 
-# What a proof file reports where it names something that a mutant took away.
+# The errors of a proof file that names something that a mutant removed.
 NAMED = re.compile(r"has no field|is not in scope|has no `|was not admitted|already brought in")
-# What a source that cannot be read reports, as `rt must-fail` knows it.
+# The errors of a source that cannot be read, as for `rt must-fail`.
 UNREAD = re.compile(r"is not in scope|has no field|is no name|operand is missing|expected the end|cannot continue")
 ERROR = re.compile(r"(?:\./)?(\S+?):(\d+):\d+: error: (?:`([^`]*)`: )?(.*)")
 NOTED = re.compile(r"^note: (?:\./)?(\S+?):(\d+):\d+: it is not proved .*?\(`([^`]+)`\)", re.M)
 SEARCHED = re.compile(r"`search` did not prove ((?:`[^`]*`(?:, )?)+)")
 
-# Lines that are changed: what each becomes, by its file and number.
+# Changed lines: the new text of each, by its file and number.
 Lines = dict[tuple[str, int], str]
 
 
@@ -55,25 +55,26 @@ class Function(NamedTuple):
 
     @property
     def path(self) -> str:
-        """Returns the function's path, as the prover spells it in most crates."""
+        """Returns the function's path, in the form that the prover uses in most crates."""
         return "::".join([*self.module, *[self.type + self.trait] * bool(self.type), self.name])
 
     def names_in(self, names: list[str]) -> list[str]:
-        """Returns what the prover calls the function and its closures, of these names."""
+        """Returns those of these names that are the prover's names of the function and its closures."""
         closures = "::".join([*self.module, "fn", *[self.type] * bool(self.type), self.name, ""])
         return [it for it in names if it == self.path or it.startswith(closures) or self.is_method(it.split("::"))]
 
     def is_method(self, parts: list[str]) -> bool:
-        """Returns whether a path may be that of this method. It is in the module of its type, which another file may
-        declare. Where it is of a trait, the part before its name has words of both, and then of the arguments."""
+        """Returns whether a path may be the path of this method. A method is in the module of its type, which another
+        file may declare. For a method of a trait, the part before its name has the words of the type and the trait, and
+        then of the arguments."""
         if not self.type or parts[-1] != self.name or len(parts) < 3:
             return False
         plain = [it.replace("_", "").lower() for it in (parts[-2], self.type + self.trait)]
         return plain[0].startswith(plain[1]) if self.trait else parts[-2] == self.type
 
     def is_body(self, number: int) -> bool:
-        """Returns whether a line is in the function's body, which no other function sees: not in its head or contract,
-        nor where a constant may call it."""
+        """Returns whether a line is in the function's body, which no other function sees. The head and the contract are
+        not in the body, and neither is any line of a function that a constant may call."""
         lines = self.text.lstrip("\n").split("\n")
         begun = self.first + self.text.index(lines[0])
         indent = lines[0][: len(lines[0]) - len(lines[0].lstrip())]
@@ -95,7 +96,7 @@ class Mutant(NamedTuple):
 
 
 class Verdict(NamedTuple):
-    """What became of a mutant, why, and the goals that kill it, by function."""
+    """The verdict on a mutant, the reason, and the goals that kill it, by function."""
 
     how: str
     why: str = ""
@@ -112,7 +113,7 @@ def owner_of(text: str) -> tuple[str, str]:
 
 
 def functions_of(crate: str) -> list[Function]:
-    """Returns the functions of a crate, each with the lines from its head to the next one's."""
+    """Returns the functions of a crate, each with the lines from its head to the next head."""
     found = []
     for file in sorted(glob.glob("src/**/*.rt", recursive=True, root_dir=f"crates/{crate}")):
         text = text_of(f"crates/{crate}/{file}")
@@ -147,7 +148,7 @@ def changes_of(path: str) -> Iterator[Change]:
 
 
 def parts_of(changes: list[Change]) -> Iterator[list[Change]]:
-    """Returns changes one by one. Those between one and another that takes it back are one part with these."""
+    """Returns changes one by one. If a later change reverts one, both and the changes between them are one part."""
     while changes:
         back = [at for at, later in enumerate(changes) if (later.path, later.old) == (changes[0].path, changes[0].new)]
         count = back[-1] + 1 if back else 1
@@ -156,8 +157,8 @@ def parts_of(changes: list[Change]) -> Iterator[list[Change]]:
 
 
 def lines_changed(crate: str, changes: list[Change]) -> Lines:
-    """Returns the lines that changes make, one after the other, by file and number; none where an old text is not in
-    its file exactly once."""
+    """Returns the lines that change when the changes are made one after the other, by file and number; none if an old
+    text is not in its file exactly once."""
     paths = {it.path for it in changes if os.path.isfile(f"crates/{crate}/{it.path}")}
     before = {path: text_of(f"crates/{crate}/{path}") for path in paths}
     after = dict(before)
@@ -170,8 +171,8 @@ def lines_changed(crate: str, changes: list[Change]) -> Lines:
 
 
 def functions_changed(crate: str, lines: Lines, every: list[Function]) -> tuple[list[Function], bool]:
-    """Returns the functions that these lines are in, and whether other functions may see the change. A constant is in
-    the functions that name it. Functions of a cycle of calls have one proof."""
+    """Returns the functions that contain these lines, and whether other functions may see the change. A constant counts
+    as in the functions that name it. Functions of a cycle of calls have one proof."""
     found: list[Function] = []
     is_alone = False
     for path, number in lines:
@@ -199,8 +200,8 @@ def mutants_of(crate: str, paths: list[str]) -> Iterator[Mutant]:
 
 
 def batches(mutants: list[Mutant], names: list[str], most: int) -> list[list[Mutant]]:
-    """Returns mutants of a crate in groups in which no two change a function that the prover may call the same, of
-    these names, or the same line. One whose change other functions may see is a group of its own."""
+    """Returns mutants of a crate in groups. No two mutants of a group change the same line, or functions that may have
+    the same name among the prover's `names`. A mutant whose change other functions may see is a group of its own."""
     groups: list[tuple[set[str], list[Mutant]]] = []
     for mutant in mutants:
         own = {it for function in mutant.functions for it in [function.path, *function.names_in(names)]}
@@ -216,19 +217,19 @@ def batches(mutants: list[Mutant], names: list[str], most: int) -> list[list[Mut
 
 
 def has_ended(said: str) -> bool:
-    """Returns whether the prover came to an end, and did not refuse the source before any proof."""
+    """Returns whether the prover has finished, and did not reject the source before any proof."""
     return bool(re.search(r"^(logic|only|holes)=", said, re.M))
 
 
 def errors_in(said: str) -> list[tuple[str, str, str]]:
-    """Returns the errors that the prover reports: the file, the goal or nothing, and the text."""
+    """Returns the errors that the prover reports: the file, the goal or an empty text, and the message."""
     found = map(ERROR.match, re.sub(r"\n  (?=\S)", " ", said).split("\n"))
     return [(it[1], it[3] or "", it[4]) for it in found if it]
 
 
 def unread(said: str, mutant: Mutant) -> str:
-    """Returns the error that shows that a file which the mutant changes cannot be read, or where it changes no
-    function, any file of src/ or specs/; nothing where there is none."""
+    """Returns the first error of a file that cannot be read; empty if there is none. The file is one that the mutant
+    changes, or any file of src/ or specs/ if the mutant changes no function."""
     changed = {path for path, _ in mutant.lines}
     for path, goal, text in errors_in(said):
         if path in changed or not mutant.functions and path.startswith(("src/", "specs/")):
@@ -238,8 +239,8 @@ def unread(said: str, mutant: Mutant) -> str:
 
 
 def goals_of(said: str, name: str) -> list[str]:
-    """Returns the goals of a function that are not proved: those that the prover searched for, and those whose proof in
-    the function's own files it refuses, but not for a name that is gone."""
+    """Returns the goals of a function that are not proved: the goals for which the prover's search finds no proof, and
+    the goals whose proof in the function's own files it rejects, unless a removed name is the reason."""
     line = dict(re.findall(r"^fn (\S+): (.*)$", said, re.M)).get(name, "proved")
     if line.startswith(("proved", "no holes", "depends on a hole")):
         return []
@@ -250,8 +251,8 @@ def goals_of(said: str, name: str) -> list[str]:
 
 
 def own_goals(said: str, function: Function, names: list[str]) -> dict[str, list[str]]:
-    """Returns the goals of a function that a mutant changes, and of its closures, that are not proved, by name. Where
-    it has proofs of its own, the prover reports what it searched for by the line of the source alone."""
+    """Returns the goals that are not proved of a function that a mutant changes, and of its closures, by name. If the
+    function has its own proofs, the prover reports the goals of its search by the line of the source only."""
     found = {name: goals_of(said, name) for name in function.names_in(names)}
     within = range(function.first, function.last + 1)
     noted = [goal for path, at, goal in NOTED.findall(said) if path == function.file and int(at) in within]
@@ -261,7 +262,7 @@ def own_goals(said: str, function: Function, names: list[str]) -> dict[str, list
 
 
 def why_not(said: str, names: list[str]) -> str:
-    """Returns the first reason that the prover gives where no goal of these functions fails."""
+    """Returns the first reason that the prover gives, if no goal of these functions fails."""
     failing = re.findall(r"^fn (\S+: (?!proved|no holes|depends on).*)$", said, re.M)
     own = [it for it in failing if it.partition(": ")[0] in names]
     errors = [f"{path}: {text}" for path, _, text in errors_in(said)]
@@ -269,8 +270,8 @@ def why_not(said: str, names: list[str]) -> str:
 
 
 def verdict(said: str, mutant: Mutant, names: list[str]) -> Verdict:
-    """Returns the verdict on a mutant from what the prover reports: it is killed by a goal of a function that it
-    changes, or, where it changes no function, by any goal or worked example."""
+    """Returns the verdict on a mutant from the prover's report: it is killed by a goal of a function that it changes,
+    or by any goal or worked example if it changes no function."""
     if not mutant.lines:
         return Verdict(NOT_APPLICABLE, "an old text is not in its file exactly once")
     if not has_ended(said):
@@ -294,7 +295,7 @@ def verdict(said: str, mutant: Mutant, names: list[str]) -> Verdict:
 
 
 def notes_of(goals: dict[str, list[str]]) -> Iterator[str]:
-    """Returns the comments that name the goals that kill a mutant, none of them too long."""
+    """Returns the comments that name the goals that kill a mutant, within the width of a line."""
     for name, of_name in sorted(goals.items()):
         begun = f"# refused at: {name.partition('::')[2] or name}: "
         wrapped = textwrap.wrap(", ".join(of_name), WIDTH - len(begun), break_long_words=False, break_on_hyphens=False)

@@ -1,4 +1,4 @@
-"""The crates of this repository, and the toolchain that proves them, for the scripts beside this file."""
+"""The crates of this repository, and the toolchain that proves them, for the other scripts."""
 
 from __future__ import annotations
 
@@ -13,7 +13,7 @@ def kit() -> str:
 
 
 def crates() -> list[tuple[list[str], list[str]]]:
-    """Returns the lines of crates.txt: each crate's name with the words beside it, and the libraries that it uses."""
+    """Returns the lines of crates.txt: each crate's name with the words after it, and the libraries that it uses."""
     with open("crates.txt", encoding="utf-8") as file:
         lines = [line.partition(":") for line in file if ":" in line and not line.startswith("#")]
     return [(named.split(), uses.split()) for named, _, uses in lines]
@@ -30,7 +30,8 @@ def is_static(crate: str) -> bool:
 
 
 def below(crate: str, uses: dict[str, list[str]]) -> list[str]:
-    """Returns all of this repository's crates that a crate uses, directly or not, each after those that it uses."""
+    """Returns all crates of this repository that a crate uses, directly or indirectly, each after the crates that it
+    uses."""
     found: list[str] = []
     for name in [it for it in uses[crate] if it in uses]:
         found += [it for it in [*below(name, uses), name] if it not in found]
@@ -43,13 +44,13 @@ def is_program(crate: str) -> bool:
 
 
 def rlib(crate: str, crates: str) -> str:
-    """Returns where a library was built in a folder of crates."""
+    """Returns the path of a built library in a folder of crates."""
     return f"{crates}/{crate}/out/rlib/{crate}.rlib"
 
 
 def prover(verb: str, crate: str, crates: str, uses: dict[str, list[str]]) -> list[str]:
-    """Returns the words of a check or a build of a crate in its folder, as `rt` makes them, over the libraries that are
-    built in a folder of crates."""
+    """Returns the command line of a check or a build of a crate in its folder, as `rt` makes it, with the libraries
+    that are built in a folder of crates."""
     at = kit()
     root = "src/main.rt" if is_program(crate) else "src/lib.rt"
     words = [f"{at}/bin/rattle", verb, "--crate-name", crate, root, "-L", f"dependency={at}/rlibs"]

@@ -1,15 +1,15 @@
 /*
  * vbtf.h: tables of BTF, the Linux kernel's type metadata for BPF programs.
  *
- * The library below these calls is proved: each call terminates on every input, and docs/C.md has what it returns. A
- * call returns a status: VBTF_OK, the number of an error of the library, or one of this binding's own. Where the last
- * argument is a struct vbtf_error, the call describes an error of the library there; the argument may not be null.
+ * The library below these calls is proved: each call terminates on every input, and docs/C.md has its results. A call
+ * returns a status: VBTF_OK, the number of an error of the library, or a status of this binding. If the last argument
+ * is a struct vbtf_error, the call describes an error of the library there; the argument may not be null.
  *
  * Nothing checks these duties of the caller:
  *
  *  - A struct vbtf_table is zeroed before its first call, and not copied while it is open. VBTF_TABLE_INIT zeroes it.
- *  - Several threads may read one table at the same time. A call that takes a table without const runs alone: calls on
- *    that table in other threads have returned before, and begin after it.
+ *  - Several threads may read one table at the same time. During a call that takes a table without const, no other
+ *    thread makes a call on that table.
  *  - Arguments that are written to overlap no other argument.
  *  - malloc, realloc and free are those of one allocator. No call is made from a signal handler.
  */
@@ -30,13 +30,13 @@ enum vbtf_status {
 	VBTF_OK = 0,
 
 	/* errors of the library */
-	VBTF_INVALID_HEADER = 1,         /* the header is cut, or the strings are not within the data */
-	VBTF_INVALID_TYPE_INFO = 2,      /* the types are not within the data, or a record is cut or too large */
+	VBTF_INVALID_HEADER = 1,         /* the header is truncated, or the strings are not within the data */
+	VBTF_INVALID_TYPE_INFO = 2,      /* the types are not within the data, or a record is truncated or too large */
 	VBTF_INVALID_TYPE_KIND = 4,      /* a record is of a kind that does not exist; the kind is in id */
 	VBTF_INVALID_STRING_OFFSET = 6,  /* no text is at offset */
-	VBTF_INVALID_INFO = 7,           /* a part of .BTF.ext is not where it should be: offset, len, section_len */
+	VBTF_INVALID_INFO = 7,           /* a part of .BTF.ext is not within its bounds: offset, len, section_len */
 	VBTF_UNKNOWN_TYPE = 9,           /* no type has id */
-	VBTF_UNEXPECTED_TYPE = 10,       /* the type of id is of a kind that has no place there */
+	VBTF_UNEXPECTED_TYPE = 10,       /* the type of id has a kind that is not allowed there */
 	VBTF_UNKNOWN_TYPE_NAME = 11,     /* no type of the kind has the name */
 	VBTF_TOO_DEEP = 12,              /* a walk passed 32 types; it began at id, or would go on there */
 	VBTF_SYMBOL_NOT_FOUND = 13,      /* the symbol of the name has no known offset, or one past 32 bits */
@@ -47,9 +47,9 @@ enum vbtf_status {
 	/* of this binding */
 	VBTF_NO_ROOM = 100,              /* the buffer is too short; nothing was written to it */
 	VBTF_CLOSED = 101,               /* the table, or its .BTF.ext, is not open */
-	VBTF_BAD_ARGUMENT = 102,         /* an argument has no meaning, or what is to be opened is open already */
+	VBTF_BAD_ARGUMENT = 102,         /* an argument is invalid, or the table or .BTF.ext is open already */
 	VBTF_NO_ITEM = 103,              /* the type has no item of the index, or no variant of the name */
-	VBTF_NOT_AN_OBJECT = 104,        /* the bytes are no ELF object that is read here; error.id says why */
+	VBTF_NOT_AN_OBJECT = 104,        /* the bytes are no ELF object that is read here; error.id has the reason */
 	VBTF_NO_TABLE = 105,             /* the object has no section .BTF */
 	VBTF_NOT_REPLACEABLE = 106       /* the bytes of the section .BTF cannot be replaced */
 };
@@ -61,7 +61,7 @@ struct vbtf_error {
 	uint64_t offset;
 	uint64_t len;
 	uint64_t section_len;
-	uint32_t name_len;       /* how many bytes of name are set, at most 255 */
+	uint32_t name_len;       /* the number of bytes of name, at most 255 */
 	unsigned char name[255]; /* the first bytes of the name of a type, a symbol or a section; no zero byte ends it */
 };
 
@@ -74,7 +74,7 @@ struct vbtf_table {
 
 #define VBTF_TABLE_INIT { 0, 0 }
 
-/* The order of the bytes in a word. VBTF_BY_MAGIC is big-endian where the data begins with 0xeb 0x9f, else little. */
+/* The byte order. VBTF_BY_MAGIC is big-endian if the data begins with 0xeb 0x9f, otherwise little-endian. */
 enum vbtf_order { VBTF_LITTLE = 0, VBTF_BIG = 1, VBTF_BY_MAGIC = 2 };
 
 enum vbtf_kind {
@@ -84,7 +84,7 @@ enum vbtf_kind {
 	VBTF_KIND_TYPE_TAG, VBTF_KIND_ENUM64
 };
 
-/* The text of a kind, as `[INT]`; null where there is no such kind. */
+/* The text of a kind, such as `[INT]`; null if there is no such kind. */
 static inline const char *vbtf_kind_text(uint32_t kind)
 {
 	static const char *const texts[] = {
@@ -103,7 +103,7 @@ struct vbtf_type {
 	uint32_t size_or_type;   /* the size in bytes, or the id of another type, by the kind; 0 of a kind without both */
 };
 
-/* How many members, variants, parameters or entries a type has. The vlen of a FUNC is its linkage. */
+/* The number of members, variants, parameters or entries of a type. The vlen of a FUNC is its linkage. */
 static inline uint32_t vbtf_vlen(const struct vbtf_type *type)
 {
 	return type->info & 0xffff;
@@ -123,15 +123,15 @@ struct vbtf_member {
 	uint32_t name_offset;
 	uint32_t type;
 	uint32_t bit_offset;
-	uint32_t bit_field_size; /* in bits; 0 of a member that is no bit-field */
+	uint32_t bit_field_size; /* in bits; 0 for a member that is no bit-field */
 };
 
 /* A variant of an ENUM or ENUM64. */
 struct vbtf_variant {
 	uint32_t name_offset;
-	uint32_t bits;           /* how many bits the value has: 32 in an ENUM, 64 in an ENUM64 */
+	uint32_t bits;           /* the number of bits of the value: 32 in an ENUM, 64 in an ENUM64 */
 	bool is_signed;
-	uint64_t value;          /* the bits above those of the value are 0, also where it is signed */
+	uint64_t value;          /* zero-extended to 64 bits, even if it is signed */
 };
 
 /* A parameter of a FUNC_PROTO. The last one of a variadic function has type 0 and no name. */
@@ -140,7 +140,7 @@ struct vbtf_param {
 	uint32_t type;
 };
 
-/* An entry of a DATASEC: a variable, and its place in the section in bytes. */
+/* An entry of a DATASEC: a variable, and its offset and size in the section in bytes. */
 struct vbtf_entry {
 	uint32_t type;
 	uint32_t offset;
@@ -153,10 +153,10 @@ struct vbtf_array {
 	uint32_t len;
 };
 
-/* What an INT has beside its size. */
+/* The fields of an INT besides its size. */
 struct vbtf_int {
 	uint32_t encoding;       /* 1 for signed, 2 for char, 4 for bool, or 0 */
-	uint32_t offset;         /* the bit at which the integer begins */
+	uint32_t offset;         /* the first bit of the integer */
 	uint32_t bits;
 };
 
@@ -168,7 +168,7 @@ enum vbtf_linkage {
 /* An item of a type as words of its record, which vbtf_member_at and the calls after it read. */
 struct vbtf_item {
 	uint32_t info;           /* the info word of the type */
-	uint32_t count;          /* how many words the item has */
+	uint32_t count;          /* the number of words of the item */
 	uint32_t words[3];
 };
 
@@ -176,7 +176,7 @@ struct vbtf_item {
 
 enum vbtf_part { VBTF_PART_FUNC_INFO = 0, VBTF_PART_LINE_INFO = 1 };
 
-/* The sizes of the records in the bytes of a .BTF.ext, 0 where there are none, and how many sections have records. */
+/* The sizes of the records of a .BTF.ext in bytes, 0 if there are none, and the numbers of sections with records. */
 struct vbtf_ext_sizes {
 	uint64_t func_size;
 	uint64_t line_size;
@@ -185,7 +185,7 @@ struct vbtf_ext_sizes {
 	uint64_t relocation_sections;
 };
 
-/* Where a function begins: the instruction, counted from the first of the section, and the id of the FUNC. */
+/* The first instruction of a function, counted from the first of the section, and the id of the FUNC. */
 struct vbtf_func_info {
 	uint32_t instruction;
 	uint32_t type;
@@ -196,20 +196,20 @@ struct vbtf_line_info {
 	uint32_t instruction;
 	uint32_t file_name_offset;
 	uint32_t line_offset;    /* of the text of the line */
-	uint32_t line_column;    /* the number of the line in bits 10 to 31, that of the column in bits 0 to 9 */
+	uint32_t line_column;    /* the line number in bits 10 to 31, and the column in bits 0 to 9 */
 };
 
 /* A relocation for the kernel at hand (CO-RE). */
 struct vbtf_relocation {
 	uint32_t offset;         /* of the instruction, in bytes */
 	uint32_t type;
-	uint32_t access_offset;  /* of the text that names the member, as "0:1:2" */
+	uint32_t access_offset;  /* of the text that names the member, such as "0:1:2" */
 	uint32_t kind;
 };
 
 /* ---- kernels and programs, for a rewrite */
 
-/* What a kernel has, by the place of its bit in features. */
+/* The features of a kernel, by the position of their bits in `features`. */
 enum vbtf_feature {
 	VBTF_FUNC,               /* FUNC and FUNC_PROTO */
 	VBTF_FUNC_GLOBAL,        /* a FUNC whose linkage is Global */
@@ -223,14 +223,14 @@ enum vbtf_feature {
 
 struct vbtf_kernel {
 	uint32_t features;       /* 1 << VBTF_FUNC for FUNC, and so on */
-	uint32_t fill_sized;     /* whether a DATASEC with a size and no entries gets one, where the kernel wants entries */
+	uint32_t fill_sized;     /* not 0: a DATASEC with a size and no entries gets one if the kernel requires entries */
 	uint32_t ksyms;          /* the id of the DATASEC .ksyms; 0 for none */
-	uint32_t placeholder;    /* the id of the variable that takes the place of functions in it; 0 for none */
+	uint32_t placeholder;    /* the id of the variable that replaces functions in it; 0 for none */
 };
 
 /* A name in a buffer, and the size of the section or the offset of the symbol that has it. */
 struct vbtf_named {
-	uint32_t at;             /* where the name begins */
+	uint32_t at;             /* the offset of the name in the buffer */
 	uint32_t len;
 	uint64_t number;
 };
@@ -250,7 +250,7 @@ struct vbtf_asked {
 	uint8_t granted[8];
 };
 
-/* ---- the calls below the inline functions that follow; slices may not be null */
+/* ---- the exported calls, which the inline functions below call; slices may not be null */
 
 uint32_t vbtf_new(struct vbtf_table *table, struct vbtf_error *error);
 void vbtf_close(struct vbtf_table *table);
@@ -301,7 +301,7 @@ uint32_t vbtf_lent_ext_records(struct vbtf_table *table, uint32_t part, const ui
 uint32_t vbtf_lent_ext_relocations(struct vbtf_table *table, const uint8_t *name, size_t len, uint32_t *out,
                                    size_t room, uint64_t *needed, struct vbtf_error *error);
 
-/* The same table, lent for calls that only read it. */
+/* A loan of a table, for calls that only read it. */
 static inline struct vbtf_table vbtf_loan(const struct vbtf_table *table)
 {
 	struct vbtf_table loan;
@@ -318,13 +318,13 @@ static inline const uint8_t *vbtf_bytes_or_none(const void *bytes)
 
 /* ---- errors */
 
-/* The room that the text of each error takes, with the zero byte after it. */
+/* The maximum length of the text of an error, including the zero byte after it. */
 #define VBTF_ERROR_ROOM 400
 
 /*
  * Writes the text of a status, and of the error that the call described, to the buffer, with a zero byte after it, and
- * returns the buffer. Where the buffer is too short the text is cut. Where an allocation for the text fails, it is "out
- * of memory".
+ * returns the buffer. If the buffer is too short, the text is truncated. If an allocation for the text fails, the text
+ * is "out of memory".
  */
 static inline const char *vbtf_error_text(uint32_t status, const struct vbtf_error *error, char *out, size_t room)
 {
@@ -376,9 +376,9 @@ static inline uint32_t vbtf_describe(struct vbtf_error *error, uint32_t number, 
 /*
  * Opens a closed table with the table that the bytes of a .BTF section represent, whose words are in this order.
  *
- * VBTF_INVALID_HEADER, VBTF_INVALID_TYPE_INFO, VBTF_INVALID_TYPE_KIND: the first cause of failure, in the order that
- * docs/BEHAVIOUR.md states. VBTF_BAD_ARGUMENT where the table is open, or the order is no order. With an error the
- * table is as it was.
+ * VBTF_INVALID_HEADER, VBTF_INVALID_TYPE_INFO, VBTF_INVALID_TYPE_KIND: the first error, in the order that
+ * docs/BEHAVIOUR.md states. VBTF_BAD_ARGUMENT if the table is open, or the order is no order. After an error the
+ * table is unchanged.
  */
 static inline uint32_t vbtf_parse(struct vbtf_table *table, const void *data, size_t len, uint32_t order,
                                   struct vbtf_error *error)
@@ -386,10 +386,10 @@ static inline uint32_t vbtf_parse(struct vbtf_table *table, const void *data, si
 	return vbtf_raw_parse(table, vbtf_bytes_or_none(data), len, order, error);
 }
 
-/* Closes a table, and its .BTF.ext, and frees what they hold: `vbtf_close`, above. A closed one stays closed. */
+/* Closes a table and its .BTF.ext, and frees their memory: `vbtf_close`, above. A closed table stays closed. */
 
 /*
- * Writes the bytes of the table, in its own order, and their number to `needed`. VBTF_NO_ROOM where the buffer has less
+ * Writes the bytes of the table, in its own order, and their number to `needed`. VBTF_NO_ROOM if the buffer has less
  * room: then only `needed` is written.
  */
 static inline uint32_t vbtf_bytes(const struct vbtf_table *table, void *out, size_t room, uint64_t *needed,
@@ -402,14 +402,14 @@ static inline uint32_t vbtf_bytes(const struct vbtf_table *table, void *out, siz
 
 /* ---- read */
 
-/* How many types the table has, that of id 0 among them. */
+/* The number of types of the table, including the type of id 0. */
 static inline uint32_t vbtf_count(const struct vbtf_table *table, uint64_t *count)
 {
 	struct vbtf_table loan = vbtf_loan(table);
 	return vbtf_lent_count(&loan, count);
 }
 
-/* The kind and the first words of the type of an id; VBTF_UNKNOWN_TYPE where there is none. */
+/* The kind and the first words of the type of an id; VBTF_UNKNOWN_TYPE if there is none. */
 static inline uint32_t vbtf_type_by_id(const struct vbtf_table *table, uint32_t id, struct vbtf_type *type,
                                        struct vbtf_error *error)
 {
@@ -419,8 +419,8 @@ static inline uint32_t vbtf_type_by_id(const struct vbtf_table *table, uint32_t 
 
 /*
  * The text at a string offset, up to the first zero byte, in UTF-8 and without a zero byte after it: U+FFFD is in the
- * place of each piece that is not UTF-8. VBTF_INVALID_STRING_OFFSET where no zero byte is at the offset or after it.
- * VBTF_NO_ROOM where the buffer is shorter than the text: then only `needed` is written, the length of the text.
+ * place of each piece that is not UTF-8. VBTF_INVALID_STRING_OFFSET if no zero byte is at the offset or after it.
+ * VBTF_NO_ROOM if the buffer is shorter than the text: then only `needed` is written, the length of the text.
  */
 static inline uint32_t vbtf_text_at(const struct vbtf_table *table, uint32_t offset, void *out, size_t room,
                                     uint64_t *needed, struct vbtf_error *error)
@@ -432,7 +432,7 @@ static inline uint32_t vbtf_text_at(const struct vbtf_table *table, uint32_t off
 
 /* ---- items of a type, by their index */
 
-/* The first words of a type, whose kind has its bit in `kinds`; else VBTF_UNEXPECTED_TYPE. */
+/* The first words of a type whose kind has its bit in `kinds`; otherwise VBTF_UNEXPECTED_TYPE. */
 static inline uint32_t vbtf_type_of_kinds(struct vbtf_table *loan, uint32_t id, uint32_t kinds, struct vbtf_type *type,
                                           struct vbtf_error *error)
 {
@@ -471,8 +471,8 @@ static inline uint32_t vbtf_item_of_kinds(const struct vbtf_table *table, uint32
 
 /*
  * A member of a STRUCT or UNION, a variant of an ENUM or ENUM64, a parameter of a FUNC_PROTO, an entry of a DATASEC.
- * The indices of a type are those below its vbtf_vlen. VBTF_UNKNOWN_TYPE where no type has the id, VBTF_UNEXPECTED_TYPE
- * where the type is of another kind, VBTF_NO_ITEM where it has no item of the index.
+ * The indices of a type are those below its vbtf_vlen. VBTF_UNKNOWN_TYPE if no type has the id, VBTF_UNEXPECTED_TYPE
+ * if the type is of another kind, VBTF_NO_ITEM if it has no item of the index.
  */
 static inline uint32_t vbtf_member_at(const struct vbtf_table *table, uint32_t id, uint32_t index,
                                       struct vbtf_member *member, struct vbtf_error *error)
@@ -532,8 +532,8 @@ static inline uint32_t vbtf_entry_at(const struct vbtf_table *table, uint32_t id
 }
 
 /*
- * What an ARRAY, an INT, a VAR or FUNC, and a DECL_TAG have. The component of a DECL_TAG is the index of a member or
- * parameter, or -1 for the type as a whole. VBTF_UNKNOWN_TYPE, VBTF_UNEXPECTED_TYPE: as above.
+ * The fields of an ARRAY, an INT, a VAR or FUNC, and a DECL_TAG. The component of a DECL_TAG is the index of a member
+ * or parameter, or -1 for the type as a whole. VBTF_UNKNOWN_TYPE, VBTF_UNEXPECTED_TYPE: as above.
  */
 static inline uint32_t vbtf_array_of(const struct vbtf_table *table, uint32_t id, struct vbtf_array *array,
                                      struct vbtf_error *error)
@@ -591,11 +591,11 @@ static inline uint32_t vbtf_component_of(const struct vbtf_table *table, uint32_
 
 /*
  * The value of the first variant of this name in the enumeration that `id` resolves to, or in the UNION that a rewrite
- * of this table put in the place of an ENUM64. The bits above the 32 of an ENUM's value are 0, also where it is signed.
+ * of this table put in place of an ENUM64. An ENUM's value of 32 bits is zero-extended, even if it is signed.
  *
- * The errors of vbtf_resolve; VBTF_UNEXPECTED_TYPE where the type is no enumeration; VBTF_INVALID_STRING_OFFSET where a
- * variant before has a name that cannot be read; VBTF_NO_ITEM where no variant has the name; VBTF_BAD_ARGUMENT where
- * the name is not UTF-8.
+ * The errors of vbtf_resolve; VBTF_UNEXPECTED_TYPE if the type is no enumeration; VBTF_INVALID_STRING_OFFSET if an
+ * earlier variant has a name that cannot be read; VBTF_NO_ITEM if no variant has the name; VBTF_BAD_ARGUMENT if the
+ * name is not UTF-8.
  */
 static inline uint32_t vbtf_value(const struct vbtf_table *table, uint32_t id, const char *name, size_t len,
                                   uint64_t *value, struct vbtf_error *error)
@@ -607,9 +607,9 @@ static inline uint32_t vbtf_value(const struct vbtf_table *table, uint32_t id, c
 /* ---- look up and walk */
 
 /*
- * The least id of a type of this kind and name, that of id 0 among them. VBTF_UNKNOWN_TYPE_NAME where there is none;
- * VBTF_INVALID_STRING_OFFSET where a type of the kind with a lower id has a name that cannot be read;
- * VBTF_BAD_ARGUMENT where the name is not UTF-8, or the kind is no kind.
+ * The least id of a type of this kind and name, which may be id 0. VBTF_UNKNOWN_TYPE_NAME if there is none;
+ * VBTF_INVALID_STRING_OFFSET if a type of the kind with a lower id has a name that cannot be read;
+ * VBTF_BAD_ARGUMENT if the name is not UTF-8, or the kind is no kind.
  */
 static inline uint32_t vbtf_find(const struct vbtf_table *table, const char *name, size_t len, uint32_t kind,
                                  uint32_t *id, struct vbtf_error *error)
@@ -620,7 +620,7 @@ static inline uint32_t vbtf_find(const struct vbtf_table *table, const char *nam
 
 /*
  * The id of the first type that is no TYPEDEF, VOLATILE, CONST, RESTRICT or TYPE_TAG, from `id` on.
- * VBTF_UNKNOWN_TYPE of an id that has no type; VBTF_TOO_DEEP where the first 32 types are of these kinds.
+ * VBTF_UNKNOWN_TYPE of an id that has no type; VBTF_TOO_DEEP if the first 32 types are of these kinds.
  */
 static inline uint32_t vbtf_resolve(const struct vbtf_table *table, uint32_t id, uint32_t *to,
                                     struct vbtf_error *error)
@@ -631,7 +631,7 @@ static inline uint32_t vbtf_resolve(const struct vbtf_table *table, uint32_t id,
 
 /*
  * The size of a type in bytes. VBTF_UNKNOWN_TYPE, VBTF_UNEXPECTED_TYPE of a type that has no size,
- * VBTF_INVALID_TYPE_INFO where the size passes 32 bits, VBTF_TOO_DEEP: the first on the walk from `id` on.
+ * VBTF_INVALID_TYPE_INFO if the size passes 32 bits, VBTF_TOO_DEEP: the first error of the walk from `id` on.
  */
 static inline uint32_t vbtf_size(const struct vbtf_table *table, uint32_t id, uint64_t *size,
                                  struct vbtf_error *error)
@@ -665,13 +665,13 @@ static inline uint32_t vbtf_types_are_compatible(const struct vbtf_table *local,
 /* ---- rewrite */
 
 /*
- * Rewrites a table for a kernel that lacks some features, and reports what was asked about it. `sections` has the sizes
- * of the program's sections and `symbols` the offsets of its symbols; either may be null. Ids stay, strings are only
- * appended, and at most four types are.
+ * Rewrites a table for a kernel that lacks some features, and reports the features that the rewrite asked about.
+ * `sections` has the sizes of the program's sections, and `symbols` the offsets of its symbols; either may be null. Ids
+ * stay, strings are only appended, and at most four types are appended.
  *
- * The first cause of failure: VBTF_INVALID_STRING_OFFSET, VBTF_UNKNOWN_TYPE, VBTF_UNEXPECTED_TYPE,
- * VBTF_INVALID_DATASEC, VBTF_UNKNOWN_SECTION_SIZE, VBTF_SYMBOL_NOT_FOUND, VBTF_INVALID_TYPE_INFO. VBTF_BAD_ARGUMENT
- * where a name of an entry is not in its buffer, or is not UTF-8. With an error the table is as it was.
+ * The first error: VBTF_INVALID_STRING_OFFSET, VBTF_UNKNOWN_TYPE, VBTF_UNEXPECTED_TYPE,
+ * VBTF_INVALID_DATASEC, VBTF_UNKNOWN_SECTION_SIZE, VBTF_SYMBOL_NOT_FOUND, VBTF_INVALID_TYPE_INFO; VBTF_BAD_ARGUMENT
+ * if a name of an entry is not in its buffer, or is not UTF-8. After an error the table is unchanged.
  */
 static inline uint32_t vbtf_rewrite(struct vbtf_table *table, const struct vbtf_names *sections,
                                     const struct vbtf_names *symbols, const struct vbtf_kernel *kernel,
@@ -687,16 +687,16 @@ static inline uint32_t vbtf_rewrite(struct vbtf_table *table, const struct vbtf_
 }
 
 /*
- * Writes an ELF object, with the table in its section .BTF rewritten for a kernel, to a buffer, its length in bytes to
- * `needed`, and reports what was asked. The sizes of sections, the offsets of symbols and the ids of .ksyms come from
- * the object; `placeholder` is the name of the variable that replaces functions of .ksyms, or empty where there is
- * none. Every other section has the same bytes. `seed` is a random number, with which the names of sections and symbols
- * are hashed: who does not know it cannot choose names that collide.
+ * Rewrites the table in the section .BTF of an ELF object for a kernel. Writes the new object to a buffer, its length
+ * in bytes to `needed`, and the features that the rewrite asked about to `asked`. The sizes of sections, the offsets of
+ * symbols and the ids of .ksyms come from the object; `placeholder` is the name of the variable that replaces functions
+ * of .ksyms, or empty if there is none. `seed` is a random number, with which the names of sections and symbols are
+ * hashed: who does not know it cannot choose names that collide. Every other section has the same bytes.
  *
- * VBTF_NO_ROOM where the buffer has less room: then only `needed` and `asked` are written. The first cause of failure:
+ * VBTF_NO_ROOM if the buffer has less room: then only `needed` and `asked` are written. The first error:
  * VBTF_NOT_AN_OBJECT, where error.id is the number of the reason in docs/OBJECTS.md, from 1 on, and error.offset the
  * index of the section or symbol that it names; VBTF_NO_TABLE; those of vbtf_parse and vbtf_rewrite, and
- * VBTF_UNKNOWN_TYPE_NAME of the placeholder; VBTF_NOT_REPLACEABLE. VBTF_BAD_ARGUMENT where the placeholder is not UTF-8.
+ * VBTF_UNKNOWN_TYPE_NAME of the placeholder; VBTF_NOT_REPLACEABLE. VBTF_BAD_ARGUMENT if the placeholder is not UTF-8.
  */
 static inline uint32_t vbtf_sanitize_object(const void *object, size_t len, const struct vbtf_kernel *kernel,
                                             const char *placeholder, size_t placeholder_len, uint64_t seed,
@@ -712,8 +712,8 @@ static inline uint32_t vbtf_sanitize_object(const void *object, size_t len, cons
 /* ---- build */
 
 /*
- * Adds a text and a zero byte to the strings, and writes its offset. VBTF_INVALID_STRING_OFFSET where the strings
- * would pass 4,294,967,295 bytes; VBTF_BAD_ARGUMENT where the text is not UTF-8. With an error the table is as it was.
+ * Adds a text and a zero byte to the strings, and writes its offset. VBTF_INVALID_STRING_OFFSET if the strings
+ * would pass 4,294,967,295 bytes; VBTF_BAD_ARGUMENT if the text is not UTF-8. After an error the table is unchanged.
  */
 static inline uint32_t vbtf_add_string(struct vbtf_table *table, const char *text, size_t len, uint32_t *offset,
                                        struct vbtf_error *error)
@@ -722,9 +722,9 @@ static inline uint32_t vbtf_add_string(struct vbtf_table *table, const char *tex
 }
 
 /*
- * Adds the type whose record these bytes are, VBTF_LITTLE or VBTF_BIG, and writes its id. VBTF_INVALID_TYPE_INFO where
- * the record is cut, or the types would pass 4,294,967,295 bytes; VBTF_INVALID_TYPE_KIND; VBTF_BAD_ARGUMENT where bytes
- * follow the record, or the order is no order. With an error the table is as it was.
+ * Adds the type of the record in these bytes, VBTF_LITTLE or VBTF_BIG, and writes its id. VBTF_INVALID_TYPE_INFO if
+ * the record is truncated, or the types would pass 4,294,967,295 bytes; VBTF_INVALID_TYPE_KIND; VBTF_BAD_ARGUMENT if
+ * bytes follow the record, or the order is no order. After an error the table is unchanged.
  */
 static inline uint32_t vbtf_add_type(struct vbtf_table *table, const void *record, size_t len, uint32_t order,
                                      uint32_t *id, struct vbtf_error *error)
@@ -736,11 +736,11 @@ static inline uint32_t vbtf_add_type(struct vbtf_table *table, const void *recor
 
 /*
  * Opens the .BTF.ext that these bytes represent, whose names are in the strings of the table. A table has at most one.
- * `seed` is a random number, as getrandom draws one: an attacker who knows it can choose names of sections that take
- * time in proportion to the square of their number. It changes no result.
+ * `seed` is a random number, for example from getrandom: an attacker who knows it can choose names of sections that
+ * take time proportional to the square of their number. It changes no result.
  *
- * VBTF_INVALID_HEADER, VBTF_INVALID_INFO, VBTF_INVALID_STRING_OFFSET: the first cause of failure, in the order that
- * docs/BEHAVIOUR.md states. VBTF_BAD_ARGUMENT where the table has one already, or the order is no order.
+ * VBTF_INVALID_HEADER, VBTF_INVALID_INFO, VBTF_INVALID_STRING_OFFSET: the first error, in the order that
+ * docs/BEHAVIOUR.md states. VBTF_BAD_ARGUMENT if the table has one already, or the order is no order.
  */
 static inline uint32_t vbtf_open_ext(struct vbtf_table *table, const void *data, size_t len, uint32_t order,
                                      uint64_t seed, struct vbtf_error *error)
@@ -750,7 +750,7 @@ static inline uint32_t vbtf_open_ext(struct vbtf_table *table, const void *data,
 
 /* Closes the .BTF.ext of a table, and frees it: `vbtf_close_ext`, above. The table stays open. */
 
-/* What the .BTF.ext of a table has. VBTF_CLOSED where none is open, here and of the calls below. */
+/* The sizes of the .BTF.ext of a table. VBTF_CLOSED if none is open, here and in the calls below. */
 static inline uint32_t vbtf_ext(const struct vbtf_table *table, struct vbtf_ext_sizes *ext)
 {
 	struct vbtf_table loan = vbtf_loan(table);
@@ -758,9 +758,9 @@ static inline uint32_t vbtf_ext(const struct vbtf_table *table, struct vbtf_ext_
 }
 
 /*
- * The names of the sections that a part has records for, each once, in no order, and with a zero byte after it.
- * VBTF_NO_ROOM where the buffer has less room: then only `needed` is written, the length in bytes. VBTF_BAD_ARGUMENT
- * where the part is no part.
+ * The names of the sections with records in a part, each once, in no particular order, with a zero byte after it.
+ * VBTF_NO_ROOM if the buffer has less room: then only `needed` is written, the length in bytes. VBTF_BAD_ARGUMENT
+ * if there is no such part.
  */
 static inline uint32_t vbtf_ext_names(const struct vbtf_table *table, uint32_t part, char *out, size_t room,
                                       uint64_t *needed, struct vbtf_error *error)
@@ -772,7 +772,7 @@ static inline uint32_t vbtf_ext_names(const struct vbtf_table *table, uint32_t p
 
 /*
  * The string offset of the name of a section of relocations, by the index of the section; several may have one name.
- * VBTF_NO_ITEM where there are fewer sections.
+ * VBTF_NO_ITEM if there are fewer sections.
  */
 static inline uint32_t vbtf_ext_section(const struct vbtf_table *table, uint32_t index, uint32_t *name_offset)
 {
@@ -800,9 +800,9 @@ static inline uint32_t vbtf_ext_words(const struct vbtf_table *table, uint32_t p
 }
 
 /*
- * The records of the section of this name, and their number; there are none where no section has the name. `room` and
- * `needed` count records. VBTF_NO_ROOM where the buffer has less room: then only `needed` is written.
- * VBTF_BAD_ARGUMENT where the name is not UTF-8. VBTF_INVALID_STRING_OFFSET where the name of a section of relocations
+ * The records of the section of this name, and their number, which is 0 if no section has the name. `room` and
+ * `needed` count records. VBTF_NO_ROOM if the buffer has less room: then only `needed` is written.
+ * VBTF_BAD_ARGUMENT if the name is not UTF-8. VBTF_INVALID_STRING_OFFSET if the name of a section of relocations
  * cannot be read.
  */
 static inline uint32_t vbtf_ext_func_info(const struct vbtf_table *table, const char *section, size_t len,

@@ -1,4 +1,4 @@
-/* What the examples share: reading a table from standard input, and messages. */
+/* Shared code of the examples: reading a table from standard input, and messages. */
 #ifndef INPUT_H
 #define INPUT_H
 
@@ -7,7 +7,7 @@
 #include <stdio.h>
 #include <stdlib.h>
 
-/* Standard input to its end; null where an allocation or the input fails. */
+/* Reads standard input to its end; returns null if an allocation or the input fails. */
 static inline unsigned char *read_all(size_t *len)
 {
 	size_t room = 1 << 16;
@@ -37,7 +37,7 @@ static inline int report(const char *program, uint32_t status, const struct vbtf
 	return 1;
 }
 
-/* Opens the table of standard input; 0, or the exit status after a message. */
+/* Opens the table of standard input; returns 0, or the exit status after a message. */
 static inline int open_input(const char *program, struct vbtf_table *table)
 {
 	struct vbtf_error error;

@@ -1,7 +1,7 @@
 /* Lists the types of a table, like `btftool types`: list < TABLE */
 #include "input.h"
 
-/* The name of a type, in a buffer that grows; its length, which is 0 where it cannot be read. */
+/* Reads the name of a type into a buffer that grows; returns its length, which is 0 if it cannot be read. */
 static size_t name_of(const struct vbtf_table *table, const struct vbtf_type *type, char **name, size_t *room)
 {
 	struct vbtf_error error;

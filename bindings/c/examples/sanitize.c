@@ -14,7 +14,7 @@ static const char *const features[] = {
 	"Func", "FuncGlobal", "DataSec", "DataSecZero", "Float", "DeclTag", "TypeTag", "Enum64",
 };
 
-/* Reads features with commas between them; whether each word is a feature. */
+/* Reads features with commas between them; returns whether each word is a feature. */
 static bool read_features(char *words, struct vbtf_kernel *kernel)
 {
 	for (char *word = strtok(words, ","); word; word = strtok(NULL, ",")) {
@@ -35,7 +35,7 @@ struct list {
 	size_t len, count;
 };
 
-/* Adds a word NAME=NUMBER to a list; whether it is one, and has room. */
+/* Adds a word NAME=NUMBER to a list; returns whether the word has this form and the list has room. */
 static bool add(struct list *list, const char *word)
 {
 	const char *number = strrchr(word, '=');

@@ -1,4 +1,4 @@
-/* Each call where allocation succeeds, each status, and what an error leaves as it was. */
+/* Each call if allocation succeeds, each status, and the table after an error, which is unchanged. */
 #include "table.h"
 
 static void new_tables(void)
@@ -25,7 +25,7 @@ static void new_tables(void)
 	vbtf_close(&table);
 }
 
-/* Tables by their magic, and bytes that have none. */
+/* Tables in the byte order of their magic, and bytes without a magic. */
 static void orders(void)
 {
 	static const struct {
@@ -254,7 +254,7 @@ static const struct {
 	{ VBTF_NOT_REPLACEABLE, "the bytes of the section .BTF cannot be replaced" },
 };
 
-/* A text in a buffer that has room for it, and in shorter ones. */
+/* A text in a buffer that is long enough, and in shorter ones. */
 static void text_of(uint32_t status, const struct vbtf_error *error, const char *text)
 {
 	char out[VBTF_ERROR_ROOM];
@@ -285,7 +285,7 @@ static void error_texts(void)
 	}
 }
 
-/* The longest text of an error has room. */
+/* The longest text of an error fits. */
 static void longest_error_text(void)
 {
 	struct vbtf_table table = VBTF_TABLE_INIT;

@@ -16,7 +16,7 @@ static struct vbtf_table opened_ext(uint32_t order)
 	return table;
 }
 
-/* Bytes that are no .BTF.ext of the table: the word that is changed, what it becomes, and the error. */
+/* Bytes that are no .BTF.ext of the table: the changed word, its new value, and the error. */
 static const struct {
 	size_t len, at;
 	uint32_t word, status;
@@ -58,7 +58,7 @@ static const struct vbtf_func_info functions[] = { { 0, 7 } };
 static const struct vbtf_line_info lines[] = { { 0, 35, 1, 0x4409 }, { 1, 35, 5, 0x4812 }, { 5, 35, 10, 0x4c02 } };
 static const struct vbtf_relocation relocations[] = { { 8, 4, 15, 0 }, { 24, 4, 15, 1 } };
 
-/* The records of the section "run", in a buffer that has room for them, and in one that is a record too short. */
+/* The records of the section "run", in a buffer that is long enough, and in one that is a record too short. */
 static void read_records(const struct vbtf_table *table)
 {
 	struct vbtf_error error;
@@ -81,7 +81,7 @@ static void read_records(const struct vbtf_table *table)
 	check(relocation[0].offset == 16 && relocation[0].kind == 12);
 }
 
-/* Sections without records, and names that have no meaning. */
+/* Sections without records, and invalid names. */
 static void absent_records(const struct vbtf_table *table)
 {
 	struct vbtf_error error;

@@ -1,9 +1,9 @@
-/* One fault of a caller, by its name: each ends the run where the sanitizers are at work. */
+/* One fault of a caller, by its name. With the sanitizers, each fault ends the run. */
 #include "table.h"
 
 #include <limits.h>
 
-/* A call of the library writes past a buffer, which has less room than the caller says. */
+/* A call of the library writes past a buffer that is shorter than the caller states. */
 static void room(struct vbtf_table *table)
 {
 	struct vbtf_error error;

@@ -1,4 +1,4 @@
-/* Mutated tables and .BTF.ext sections, from a fixed seed, for a number of seconds: what each call returns. */
+/* Mutated tables and .BTF.ext sections, from a fixed seed, for a number of seconds: the result of each call. */
 #include "table.h"
 
 #include <time.h>
@@ -13,7 +13,7 @@ static uint32_t drawn(uint32_t below)
 	return (uint32_t)(state >> 32) % below;
 }
 
-/* Changes up to eight bytes, and perhaps cuts the end. */
+/* Changes up to eight bytes, and may truncate the end. */
 static size_t mutate(uint8_t *bytes, size_t len)
 {
 	static const uint8_t often[] = { 0, 1, 4, 12, 13, 15, 19, 20, 0x7f, 0x80, 0xff };
@@ -28,7 +28,7 @@ static int is_described(uint32_t status, const struct vbtf_error *error)
 	return status == VBTF_OK || status == VBTF_NO_ITEM || status == error->number;
 }
 
-/* Reads each item of a type; what cannot be read is of another kind. */
+/* Reads each item of a type; a type whose items cannot be read has another kind. */
 static void read_items(const struct vbtf_table *table, uint32_t id)
 {
 	struct vbtf_error error;
@@ -81,7 +81,7 @@ static void read_ext(const struct vbtf_table *table, size_t len)
 	}
 }
 
-/* Whether a mutated .BTF.ext of a table is accepted; reads it then. */
+/* Whether a mutated .BTF.ext of a table is accepted; if so, reads it. */
 static bool open_ext(struct vbtf_table *table, uint32_t order)
 {
 	struct vbtf_error error;

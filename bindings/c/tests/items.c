@@ -48,7 +48,7 @@ static const struct {
 	{ 13, 0, VBTF_KIND_VAR, 1, { 3, 0, 0 } },            { 14, 0, VBTF_KIND_DECL_TAG, 1, { 1, 0, 0 } },
 };
 
-/* How many items each type has. */
+/* The number of items of each type. */
 static const uint32_t counts[SHAPES] = { 0, 1, 2, 1, 2, 2, 2, 0, 1, 2, 1, 1, 0, 1, 1, 0, 2, 0, 0 };
 
 static void raw_items(const struct vbtf_table *table)
@@ -132,7 +132,7 @@ static const struct {
 	{ component, 1u << VBTF_KIND_DECL_TAG },
 };
 
-/* A reader on a type: what it returns for each index, and on an id that no type has. */
+/* A reader on a type: its results for each index, and for an unknown id. */
 static void item_statuses(const struct vbtf_table *table, size_t reader, uint32_t id)
 {
 	const struct vbtf_table closed = VBTF_TABLE_INIT;

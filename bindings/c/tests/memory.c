@@ -1,5 +1,5 @@
 /*
- * The nth allocation of each call fails, for each n: the call returns VBTF_OUT_OF_MEMORY, the table is as it was, the
+ * The nth allocation of each call fails, for each n: the call returns VBTF_OUT_OF_MEMORY, the table is unchanged, the
  * same call succeeds afterwards, and nothing leaks. Link with -Wl,--wrap=malloc,--wrap=realloc,--wrap=free.
  */
 #include "table.h"
@@ -94,7 +94,7 @@ static uint32_t missing(struct vbtf_table *table)
 	return status == VBTF_UNKNOWN_TYPE_NAME ? VBTF_OK : status;
 }
 
-/* The first variant's name takes an allocation, since it is not UTF-8. */
+/* The first variant's name needs an allocation, because it is not UTF-8. */
 static uint32_t value(struct vbtf_table *table)
 {
 	uint64_t found = 0;
@@ -109,7 +109,7 @@ static uint32_t fields(struct vbtf_table *table)
 	return vbtf_fields_are_compatible(table, 8, table, 8, &answer, &error);
 }
 
-/* Two prototypes of more parameters than a comparison has room for in its first pairs. */
+/* Two prototypes of more parameters than fit in a comparison's array of first pairs. */
 static uint32_t types(struct vbtf_table *table)
 {
 	bool answer;
@@ -132,7 +132,7 @@ static uint32_t add_string(struct vbtf_table *table)
 	return vbtf_add_string(table, "text", 4, &offset, &error);
 }
 
-/* A STRUCT of as many members as a list in the record itself has no room for. */
+/* A STRUCT of more members than fit in the record without an allocation. */
 static uint32_t add_type(struct vbtf_table *table)
 {
 	uint8_t record[12 + 12 * 8] = { 0 };
@@ -206,7 +206,7 @@ static const struct {
 	{ "vbtf_error_text", error_text },
 };
 
-/* A call whose nth allocation fails; whether it made as many. */
+/* Makes a call whose nth allocation fails; returns whether it made that number of allocations. */
 static int failed_at(size_t i, unsigned long n)
 {
 	struct vbtf_table table = opened(VBTF_LITTLE);

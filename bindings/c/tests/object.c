@@ -25,7 +25,7 @@ static struct file read_file(const char *path)
 
 static const struct vbtf_kernel none = { 0, 0, 0, 0 }, all = { 0xff, 0, 0, 0 };
 
-/* The object for a kernel; `wanted` features are asked for, one for each that its types need. */
+/* Rewrites the object for a kernel; `wanted` is the number of features that the rewrite asks about. */
 static struct file sanitized(const struct file *object, const struct vbtf_kernel *kernel, uint32_t wanted)
 {
 	struct file file = { NULL, 0 };
@@ -56,7 +56,7 @@ static void rewritten(const struct file *object)
 	free(new.bytes);
 }
 
-/* What is no object, and an object without a table. */
+/* Bytes that are no object, and an object without a table. */
 static void refused(const struct file *object)
 {
 	struct vbtf_error error;

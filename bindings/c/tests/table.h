@@ -1,4 +1,4 @@
-/* A small table in either order, and what the tests count. */
+/* A small table in either byte order, and the counters of the tests. */
 #ifndef TABLE_H
 #define TABLE_H
 
@@ -10,7 +10,7 @@
 
 static unsigned passed, failed;
 
-/* Counts an expectation, and names it where it is not met. */
+/* Counts an expectation, and prints it if it is not met. */
 static inline void check_at(int holds, const char *what, const char *file, int line)
 {
 	if (holds) {

@@ -7,7 +7,7 @@
 
 static struct vbtf_table shared = VBTF_TABLE_INIT;
 
-/* How many calls of a reader return what they would not return alone. */
+/* The number of calls of a reader with another result than without other threads. */
 static void *reader(void *unused)
 {
 	struct vbtf_error error;

@@ -3,7 +3,7 @@
 use std::process::ExitCode;
 use vbtf::{Kind, Member, Table, Type};
 
-/// How many bits a member has: those of a bit-field, or those of its type.
+/// The number of bits of a member: of the bit-field, or of its type.
 fn bits(table: &Table, member: &Member) -> Result<u64, vbtf::Error> {
     match member.bit_field_size {
         Some(bits) => Ok(u64::from(bits)),
@@ -11,7 +11,7 @@ fn bits(table: &Table, member: &Member) -> Result<u64, vbtf::Error> {
     }
 }
 
-/// Prints the members of a structure: where each begins, and how long it is.
+/// Prints the members of a structure: the first bit and the length of each.
 fn print_members(table: &Table, structure: Type<'_>) -> Result<(), vbtf::Error> {
     for member in structure.members().into_iter().flatten() {
         let name = table.string_at(member.name_offset)?;

@@ -17,7 +17,7 @@ fn made<T>(call: impl FnOnce(*mut T, *mut vbtf_error) -> u32) -> (u32, MaybeUnin
     (status, value, error)
 }
 
-/// The value that a call of the library writes where it returns 0, or its error.
+/// The value that a call of the library writes if it returns 0, or its error.
 pub(crate) fn called<T>(call: impl FnOnce(*mut T, *mut vbtf_error) -> u32) -> Result<T, Error> {
     match made(call) {
         // SAFETY: a call that returns 0 has written its value.
@@ -26,7 +26,7 @@ pub(crate) fn called<T>(call: impl FnOnce(*mut T, *mut vbtf_error) -> u32) -> Re
     }
 }
 
-/// The same of a call that may find nothing.
+/// The same for a call that may find nothing.
 pub(crate) fn found<T>(
     call: impl FnOnce(*mut T, *mut vbtf_error) -> u32,
 ) -> Result<Option<T>, Error> {
@@ -38,7 +38,7 @@ pub(crate) fn found<T>(
     }
 }
 
-/// What a call writes into a buffer, which the call gets again where the buffer is too short.
+/// The output of a call in a buffer. If the buffer is too short, the call is made again with a longer one.
 pub(crate) fn written<T: Copy + Default>(
     room: usize,
     call: impl Fn(*mut T, usize, *mut u64, *mut vbtf_error) -> u32,

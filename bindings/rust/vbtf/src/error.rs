@@ -33,13 +33,13 @@ pub enum Error {
         /// The offset.
         offset: u64,
     },
-    /// A part of `.BTF.ext` is not where it should be.
+    /// A part of `.BTF.ext` is not within its bounds.
     InvalidInfo {
-        /// Where the part begins.
+        /// The start of the part.
         offset: u64,
-        /// How many bytes it has.
+        /// The number of bytes of the part.
         len: u64,
-        /// How many bytes there are.
+        /// The number of bytes of the data.
         section_len: u64,
     },
     /// No type has an id.

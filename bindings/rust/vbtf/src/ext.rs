@@ -53,12 +53,12 @@ impl<'a> Ext<'a> {
         Ext { table, sizes }
     }
 
-    /// The size of a function's record in the bytes of the section; 0 where there are none.
+    /// The size of a function's record in the bytes of the section; 0 if there are none.
     pub fn func_info_rec_size(&self) -> u64 {
         self.sizes.func_size
     }
 
-    /// The size of a line's record in the bytes of the section; 0 where there are none.
+    /// The size of a line's record in the bytes of the section; 0 if there are none.
     pub fn line_info_rec_size(&self) -> u64 {
         self.sizes.line_size
     }
@@ -95,7 +95,7 @@ impl<'a> Ext<'a> {
         })
     }
 
-    /// The words of the records of a section, which has none where no section has the name.
+    /// The words of the records of a section, which has none if no section has the name.
     fn words(&self, part: Part, section: &str) -> Result<Vec<u32>, Error> {
         let (name, len) = (section.as_ptr(), section.len());
         // SAFETY: as above, and so does the name.

@@ -132,7 +132,7 @@ impl Kernel {
         self.words.features >> feature as u32 & 1 == 1
     }
 
-    /// A DATASEC that has a size and no entries gets one, where the kernel takes no DATASEC without entries.
+    /// A DATASEC that has a size and no entries gets one, if the kernel takes no DATASEC without entries.
     pub fn fill_sized(&mut self) -> &mut Self {
         self.words.fill_sized = 1;
         self

@@ -1,4 +1,4 @@
-//! A table, and what is read of it.
+//! A table, and the calls that read it.
 
 use crate::calls::{called, found, written};
 use crate::error::Error;
@@ -10,7 +10,7 @@ use std::collections::hash_map::RandomState;
 use std::hash::{BuildHasher, Hasher};
 use vbtf_sys::*;
 
-/// The number of the order that the magic at the beginning of the data has.
+/// The number of the byte order of the magic at the beginning of the data.
 const BY_MAGIC: u32 = 2;
 
 /// A table of types. Several threads may read one at the same time.
@@ -24,7 +24,7 @@ const BY_MAGIC: u32 = 2;
 #[derive(Debug)]
 pub struct Table {
     handle: vbtf_table,
-    /// How many bytes the written table is expected to have. More take a second call.
+    /// The expected number of bytes of the written table. If it has more, a second call is made.
     room: usize,
 }
 
@@ -45,7 +45,7 @@ impl Table {
         vbtf_table { at: std::ptr::null_mut(), state: 0 }
     }
 
-    /// The same table, lent for one call, which only reads it.
+    /// A loan of the table for one call, which only reads it.
     pub(crate) fn loan(&self) -> vbtf_table {
         vbtf_table { at: self.handle.at, state: 2 }
     }
@@ -73,8 +73,8 @@ impl Table {
         Self::parse_as(data, endianness as u32)
     }
 
-    /// The table that the bytes of a `.BTF` section represent, in the order of their magic: big-endian where they begin
-    /// with 0xeb 0x9f, else little-endian.
+    /// The table that the bytes of a `.BTF` section represent, in the order of their magic: big-endian if they begin
+    /// with 0xeb 0x9f, otherwise little-endian.
     ///
     /// ```
     /// use vbtf::Table;
@@ -95,7 +95,7 @@ impl Table {
         })
     }
 
-    /// How many types the table has, that of id 0 among them.
+    /// The number of types of the table, including the type of id 0.
     pub fn len(&self) -> u32 {
         let mut count = 0;
         // SAFETY: as above.
@@ -108,7 +108,7 @@ impl Table {
         self.len() < 2
     }
 
-    /// The type of an id; [`Error::UnknownBtfType`] where there is none.
+    /// The type of an id; [`Error::UnknownBtfType`] if there is none.
     pub fn type_by_id(&self, type_id: u32) -> Result<Type<'_>, Error> {
         // SAFETY: as above.
         let words =
@@ -121,7 +121,7 @@ impl Table {
         Types::new(self)
     }
 
-    /// The text at a string offset, with U+FFFD in the place of each piece that is not UTF-8.
+    /// The text at a string offset, with U+FFFD in place of each piece that is not UTF-8.
     pub fn string_at(&self, offset: u32) -> Result<String, Error> {
         // SAFETY: as above.
         let bytes = written(64, |out, room, needed, error| unsafe {
@@ -152,8 +152,8 @@ impl Table {
     }
 
     /// The value of the first variant of a name, in the ENUM or ENUM64 that an id resolves to, or in the UNION that a
-    /// rewrite of this table put in the place of an ENUM64. The bits above the 32 of an ENUM's value are 0, also where
-    /// it is signed. `None` where no variant has the name.
+    /// rewrite of this table put in place of an ENUM64. An ENUM's value of 32 bits is
+    /// zero-extended, even if it is signed. `None` if no variant has the name.
     ///
     /// ```
     /// use vbtf::{Endianness, Table};
@@ -181,7 +181,7 @@ impl Table {
         })
     }
 
-    /// Adds the type whose record these bytes are, and returns its id; [`Error::InvalidArgument`] where bytes follow
+    /// Adds the type whose record these bytes are, and returns its id; [`Error::InvalidArgument`] if bytes follow
     /// the record.
     pub fn add_type(&mut self, record: &[u8], endianness: Endianness) -> Result<u32, Error> {
         let order = endianness as u32;
@@ -205,12 +205,12 @@ impl Table {
     }
 
     /// Opens the `.BTF.ext` that these bytes in an order represent, whose names are in the strings of the table;
-    /// [`Error::InvalidArgument`] where the table has one.
+    /// [`Error::InvalidArgument`] if the table has one.
     pub fn open_ext(&mut self, data: &[u8], endianness: Endianness) -> Result<(), Error> {
         self.open_ext_as(data, endianness as u32)
     }
 
-    /// The same in the order of the bytes' magic: big-endian where they begin with 0xeb 0x9f, else little-endian.
+    /// The same in the order of the bytes' magic: big-endian if they begin with 0xeb 0x9f, otherwise little-endian.
     pub fn open_ext_by_magic(&mut self, data: &[u8]) -> Result<(), Error> {
         self.open_ext_as(data, BY_MAGIC)
     }
@@ -230,8 +230,8 @@ impl Table {
 }
 
 impl Table {
-    /// Rewrites the table for a kernel that lacks some features, and returns what was asked about the kernel. Ids stay,
-    /// strings are only appended, and at most four types are. An error leaves the table as it was.
+    /// Rewrites the table for a kernel that lacks some features, and returns the kernel's answers. Ids stay,
+    /// strings are only appended, and at most four types are. An error leaves the table unchanged.
     ///
     /// ```
     /// use vbtf::{Feature, Kernel, Table};

@@ -54,7 +54,7 @@ impl<'a> Type<'a> {
         self.words.name_offset
     }
 
-    /// The name, with U+FFFD in the place of each piece that is not UTF-8.
+    /// The name, with U+FFFD in place of each piece that is not UTF-8.
     pub fn name(&self) -> Result<String, Error> {
         self.table.string_at(self.words.name_offset)
     }
@@ -64,7 +64,7 @@ impl<'a> Type<'a> {
         self.words.info
     }
 
-    /// How many members, variants, parameters or entries the type has. The vlen of a FUNC is its linkage.
+    /// The number of members, variants, parameters or entries of the type. The vlen of a FUNC is its linkage.
     pub fn vlen(&self) -> u32 {
         self.words.info & 0xffff
     }
@@ -139,13 +139,13 @@ impl<'a> Type<'a> {
         }
     }
 
-    /// What an ARRAY is made of.
+    /// The fields of an ARRAY.
     pub fn array(&self) -> Option<Array> {
         let [type_id, index_type_id, len] = self.single(Kind::Array)?;
         Some(Array { type_id, index_type_id, len })
     }
 
-    /// What an INT has beside its size.
+    /// The fields of an INT besides its size.
     pub fn int(&self) -> Option<Int> {
         let [word, ..] = self.single(Kind::Int)?;
         Some(Int { encoding: word >> 24 & 0xf, offset: word >> 16 & 0xff, bits: word & 0xff })
@@ -160,7 +160,7 @@ impl<'a> Type<'a> {
         Some(Linkage::from_number(number))
     }
 
-    /// The index of the member or parameter that a DECL_TAG is on, or -1 where it is on the type as a whole.
+    /// The index of the member or parameter that a DECL_TAG is on, or -1 if it is on the type as a whole.
     pub fn component_index(&self) -> Option<i32> {
         let [word, ..] = self.single(Kind::DeclTag)?;
         Some(word as i32)
@@ -321,9 +321,9 @@ pub struct Member {
     pub name_offset: u32,
     /// The id of the member's type.
     pub type_id: u32,
-    /// The bit at which the member begins.
+    /// The first bit of the member.
     pub bit_offset: u32,
-    /// How many bits a bit-field has.
+    /// The number of bits of a bit-field.
     pub bit_field_size: Option<u32>,
 }
 
@@ -357,7 +357,7 @@ pub struct Variant {
     pub name_offset: u32,
     /// The bits of the value: 32 in an ENUM, with zeros above them, and 64 in an ENUM64.
     pub value: u64,
-    /// How many bits the value has.
+    /// The number of bits of the value.
     pub bits: u32,
     /// Whether the value is signed.
     pub is_signed: bool,
@@ -370,7 +370,7 @@ impl Variant {
         Variant { name_offset, value, bits, is_signed: of.kind_flag() }
     }
 
-    /// The value as a number, below 0 where it is signed and its highest bit is 1.
+    /// The value as a number, below 0 if it is signed and its highest bit is 1.
     pub fn number(&self) -> i128 {
         match (self.is_signed, self.bits) {
             (false, _) => i128::from(self.value),
@@ -424,7 +424,7 @@ impl Param {
 pub struct Entry {
     /// The id of the VAR.
     pub type_id: u32,
-    /// Where the variable begins in the section, in bytes.
+    /// The offset of the variable in the section, in bytes.
     pub offset: u32,
     /// The size of the variable in bytes.
     pub size: u32,
@@ -436,7 +436,7 @@ impl Entry {
     }
 }
 
-/// What an ARRAY is made of.
+/// The fields of an ARRAY.
 ///
 /// ```
 /// use vbtf::{Array, Endianness, Table};
@@ -455,11 +455,11 @@ pub struct Array {
     pub type_id: u32,
     /// The id of the type of an index.
     pub index_type_id: u32,
-    /// How many elements there are.
+    /// The number of elements.
     pub len: u32,
 }
 
-/// What an INT has beside its size.
+/// The fields of an INT besides its size.
 ///
 /// ```
 /// use vbtf::{Endianness, Int, Table};
@@ -476,9 +476,9 @@ pub struct Array {
 pub struct Int {
     /// [`Int::SIGNED`], [`Int::CHAR`], [`Int::BOOL`] or 0.
     pub encoding: u32,
-    /// The bit at which the integer begins.
+    /// The first bit of the integer.
     pub offset: u32,
-    /// How many bits the integer has.
+    /// The number of bits of the integer.
     pub bits: u32,
 }
 
