@@ -49,16 +49,16 @@ module _ (g : Over) (c : After-new_name g) where
   one = c.is_supported-granted.new.self.1
 
   -- the predicate is called for DataSec, if it is called
-  called_one : (first : g.row.F.Denot) → Called (words g.row.F g.F.FnMut).step first c.args.resolver.now.1 c.args.resolver.now.0 → Called (words g.row.F g.F.FnMut).step first c.is_supported-granted.new.self.1 c.is_supported-granted.new.self.0
+  called_one : (first : g.row.F.Denot) → Called (words g.row.F g.row.G g.row.H g.row.G-Hasher g.row.H-Hasher g.F.FnMut).step first c.args.resolver.now.1 c.args.resolver.now.0 → Called (words g.row.F g.row.G g.row.H g.row.G-Hasher g.row.H-Hasher g.F.FnMut).step first c.is_supported-granted.new.self.1 c.is_supported-granted.new.self.0
   called_one first = asks_called _ first features.DataSec c.args.resolver.now c.is_supported-granted.new.self c.is_supported-granted.result c.is_supported-granted.ensures.asks
 
   -- its answers are the earlier answers, and perhaps one more
   further_one : IsFurther c.args.resolver.now.1 c.is_supported-granted.new.self.1
-  further_one = asks_further (words g.row.F g.F.FnMut).step features.DataSec c.args.resolver.now c.is_supported-granted.new.self c.is_supported-granted.result c.is_supported-granted.ensures.asks
+  further_one = asks_further (words g.row.F g.row.G g.row.H g.row.G-Hasher g.row.H-Hasher g.F.FnMut).step features.DataSec c.args.resolver.now c.is_supported-granted.new.self c.is_supported-granted.result c.is_supported-granted.ensures.asks
 
   -- DataSec is asked for, unless it is answered
   next_one : NextAnswers c.args.resolver.now.1 features.DataSec c.is_supported-granted.result one
-  next_one = asks_next (words g.row.F g.F.FnMut).step features.DataSec c.args.resolver.now c.is_supported-granted.new.self c.is_supported-granted.result c.is_supported-granted.ensures.asks
+  next_one = asks_next (words g.row.F g.row.G g.row.H g.row.G-Hasher g.row.H-Hasher g.F.FnMut).step features.DataSec c.args.resolver.now c.is_supported-granted.new.self c.is_supported-granted.result c.is_supported-granted.ensures.asks
 
   module _ (given : Given) (id : ℕ) (there : IsType c.args.btf.now id (DataSec r)) (below : AreAnswersTo (asks_below (pass_on c.args.btf.now given c.args.resolver.now.1) id) c.args.resolver.now.1) where
     abbrev p : Pass
@@ -163,9 +163,9 @@ record IsAnswered (p : Pass) (id : ℕ) (r : Record) (name size : ℕ) (before n
 
 module _ (g : Over) (c : After-final_size g) (size : ℕ) (was : c.final_size.result ≡ Ok size) (new : g.row.F.Denot × List FeatureAnswer) (fills : Bool)
     (quiet : asks_zero c.args.policy c.args.data_sec.now size ≡ false → (new ≡ c.is_supported-granted.new.self) × (fills ≡ is_fillable c.args.policy c.args.data_sec.now))
-    (asks_it : asks_zero c.args.policy c.args.data_sec.now size ≡ true → Asks (words g.row.F g.F.FnMut).step features.DataSecZero c.is_supported-granted.new.self (not fills) new) where
+    (asks_it : asks_zero c.args.policy c.args.data_sec.now size ≡ true → Asks (words g.row.F g.row.G g.row.H g.row.G-Hasher g.row.H-Hasher g.F.FnMut).step features.DataSecZero c.is_supported-granted.new.self (not fills) new) where
   -- the predicate is called for DataSec and DataSecZero, if it is called
-  called_two : (first : g.row.F.Denot) → Called (words g.row.F g.F.FnMut).step first c.args.resolver.now.1 c.args.resolver.now.0 → Called (words g.row.F g.F.FnMut).step first new.1 new.0
+  called_two : (first : g.row.F.Denot) → Called (words g.row.F g.row.G g.row.H g.row.G-Hasher g.row.H-Hasher g.F.FnMut).step first c.args.resolver.now.1 c.args.resolver.now.0 → Called (words g.row.F g.row.G g.row.H g.row.G-Hasher g.row.H-Hasher g.F.FnMut).step first new.1 new.0
   called_two first called =
       zero_called _ first c.args.policy c.args.data_sec.now size c.is_supported-granted.new.self new fills quiet asks_it
       (asks_called _ first features.DataSec c.args.resolver.now c.is_supported-granted.new.self c.is_supported-granted.result c.is_supported-granted.ensures.asks called)
@@ -173,8 +173,8 @@ module _ (g : Over) (c : After-final_size g) (size : ℕ) (was : c.final_size.re
   -- the answers are the earlier answers, and perhaps one or two more
   further_two : IsFurther c.args.resolver.now.1 new.1
   further_two =
-      further_then c.args.resolver.now.1 c.is_supported-granted.new.self.1 new.1 (asks_further (words g.row.F g.F.FnMut).step features.DataSec c.args.resolver.now c.is_supported-granted.new.self c.is_supported-granted.result c.is_supported-granted.ensures.asks)
-      (zero_further (words g.row.F g.F.FnMut).step c.args.policy c.args.data_sec.now size c.is_supported-granted.new.self new fills quiet asks_it)
+      further_then c.args.resolver.now.1 c.is_supported-granted.new.self.1 new.1 (asks_further (words g.row.F g.row.G g.row.H g.row.G-Hasher g.row.H-Hasher g.F.FnMut).step features.DataSec c.args.resolver.now c.is_supported-granted.new.self c.is_supported-granted.result c.is_supported-granted.ensures.asks)
+      (zero_further (words g.row.F g.row.G g.row.H g.row.G-Hasher g.row.H-Hasher g.F.FnMut).step c.args.policy c.args.data_sec.now size c.is_supported-granted.new.self new fills quiet asks_it)
 
   -- what is known at the three exits with a size
   answered : (given : Given) (id : ℕ) → given.policy ≡ c.args.policy → given.layout.sections ≡ sizes_of c.args.sections.now → IsType c.args.btf.now id (DataSec c.args.data_sec.now)
@@ -188,13 +188,13 @@ module _ (g : Over) (c : After-final_size g) (size : ℕ) (was : c.final_size.re
       let granted : Bool = c.is_supported-granted.result in
       let p : Pass = pass_on c.args.btf.now given c.args.resolver.now.1 in
       let one : List FeatureAnswer = c.is_supported-granted.new.self.1 in
-      let next : NextAnswers p.answers features.DataSec granted one = asks_next (words g.row.F g.F.FnMut).step features.DataSec c.args.resolver.now c.is_supported-granted.new.self granted c.is_supported-granted.ensures.asks in
+      let next : NextAnswers p.answers features.DataSec granted one = asks_next (words g.row.F g.row.G g.row.H g.row.G-Hasher g.row.H-Hasher g.F.FnMut).step features.DataSec c.args.resolver.now c.is_supported-granted.new.self granted c.is_supported-granted.ensures.asks in
       let two : List FeatureAnswer = new.1 in
       let q : Pass = pass_on c.args.btf.now given two in
       let quiet_so : asks_zero given.policy r size ≡ false → (two ≡ one) × (fills ≡ is_fillable given.policy r) =
       λ is. let told = quiet (ap (λ pol. asks_zero pol r size) (sym policy) ∙ is) in (ap (λ s. s.1) told.0, told.1 ∙ ap (λ pol. is_fillable pol r) (sym policy)) in
       let zero : asks_zero given.policy r size ≡ true → NextAnswers one features.DataSecZero (not fills) two =
-      λ is. asks_next (words g.row.F g.F.FnMut).step features.DataSecZero c.is_supported-granted.new.self new (not fills) (asks_it (ap (λ pol. asks_zero pol r size) (sym policy) ∙ is)) in
+      λ is. asks_next (words g.row.F g.row.G g.row.H g.row.G-Hasher g.row.H-Hasher g.F.FnMut).step features.DataSecZero c.is_supported-granted.new.self new (not fills) (asks_it (ap (λ pol. asks_zero pol r size) (sym policy) ∙ is)) in
       let has_it : has q features.DataSec ≡ granted = granted_two p id r there kind below one granted next size two fills quiet_so zero in
       let yes : has q features.DataSec ≡ true = has_it ∙ c.if-not-granted.false in
       let n : HasNewName q id r c.in_ok-name_offset.name_offset before now =

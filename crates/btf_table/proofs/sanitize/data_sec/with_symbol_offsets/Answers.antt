@@ -18,13 +18,13 @@ use Rattle.btf_table.proofs.SectionRules.{told_on}
 use Rattle.btf_table.proofs.sanitize.data_sec.with_symbol_offsets.Goals as goal
 
 pub returns-in_err-entries-clause-answer : goal.returns-in_err-entries-clause-answer
-returns-in_err-entries-clause-answer c = λ p same symbols.
+returns-in_err-entries-clause-answer g c = λ p same symbols.
     told_on (λ new. record_of (unwrap_or new (DataSec c.args.data_sec.now))) c.in_err-entries.field-0.0 c.from_residual.result (first_fault (flat_map (entry_checks p) (entries c.args.data_sec.now.tail))) _
     (model.data_sec c.args.name_offset c.args.size (vlen c.args.data_sec.now.info) (map (placed p) (entries c.args.data_sec.now.tail))) c.from_residual.ensures.1
     (c.in_err-entries.ensures.answer p same symbols)
 
 pub returns-clause-answer : goal.returns-clause-answer
-returns-clause-answer c = λ p same symbols.
+returns-clause-answer g c = λ p same symbols.
     let ok = checked_ok _ _ _ (c.in_ok-entries.ensures.answer p same symbols) in
     let name : ℕ = c.args.name_offset in
     let size : ℕ = c.args.size in

@@ -45,7 +45,7 @@ loop-id-init g c =
       member_type = c.in_ok-made.ensures.member_type;
       filler = c.in_ok-made.ensures.filler;
     }) in
-    (c.requires.callable, subst (λ answers. Called (words g.row.F g.F.FnMut).step c.args.resolver.now.0 answers c.args.resolver.now.0) (sym none) refl, start.0, subst (IsMade p 1 c.in_ok-made.made) (sym c.new-denied.ensures.items) start.1, c.new-names.ensures p.layout)
+    (c.requires.callable, subst (λ answers. Called (words g.row.F g.row.G g.row.H g.row.G-Hasher g.row.H-Hasher g.F.FnMut).step c.args.resolver.now.0 answers c.args.resolver.now.0) (sym none) refl, start.0, subst (IsMade p 1 c.in_ok-made.made) (sym c.new-denied.ensures.items) start.1, c.new-names.ensures p.layout)
 
 -- ---- an id, after its rule has returned
 

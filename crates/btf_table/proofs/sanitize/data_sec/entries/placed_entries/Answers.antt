@@ -15,7 +15,7 @@ use Rattle.btf_table.proofs.SectionItems.{one_more_passes, this_one_faults, one_
 use Rattle.btf_table.proofs.sanitize.data_sec.entries.placed_entries.Goals as goal
 
 pub returns-in_err-placed-clause-answer : goal.returns-in_err-placed-clause-answer
-returns-in_err-placed-clause-answer c = λ p same symbols.
+returns-in_err-placed-clause-answer g c = λ p same symbols.
     let tail : List ℕ = c.args.data_sec.now.tail in
     let answer : List Entry = map (placed p) (entries tail) in
     handed_on (λ v. map entry v.items) c.in_err-placed.field-0.0 c.from_residual.result (λ a. a ≡ checked (first_fault (flat_map (entry_checks p) (entries tail))) answer) c.from_residual.ensures.1
@@ -24,7 +24,7 @@ returns-in_err-placed-clause-answer c = λ p same symbols.
     (c.loop-entry.invariant.2 p same symbols).0 (checked_err _ _ refusal is)))))
 
 pub loop-entry-preserved : goal.loop-entry-preserved
-loop-entry-preserved c =
+loop-entry-preserved g c =
     let es : _ = c.entries-entry-items.result.now in
     let i : ℕ = c.loop-entry.entry-index in
     let old : _ = c.loop-entry.placed_entries.items in
@@ -41,7 +41,7 @@ loop-entry-preserved c =
     )
 
 pub returns-clause-answer : goal.returns-clause-answer
-returns-clause-answer c = λ p same symbols.
+returns-clause-answer g c = λ p same symbols.
     let tail : List ℕ = c.args.data_sec.now.tail in
     let here : _ = c.loop-entry.invariant.2 p same symbols in
     let all : _ = all_entries tail c.entries-entry-items.result.now c.loop-entry.entry-index c.entries-entry-items.ensures.words c.loop-entry-test.false in

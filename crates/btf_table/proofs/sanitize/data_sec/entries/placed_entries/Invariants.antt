@@ -10,7 +10,7 @@ use Rattle.btf_rules.specs.Layout.{offsets_of}
 use Rattle.btf_table.proofs.sanitize.data_sec.entries.placed_entries.Given as goal
 
 abbrev pub invariant-loop-entry : goal.invariant-loop-entry
-invariant-loop-entry l =
+invariant-loop-entry g l =
     (length l.placed_entries.items ≡ l.entry-index)
     × AreFound l.btf.strings (offsets_of l.symbols) l.offsets
     × ((p : Pass) → p.table ≡ l.btf → p.layout.symbols ≡ offsets_of l.symbols
