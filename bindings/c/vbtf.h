@@ -223,7 +223,7 @@ enum vbtf_feature {
 
 struct vbtf_kernel {
 	uint32_t features;       /* 1 << VBTF_FUNC for FUNC, and so on */
-	uint32_t fill_sized;     /* not 0: a DATASEC with a size and no entries gets one if the kernel requires entries */
+	uint32_t fill_sized;     /* not 0: a sized DATASEC without entries gets an entry if the kernel requires one */
 	uint32_t ksyms;          /* the id of the DATASEC .ksyms; 0 for none */
 	uint32_t placeholder;    /* the id of the variable that replaces functions in it; 0 for none */
 };

@@ -97,7 +97,7 @@ fn next_ids(alloc: Global, locals: &[u32], targets: &[u32]) -> Result<Vec<u32>, 
     Ok(next_ids)
 }
 
-/// Rings of N and of N + 1 prototypes, each of which takes the next one, and the first of each. All pairs of the two
+/// Rings of N and of N + 1 prototypes, where each takes the next one, and the first of each ring. All pairs of the two
 /// rings share one bucket, which holds 16 of them. Pointers take the ids between.
 pub fn flooded_rings(alloc: Global, sketch: &mut Sketch, size: u32) -> Result<(u32, u32), Fail> {
     let locals = local_ring(alloc, size as usize)?;

@@ -24,7 +24,7 @@ abbrev pub type_line : List ℕ → ℕ → Record → List ℕ
 type_line strings id r =
     decimal id ++ codes " " ++ kind_part (kind_of r.info) ++ name_part (text_at strings r.name) ++ codes "\n"
 
--- the lines of consecutive types, of which the first has this id
+-- the lines of consecutive types; the first has this id
 abbrev pub lines_from : List ℕ → ℕ → List Record → List ℕ
 lines_from strings id [] = []
 lines_from strings id (r ∷ rs) = type_line strings id r ++ lines_from strings (id + 1) rs

@@ -106,8 +106,8 @@ fn carry_out<R: Read, W: Write>(
 
 /// The program: parses the command line, reads the input to its end, and writes the output.
 ///
-/// Returns the status: 0 on success; 1 if a stream or an allocation fails or the table is refused, with the fault's
-/// text on `err`; 2 for an invalid command line, with the usage on `err` and nothing read.
+/// Returns the status: 0 on success; 1 if a stream or an allocation fails, the table is invalid, or the command fails,
+/// with the fault's text on `err`; 2 for an invalid command line, with the usage on `err` and nothing read.
 pub fn run<R: Read, W: Write, E: Write>(
     alloc: Global,
     words: &[String],

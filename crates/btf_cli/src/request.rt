@@ -14,7 +14,7 @@ pub struct Request<'a> {
 }
 
 /// Stores an id. If an id is stored already, that id stays, and None is returned.
-fn keep(place: &mut Option<u32>, id: u32) -> Option<()>
+fn store_id(place: &mut Option<u32>, id: u32) -> Option<()>
     ensures first { IsSome result ↔ (place.old ≡ None) }
     ensures kept { OnSome result (place.new ≡ Some id) }
 {
@@ -41,8 +41,8 @@ impl<'a> Request<'a> {
         let mut placeholder = None;
         for word in words {
             match Word::read(word.as_str())? {
-                Word::Ksyms(id) => keep(&mut ksyms, id)?,
-                Word::Placeholder(id) => keep(&mut placeholder, id)?,
+                Word::Ksyms(id) => store_id(&mut ksyms, id)?,
+                Word::Placeholder(id) => store_id(&mut placeholder, id)?,
                 _ => {}
             }
         }

@@ -72,7 +72,7 @@ module _ (bits mask many : ℕ) (ones : mask ≡ 2 ^ suc bits - 1) (least : 2 ^ 
       ∙ add-mod_left (2 ^ bits) (many - 2 ^ bits) ∙ mod-eq_of_lt (omega (arith, most, ones, double bits, pow_pos bits)) in
       omega (arith, least, rest, narrow_of h bits mask ones, pick_narrow many (bit_and h mask) (bit_and h (mask / 2)) (omega (arith, is)))
 
-  -- and each other stays where it is
+  -- the bucket of each other pair does not change
   pub next_bucket : (next : ℕ) → IsNextMask mask many next → (ids : ℕ × ℕ) → bucket_of next (many + 1) ids ≡ (if is_numbered mask many ids then many else bucket_of mask many ids)
   next_bucket next (inl same) ids =
       let w = bit_and (spread ids) mask in

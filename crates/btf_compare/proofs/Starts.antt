@@ -1,4 +1,4 @@
--- What a comparison adds to a list of starts: pairs of known ids, none of them twice.
+-- The pairs that a comparison adds to a list of starts: pairs of known ids, none of them twice.
 use Rattle.std.proofs.Common.{◌≡◌, ℕ, Bool, false, List, [], ◌∷◌, ◌++◌, length, Result, ap, subst, arith, inl, inr}
 use Rattle.std.specs.Prelude.{All}
 use Rattle.std.specs.List.{AllByRecursion, IsDistinct}

@@ -189,7 +189,7 @@ Traces result answer old new listed =
     ⊎ ((result ≡ Err errors.OutOfMemory) × (front rest : List Pair) × (listed ≡ front ++ rest)
     × (new ≡ old ++ map ids_of front))
 
--- Pairs of known ids, each of them once. So there are at most as many as the product of the two numbers of types.
+-- Pairs of known ids, each of them once. So their number is at most the product of the two numbers of types.
 pub record AreStarts (local target : Table) (ps : List Pair) : Type 0 where
   pub known : All (AreIds local target) ps
   pub once : IsDistinct pair_eq ps

@@ -131,7 +131,7 @@ section_named-cons n ns q = at (bytes_eq q n.text) (filter (λ x. bytes_eq q x.t
     at true fs = ap (option_map (λ (x : Named). x.section)) (last_or-or (Some n) fs) ∙ option_map-or (λ (x : Named). x.section) (last_or None fs) (Some n)
     at false fs = sym (option_or-none (option_map (λ (x : Named). x.section) (last_or None fs)))
 
--- records that are added under the name of one more section in front
+-- records that are added under the name of one more section at the front of a list
 gains_section : (order : Endianness) (width : ℕ) (p : Part) (n : Named) (ns : List Named) (old new : List ℕ → Option Records) → ((q : List ℕ) → old q ≡ records_named order width p ns q) → GainsUnder n.text (instruction_records order p.size width n.section) old new → (q : List ℕ) → new q ≡ records_named order width p (n ∷ ns) q
 gains_section order width p n ns old new h gains q =
     let read : Section → Records = instruction_records order p.size width in
@@ -141,7 +141,7 @@ gains_section order width p n ns old new h gains q =
     ∙ sym (option_map-or read (section_named ns q) (cond (bytes_eq q n.text) (Some n.section) None))
     ∙ ap (option_map read) (sym (section_named-cons n ns q))
 
--- one more section in front, whose name a later one has
+-- one more section at the front of a list in which a later section has its name
 named_later : (n : Named) (ns : List Named) (q : List ℕ) → IsSome (section_named ns n.text) → section_named (n ∷ ns) q ≡ section_named ns q
 named_later n ns q later = section_named-cons n ns q ∙ at (bytes_eq q n.text) refl
   where

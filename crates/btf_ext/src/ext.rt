@@ -96,14 +96,14 @@ impl<H: BuildHasher> BtfExt<H> {
         &self.line_info
     }
 
-    /// The size of a function record in bytes; 0 where there are none.
+    /// The size of a function record in bytes; 0 if there are none.
     pub fn func_info_rec_size(&self) -> usize
         ensures { result ≡ (ext self.now).func_size }
     {
         self.func_info_rec_size
     }
 
-    /// The size of a line record in bytes; 0 where there are none.
+    /// The size of a line record in bytes; 0 if there are none.
     pub fn line_info_rec_size(&self) -> usize
         ensures { result ≡ (ext self.now).line_size }
     {

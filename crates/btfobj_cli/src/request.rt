@@ -123,7 +123,7 @@ fn read_selection<'a>(
     }
 }
 
-/// The ends of a range `A..B`, either of which may be left out.
+/// The ends of a range `A..B`. Either end may be left out.
 fn read_range(text: &str) -> Option<(Option<u32>, Option<u32>)> {
     let (from, to) = text.split_once("..")?;
     Some((read_end(from)?, read_end(to)?))

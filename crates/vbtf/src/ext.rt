@@ -36,7 +36,7 @@ pub struct ExtSizes {
 /// of the maps' hasher are derived. An attacker who knows it can choose names of sections that collide.
 ///
 /// Status 1, 6 or 7 with the first error, 20 if an allocation fails, 101 if the handle's state is not
-/// 1, and 102 if the table has a `.BTF.ext` already, or the order is another number. What the handle has opened is
+/// 1, and 102 if the table has a `.BTF.ext` already, or the order is another number. The handle is
 /// then unchanged.
 #[unsafe(no_mangle)]
 pub extern "C" fn vbtf_raw_open_ext(

@@ -1,4 +1,4 @@
-//! Why a call failed.
+//! The errors of calls.
 
 use crate::calls::written;
 use std::fmt;
@@ -7,7 +7,7 @@ use vbtf_sys::{vbtf_error, vbtf_raw_error_text};
 const CLOSED: u32 = 101;
 const INVALID_ARGUMENT: u32 = 102;
 
-/// Why a call failed. The variants are those of the library, under aya's names, and so are the texts.
+/// The error of a call. The variants and the texts are the library's; the variants have aya's names.
 ///
 /// ```
 /// use vbtf::{Endianness, Error, Table};
@@ -19,9 +19,9 @@ const INVALID_ARGUMENT: u32 = 102;
 #[derive(Debug, Clone, PartialEq, Eq)]
 #[non_exhaustive]
 pub enum Error {
-    /// The header is cut, or the string section is not within the data.
+    /// The header is truncated, or the string section is not within the data.
     InvalidHeader,
-    /// The type section is not within the data, or a record is cut or too large.
+    /// The type section is not within the data, or a record is truncated or too large.
     InvalidTypeInfo,
     /// A record is of a kind that does not exist.
     InvalidTypeKind {
@@ -47,14 +47,14 @@ pub enum Error {
         /// The id.
         type_id: u32,
     },
-    /// A type is of a kind that has no place there.
+    /// A type has a kind that is not allowed there.
     UnexpectedBtfType {
         /// The id of the type.
         type_id: u32,
     },
     /// No type of the kind has the name.
     UnknownBtfTypeName {
-        /// The characters of the name that have room in 255 bytes.
+        /// The first characters of the name that fit in 255 bytes.
         type_name: String,
     },
     /// A walk through types passed its limit of 32.
@@ -64,20 +64,19 @@ pub enum Error {
     },
     /// A symbol has no known offset, or one past 32 bits.
     SymbolOffsetNotFound {
-        /// The characters of the symbol's name that have room in 255 bytes.
+        /// The first characters of the symbol's name that fit in 255 bytes.
         symbol_name: String,
     },
     /// An entry of a DATASEC is no VAR.
     InvalidDatasec,
     /// A section has no known size, or one past 32 bits.
     UnknownSectionSize {
-        /// The characters of the section's name that have room in 255 bytes.
+        /// The first characters of the section's name that fit in 255 bytes.
         section_name: String,
     },
-    /// An allocation failed. The table that the call would change is as it was.
+    /// An allocation failed. The table that the call would change is unchanged.
     OutOfMemory,
-    /// An argument has no meaning: bytes follow the record of a type that is added, or the table that gets a `.BTF.ext`
-    /// has one.
+    /// An argument is invalid: bytes follow the record of a type that is added, or the table already has a `.BTF.ext`.
     InvalidArgument,
 }
 
@@ -108,7 +107,7 @@ impl Error {
         }
     }
 
-    /// The error as the library describes it to C.
+    /// The error in the form that the library gives to C.
     fn described(&self) -> vbtf_error {
         let (number, id, offset, len, section_len, name) = match self {
             Error::InvalidHeader => (1, 0, 0, 0, 0, ""),
@@ -137,7 +136,7 @@ impl Error {
     }
 }
 
-/// Where the last of the characters ends that have room in this many bytes.
+/// The end of the last character that fits in this number of bytes.
 fn end_of_chars(text: &str, room: usize) -> usize {
     let mut end = text.len().min(room);
     while !text.is_char_boundary(end) {

@@ -20,7 +20,7 @@ use vbtf_sys::{
 /// ```
 #[derive(Debug, Clone, Copy, PartialEq, Eq, Hash)]
 pub enum Part {
-    /// Where functions begin.
+    /// The first instructions of functions.
     FuncInfo,
     /// The lines of source.
     LineInfo,
@@ -63,7 +63,7 @@ impl<'a> Ext<'a> {
         self.sizes.line_size
     }
 
-    /// How many sections a part has records for.
+    /// The number of sections with records in a part.
     pub fn section_count(&self, part: Part) -> u64 {
         match part {
             Part::FuncInfo => self.sizes.func_sections,
@@ -71,7 +71,7 @@ impl<'a> Ext<'a> {
         }
     }
 
-    /// The names of the sections that a part has records for, each once and in no order.
+    /// The names of the sections with records in a part, each once, in no particular order.
     pub fn sections(&self, part: Part) -> Result<Vec<String>, Error> {
         // SAFETY: the loan lives as long as the call.
         let bytes = written(64, |out, room, needed, error| unsafe {
@@ -95,7 +95,7 @@ impl<'a> Ext<'a> {
         })
     }
 
-    /// The words of the records of a section, which has none if no section has the name.
+    /// The words of the records of a section; none if no section has the name.
     fn words(&self, part: Part, section: &str) -> Result<Vec<u32>, Error> {
         let (name, len) = (section.as_ptr(), section.len());
         // SAFETY: as above, and so does the name.
@@ -130,7 +130,7 @@ impl<'a> Ext<'a> {
     }
 }
 
-/// Where a function begins.
+/// The first instruction of a function.
 ///
 /// ```
 /// let function = vbtf::FuncInfo { instruction: 0, type_id: 7 };
@@ -150,7 +150,7 @@ impl FuncInfo {
     }
 }
 
-/// The line of source that an instruction is from.
+/// The source line of an instruction.
 ///
 /// ```
 /// let line =
@@ -191,11 +191,11 @@ impl LineInfo {
 /// ```
 #[derive(Debug, Clone, Copy, PartialEq, Eq, Hash)]
 pub struct Relocation {
-    /// Where the instruction begins in the section, in bytes.
+    /// The offset of the instruction in the section, in bytes.
     pub offset: u32,
-    /// The id of the type that the relocation is about.
+    /// The id of the type of the relocation.
     pub type_id: u32,
-    /// The string offset of the text that names the member, as `0:1:2`.
+    /// The string offset of the text that names the member, such as `0:1:2`.
     pub access_offset: u32,
     /// The number of the kind of relocation.
     pub kind: u32,

@@ -1,8 +1,8 @@
-//! The kernel that a table is rewritten for.
+//! The kernel of a rewrite.
 
 use vbtf_sys::{vbtf_asked, vbtf_kernel, vbtf_named};
 
-/// What an older kernel may lack: a kind of BTF, or a use of one.
+/// A feature that an older kernel may lack: a kind of BTF, or a use of one.
 ///
 /// ```
 /// use vbtf::{Feature, Kernel};
@@ -66,7 +66,7 @@ pub struct FeatureAnswer {
     pub granted: bool,
 }
 
-/// What a kernel has, and the sizes of the sections and the offsets of the symbols of a program.
+/// The features of a kernel, and the sizes of the sections and the offsets of the symbols of a program.
 ///
 /// ```
 /// use vbtf::{Feature, Kernel};
@@ -104,9 +104,9 @@ impl Kernel {
         Self::probed(|feature| features.contains(&feature))
     }
 
-    /// A kernel that has the features for which the closure returns true. This function calls it for each of the eight
-    /// features, once, and before the rewrite; the rewrite in Rattle calls its predicate only for what it needs. So a
-    /// probe that is slow, or that loads a program, is better cached from one rewrite to the next.
+    /// A kernel that has the features for which the closure returns true. This function calls the closure once for each
+    /// of the eight features, before the rewrite; the rewrite in Rattle calls its predicate only for the features that
+    /// the table needs. So cache the results of a probe that is slow or loads a program from one rewrite to the next.
     ///
     /// ```
     /// use vbtf::{Feature, Kernel};
@@ -132,7 +132,7 @@ impl Kernel {
         self.words.features >> feature as u32 & 1 == 1
     }
 
-    /// A DATASEC that has a size and no entries gets one, if the kernel takes no DATASEC without entries.
+    /// A DATASEC that has a size and no entries gets an entry, if the kernel rejects a DATASEC without entries.
     pub fn fill_sized(&mut self) -> &mut Self {
         self.words.fill_sized = 1;
         self
@@ -150,7 +150,7 @@ impl Kernel {
         self
     }
 
-    /// The id of the DATASEC `.ksyms`, and of the variable that takes the place of functions in it. Neither is 0.
+    /// The ids of the DATASEC `.ksyms`, and of the variable that replaces functions in it. Neither is 0.
     pub fn ksyms(&mut self, datasec_id: u32, placeholder_id: Option<u32>) -> &mut Self {
         self.words.ksyms = datasec_id;
         self.words.placeholder = placeholder_id.unwrap_or(0);
@@ -158,7 +158,7 @@ impl Kernel {
     }
 }
 
-/// What was asked, in order.
+/// The answers, in order.
 pub(crate) fn answers_of(asked: &vbtf_asked) -> Vec<FeatureAnswer> {
     let count = asked.features.len().min(asked.count as usize);
     let both = asked.features.iter().zip(&asked.granted).take(count);

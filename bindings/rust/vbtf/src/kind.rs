@@ -99,7 +99,7 @@ const KINDS: [(Kind, &str); 20] = [
 ];
 
 impl Kind {
-    /// The kind of this number; none above 19.
+    /// The kind of this number; None above 19.
     pub fn from_number(number: u32) -> Option<Self> {
         KINDS.get(usize::try_from(number).ok()?).map(|(kind, _)| *kind)
     }

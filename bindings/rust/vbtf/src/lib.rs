@@ -1,4 +1,4 @@
-//! BTF, the Linux kernel's type metadata for BPF programs: tables that are read, looked into, compared, rewritten and
+//! BTF, the Linux kernel's type metadata for BPF programs: tables that are read, searched, compared, rewritten and
 //! written by a library whose results are proved. Every call terminates on every input, and fails only for the
 //! documented reasons, checked in a fixed order.
 //!

@@ -7,7 +7,7 @@ use btf_plain::{BtfError, Endianness};
 #[derive(Clone, Copy)]
 pub struct Part<'a> {
     pub topic: Topic,
-    /// The size of a record in bytes; 0 where there are none.
+    /// The size of a record in bytes; 0 if there are none.
     pub record_size: usize,
     /// The sections of records, one after another.
     pub sections: &'a [u8],

@@ -7,7 +7,7 @@ use Rattle.btf_cli.specs.declared.word.Word.{Word}
 use Rattle.btf_cli.proofs.Readings.{IsMet, unread, ksyms_again, placeholder_again, read_next, read_whole, first_id, no_id, placeholder_alone, no_ksyms, no_placeholder, some_ids, no_ids}
 use Rattle.btf_cli.proofs.Told.{told}
 use Rattle.btf_cli.proofs.request.Request.read.Goals as goal
-use Rattle.btf_cli.proofs.request.Request.read.Goals.{in-Ksyms+in_ok-keep-in-Ksyms, in-Placeholder+in_ok-keep-in-Placeholder, in_default, in-Some-default, in-None-None}
+use Rattle.btf_cli.proofs.request.Request.read.Goals.{in-Ksyms+in_ok-store_id-in-Ksyms, in-Placeholder+in_ok-store_id-in-Placeholder, in_default, in-Some-default, in-None-None}
 
 pub returns-in_err-id-clause-none : goal.returns-in_err-id-clause-none
 returns-in_err-id-clause-none c =
@@ -17,23 +17,23 @@ returns-in_err-id-clause-none c =
     (λ request asked.
     unread c.args.words.now c.loop-word.word-index c.word-item.result c.as_str.result.now c.loop-word.ksyms c.loop-word.placeholder met c.in_err-id.ensures.none asked.1.0 (rw asked.0 at asked.1.1.all))
 
-pub returns-in_err-keep-in-Ksyms-clause-none : goal.returns-in_err-keep-in-Ksyms-clause-none
-returns-in_err-keep-in-Ksyms-clause-none c =
+pub returns-in_err-store_id-in-Ksyms-clause-none : goal.returns-in_err-store_id-in-Ksyms-clause-none
+returns-in_err-store_id-in-Ksyms-clause-none c =
     let met : IsMet c.args.words.now c.loop-word.word-index c.word-item.result c.as_str.result.now c.loop-word.ksyms c.loop-word.placeholder =
     record { within = c.loop-word-test.true; at = c.word-item.is; text_is = c.as_str.ensures.value; read = c.loop-word.invariant } in
-    rw c.from_residual-in_err-keep-in-Ksyms.ensures
+    rw c.from_residual-in_err-store_id-in-Ksyms.ensures
     (λ request asked.
     ksyms_again c.args.words.now c.loop-word.word-index c.word-item.result c.as_str.result.now (saying_of c.in_ok-id.field-0) c.in-Ksyms.id c.loop-word.ksyms c.loop-word.placeholder met
-    (λ none. false≢true (c.in_err-keep-in-Ksyms.ensures.first.1 none)) c.in_ok-id.ensures.some (ap saying_of c.in-Ksyms.is) asked.1.0 request.ksyms (rw asked.0 at asked.1.1.all) asked.1.1.ids)
+    (λ none. false≢true (c.in_err-store_id-in-Ksyms.ensures.first.1 none)) c.in_ok-id.ensures.some (ap saying_of c.in-Ksyms.is) asked.1.0 request.ksyms (rw asked.0 at asked.1.1.all) asked.1.1.ids)
 
-pub returns-in_err-keep-in-Placeholder-clause-none : goal.returns-in_err-keep-in-Placeholder-clause-none
-returns-in_err-keep-in-Placeholder-clause-none c =
+pub returns-in_err-store_id-in-Placeholder-clause-none : goal.returns-in_err-store_id-in-Placeholder-clause-none
+returns-in_err-store_id-in-Placeholder-clause-none c =
     let met : IsMet c.args.words.now c.loop-word.word-index c.word-item.result c.as_str.result.now c.loop-word.ksyms c.loop-word.placeholder =
     record { within = c.loop-word-test.true; at = c.word-item.is; text_is = c.as_str.ensures.value; read = c.loop-word.invariant } in
-    rw c.from_residual-in_err-keep-in-Placeholder.ensures
+    rw c.from_residual-in_err-store_id-in-Placeholder.ensures
     (λ request asked.
     placeholder_again c.args.words.now c.loop-word.word-index c.word-item.result c.as_str.result.now (saying_of c.in_ok-id.field-0) c.in-Placeholder.id c.loop-word.ksyms c.loop-word.placeholder met
-    (λ none. false≢true (c.in_err-keep-in-Placeholder.ensures.first.1 none)) c.in_ok-id.ensures.some (ap saying_of c.in-Placeholder.is) asked.1.0 request.ksyms (rw asked.0 at asked.1.1.all) asked.1.1.ids)
+    (λ none. false≢true (c.in_err-store_id-in-Placeholder.ensures.first.1 none)) c.in_ok-id.ensures.some (ap saying_of c.in-Placeholder.is) asked.1.0 request.ksyms (rw asked.0 at asked.1.1.all) asked.1.1.ids)
 
 pub loop-word-preserved : goal.loop-word-preserved
 loop-word-preserved c =
@@ -42,13 +42,13 @@ loop-word-preserved c =
     let said : Saying = saying_of c.in_ok-id.field-0 in
     let next = read_next c.args.words.now c.loop-word.word-index c.word-item.result c.as_str.result.now said c.loop-word.ksyms c.loop-word.placeholder c.match-branch-2.ksyms c.match-branch-2.placeholder met c.in_ok-id.ensures.some in
     elim c.match-branch-2.branch [
-      | in-Ksyms+in_ok-keep-in-Ksyms w ↦
-          next (first_id ksyms_said said c.loop-word.ksyms c.match-branch-2.ksyms w.in-Ksyms.id (w.in_ok-keep-in-Ksyms.ensures.first.0 refl) (ap (λ (x : Word). ksyms_said (saying_of x)) w.in-Ksyms.is) (w.ksyms-is ∙ w.in_ok-keep-in-Ksyms.ensures.kept))
+      | in-Ksyms+in_ok-store_id-in-Ksyms w ↦
+          next (first_id ksyms_said said c.loop-word.ksyms c.match-branch-2.ksyms w.in-Ksyms.id (w.in_ok-store_id-in-Ksyms.ensures.first.0 refl) (ap (λ (x : Word). ksyms_said (saying_of x)) w.in-Ksyms.is) (w.ksyms-is ∙ w.in_ok-store_id-in-Ksyms.ensures.kept))
           (no_id placeholder_said said c.loop-word.placeholder c.match-branch-2.placeholder (ap (λ (x : Word). placeholder_said (saying_of x)) w.in-Ksyms.is) w.placeholder-is)
-      | in-Placeholder+in_ok-keep-in-Placeholder w ↦
+      | in-Placeholder+in_ok-store_id-in-Placeholder w ↦
           next (no_id ksyms_said said c.loop-word.ksyms c.match-branch-2.ksyms (ap (λ (x : Word). ksyms_said (saying_of x)) w.in-Placeholder.is) w.ksyms-is)
-          (first_id placeholder_said said c.loop-word.placeholder c.match-branch-2.placeholder w.in-Placeholder.id (w.in_ok-keep-in-Placeholder.ensures.first.0 refl) (ap (λ (x : Word). placeholder_said (saying_of x)) w.in-Placeholder.is)
-          (w.placeholder-is ∙ w.in_ok-keep-in-Placeholder.ensures.kept))
+          (first_id placeholder_said said c.loop-word.placeholder c.match-branch-2.placeholder w.in-Placeholder.id (w.in_ok-store_id-in-Placeholder.ensures.first.0 refl) (ap (λ (x : Word). placeholder_said (saying_of x)) w.in-Placeholder.is)
+          (w.placeholder-is ∙ w.in_ok-store_id-in-Placeholder.ensures.kept))
       | in_default w ↦
           next (no_id ksyms_said said c.loop-word.ksyms c.match-branch-2.ksyms (no_ksyms c.in_ok-id.field-0 w.in_default.not-Ksyms) w.ksyms-is)
           (no_id placeholder_said said c.loop-word.placeholder c.match-branch-2.placeholder (no_placeholder c.in_ok-id.field-0 w.in_default.not-Placeholder) w.placeholder-is)

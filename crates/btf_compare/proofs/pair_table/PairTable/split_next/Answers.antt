@@ -92,7 +92,7 @@ module _ (c : After-push_reserved) (long : c.len-many.result ≡ length c.self.i
           ap (λ t. length t.further) c.self.view_is,
         )
 
--- as many buckets as the mask has room for
+-- the number of buckets equals the mask
 full : (c : goal.After-self-then-many-self-1) → (c.len-many.result ≡ length c.self.inside.buckets.items) × IsNextMask c.self.inside.mask (length c.self.inside.buckets.items) (2 * c.self.inside.mask + 1)
 full c =
     let long = many (goal.at.returns-then-many-self-clause-counts c).After-len-many in

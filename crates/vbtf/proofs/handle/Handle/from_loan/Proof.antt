@@ -1,4 +1,4 @@
--- `from_loan` keeps the pointer and what it owns.
+-- `from_loan` preserves the pointer and the values that it owns.
 use Rattle.vbtf.proofs.Steps.{◌≡◌, List, [], ◌∷◌, refl, lit<, proved, ftrue, Val, fact, ‵, raw, ◌⊛◌, ◌$◌, ◌∵◌, !, qed, by, drop, keep, split, fsplit, fjoin, use0, enter, of_opd, lit, no_more, and_then, stop, fld, returns, alloc_all, pass_all, free_all, look_at, get, sets, yes, plain, nothing, Stays, walk_of, stay_dropped, Goes-dropped}
 use types.ByLocal.{get_in}
 use types.Part.{agg, sub, whole}

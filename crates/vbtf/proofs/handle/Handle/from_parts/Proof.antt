@@ -1,4 +1,4 @@
--- `from_parts` keeps the pointer and the box's memory.
+-- `from_parts` preserves the pointer and the box's memory.
 use Rattle.vbtf.proofs.Steps.{◌≡◌, List, [], ◌∷◌, refl, sym, id⊢, lit<, ftrue, Val, fact, tables, ‵, raw, ◌⊛◌, ◌$◌, ◌∵◌, !, qed, by, drop, keep, split, fsplit, fjoin, use0, suffices, enter, of_opd, lit, no_more, and_then, stop, fld, returns, alloc_all, pass_all, free_all, look_at, get, sets, yes, plain, nothing, Stays, walk_of, stay_dropped, Goes-dropped}
 use Rattle.std.proofs.Common.{◌++◌, subst}
 use types.ByLocal.{get_in}

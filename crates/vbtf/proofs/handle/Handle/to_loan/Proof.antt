@@ -1,4 +1,4 @@
--- `to_loan` keeps the pointer and what it owns.
+-- `to_loan` preserves the pointer and the values that it owns.
 use Rattle.vbtf.proofs.Steps.{◌≡◌, ℕ, List, [], ◌∷◌, refl, proved, ftrue, Val, fact, ‵, raw, ◌⊛◌, ◌$◌, ◌∵◌, !, qed, by, drop, keep, move, split, fsplit, fjoin, rewrite, use0, enter, of_opd, no_more, and_then, stop, fld, returns, alloc_all, pass_all, free_all, look_at, get, sets, yes, plain, nothing, heard, Stays, walk_of, stay_dropped, Goes-dropped}
 use types.ByLocal.{get_in}
 use types.Part.{agg, sub, whole}

@@ -1,4 +1,4 @@
--- `to_parts` keeps the pointer and the box's memory.
+-- `to_parts` preserves the pointer and the box's memory.
 use Rattle.vbtf.proofs.Steps.{◌≡◌, ℕ, List, [], ◌∷◌, refl, sym, ap, ◌∙◌, id⊢, ftrue, Val, fact, tables, ‵, raw, ◌⊛◌, ◌$◌, ◌∵◌, !, qed, by, drop, keep, move, split, fsplit, fsplit3, fjoin, use0, suffices, rewrite, enter, of_opd, no_more, and_then, stop, fld, returns, alloc_all, pass_all, free_all, look_at, get, sets, yes, plain, nothing, heard, Stays, walk_of, stay_dropped, Goes-dropped, Ptr, in_a_block}
 use Rattle.std.proofs.Common.{◌++◌, subst, ◌<◌, ◌^◌}
 use types.ByLocal.{get_in}
