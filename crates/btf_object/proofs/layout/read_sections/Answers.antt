@@ -13,7 +13,7 @@ use Rattle.btf_object.proofs.layout.read_sections.Goals as goal
 use Rattle.btf_object.proofs.layout.read_sections.Goals.{in-Some+in_ok-to_string+in_ok-insert, in_default}
 
 pub loop-index-preserved : goal.loop-index-preserved
-loop-index-preserved c = λ name.
+loop-index-preserved g c = λ name.
     let i : ℕ = c.loop-index.index in
     let o = c.args.object.now in
     let rest : Option ℕ = last_named (section_name o) (λ (t : SectionHeader). t.size) (take i o.sections) name in

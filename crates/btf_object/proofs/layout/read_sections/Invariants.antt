@@ -6,4 +6,4 @@ use Rattle.btf_rules.specs.Layout.{sizes_of}
 use Rattle.btf_object.proofs.layout.read_sections.Given as goal
 
 abbrev pub invariant-loop-index : goal.invariant-loop-index
-invariant-loop-index l = (name : List ℕ) → sizes_of l.map name ≡ last_named (section_name l.object) (λ (s : SectionHeader). s.size) (take l.index l.object.sections) name
+invariant-loop-index g l = (name : List ℕ) → sizes_of l.map name ≡ last_named (section_name l.object) (λ (s : SectionHeader). s.size) (take l.index l.object.sections) name

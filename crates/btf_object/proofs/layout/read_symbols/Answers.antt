@@ -13,7 +13,7 @@ use Rattle.btf_object.proofs.layout.read_symbols.Goals as goal
 use Rattle.btf_object.proofs.layout.read_symbols.Goals.{in-Some+in_ok-to_string+in_ok-insert, in_default}
 
 pub loop-index-preserved : goal.loop-index-preserved
-loop-index-preserved c = λ name.
+loop-index-preserved g c = λ name.
     let i : ℕ = c.loop-index.index in
     let o = c.args.object.now in
     let value = λ (t : Symbol). t.value in

@@ -7,4 +7,4 @@ use Rattle.btf_rules.specs.Layout.{offsets_of}
 use Rattle.btf_object.proofs.layout.read_symbols.Given as goal
 
 abbrev pub invariant-loop-index : goal.invariant-loop-index
-invariant-loop-index l = (name : List ℕ) → offsets_of l.map name ≡ last_named (symbol_name l.object) (λ (s : Symbol). s.value) (filter is_read (take l.index (symbols l.object))) name
+invariant-loop-index g l = (name : List ℕ) → offsets_of l.map name ≡ last_named (symbol_name l.object) (λ (s : Symbol). s.value) (filter is_read (take l.index (symbols l.object))) name
