@@ -3,7 +3,7 @@ use Rattle.std.proofs.lemmas.Option.{IfSome_then}
 use Rattle.std.specs.Prelude.{OnOk}
 use Rattle.btf_model.specs.Table.{Table}
 use Rattle.btf_rewrite_model.specs.Rewritten.{begun, pass_of}
-use Rattle.btf_words.specs.Error.{refusal_of}
+use Rattle.btf_words.specs.Error.{refusal_of, MeetsOrNoMemory}
 use Rattle.btf_table.specs.KsymsStep.{ksyms_ids}
 use Rattle.btf_rules.specs.Layout.{layout_of}
 use Rattle.btf_table.specs.PassStep.{Given, under}
@@ -25,6 +25,15 @@ keeps_alone g c Q follows =
     let answers = c.sanitize.new.resolver.1 in
     on_ok (λ a. a.items) c.sanitize.result (Rewrites given.policy old None given.layout answers new) Q (rewrites_by (λ a. a.items) c.sanitize.result old old new None given answers refl refl c.sanitize.ensures.sanitizes)
     (λ items h. follows (subst (λ (k : Option KsymsIds). Keeps given.policy old k answers new) (sym c.in_default.is) (keeps_of old new None given answers items h)))
+
+pub returns-in_default-clause-rewrites : goal.returns-in_default-clause-rewrites
+returns-in_default-clause-rewrites g c =
+    let old : Table = c.args.self.now in
+    let new : Table = c.sanitize.new.self in
+    let given : Given = under c.args.policy (layout_of c.args.sections.now c.args.symbols.now) in
+    let answers = c.sanitize.new.resolver.1 in
+    subst (λ (k : Option KsymsIds). MeetsOrNoMemory (λ a. a.items) c.sanitize.result (Rewrites given.policy old k given.layout answers new)) (sym c.in_default.is)
+    (rewrites_by (λ a. a.items) c.sanitize.result old old new None given answers refl refl c.sanitize.ensures.sanitizes)
 
 pub returns-in_default-clause-granted : goal.returns-in_default-clause-granted
 returns-in_default-clause-granted g c = keeps_alone g c _ (λ k. k.granted)
