@@ -5,9 +5,13 @@ FILE ?= $(firstword $(wildcard /sys/kernel/btf/vmlinux) crates/btf_examples/data
 PREFIX ?= $(HOME)/.local
 TESTS = record_tests table_tests ext_tests kernel_tests program_tests
 
-.PHONY: list build check mutants test gate bench install
+.PHONY: try list build check mutants test gate bench install
 
-# Lists the types of a table.
+# Lists the types of a small table by btftool as it is compiled without proofs, which takes a minute.
+try:
+	cd crates/btftool && rt try -- little types < ../btf_examples/data/kernel.btf
+
+# Lists the types of a table. The first time, this proves and builds btftool.
 list:
 	./btftool little types < $(FILE)
 
