@@ -27,15 +27,22 @@ fn listed(rt: &HostRuntime, section: &str, record: &str) -> anyhow::Result<Strin
     Ok(String::new(rt.alloc()))
 }
 
+/// Lists the lines and the relocations of a section of the program.
+fn list_section(rt: &HostRuntime, part: &str, all: &mut Vec<String>) -> anyhow::Result<()> {
+    let mut lines = part.lines();
+    let head = lines.next().unwrap_or("");
+    let name = head.trim_start_matches("section ").trim_matches('\'');
+    for line in lines {
+        all.push(listed(rt, name, line)?)?;
+    }
+    Ok(())
+}
+
 /// The lines and the relocations of an object, as `lines.awk` writes them.
 fn list(rt: &HostRuntime, text: &str) -> anyhow::Result<Vec<String>> {
-    let mut section = "";
     let mut all = Vec::new(rt.alloc());
-    for line in text.lines() {
-        match line.strip_prefix("section ") {
-            Some(name) => section = name.trim_matches('\''),
-            None => all.push(listed(rt, section, line)?)?,
-        }
+    for part in text.split("\nsection ") {
+        list_section(rt, part, &mut all)?;
     }
     Ok(all)
 }
