@@ -1,1 +1,2 @@
+pub mod Buffer
 pub mod Layout

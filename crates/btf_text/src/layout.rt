@@ -1,7 +1,9 @@
 //! The layout of a structure or a union, as `pahole -F btf -C NAME FILE` of pahole 1.24 writes it.
 
 ghost use Rattle.std.specs.Prelude.{◌≡◌, true, IfOk};
-ghost use Rattle.btf_text.specs.Layout.{is_composite_at};
+ghost use Rattle.btf_words.specs.Error.{MeetsOrNoMemory};
+ghost use Rattle.btf_model.specs.Record.{Union};
+ghost use Rattle.btf_text.specs.Layout.{is_composite_at, OrElse, Finds, MeansTypedef, Means, FindsLayout};
 
 mod column;
 mod declarator;
@@ -33,7 +35,8 @@ use std::fmt::Write;
 /// The errors are those of `Btf::id_by_type_name_kind`, in this order of kinds, and those of `Btf::resolve_type` for
 /// the TYPEDEF. If the TYPEDEF resolves to a type of another kind, the error is `UnexpectedBtfType`.
 pub fn find_layout(table: &Btf, name: &str) -> Result<u32, BtfError>
-    ensures { IfOk result (λ id. is_composite_at table.now id ≡ true) }
+    ensures found { MeetsOrNoMemory (λ id. id) result (FindsLayout table.now name.now) }
+    ensures composite { IfOk result (λ id. is_composite_at table.now id ≡ true) }
 {
     let type_id = find_named(table, name)?;
     if table.type_by_id(type_id)?.is_composite() {
@@ -43,15 +46,31 @@ pub fn find_layout(table: &Btf, name: &str) -> Result<u32, BtfError>
     }
 }
 
-/// The id of the first STRUCT of a name; otherwise of the first UNION; otherwise the id that the first TYPEDEF resolves
-/// to.
-fn find_named(table: &Btf, name: &str) -> Result<u32, BtfError> {
-    for kind in [BtfKind::Struct, BtfKind::Union] {
-        match table.id_by_type_name_kind(name, kind) {
-            Err(BtfError::UnknownBtfTypeName { type_name: _text }) => {}
-            found => return found,
-        }
+/// The id of the first STRUCT of a name; otherwise as `find_union`.
+fn find_named(table: &Btf, name: &str) -> Result<u32, BtfError>
+    ensures { MeetsOrNoMemory (λ id. id) result (Means table.now name.now) }
+{
+    match table.id_by_type_name_kind(name, BtfKind::Struct) {
+        Err(BtfError::UnknownBtfTypeName { type_name: _text }) => find_union(table, name),
+        found => found,
     }
+}
+
+/// The id of the first UNION of a name; otherwise as `find_typedef`.
+fn find_union(table: &Btf, name: &str) -> Result<u32, BtfError>
+    ensures { MeetsOrNoMemory (λ id. id) result
+        (OrElse (Finds table.now name.now Union) (MeansTypedef table.now name.now)) }
+{
+    match table.id_by_type_name_kind(name, BtfKind::Union) {
+        Err(BtfError::UnknownBtfTypeName { type_name: _text }) => find_typedef(table, name),
+        found => found,
+    }
+}
+
+/// The id that the first TYPEDEF of a name resolves to.
+fn find_typedef(table: &Btf, name: &str) -> Result<u32, BtfError>
+    ensures { MeetsOrNoMemory (λ id. id) result (MeansTypedef table.now name.now) }
+{
     let typedef = table.id_by_type_name_kind(name, BtfKind::Typedef)?;
     table.resolve_type(typedef)
 }
