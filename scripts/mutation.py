@@ -16,7 +16,6 @@ HEAD = re.compile(r"^(\s*)(?:pub(?:\([a-z]+\))? )?(?:const )?(?:extern \"C\" )?f
 IMPL = re.compile(r"^impl\b(.*?)\{?$", re.M)
 CONST = re.compile(r"\s*(?:pub(?:\([a-z]+\))? )?const (\w+):")
 NOTE = re.compile(r"# (?:refused|unproved) at: ")
-WIDTH = 120
 
 KILLED, SURVIVED, WRONG, NOT_APPLICABLE = "killed", "survived", "killed for the wrong reason", "not applicable"
 
@@ -298,7 +297,7 @@ def notes_of(goals: dict[str, list[str]]) -> Iterator[str]:
     """Returns the comments that name the goals that kill a mutant, within the width of a line."""
     for name, of_name in sorted(goals.items()):
         begun = f"# refused at: {name.partition('::')[2] or name}: "
-        wrapped = textwrap.wrap(", ".join(of_name), WIDTH - len(begun), break_long_words=False, break_on_hyphens=False)
+        wrapped = textwrap.wrap(", ".join(of_name), 120 - len(begun), break_long_words=False, break_on_hyphens=False)
         yield from [begun + line.removesuffix(",") for line in wrapped]
 
 
