@@ -22,8 +22,9 @@ pub enum Blob<'a> {
 }
 
 impl<'a> Blob<'a> {
-    ghost use Rattle.std.specs.Prelude.{◌≡◌, true, IfOk};
-    ghost use Rattle.btfobj_cli.specs.Blob.{BeginsObject, is_object};
+    ghost use Rattle.std.specs.Prelude.{◌≡◌, true, IfOk, IsOkAnd};
+    ghost use Rattle.btf_model.specs.declared.endianness.Endianness.TheVariants.{Little, Big};
+    ghost use Rattle.btfobj_cli.specs.Blob.{BeginsObject, BeginsTable, IsTable, is_object};
 
     /// The file of these bytes: an object if they begin with ELF's magic number, and a table if they begin with BTF's
     /// magic number (`BTF_MAGIC`, 0xeb9f) in either byte order.
@@ -31,7 +32,10 @@ impl<'a> Blob<'a> {
     /// The error is `UnknownFormat` if they begin otherwise, `Object` with the error of `Object::parse`, or
     /// `OutOfMemory`.
     pub fn read(alloc: Global, bytes: &'a [u8]) -> Result<Blob<'a>, Fault>
-        ensures { IfOk result (λ blob. BeginsObject bytes.now → is_object blob ≡ true) }
+        ensures object { IfOk result (λ blob. BeginsObject bytes.now → is_object blob ≡ true) }
+        ensures little { BeginsTable Little bytes.now
+            → IsOkAnd result (IsTable Little bytes.now) }
+        ensures big { BeginsTable Big bytes.now → IsOkAnd result (IsTable Big bytes.now) }
     {
         match bytes {
             [0x7f, b'E', b'L', b'F', ..] => Ok(Blob::Object(Object::parse(alloc, bytes)?)),

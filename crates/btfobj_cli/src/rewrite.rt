@@ -30,8 +30,8 @@ pub struct Rewrite<'a> {
 }
 
 /// Rewrites the table of a file for a kernel. Returns the bytes of the new file, and the answers for the features that
-/// the rewrite asked about. An object is rewritten as by `sanitize_object_with`, with this hasher. A table alone has no sections and no
-/// symbols.
+/// the rewrite asked about. An object is rewritten as by `sanitize_object_with`, with this hasher. A table alone has
+/// no sections and no symbols.
 ///
 /// The errors are `UnknownFormat`, `Rewrite` with the error of `sanitize_object_with`, `Table` with the error of
 /// `ksyms_of` or of `rewrite_bytes_with`, and `OutOfMemory`.
