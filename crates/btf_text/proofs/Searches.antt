@@ -22,7 +22,7 @@ pub searched_on : (First Second : Result ℕ Refusal → Type 0) (name : List �
     → MeetsOrNoMemory (λ id. id) second Second → MeetsOrNoMemory (λ id. id) second (OrElse First Second)
 searched_on First Second name e first second is refused found then =
     searched First Second name second (subst (λ (o : Option Refusal). IfSome o (λ refusal. First (Err refusal))) refused
-        (subst (λ (r : Result ℕ BtfError). MeetsOrNoMemory (λ id. id) r First) is found)) then
+    (subst (λ (r : Result ℕ BtfError). MeetsOrNoMemory (λ id. id) r First) is found)) then
 
 from_err : (r : Result ℕ BtfError) (e : BtfError) → IsErrAnd r (λ x. x ≡ e) → r ≡ Err e
 from_err r e same = let given = err_from_is_err_and r same in given.1 ∙ ap (λ (x : BtfError). Err x) given.2
@@ -32,11 +32,11 @@ pub refused_first : (First : Result ℕ Refusal → Type 0) (Second : ℕ → Re
     → IsErrAnd r (λ x. x ≡ e) → IfSome (refusal_of e) (λ refusal. First (Err refusal)) → MeetsOrNoMemory (λ id. id) r (Then First Second)
 refused_first First Second e r same refused =
     subst (λ (x : Result ℕ BtfError). MeetsOrNoMemory (λ id. id) x (Then First Second)) (sym (from_err r e same))
-        (IfSome_then (refusal_of e) refused (λ refusal first. inl first))
+    (IfSome_then (refusal_of e) refused (λ refusal first. inl first))
 
 -- the error of the second step is the answer of both
 pub refused_second : (First : Result ℕ Refusal → Type 0) (Second : ℕ → Result ℕ Refusal → Type 0) (id : ℕ) (e : BtfError) (r : Result ℕ BtfError)
     → IsErrAnd r (λ x. x ≡ e) → First (Ok id) → IfSome (refusal_of e) (λ refusal. Second id (Err refusal)) → MeetsOrNoMemory (λ id. id) r (Then First Second)
 refused_second First Second id e r same found refused =
     subst (λ (x : Result ℕ BtfError). MeetsOrNoMemory (λ id. id) x (Then First Second)) (sym (from_err r e same))
-        (IfSome_then (refusal_of e) refused (λ refusal second. inr (id, found, second)))
+    (IfSome_then (refusal_of e) refused (λ refusal second. inr (id, found, second)))

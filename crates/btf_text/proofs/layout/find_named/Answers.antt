@@ -8,4 +8,4 @@ use Rattle.btf_text.proofs.layout.find_named.Goals as goal
 pub returns-in-Err-UnknownBtfTypeName : goal.returns-in-Err-UnknownBtfTypeName
 returns-in-Err-UnknownBtfTypeName c =
     searched_on (Finds c.args.table.now c.args.name.now Struct) _ _ _ _ c.find_union.result c.in-Err-UnknownBtfTypeName.is
-        (ap refusal_of c.in-Err-UnknownBtfTypeName.field-0-is) c.id_by_type_name_kind.ensures c.find_union.ensures
+    (ap refusal_of c.in-Err-UnknownBtfTypeName.field-0-is) c.id_by_type_name_kind.ensures c.find_union.ensures
