@@ -1,7 +1,6 @@
 //! Walks from type to type.
 
 ghost use Rattle.std.specs.Prelude.{◌≡◌, ◌*◌, ◌<◌, ◌≤◌, ◌^◌, map, Some, MatchResult};
-ghost use Rattle.btf_model.specs.Record as kinds;
 ghost use Rattle.btf_model.specs.Record.{kind_of};
 ghost use Rattle.btf_model.specs.Walk as model;
 ghost use Rattle.btf_model.specs.Walk.{modified_type, Resolves, HasSize};
@@ -99,29 +98,30 @@ fn extent_at(btf_type: &BtfType) -> Extent
     ensures { extent_of result ≡ model.extent (kind_of (record_of btf_type.now).info)
         (record_of btf_type.now) }
 {
-    if btf_type.kind() == BtfKind::Array {
-        return array_extent(btf_type);
-    }
-    if let Some(bytes) = btf_type.size() {
-        return Extent::Bytes(bytes);
-    }
-    match btf_type.btf_type() {
-        Some(next) => Extent::Times(1, next),
-        None => Extent::Nothing,
-    }
-}
-
-/// What an ARRAY gives for its size.
-fn array_extent(btf_type: &BtfType) -> Extent
-    ensures { type_kind btf_type.now ≡ kinds.Array
-        → extent_of result ≡ model.extent (Some kinds.Array) (record_of btf_type.now) }
-{
+    // Only a use of the kind proves that the info word has it.
+    let _ = btf_type.kind();
     match btf_type {
+        BtfType::Int(t) => Extent::Bytes(t.size()),
+        BtfType::Ptr(_) => Extent::Bytes(8),
         BtfType::Array(t) => {
             let array = t.array();
             Extent::Times(array.len, array.element_type)
         }
-        _ => Extent::Nothing,
+        BtfType::Struct(t) => Extent::Bytes(t.size()),
+        BtfType::Union(t) => Extent::Bytes(t.size()),
+        BtfType::Enum(t) => Extent::Bytes(t.size()),
+        BtfType::DataSec(t) => Extent::Bytes(t.size()),
+        BtfType::Float(t) => Extent::Bytes(t.size()),
+        BtfType::Enum64(t) => Extent::Bytes(t.size()),
+        BtfType::Typedef(t) => Extent::Times(1, t.btf_type()),
+        BtfType::Volatile(t) => Extent::Times(1, t.btf_type()),
+        BtfType::Const(t) => Extent::Times(1, t.btf_type()),
+        BtfType::Restrict(t) => Extent::Times(1, t.btf_type()),
+        BtfType::Var(t) => Extent::Times(1, t.btf_type()),
+        BtfType::DeclTag(t) => Extent::Times(1, t.btf_type()),
+        BtfType::TypeTag(t) => Extent::Times(1, t.btf_type()),
+        BtfType::FuncProto(t) => Extent::Times(1, t.return_type()),
+        BtfType::Unknown | BtfType::Fwd(_) | BtfType::Func(_) => Extent::Nothing,
     }
 }
 
