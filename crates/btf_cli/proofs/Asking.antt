@@ -12,9 +12,9 @@ use Rattle.btf_model.specs.Blob.{IsTable, IsRefusal}
 use Rattle.btf_rewrite_model.specs.Rewritten.{Rewritten, IsRefused}
 use Rattle.btf_model.specs.declared.endianness.Endianness.{Endianness}
 use Rattle.btf_model.specs.declared.endianness.Endianness.TheVariants as orders
-use Rattle.btf_cli.specs.Saying.{Saying}
-use Rattle.btf_cli.specs.Sayings.{SayAll, SayIds, layout_said, kernel_said, policy_said}
-use Rattle.btf_cli.specs.Request.{request_words, request_ids, IsSaid, Requests}
+use Rattle.btf_cli.specs.Setting.{Setting}
+use Rattle.btf_cli.specs.Settings.{SetAll, SetIds, layout_set, kernel_set, policy_set}
+use Rattle.btf_cli.specs.Request.{request_words, request_ids, AreSet, Requests}
 use Rattle.btf_cli.specs.declared.request.Request.{Request}
 use Rattle.btf_cli.specs.declared.line.Line.{Line}
 use Rattle.btf_cli.specs.declared.line.Query.{Query}
@@ -23,7 +23,7 @@ use Rattle.btf_cli.specs.declared.line.Command.{Command}
 use Rattle.btf_cli.specs.declared.line.Command.TheVariants.{Ask, Rewrite}
 use Rattle.btf_cli.specs.Line.{order_word, AsksQuery, AsksCommand, Asks}
 use Rattle.btf_cli.specs.Answer.{Rewrites, Writes, Declines, IsAnswer, IsDeclined, IsWritten}
-use Rattle.btf_cli.proofs.Told.{said_once}
+use Rattle.btf_cli.proofs.Told.{settings_once}
 
 -- ---- the meaning of the words, if they have one
 
@@ -73,11 +73,11 @@ option_once None (Some y) same = cc
 option_once (Some x) None same = cc
 option_once (Some x) (Some y) same = cc
 
-ids_once : (said : List Saying) (a b : Option KsymsIds) → SayIds said a → SayIds said b → a ≡ b
-ids_once said None None is other = refl
-ids_once said None (Some b) is other = let same = sym is.0 ∙ other.0 in cc
-ids_once said (Some a) None is other = let same = sym is.0 ∙ other.0 in cc
-ids_once said (Some a) (Some b) is other =
+ids_once : (settings : List Setting) (a b : Option KsymsIds) → SetIds settings a → SetIds settings b → a ≡ b
+ids_once settings None None is other = refl
+ids_once settings None (Some b) is other = let same = sym is.0 ∙ other.0 in cc
+ids_once settings (Some a) None is other = let same = sym is.0 ∙ other.0 in cc
+ids_once settings (Some a) (Some b) is other =
     let datasecs : a.datasec_id ∷ [] ≡ b.datasec_id ∷ [] = sym is.0 ∙ other.0 in
     let datasec : a.datasec_id ≡ b.datasec_id = cc in
     let placeholder : a.placeholder_id ≡ b.placeholder_id = option_once a.placeholder_id b.placeholder_id (sym is.1 ∙ other.1) in
@@ -91,20 +91,20 @@ pub record AreAlike (a b : Request) : Type 0 where
 requests_alike : (words : List (List ℕ)) (a b : Request) → Requests words a → Requests words b → AreAlike a b
 requests_alike words a b p q =
     let same : request_words a ≡ request_words b = p.0 ∙ sym q.0 in
-    let said_same : p.1.0 ≡ q.1.0 = said_once (request_words b) p.1.0 q.1.0 (subst (λ (ws : List (List ℕ)). SayAll ws p.1.0) same p.1.1.all) q.1.1.all in
-    record { words = same; ids = ids_once q.1.0 (request_ids a) (request_ids b) (subst (λ (said : List Saying). SayIds said (request_ids a)) said_same p.1.1.ids) q.1.1.ids }
+    let settings_same : p.1.0 ≡ q.1.0 = settings_once (request_words b) p.1.0 q.1.0 (subst (λ (ws : List (List ℕ)). SetAll ws p.1.0) same p.1.1.all) q.1.1.all in
+    record { words = same; ids = ids_once q.1.0 (request_ids a) (request_ids b) (subst (λ (settings : List Setting). SetIds settings (request_ids a)) settings_same p.1.1.ids) q.1.1.ids }
 
-said_alike : (a b : Request) (said : List Saying) → AreAlike a b → IsSaid a said → IsSaid b said
-said_alike a b said alike is = record {
-  all = subst (λ (ws : List (List ℕ)). SayAll ws said) alike.words is.all;
-  ids = subst (λ (ids : Option KsymsIds). SayIds said ids) alike.ids is.ids;
+settings_alike : (a b : Request) (settings : List Setting) → AreAlike a b → AreSet a settings → AreSet b settings
+settings_alike a b settings alike is = record {
+  all = subst (λ (ws : List (List ℕ)). SetAll ws settings) alike.words is.all;
+  ids = subst (λ (ids : Option KsymsIds). SetIds settings ids) alike.ids is.ids;
 }
 
 rewrites_alike : (a b : Request) (t : Table) (r : Result Table Refusal) → AreAlike a b → Rewrites a t r → Rewrites b t r
 rewrites_alike a b t (Ok new) alike is =
-    (is.0, said_alike a b is.0 alike is.1, subst (λ (ids : Option KsymsIds). Rewritten (policy_said is.0) t ids (layout_said is.0) (kernel_said is.0) new) alike.ids is.2)
+    (is.0, settings_alike a b is.0 alike is.1, subst (λ (ids : Option KsymsIds). Rewritten (policy_set is.0) t ids (layout_set is.0) (kernel_set is.0) new) alike.ids is.2)
 rewrites_alike a b t (Err refusal) alike is =
-    (is.0, said_alike a b is.0 alike is.1, subst (λ (ids : Option KsymsIds). IsRefused (policy_said is.0) t ids (layout_said is.0) (kernel_said is.0) refusal) alike.ids is.2)
+    (is.0, settings_alike a b is.0 alike is.1, subst (λ (ids : Option KsymsIds). IsRefused (policy_set is.0) t ids (layout_set is.0) (kernel_set is.0) refusal) alike.ids is.2)
 
 -- ---- commands of the same words
 

@@ -3,7 +3,7 @@ use Rattle.std.proofs.Common.{◌≡◌, ◌≢◌, ℕ, List, sym, ap, ◌∙�
 use Rattle.std.specs.Prelude.{◌==◌, codes}
 use Rattle.std.specs.List.{before_first, after_first}
 use Rattle.btf_rewrite_model.specs.declared.feature.BtfFeature.{BtfFeature}
-use Rattle.btf_cli.specs.Saying.{Saying, Grants, FillsSized, SectionSize, SymbolOffset, KsymsId, PlaceholderId, Says, feature_word, fill_word, IsNamed, IsId}
+use Rattle.btf_cli.specs.Setting.{Setting, Grants, FillsSized, SectionSize, SymbolOffset, KsymsId, PlaceholderId, Sets, feature_word, fill_word, IsNamed, IsId}
 
 -- the word is split there into these texts
 pub record IsCut (word what rest : List ℕ) : Type 0 where
@@ -11,43 +11,43 @@ pub record IsCut (word what rest : List ℕ) : Type 0 where
   pub back : rest ≡ after_first (λ b. b == 58) word
 
 -- the setting of a word with `:`, by the text before it
-abbrev pub SaysBy : List ℕ → List ℕ → Saying → Type 0
-SaysBy what rest (Grants feature) = ⊥
-SaysBy what rest FillsSized = ⊥
-SaysBy what rest (SectionSize name size) = (what ≡ codes "section") × IsNamed rest name size
-SaysBy what rest (SymbolOffset name offset) = (what ≡ codes "symbol") × IsNamed rest name offset
-SaysBy what rest (KsymsId id) = (what ≡ codes "ksyms") × IsId rest id
-SaysBy what rest (PlaceholderId id) = (what ≡ codes "placeholder") × IsId rest id
+abbrev pub SetsBy : List ℕ → List ℕ → Setting → Type 0
+SetsBy what rest (Grants feature) = ⊥
+SetsBy what rest FillsSized = ⊥
+SetsBy what rest (SectionSize name size) = (what ≡ codes "section") × IsNamed rest name size
+SetsBy what rest (SymbolOffset name offset) = (what ≡ codes "symbol") × IsNamed rest name offset
+SetsBy what rest (KsymsId id) = (what ≡ codes "ksyms") × IsId rest id
+SetsBy what rest (PlaceholderId id) = (what ≡ codes "placeholder") × IsId rest id
 
-pub says_by : (word what rest : List ℕ) → IsCut word what rest → ((f : BtfFeature) → word ≢ feature_word f) → word ≢ fill_word → (saying : Saying) → Says word saying → SaysBy what rest saying
-says_by word what rest cut unnamed other (Grants feature) says = unnamed feature says
-says_by word what rest cut unnamed other FillsSized says = other says
-says_by word what rest cut unnamed other (SectionSize name size) says =
-    let rest_is : rest ≡ says.0 = cut.back ∙ ap (after_first (λ b. b == 58)) says.1 in
-    (cut.front ∙ ap (before_first (λ b. b == 58)) says.1, rw rest_is says.2)
-says_by word what rest cut unnamed other (SymbolOffset name offset) says =
-    let rest_is : rest ≡ says.0 = cut.back ∙ ap (after_first (λ b. b == 58)) says.1 in
-    (cut.front ∙ ap (before_first (λ b. b == 58)) says.1, rw rest_is says.2)
-says_by word what rest cut unnamed other (KsymsId id) says =
-    let rest_is : rest ≡ says.0 = cut.back ∙ ap (after_first (λ b. b == 58)) says.1 in
-    (cut.front ∙ ap (before_first (λ b. b == 58)) says.1, rw rest_is says.2)
-says_by word what rest cut unnamed other (PlaceholderId id) says =
-    let rest_is : rest ≡ says.0 = cut.back ∙ ap (after_first (λ b. b == 58)) says.1 in
-    (cut.front ∙ ap (before_first (λ b. b == 58)) says.1, rw rest_is says.2)
+pub sets_by : (word what rest : List ℕ) → IsCut word what rest → ((f : BtfFeature) → word ≢ feature_word f) → word ≢ fill_word → (setting : Setting) → Sets word setting → SetsBy what rest setting
+sets_by word what rest cut unnamed other (Grants feature) sets = unnamed feature sets
+sets_by word what rest cut unnamed other FillsSized sets = other sets
+sets_by word what rest cut unnamed other (SectionSize name size) sets =
+    let rest_is : rest ≡ sets.0 = cut.back ∙ ap (after_first (λ b. b == 58)) sets.1 in
+    (cut.front ∙ ap (before_first (λ b. b == 58)) sets.1, rw rest_is sets.2)
+sets_by word what rest cut unnamed other (SymbolOffset name offset) sets =
+    let rest_is : rest ≡ sets.0 = cut.back ∙ ap (after_first (λ b. b == 58)) sets.1 in
+    (cut.front ∙ ap (before_first (λ b. b == 58)) sets.1, rw rest_is sets.2)
+sets_by word what rest cut unnamed other (KsymsId id) sets =
+    let rest_is : rest ≡ sets.0 = cut.back ∙ ap (after_first (λ b. b == 58)) sets.1 in
+    (cut.front ∙ ap (before_first (λ b. b == 58)) sets.1, rw rest_is sets.2)
+sets_by word what rest cut unnamed other (PlaceholderId id) sets =
+    let rest_is : rest ≡ sets.0 = cut.back ∙ ap (after_first (λ b. b == 58)) sets.1 in
+    (cut.front ∙ ap (before_first (λ b. b == 58)) sets.1, rw rest_is sets.2)
 
 -- a word with this beginning is invalid if no name and number follow
-pub section_unsaid : (what rest : List ℕ) → what ≡ codes "section" → ((name : List ℕ) (n : ℕ) → IsNamed rest name n → ⊥) → (saying : Saying) → SaysBy what rest saying → ⊥
-section_unsaid what rest is unnamed (Grants feature) says = says
-section_unsaid what rest is unnamed FillsSized says = says
-section_unsaid what rest is unnamed (SectionSize name size) says = unnamed name size says.1
-section_unsaid what rest is unnamed (SymbolOffset name offset) says = let other = sym is ∙ says.0 in cc
-section_unsaid what rest is unnamed (KsymsId id) says = let other = sym is ∙ says.0 in cc
-section_unsaid what rest is unnamed (PlaceholderId id) says = let other = sym is ∙ says.0 in cc
+pub section_unset : (what rest : List ℕ) → what ≡ codes "section" → ((name : List ℕ) (n : ℕ) → IsNamed rest name n → ⊥) → (setting : Setting) → SetsBy what rest setting → ⊥
+section_unset what rest is unnamed (Grants feature) sets = sets
+section_unset what rest is unnamed FillsSized sets = sets
+section_unset what rest is unnamed (SectionSize name size) sets = unnamed name size sets.1
+section_unset what rest is unnamed (SymbolOffset name offset) sets = let other = sym is ∙ sets.0 in cc
+section_unset what rest is unnamed (KsymsId id) sets = let other = sym is ∙ sets.0 in cc
+section_unset what rest is unnamed (PlaceholderId id) sets = let other = sym is ∙ sets.0 in cc
 
-pub symbol_unsaid : (what rest : List ℕ) → what ≡ codes "symbol" → ((name : List ℕ) (n : ℕ) → IsNamed rest name n → ⊥) → (saying : Saying) → SaysBy what rest saying → ⊥
-symbol_unsaid what rest is unnamed (Grants feature) says = says
-symbol_unsaid what rest is unnamed FillsSized says = says
-symbol_unsaid what rest is unnamed (SectionSize name size) says = let other = sym is ∙ says.0 in cc
-symbol_unsaid what rest is unnamed (SymbolOffset name offset) says = unnamed name offset says.1
-symbol_unsaid what rest is unnamed (KsymsId id) says = let other = sym is ∙ says.0 in cc
-symbol_unsaid what rest is unnamed (PlaceholderId id) says = let other = sym is ∙ says.0 in cc
+pub symbol_unset : (what rest : List ℕ) → what ≡ codes "symbol" → ((name : List ℕ) (n : ℕ) → IsNamed rest name n → ⊥) → (setting : Setting) → SetsBy what rest setting → ⊥
+symbol_unset what rest is unnamed (Grants feature) sets = sets
+symbol_unset what rest is unnamed FillsSized sets = sets
+symbol_unset what rest is unnamed (SectionSize name size) sets = let other = sym is ∙ sets.0 in cc
+symbol_unset what rest is unnamed (SymbolOffset name offset) sets = unnamed name offset sets.1
+symbol_unset what rest is unnamed (KsymsId id) sets = let other = sym is ∙ sets.0 in cc
+symbol_unset what rest is unnamed (PlaceholderId id) sets = let other = sym is ∙ sets.0 in cc

@@ -15,9 +15,9 @@ use Rattle.btf_rewrite_model.specs.RewriteLaws.{IsAmong}
 use Rattle.btf_rewrite_model.proofs.Kernels.{AgreeWith}
 use Rattle.btf_rewrite_model.specs.Passing.{features_of}
 use Rattle.btf_rules.specs.Features.{Called}
-use Rattle.btf_cli.specs.Saying.{Saying, Grants, FillsSized, SectionSize, SymbolOffset, KsymsId, PlaceholderId, Says, feature_word, fill_word, texts}
-use Rattle.btf_cli.specs.Sayings.{SayAll, is_grant, kernel_said, is_fill, policy_said}
-use Rattle.btf_cli.specs.Request.{IsSaid, names, policy_named}
+use Rattle.btf_cli.specs.Setting.{Setting, Grants, FillsSized, SectionSize, SymbolOffset, KsymsId, PlaceholderId, Sets, feature_word, fill_word, texts}
+use Rattle.btf_cli.specs.Settings.{SetAll, is_grant, kernel_set, is_fill, policy_set}
+use Rattle.btf_cli.specs.Request.{AreSet, names, policy_named}
 use Rattle.btf_cli.specs.declared.request.Request.{Request}
 use Rattle.btf_cli.proofs.Told.{feature_told, feature_is}
 
@@ -62,61 +62,61 @@ words_alike f g =
 
 -- ---- granted features
 
-word_grants : (word : List ℕ) (saying : Saying) (f : BtfFeature) → Says word saying → bytes_eq word (feature_word f) ≡ is_grant f saying
-word_grants word (Grants g) f says = ap (λ (w : List ℕ). bytes_eq w (feature_word f)) says ∙ words_alike g f
-word_grants word FillsSized f says = ap (λ (w : List ℕ). bytes_eq w (feature_word f)) says ∙ elim f as (λ (g : BtfFeature). bytes_eq fill_word (feature_word g) ≡ false) [ features.Func ↦ refl | _ ↦ refl ]
-word_grants word (SectionSize name size) f says =
-    ap (λ (w : List ℕ). bytes_eq w (feature_word f)) says.1 ∙ elim f as (λ (g : BtfFeature). bytes_eq (codes "section:" ++ says.0) (feature_word g) ≡ false) [ features.Func ↦ refl | _ ↦ refl ]
-word_grants word (SymbolOffset name offset) f says =
-    ap (λ (w : List ℕ). bytes_eq w (feature_word f)) says.1 ∙ elim f as (λ (g : BtfFeature). bytes_eq (codes "symbol:" ++ says.0) (feature_word g) ≡ false) [ features.Func ↦ refl | _ ↦ refl ]
-word_grants word (KsymsId id) f says =
-    ap (λ (w : List ℕ). bytes_eq w (feature_word f)) says.1 ∙ elim f as (λ (g : BtfFeature). bytes_eq (codes "ksyms:" ++ says.0) (feature_word g) ≡ false) [ features.Func ↦ refl | _ ↦ refl ]
-word_grants word (PlaceholderId id) f says =
-    ap (λ (w : List ℕ). bytes_eq w (feature_word f)) says.1 ∙ elim f as (λ (g : BtfFeature). bytes_eq (codes "placeholder:" ++ says.0) (feature_word g) ≡ false) [ features.Func ↦ refl | _ ↦ refl ]
+word_grants : (word : List ℕ) (setting : Setting) (f : BtfFeature) → Sets word setting → bytes_eq word (feature_word f) ≡ is_grant f setting
+word_grants word (Grants g) f sets = ap (λ (w : List ℕ). bytes_eq w (feature_word f)) sets ∙ words_alike g f
+word_grants word FillsSized f sets = ap (λ (w : List ℕ). bytes_eq w (feature_word f)) sets ∙ elim f as (λ (g : BtfFeature). bytes_eq fill_word (feature_word g) ≡ false) [ features.Func ↦ refl | _ ↦ refl ]
+word_grants word (SectionSize name size) f sets =
+    ap (λ (w : List ℕ). bytes_eq w (feature_word f)) sets.1 ∙ elim f as (λ (g : BtfFeature). bytes_eq (codes "section:" ++ sets.0) (feature_word g) ≡ false) [ features.Func ↦ refl | _ ↦ refl ]
+word_grants word (SymbolOffset name offset) f sets =
+    ap (λ (w : List ℕ). bytes_eq w (feature_word f)) sets.1 ∙ elim f as (λ (g : BtfFeature). bytes_eq (codes "symbol:" ++ sets.0) (feature_word g) ≡ false) [ features.Func ↦ refl | _ ↦ refl ]
+word_grants word (KsymsId id) f sets =
+    ap (λ (w : List ℕ). bytes_eq w (feature_word f)) sets.1 ∙ elim f as (λ (g : BtfFeature). bytes_eq (codes "ksyms:" ++ sets.0) (feature_word g) ≡ false) [ features.Func ↦ refl | _ ↦ refl ]
+word_grants word (PlaceholderId id) f sets =
+    ap (λ (w : List ℕ). bytes_eq w (feature_word f)) sets.1 ∙ elim f as (λ (g : BtfFeature). bytes_eq (codes "placeholder:" ++ sets.0) (feature_word g) ≡ false) [ features.Func ↦ refl | _ ↦ refl ]
 
 -- whether one of the words is a feature's
 abbrev named_among : List (String Global) → BtfFeature → Bool
 named_among words f = list_any (λ (word : String Global). bytes_eq (string_bytes word) (feature_word f)) words
 
-words_grant : (words : List (String Global)) (said : List Saying) (f : BtfFeature) → SayAll (texts words) said → named_among words f ≡ list_any (is_grant f) said
+words_grant : (words : List (String Global)) (settings : List Setting) (f : BtfFeature) → SetAll (texts words) settings → named_among words f ≡ list_any (is_grant f) settings
 words_grant [] [] f all = refl
-words_grant [] (s ∷ said) f all = absurd all
+words_grant [] (s ∷ settings) f all = absurd all
 words_grant (w ∷ words) [] f all = absurd all
-words_grant (w ∷ words) (s ∷ said) f all =
-    ap (λ (b : Bool). b || named_among words f) (word_grants (string_bytes w) s f all.0) ∙ ap (λ (b : Bool). is_grant f s || b) (words_grant words said f all.1)
+words_grant (w ∷ words) (s ∷ settings) f all =
+    ap (λ (b : Bool). b || named_among words f) (word_grants (string_bytes w) s f all.0) ∙ ap (λ (b : Bool). is_grant f s || b) (words_grant words settings f all.1)
 
 -- ---- the policy
 
-word_fills : (word : List ℕ) (saying : Saying) → Says word saying → bytes_eq word fill_word ≡ is_fill saying
-word_fills word (Grants g) says = ap (λ (w : List ℕ). bytes_eq w fill_word) says ∙ elim g as (λ (f : BtfFeature). bytes_eq (feature_word f) fill_word ≡ false) [ features.Func ↦ refl | _ ↦ refl ]
-word_fills word FillsSized says = ap (λ (w : List ℕ). bytes_eq w fill_word) says
-word_fills word (SectionSize name size) says = ap (λ (w : List ℕ). bytes_eq w fill_word) says.1
-word_fills word (SymbolOffset name offset) says = ap (λ (w : List ℕ). bytes_eq w fill_word) says.1
-word_fills word (KsymsId id) says = ap (λ (w : List ℕ). bytes_eq w fill_word) says.1
-word_fills word (PlaceholderId id) says = ap (λ (w : List ℕ). bytes_eq w fill_word) says.1
+word_fills : (word : List ℕ) (setting : Setting) → Sets word setting → bytes_eq word fill_word ≡ is_fill setting
+word_fills word (Grants g) sets = ap (λ (w : List ℕ). bytes_eq w fill_word) sets ∙ elim g as (λ (f : BtfFeature). bytes_eq (feature_word f) fill_word ≡ false) [ features.Func ↦ refl | _ ↦ refl ]
+word_fills word FillsSized sets = ap (λ (w : List ℕ). bytes_eq w fill_word) sets
+word_fills word (SectionSize name size) sets = ap (λ (w : List ℕ). bytes_eq w fill_word) sets.1
+word_fills word (SymbolOffset name offset) sets = ap (λ (w : List ℕ). bytes_eq w fill_word) sets.1
+word_fills word (KsymsId id) sets = ap (λ (w : List ℕ). bytes_eq w fill_word) sets.1
+word_fills word (PlaceholderId id) sets = ap (λ (w : List ℕ). bytes_eq w fill_word) sets.1
 
-words_fill : (words : List (String Global)) (said : List Saying) → SayAll (texts words) said → list_any (λ (word : String Global). bytes_eq (string_bytes word) fill_word) words ≡ list_any is_fill said
+words_fill : (words : List (String Global)) (settings : List Setting) → SetAll (texts words) settings → list_any (λ (word : String Global). bytes_eq (string_bytes word) fill_word) words ≡ list_any is_fill settings
 words_fill [] [] all = refl
-words_fill [] (s ∷ said) all = absurd all
+words_fill [] (s ∷ settings) all = absurd all
 words_fill (w ∷ words) [] all = absurd all
-words_fill (w ∷ words) (s ∷ said) all =
-    ap (λ (b : Bool). b || list_any (λ (word : String Global). bytes_eq (string_bytes word) fill_word) words) (word_fills (string_bytes w) s all.0) ∙ ap (λ (b : Bool). is_fill s || b) (words_fill words said all.1)
+words_fill (w ∷ words) (s ∷ settings) all =
+    ap (λ (b : Bool). b || list_any (λ (word : String Global). bytes_eq (string_bytes word) fill_word) words) (word_fills (string_bytes w) s all.0) ∙ ap (λ (b : Bool). is_fill s || b) (words_fill words settings all.1)
 
 -- the policy of a request is the policy of its settings
-pub policy_is : (request : Request) (said : List Saying) → IsSaid request said → policy_named request ≡ policy_said said
-policy_is request said is_said = ap (λ (b : Bool). if b then FillSized else KeepSized) (words_fill request.words.now said is_said.all)
+pub policy_is : (request : Request) (settings : List Setting) → AreSet request settings → policy_named request ≡ policy_set settings
+policy_is request settings are_set = ap (λ (b : Bool). if b then FillSized else KeepSized) (words_fill request.words.now settings are_set.all)
 
 -- ---- the answers of the kernel
 
-kernel_grants : (said : List Saying) (f : BtfFeature) → grants (kernel_said said) f ≡ list_any (is_grant f) said
-kernel_grants said features.Func = refl
-kernel_grants said features.FuncGlobal = refl
-kernel_grants said features.DataSec = refl
-kernel_grants said features.DataSecZero = refl
-kernel_grants said features.Float = refl
-kernel_grants said features.DeclTag = refl
-kernel_grants said features.TypeTag = refl
-kernel_grants said features.Enum64 = refl
+kernel_grants : (settings : List Setting) (f : BtfFeature) → grants (kernel_set settings) f ≡ list_any (is_grant f) settings
+kernel_grants settings features.Func = refl
+kernel_grants settings features.FuncGlobal = refl
+kernel_grants settings features.DataSec = refl
+kernel_grants settings features.DataSecZero = refl
+kernel_grants settings features.Float = refl
+kernel_grants settings features.DeclTag = refl
+kernel_grants settings features.TypeTag = refl
+kernel_grants settings features.Enum64 = refl
 
 -- each answer is whether a word is its feature's
 abbrev pub AreNamed : Request → List FeatureAnswer → Type 0
@@ -131,14 +131,14 @@ all_named step request Is each before (a ∷ answers) after is called =
     let one = each before called.0 a.feature a.granted is called.1 in (one.0, all_named step request Is each called.0 answers after one.1 called.2)
 
 -- such answers agree with the kernel's
-named_agree : (request : Request) (said : List Saying) (answers : List FeatureAnswer) → IsSaid request said → AreNamed request answers → (f : BtfFeature) → IsAmong f (features_of answers)
-    → grants (kernel_said said) f ≡ grants answers f
-named_agree request said [] is_said named f among = absurd (false≢true among)
-named_agree request said (a ∷ answers) is_said named f among =
-    elim (same_feature a.feature f) as (λ (b : Bool). same_feature a.feature f ≡ b → grants (kernel_said said) f ≡ (if b then a.granted else grants answers f)) [
+named_agree : (request : Request) (settings : List Setting) (answers : List FeatureAnswer) → AreSet request settings → AreNamed request answers → (f : BtfFeature) → IsAmong f (features_of answers)
+    → grants (kernel_set settings) f ≡ grants answers f
+named_agree request settings [] are_set named f among = absurd (false≢true among)
+named_agree request settings (a ∷ answers) are_set named f among =
+    elim (same_feature a.feature f) as (λ (b : Bool). same_feature a.feature f ≡ b → grants (kernel_set settings) f ≡ (if b then a.granted else grants answers f)) [
       | true ↦ λ same.
-          let one : a.feature ≡ f = same_is a.feature f same in kernel_grants said f ∙ sym (words_grant request.words.now said f is_said.all) ∙ ap (names request) (sym one) ∙ sym named.0
-      | false ↦ λ other. named_agree request said answers is_said named.1 f (later a.feature other among)
+          let one : a.feature ≡ f = same_is a.feature f same in kernel_grants settings f ∙ sym (words_grant request.words.now settings f are_set.all) ∙ ap (names request) (sym one) ∙ sym named.0
+      | false ↦ λ other. named_agree request settings answers are_set named.1 f (later a.feature other among)
     ] refl
   where
     later : (g : BtfFeature) → same_feature g f ≡ false → (same_feature f g || list_any (same_feature f) (features_of answers)) ≡ true → list_any (same_feature f) (features_of answers) ≡ true
@@ -146,5 +146,5 @@ named_agree request said (a ∷ answers) is_said named f among =
         elim (same_feature f g) as (λ (b : Bool). same_feature f g ≡ b → (b || list_any (same_feature f) (features_of answers)) ≡ true → list_any (same_feature f) (features_of answers) ≡ true)
         [ true ↦ λ is _. absurd (false≢true (sym other ∙ ap (λ (h : BtfFeature). same_feature g h) (same_is f g is) ∙ eq-eqb (number g) (number g) refl)) | false ↦ λ is rest. rest ] refl either
 
-pub kernel_agrees : (request : Request) (said : List Saying) (answers : List FeatureAnswer) → IsSaid request said → AreNamed request answers → AgreeWith answers (kernel_said said)
-kernel_agrees request said answers is_said named = named_agree request said answers is_said named
+pub kernel_agrees : (request : Request) (settings : List Setting) (answers : List FeatureAnswer) → AreSet request settings → AreNamed request answers → AgreeWith answers (kernel_set settings)
+kernel_agrees request settings answers are_set named = named_agree request settings answers are_set named

@@ -8,7 +8,7 @@ use Rattle.std.proofs.lemmas.Bool.{ne_eqb}
 use Rattle.std.proofs.lemmas.List.{append_assoc, take-append-drop}
 use Rattle.std.proofs.lemmas.Option.{same_Some, none-some}
 use Rattle.std.proofs.lemmas.Str.Pattern.{NoCharPasses-char, drop_at_char}
-use Rattle.btf_cli.specs.Saying.{IsNumber, IsNamed}
+use Rattle.btf_cli.specs.Setting.{IsNumber, IsNamed}
 
 -- the text before and after the last `=`
 abbrev cut_at : ℕ → List ℕ → Option (List ℕ × List ℕ) → Option (List ℕ × List ℕ)
@@ -66,6 +66,6 @@ not_named text none name n named = none-some (name, named.0) (sym (none_found te
 
 -- a text without a number after the last `=` is no name and number
 pub not_numbered : (text front back : List ℕ) → SplitsAroundMatch (RFindsChar 61) text front back → ((n : ℕ) → IsNumber 64 back n → ⊥) → (name : List ℕ) (n : ℕ) → IsNamed text name n → ⊥
-not_numbered text front back split unsaid name n named =
+not_numbered text front back split unset name n named =
     let parts : (front, back) ≡ (name, named.0) = same_Some (front, back) (name, named.0) (sym (parts_found text front back split).1 ∙ cut_named text name n named) in
-    unsaid n (subst (λ (digits : List ℕ). IsNumber 64 digits n) (sym (ap (λ (p : List ℕ × List ℕ). p.1) parts)) named.2)
+    unset n (subst (λ (digits : List ℕ). IsNumber 64 digits n) (sym (ap (λ (p : List ℕ × List ℕ). p.1) parts)) named.2)

@@ -18,8 +18,8 @@ use Rattle.btf_model.proofs.Walks.{one_answer, by_one}
 use Rattle.btf_words.specs.Error.{refusal_of}
 use Rattle.btf_words.specs.declared.error.BtfError.{BtfError}
 use Rattle.btf_compare.specs.Pairs.{pair}
-use Rattle.btf_cli.specs.Saying.{Saying}
-use Rattle.btf_cli.specs.Sayings.{layout_said, kernel_said, policy_said}
+use Rattle.btf_cli.specs.Setting.{Setting}
+use Rattle.btf_cli.specs.Settings.{layout_set, kernel_set, policy_set}
 use Rattle.btf_cli.specs.Request.{request_words, request_ids}
 use Rattle.btf_cli.specs.declared.request.Request.{Request}
 use Rattle.btf_cli.specs.declared.line.Line.{Line}
@@ -33,7 +33,7 @@ use Rattle.btf_cli.specs.Output.{output_bytes}
 use Rattle.btf_cli.specs.declared.output.Output.{Output}
 use Rattle.btf_cli.specs.declared.fault.Fault.{Fault}
 use Rattle.btf_cli.specs.declared.fault.Fault.TheVariants as faults
-use Rattle.btf_cli.proofs.Told.{said_once}
+use Rattle.btf_cli.proofs.Told.{settings_once}
 
 compared_or_refused : (t : Table) (id other : ℕ) (found : Bool × ℕ) (refusal : Refusal) → Compares t id other (Ok found) → Compares t id other (Err refusal) → ⊥
 compared_or_refused t id other found refusal has not = false≢true (ap is_ok (one_plain t t [] (pair id other) (Err refusal) (Ok found.0) not.0 has.0 not.1 has.1).0)
@@ -44,8 +44,8 @@ sized_or_refused records id n refusal has not =
 
 rewritten_or_refused : (request : Request) (t new : Table) (refusal : Refusal) → Rewrites request t (Ok new) → Rewrites request t (Err refusal) → ⊥
 rewritten_or_refused request t new refusal has not =
-    let same : not.0 ≡ has.0 = said_once (request_words request) not.0 has.0 not.1.all has.1.all in
-    rewritten_not_refused (policy_said has.0) t new (request_ids request) (layout_said has.0) (kernel_said has.0) refusal has.2 (subst (λ (said : List Saying). IsRefused (policy_said said) t (request_ids request) (layout_said said) (kernel_said said) refusal) same not.2)
+    let same : not.0 ≡ has.0 = settings_once (request_words request) not.0 has.0 not.1.all has.1.all in
+    rewritten_not_refused (policy_set has.0) t new (request_ids request) (layout_set has.0) (kernel_set has.0) refusal has.2 (subst (λ (settings : List Setting). IsRefused (policy_set settings) t (request_ids request) (layout_set settings) (kernel_set settings) refusal) same not.2)
 
 written_or_declined : (command : Command) (t : Table) (written : List ℕ) (refusal : Refusal) → Writes command t written → Declines command t refusal → ⊥
 written_or_declined (Ask Copy) t written refusal writes declines = declines

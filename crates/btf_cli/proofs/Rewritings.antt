@@ -14,38 +14,38 @@ use Rattle.btf_words.specs.Error.{refusal_of}
 use Rattle.btf_words.specs.declared.error.BtfError.{BtfError}
 use Rattle.btf_model.specs.declared.endianness.Endianness.{Endianness}
 use Rattle.btf_table.specs.Rewrites.{features_asked, Refuses, RewritesBytes}
-use Rattle.btf_cli.specs.Saying.{Saying}
-use Rattle.btf_cli.specs.Sayings.{layout_said, kernel_said, policy_said, last_said, size_said, offset_said}
-use Rattle.btf_cli.specs.Request.{request_ids, IsSaid}
+use Rattle.btf_cli.specs.Setting.{Setting}
+use Rattle.btf_cli.specs.Settings.{layout_set, kernel_set, policy_set, last_set, size_set, offset_set}
+use Rattle.btf_cli.specs.Request.{request_ids, AreSet}
 use Rattle.btf_cli.specs.declared.request.Request.{Request}
 use Rattle.btf_cli.specs.declared.line.Command.TheVariants.{Rewrite}
 use Rattle.btf_cli.specs.Answer.{Rewrites, IsAnswer, IsDeclined}
 
 -- a layout is the request's if it has the numbers of each name
-pub layout_is : (layout : Layout) (said : List Saying) → ((name : List ℕ) → layout.sections name ≡ last_said (size_said name) said) → ((name : List ℕ) → layout.symbols name ≡ last_said (offset_said name) said) → layout ≡ layout_said said
-layout_is layout said sizes offsets =
+pub layout_is : (layout : Layout) (settings : List Setting) → ((name : List ℕ) → layout.sections name ≡ last_set (size_set name) settings) → ((name : List ℕ) → layout.symbols name ≡ last_set (offset_set name) settings) → layout ≡ layout_set settings
+layout_is layout settings sizes offsets =
     ap (λ (sections : List ℕ → Option ℕ). record { sections = sections; symbols = layout.symbols }) (fun_ext sizes)
-    ∙ ap (λ (symbols : List ℕ → Option ℕ). record { sections = λ name. last_said (size_said name) said; symbols = symbols }) (fun_ext offsets)
+    ∙ ap (λ (symbols : List ℕ → Option ℕ). record { sections = λ name. last_set (size_set name) settings; symbols = symbols }) (fun_ext offsets)
 
 -- A rewrite that was made for a request: its layout and its policy are the request's, and its answers are the kernel's.
-pub record IsFor (request : Request) (layout : Layout) (policy : FillPolicy) (answers : List FeatureAnswer) (said : List Saying) : Type 0 where
-  pub is_said : IsSaid request said
-  pub same_layout : layout ≡ layout_said said
-  pub same_policy : policy ≡ policy_said said
-  pub agree : AgreeWith answers (kernel_said said)
+pub record IsFor (request : Request) (layout : Layout) (policy : FillPolicy) (answers : List FeatureAnswer) (settings : List Setting) : Type 0 where
+  pub are_set : AreSet request settings
+  pub same_layout : layout ≡ layout_set settings
+  pub same_policy : policy ≡ policy_set settings
+  pub agree : AgreeWith answers (kernel_set settings)
 
-module _ (request : Request) (layout : Layout) (policy : FillPolicy) (answers : List FeatureAnswer) (said : List Saying) (for_request : IsFor request layout policy answers said) where
+module _ (request : Request) (layout : Layout) (policy : FillPolicy) (answers : List FeatureAnswer) (settings : List Setting) (for_request : IsFor request layout policy answers settings) where
   rewrites_so : (t new : Table) → Rewritten policy t (request_ids request) layout answers new → features_asked answers ≡ Asked (pass_of policy t (request_ids request) layout answers) → Rewrites request t (Ok new)
   rewrites_so t new is asked =
       let Known : FillPolicy → Layout → Type 0 = λ f l. Rewritten f t (request_ids request) l answers new × (features_asked answers ≡ Asked (pass_of f t (request_ids request) l answers)) in
-      let known : Known (policy_said said) (layout_said said) = subst (λ (f : FillPolicy). Known f (layout_said said)) for_request.same_policy (subst (Known policy) for_request.same_layout (is, asked)) in
-      (said, for_request.is_said, rewritten_alike (policy_said said) t new (request_ids request) (layout_said said) answers (kernel_said said) known.0 known.1 for_request.agree)
+      let known : Known (policy_set settings) (layout_set settings) = subst (λ (f : FillPolicy). Known f (layout_set settings)) for_request.same_policy (subst (Known policy) for_request.same_layout (is, asked)) in
+      (settings, for_request.are_set, rewritten_alike (policy_set settings) t new (request_ids request) (layout_set settings) answers (kernel_set settings) known.0 known.1 for_request.agree)
 
   refuses_so : (t : Table) (refusal : Refusal) → Refuses policy t (request_ids request) layout answers refusal → Rewrites request t (Err refusal)
   refuses_so t refusal is =
-      let known : Refuses (policy_said said) t (request_ids request) (layout_said said) answers refusal =
-      subst (λ (f : FillPolicy). Refuses f t (request_ids request) (layout_said said) answers refusal) for_request.same_policy (subst (λ (l : Layout). Refuses policy t (request_ids request) l answers refusal) for_request.same_layout is) in
-      (said, for_request.is_said, refused_alike (policy_said said) t (request_ids request) (layout_said said) answers (kernel_said said) refusal known for_request.agree)
+      let known : Refuses (policy_set settings) t (request_ids request) (layout_set settings) answers refusal =
+      subst (λ (f : FillPolicy). Refuses f t (request_ids request) (layout_set settings) answers refusal) for_request.same_policy (subst (λ (l : Layout). Refuses policy t (request_ids request) l answers refusal) for_request.same_layout is) in
+      (settings, for_request.are_set, refused_alike (policy_set settings) t (request_ids request) (layout_set settings) answers (kernel_set settings) refusal known for_request.agree)
 
   -- the bytes of the rewritten table are the output
   pub rewritten_answer : (endianness : Endianness) (bytes written : List ℕ) (listed : List FeatureAnswer) → RewritesBytes policy endianness bytes (request_ids request) layout answers (Ok (written, listed))

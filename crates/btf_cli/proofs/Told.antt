@@ -6,8 +6,8 @@ use Rattle.std.specs.Str.{bytes_eq}
 use Rattle.std.specs.Str.Parse.{digits_value}
 use Rattle.btf_rewrite_model.specs.declared.feature.BtfFeature.TheVariants as features
 use Rattle.btf_rewrite_model.specs.declared.feature.BtfFeature.{BtfFeature}
-use Rattle.btf_cli.specs.Saying.{Saying, Grants, FillsSized, SectionSize, SymbolOffset, KsymsId, PlaceholderId, Says, feature_word, IsNamed}
-use Rattle.btf_cli.specs.Sayings.{SayAll}
+use Rattle.btf_cli.specs.Setting.{Setting, Grants, FillsSized, SectionSize, SymbolOffset, KsymsId, PlaceholderId, Sets, feature_word, IsNamed}
+use Rattle.btf_cli.specs.Settings.{SetAll}
 use Rattle.btf_cli.proofs.NameEnds.{cut_last, cut_named}
 
 -- the feature that a word names, if it names one
@@ -32,12 +32,12 @@ feature_is features.TypeTag = refl
 feature_is features.Enum64 = refl
 
 -- the setting of a text with `=`, by its parts
-abbrev named_told : (List ℕ → ℕ → Saying) → Option (List ℕ × List ℕ) → Saying
+abbrev named_told : (List ℕ → ℕ → Setting) → Option (List ℕ × List ℕ) → Setting
 named_told kind (Some parts) = kind parts.0 (digits_value 10 parts.1)
 named_told kind None = kind [] 0
 
 -- the setting of a word, if it is valid
-abbrev pub told : List ℕ → Saying
+abbrev pub told : List ℕ → Setting
 told word =
     if starts_with nat_eq word (codes "section:") then named_told SectionSize (cut_last (drop 8 word))
     else (if starts_with nat_eq word (codes "symbol:") then named_told SymbolOffset (cut_last (drop 7 word))
@@ -55,24 +55,24 @@ feature_word_told features.DeclTag = refl
 feature_word_told features.TypeTag = refl
 feature_word_told features.Enum64 = refl
 
-told_named : (kind : List ℕ → ℕ → Saying) (text name : List ℕ) (n : ℕ) → IsNamed text name n → named_told kind (cut_last text) ≡ kind name n
+told_named : (kind : List ℕ → ℕ → Setting) (text name : List ℕ) (n : ℕ) → IsNamed text name n → named_told kind (cut_last text) ≡ kind name n
 told_named kind text name n named = ap (named_told kind) (cut_named text name n named) ∙ ap (kind name) named.2.1
 
 -- this is the setting that the word makes
-pub told_is : (word : List ℕ) (saying : Saying) → Says word saying → told word ≡ saying
-told_is word (Grants feature) says = ap told says ∙ feature_word_told feature ∙ ap (λ f. Grants f) (feature_is feature)
-told_is word FillsSized says = ap told says
-told_is word (SectionSize name size) says = ap told says.1 ∙ told_named SectionSize says.0 name size says.2
-told_is word (SymbolOffset name offset) says = ap told says.1 ∙ told_named SymbolOffset says.0 name offset says.2
-told_is word (KsymsId id) says = ap told says.1 ∙ ap (λ n. KsymsId n) says.2.1
-told_is word (PlaceholderId id) says = ap told says.1 ∙ ap (λ n. PlaceholderId n) says.2.1
+pub told_is : (word : List ℕ) (setting : Setting) → Sets word setting → told word ≡ setting
+told_is word (Grants feature) sets = ap told sets ∙ feature_word_told feature ∙ ap (λ f. Grants f) (feature_is feature)
+told_is word FillsSized sets = ap told sets
+told_is word (SectionSize name size) sets = ap told sets.1 ∙ told_named SectionSize sets.0 name size sets.2
+told_is word (SymbolOffset name offset) sets = ap told sets.1 ∙ told_named SymbolOffset sets.0 name offset sets.2
+told_is word (KsymsId id) sets = ap told sets.1 ∙ ap (λ n. KsymsId n) sets.2.1
+told_is word (PlaceholderId id) sets = ap told sets.1 ∙ ap (λ n. PlaceholderId n) sets.2.1
 
 -- so the settings of words are unique
-pub all_told : (words : List (List ℕ)) (said : List Saying) → SayAll words said → said ≡ map told words
+pub all_told : (words : List (List ℕ)) (settings : List Setting) → SetAll words settings → settings ≡ map told words
 all_told [] [] all = refl
-all_told [] (saying ∷ said) all = absurd all
+all_told [] (setting ∷ settings) all = absurd all
 all_told (word ∷ words) [] all = absurd all
-all_told (word ∷ words) (saying ∷ said) all = ap (λ s. s ∷ said) (sym (told_is word saying all.0)) ∙ ap (λ ss. told word ∷ ss) (all_told words said all.1)
+all_told (word ∷ words) (setting ∷ settings) all = ap (λ s. s ∷ settings) (sym (told_is word setting all.0)) ∙ ap (λ ss. told word ∷ ss) (all_told words settings all.1)
 
-pub said_once : (words : List (List ℕ)) (said other : List Saying) → SayAll words said → SayAll words other → said ≡ other
-said_once words said other all all_other = all_told words said all ∙ sym (all_told words other all_other)
+pub settings_once : (words : List (List ℕ)) (settings other : List Setting) → SetAll words settings → SetAll words other → settings ≡ other
+settings_once words settings other all all_other = all_told words settings all ∙ sym (all_told words other all_other)

@@ -10,9 +10,9 @@ use Rattle.btf_model.specs.Compat.{Plain, firsts}
 use Rattle.btf_rewrite_model.specs.Rewritten.{Rewritten, IsRefused}
 use Rattle.btf_compare.specs.Pairs.{pair}
 use Rattle.btf_model.specs.declared.endianness.Endianness.{Endianness}
-use Rattle.btf_cli.specs.Saying.{Saying}
-use Rattle.btf_cli.specs.Sayings.{layout_said, kernel_said, policy_said}
-use Rattle.btf_cli.specs.Request.{request_ids, IsSaid}
+use Rattle.btf_cli.specs.Setting.{Setting}
+use Rattle.btf_cli.specs.Settings.{layout_set, kernel_set, policy_set}
+use Rattle.btf_cli.specs.Request.{request_ids, AreSet}
 use Rattle.btf_cli.specs.declared.request.Request.{Request}
 use Rattle.btf_cli.specs.declared.line.Line.{Line}
 use Rattle.btf_cli.specs.declared.line.Query.TheVariants.{Copy, Types, Size, Compat}
@@ -30,11 +30,11 @@ Compares t id other (Err refusal) = (starts : List Pair) × Plain t t [] (pair i
 -- kernel's features, the policy, and the layout.
 abbrev pub Rewrites : Request → Table → Result Table Refusal → Type 0
 Rewrites request t (Ok new) =
-    (said : List Saying) × IsSaid request said
-    × Rewritten (policy_said said) t (request_ids request) (layout_said said) (kernel_said said) new
+    (settings : List Setting) × AreSet request settings
+    × Rewritten (policy_set settings) t (request_ids request) (layout_set settings) (kernel_set settings) new
 Rewrites request t (Err refusal) =
-    (said : List Saying) × IsSaid request said
-    × IsRefused (policy_said said) t (request_ids request) (layout_said said) (kernel_said said) refusal
+    (settings : List Setting) × AreSet request settings
+    × IsRefused (policy_set settings) t (request_ids request) (layout_set settings) (kernel_set settings) refusal
 
 -- the output of a command on a table
 abbrev pub Writes : Command → Table → List ℕ → Type 0

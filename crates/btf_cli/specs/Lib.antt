@@ -1,6 +1,6 @@
-pub mod Saying
+pub mod Setting
 pub mod Word
-pub mod Sayings
+pub mod Settings
 pub mod Request
 pub mod Line
 pub mod Listing

@@ -4,7 +4,7 @@ use Rattle.std.specs.Prelude.{String}
 use Rattle.std.specs.declared.alloc.Global.{Global}
 use Rattle.btf_model.specs.declared.endianness.Endianness.{Endianness}
 use Rattle.btf_model.specs.declared.endianness.Endianness.TheVariants.{Little, Big}
-use Rattle.btf_cli.specs.Saying.{texts, IsId}
+use Rattle.btf_cli.specs.Setting.{texts, IsId}
 use Rattle.btf_cli.specs.Request.{Requests}
 use Rattle.btf_cli.specs.declared.line.Line.{Line}
 use Rattle.btf_cli.specs.declared.line.Query.{Query}

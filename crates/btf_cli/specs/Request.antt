@@ -8,8 +8,8 @@ use Rattle.btf_rewrite_model.specs.declared.feature.BtfFeature.{BtfFeature}
 use Rattle.btf_rewrite_model.specs.declared.feature.FillPolicy.{FillPolicy}
 use Rattle.btf_rewrite_model.specs.declared.feature.FillPolicy.TheVariants.{KeepSized, FillSized}
 use Rattle.btf_rewrite_model.specs.Ksyms as model
-use Rattle.btf_cli.specs.Saying.{Saying, feature_word, fill_word, texts}
-use Rattle.btf_cli.specs.Sayings.{SayAll, SayIds}
+use Rattle.btf_cli.specs.Setting.{Setting, feature_word, fill_word, texts}
+use Rattle.btf_cli.specs.Settings.{SetAll, SetIds}
 use Rattle.btf_cli.specs.declared.request.Request.{Request}
 
 -- the words of a request
@@ -33,10 +33,10 @@ abbrev pub policy_named : Request → FillPolicy
 policy_named request = if has_word request fill_word then FillSized else KeepSized
 
 -- These are the settings of a request's words, and its ids are among them.
-pub record IsSaid (request : Request) (said : List Saying) : Type 0 where
-  pub all : SayAll (request_words request) said
-  pub ids : SayIds said (request_ids request)
+pub record AreSet (request : Request) (settings : List Setting) : Type 0 where
+  pub all : SetAll (request_words request) settings
+  pub ids : SetIds settings (request_ids request)
 
 -- The words are this request.
 abbrev pub Requests : List (List ℕ) → Request → Type 0
-Requests words request = (request_words request ≡ words) × ((said : List Saying) × IsSaid request said)
+Requests words request = (request_words request ≡ words) × ((settings : List Setting) × AreSet request settings)

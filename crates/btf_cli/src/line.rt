@@ -52,7 +52,7 @@ fn read_order(word: &str) -> Option<Endianness>
 impl Query {
     ghost use Rattle.std.specs.Prelude.{IfSome, IfNone};
     ghost use Rattle.btf_cli.specs.Line.{AsksQuery};
-    ghost use Rattle.btf_cli.specs.Saying.{texts};
+    ghost use Rattle.btf_cli.specs.Setting.{texts};
     ghost use Rattle.btf_cli.specs.declared.line.Query.{Query};
 
     /// The query in the words after the byte order.
@@ -85,7 +85,7 @@ impl Query {
 impl<'a> Command<'a> {
     ghost use Rattle.std.specs.Prelude.{IfSome, IfNone};
     ghost use Rattle.btf_cli.specs.Line.{AsksCommand};
-    ghost use Rattle.btf_cli.specs.Saying.{texts};
+    ghost use Rattle.btf_cli.specs.Setting.{texts};
     ghost use Rattle.btf_cli.specs.declared.line.Command.{Command};
 
     /// The command in the words after the byte order.

@@ -1,7 +1,7 @@
 //! Numbers in words.
 
 ghost use Rattle.std.specs.Prelude.{ℕ, IfSome, IfNone};
-ghost use Rattle.btf_cli.specs.Saying.{IsId, IsNumber};
+ghost use Rattle.btf_cli.specs.Setting.{IsId, IsNumber};
 
 /// The number of 64 bits in a text of decimal digits.
 pub fn read_number(text: &str) -> Option<u64>

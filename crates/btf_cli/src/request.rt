@@ -27,7 +27,7 @@ fn store_id(place: &mut Option<u32>, id: u32) -> Option<()>
 
 impl<'a> Request<'a> {
     ghost use Rattle.std.specs.Prelude.{◌≡◌, IfSome, IfNone};
-    ghost use Rattle.btf_cli.specs.Saying.{texts};
+    ghost use Rattle.btf_cli.specs.Setting.{texts};
     ghost use Rattle.btf_cli.specs.Request.{has_word, names, policy_named, Requests};
     ghost use Rattle.btf_cli.specs.declared.request.Request.{Request};
 

@@ -4,9 +4,9 @@ ghost use Rattle.std.specs.Prelude.{◌≡◌, ℕ, List, IfOk, IfErr, IfSome, I
 ghost use Rattle.btf_words.specs.Error.{refusal_of};
 ghost use Rattle.btf_rules.specs.Layout.{sizes_of, offsets_of};
 ghost use Rattle.btf_cli.specs.Answer.{rewriting, IsAnswer, IsDeclined};
-ghost use Rattle.btf_cli.specs.Request.{IsSaid, names};
-ghost use Rattle.btf_cli.specs.Saying.{Saying, SectionSize, SymbolOffset, Says, texts};
-ghost use Rattle.btf_cli.specs.Sayings.{SayAll, last_said, size_said, offset_said};
+ghost use Rattle.btf_cli.specs.Request.{AreSet, names};
+ghost use Rattle.btf_cli.specs.Setting.{Setting, SectionSize, SymbolOffset, Sets, texts};
+ghost use Rattle.btf_cli.specs.Settings.{SetAll, last_set, size_set, offset_set};
 
 use crate::request::Request;
 use crate::word::Word;
@@ -18,9 +18,9 @@ use std::collections::HashMap;
 
 /// The name and the size of a section in a word, if it gives these.
 fn read_section(word: &str) -> Option<(&str, u64)>
-    ensures some { IfSome result (λ named. Says word.now (SectionSize named.0.now named.1)) }
+    ensures some { IfSome result (λ named. Sets word.now (SectionSize named.0.now named.1)) }
     ensures none { IfNone result
-        ((name : List ℕ) (size : ℕ) → Says word.now (SectionSize name size) → ⊥) }
+        ((name : List ℕ) (size : ℕ) → Sets word.now (SectionSize name size) → ⊥) }
 {
     match Word::read(word)? {
         Word::Section { name, size } => Some((name, size)),
@@ -30,9 +30,9 @@ fn read_section(word: &str) -> Option<(&str, u64)>
 
 /// The name and the offset of a symbol in a word, if it gives these.
 fn read_symbol(word: &str) -> Option<(&str, u64)>
-    ensures some { IfSome result (λ named. Says word.now (SymbolOffset named.0.now named.1)) }
+    ensures some { IfSome result (λ named. Sets word.now (SymbolOffset named.0.now named.1)) }
     ensures none { IfNone result
-        ((name : List ℕ) (offset : ℕ) → Says word.now (SymbolOffset name offset) → ⊥) }
+        ((name : List ℕ) (offset : ℕ) → Sets word.now (SymbolOffset name offset) → ⊥) }
 {
     match Word::read(word)? {
         Word::Symbol { name, offset } => Some((name, offset)),
@@ -45,8 +45,8 @@ fn sections(
     alloc: Global,
     words: &[String],
 ) -> Result<HashMap<String, (SectionIndex, u64)>, AllocError>
-    ensures { IfOk result (λ sections. (said : List Saying) → SayAll (texts words.now) said
-        → (name : List ℕ) → sizes_of sections name ≡ last_said (size_said name) said) }
+    ensures { IfOk result (λ sections. (settings : List Setting) → SetAll (texts words.now) settings
+        → (name : List ℕ) → sizes_of sections name ≡ last_set (size_set name) settings) }
 {
     let mut sections = HashMap::new(alloc);
     for word in words {
@@ -59,8 +59,8 @@ fn sections(
 
 /// The offsets of the symbols that the words name.
 fn symbols(alloc: Global, words: &[String]) -> Result<HashMap<String, u64>, AllocError>
-    ensures { IfOk result (λ symbols. (said : List Saying) → SayAll (texts words.now) said
-        → (name : List ℕ) → offsets_of symbols name ≡ last_said (offset_said name) said) }
+    ensures { IfOk result (λ symbols. (settings : List Setting) → SetAll (texts words.now) settings
+        → (name : List ℕ) → offsets_of symbols name ≡ last_set (offset_set name) settings) }
 {
     let mut symbols = HashMap::new(alloc);
     for word in words {
@@ -78,7 +78,7 @@ pub fn rewritten(
     request: Request,
     blob: &[u8],
 ) -> Result<Vec<u8>, BtfError>
-    requires { (said : List Saying) × IsSaid request said }
+    requires { (settings : List Setting) × AreSet request settings }
     ensures made { IfOk result (λ v. IsAnswer
         (rewriting endianness request.entry) blob.now v.items) }
     ensures told { IfErr result (λ e. IfSome (refusal_of e)

@@ -2,7 +2,7 @@
 
 ghost use Rattle.std.specs.Prelude.{◌≡◌, ◌≢◌, ℕ, List, IfSome, IfNone};
 ghost use Rattle.btf_rewrite_model.specs.declared.feature.BtfFeature.{BtfFeature};
-ghost use Rattle.btf_cli.specs.Saying.{feature_word as word_of, IsNamed};
+ghost use Rattle.btf_cli.specs.Setting.{feature_word as word_of, IsNamed};
 
 use crate::number::{read_id, read_number};
 use btf_rules::BtfFeature;
@@ -72,13 +72,13 @@ fn read_named(text: &str) -> Option<(&str, u64)>
 
 impl<'a> Word<'a> {
     ghost use Rattle.std.specs.Prelude.{IfSome, IfNone};
-    ghost use Rattle.btf_cli.specs.Saying.{Saying, Says};
-    ghost use Rattle.btf_cli.specs.Word.{saying_of};
+    ghost use Rattle.btf_cli.specs.Setting.{Setting, Sets};
+    ghost use Rattle.btf_cli.specs.Word.{setting_of};
 
     /// The word of this text, or None if it is invalid. Nothing is allocated.
     pub fn read(text: &'a str) -> Option<Word<'a>>
-        ensures some { IfSome result (λ word. Says text.now (saying_of word)) }
-        ensures none { IfNone result ((saying : Saying) → Says text.now saying → ⊥) }
+        ensures some { IfSome result (λ word. Sets text.now (setting_of word)) }
+        ensures none { IfNone result ((setting : Setting) → Sets text.now setting → ⊥) }
     {
         if let Some(feature) = read_feature(text) {
             return Some(Word::Grant(feature));

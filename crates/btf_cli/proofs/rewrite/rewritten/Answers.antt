@@ -12,7 +12,7 @@ for_request c =
     let named : AreNamed c.args.request c.rewrite_bytes_with.new.resolver.1 =
     all_named _ c.args.request (λ f. f.0.now ≡ c.args.request) (λ f g feature granted is s. (search rules, search rules)) c.new-resolver.result.0 c.rewrite_bytes_with.new.resolver.1 c.rewrite_bytes_with.new.resolver.0 before c.rewrite_bytes_with.ensures.called in
     record {
-      is_said = c.requires.1;
+      are_set = c.requires.1;
       same_layout = layout_is (layout_of c.in_ok-sections.sections c.in_ok-symbols.symbols) c.requires.0 (c.in_ok-sections.ensures c.requires.0 c.requires.1.all) (c.in_ok-symbols.ensures c.requires.0 c.requires.1.all);
       same_policy = c.policy.ensures ∙ policy_is c.args.request c.requires.0 c.requires.1;
       agree = kernel_agrees c.args.request c.requires.0 c.rewrite_bytes_with.new.resolver.1 c.requires.1 named;

@@ -1,5 +1,5 @@
 use Rattle.std.proofs.Common.{rules}
-use Rattle.btf_cli.specs.Saying.{texts}
+use Rattle.btf_cli.specs.Setting.{texts}
 use Rattle.btf_cli.proofs.line.Line.read.Goals as goal
 
 -- src/line.rt:80:5

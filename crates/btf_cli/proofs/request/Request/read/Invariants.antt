@@ -1,5 +1,5 @@
 use Rattle.std.proofs.Common.{take}
-use Rattle.btf_cli.specs.Saying.{texts}
+use Rattle.btf_cli.specs.Setting.{texts}
 use Rattle.btf_cli.proofs.Readings.{HaveRead}
 use Rattle.btf_cli.proofs.request.Request.read.Given as goal
 

@@ -2,8 +2,8 @@ use Rattle.std.proofs.Common.{◌++◌, ◌∷◌, List, ℕ, Some, sym, ap, ◌
 use Rattle.std.proofs.lemmas.Bool.{true≢false}
 use Rattle.std.proofs.lemmas.Slice.Eq.{bytes_eq-Decides}
 use Rattle.std.proofs.lemmas.Str.Pattern.{split_parts}
-use Rattle.btf_cli.specs.Saying.{fill_word}
-use Rattle.btf_cli.proofs.Colons.{IsCut, says_by, section_unsaid, symbol_unsaid}
+use Rattle.btf_cli.specs.Setting.{fill_word}
+use Rattle.btf_cli.proofs.Colons.{IsCut, sets_by, section_unset, symbol_unset}
 use Rattle.btf_cli.proofs.word.Word.read.Goals as goal
 
 pub returns-in_err-name-in-section-clause-none : goal.returns-in_err-name-in-section-clause-none
@@ -11,18 +11,18 @@ returns-in_err-name-in-section-clause-none c =
     let parts = c.in_ok-what.ensures.byte (omega arith) (λ w o f. f) in
     let cut : IsCut c.args.text.now c.in_ok-what.what.now c.in_ok-what.rest.now = record { front = parts.0; back = parts.1 } in
     rw c.from_residual-in_err-name-in-section.ensures
-    (λ saying says.
-    section_unsaid c.in_ok-what.what.now c.in_ok-what.rest.now c.in-section.is c.in_err-name-in-section.ensures.none saying
-    (says_by c.args.text.now c.in_ok-what.what.now c.in_ok-what.rest.now cut c.in_default.ensures.none (λ is. true≢false (sym (c.eq.ensures ∙ (bytes_eq-Decides c.args.text.now fill_word).1 is) ∙ c.if-eq.false)) saying says))
+    (λ setting sets.
+    section_unset c.in_ok-what.what.now c.in_ok-what.rest.now c.in-section.is c.in_err-name-in-section.ensures.none setting
+    (sets_by c.args.text.now c.in_ok-what.what.now c.in_ok-what.rest.now cut c.in_default.ensures.none (λ is. true≢false (sym (c.eq.ensures ∙ (bytes_eq-Decides c.args.text.now fill_word).1 is) ∙ c.if-eq.false)) setting sets))
 
 pub returns-in_err-name-in-symbol-clause-none : goal.returns-in_err-name-in-symbol-clause-none
 returns-in_err-name-in-symbol-clause-none c =
     let parts = c.in_ok-what.ensures.byte (omega arith) (λ w o f. f) in
     let cut : IsCut c.args.text.now c.in_ok-what.what.now c.in_ok-what.rest.now = record { front = parts.0; back = parts.1 } in
     rw c.from_residual-in_err-name-in-symbol.ensures
-    (λ saying says.
-    symbol_unsaid c.in_ok-what.what.now c.in_ok-what.rest.now c.in-symbol.is c.in_err-name-in-symbol.ensures.none saying
-    (says_by c.args.text.now c.in_ok-what.what.now c.in_ok-what.rest.now cut c.in_default.ensures.none (λ is. true≢false (sym (c.eq.ensures ∙ (bytes_eq-Decides c.args.text.now fill_word).1 is) ∙ c.if-eq.false)) saying says))
+    (λ setting sets.
+    symbol_unset c.in_ok-what.what.now c.in_ok-what.rest.now c.in-symbol.is c.in_err-name-in-symbol.ensures.none setting
+    (sets_by c.args.text.now c.in_ok-what.what.now c.in_ok-what.rest.now cut c.in_default.ensures.none (λ is. true≢false (sym (c.eq.ensures ∙ (bytes_eq-Decides c.args.text.now fill_word).1 is) ∙ c.if-eq.false)) setting sets))
 
 pub returns-in_ok-name-in-section-clause-some : goal.returns-in_ok-name-in-section-clause-some
 returns-in_ok-name-in-section-clause-some c =

@@ -38,25 +38,25 @@ abbrev pub fill_word : List ℕ
 fill_word = codes "fill-sized"
 
 -- a setting
-pub data Saying : Type 0 where
+pub data Setting : Type 0 where
   -- the kernel has this feature
-  Grants : (feature : BtfFeature) → Saying
+  Grants : (feature : BtfFeature) → Setting
   -- a DATASEC that has a size and no entries gets an entry if the kernel rejects one without entries
-  FillsSized : Saying
+  FillsSized : Setting
   -- the section of this name has this size
-  SectionSize : (name : List ℕ) (size : ℕ) → Saying
+  SectionSize : (name : List ℕ) (size : ℕ) → Setting
   -- the symbol of this name has this offset
-  SymbolOffset : (name : List ℕ) (offset : ℕ) → Saying
+  SymbolOffset : (name : List ℕ) (offset : ℕ) → Setting
   -- this is the id of `.ksyms`
-  KsymsId : (id : ℕ) → Saying
+  KsymsId : (id : ℕ) → Setting
   -- this is the id of the VAR that replaces functions
-  PlaceholderId : (id : ℕ) → Saying
+  PlaceholderId : (id : ℕ) → Setting
 
 -- The word makes this setting.
-abbrev pub Says : List ℕ → Saying → Type 0
-Says word (Grants feature) = word ≡ feature_word feature
-Says word FillsSized = word ≡ fill_word
-Says word (SectionSize name size) = (text : List ℕ) × (word ≡ codes "section:" ++ text) × IsNamed text name size
-Says word (SymbolOffset name offset) = (text : List ℕ) × (word ≡ codes "symbol:" ++ text) × IsNamed text name offset
-Says word (KsymsId id) = (text : List ℕ) × (word ≡ codes "ksyms:" ++ text) × IsId text id
-Says word (PlaceholderId id) = (text : List ℕ) × (word ≡ codes "placeholder:" ++ text) × IsId text id
+abbrev pub Sets : List ℕ → Setting → Type 0
+Sets word (Grants feature) = word ≡ feature_word feature
+Sets word FillsSized = word ≡ fill_word
+Sets word (SectionSize name size) = (text : List ℕ) × (word ≡ codes "section:" ++ text) × IsNamed text name size
+Sets word (SymbolOffset name offset) = (text : List ℕ) × (word ≡ codes "symbol:" ++ text) × IsNamed text name offset
+Sets word (KsymsId id) = (text : List ℕ) × (word ≡ codes "ksyms:" ++ text) × IsId text id
+Sets word (PlaceholderId id) = (text : List ℕ) × (word ≡ codes "placeholder:" ++ text) × IsId text id
