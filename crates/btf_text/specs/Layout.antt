@@ -40,8 +40,9 @@ Finds t name k = FindsName t.strings t.records k name
 abbrev pub MeansTypedef : Table → List ℕ → Result ℕ Refusal → Type 0
 MeansTypedef t name = Then (Finds t name Typedef) (Resolves t.records)
 
--- The type that a name means: the first STRUCT of the name; if there is none, the first UNION; if there is neither, what
--- the first TYPEDEF of the name resolves to.
+-- The type that a name means: the first STRUCT of the name; if there is none, the first UNION; if there is neither,
+-- what the first TYPEDEF of the name resolves to. Source: a choice of this program; C has tags and typedef names in
+-- different name spaces (C11, 6.2.3).
 abbrev pub Means : Table → List ℕ → Result ℕ Refusal → Type 0
 Means t name =
     OrElse (Finds t name Struct) (OrElse (Finds t name Union) (MeansTypedef t name))
