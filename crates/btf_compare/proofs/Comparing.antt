@@ -18,7 +18,7 @@ use Rattle.btf_model.specs.Run as runs
 use Rattle.btf_model.specs.Run.{new_frame, IsNext}
 use Rattle.btf_model.proofs.RunStates as states
 use Rattle.btf_model.specs.Run.{Begins}
-use Rattle.btf_model.proofs.RunStates.{open_pairs, Outcome, BeginsWith, run_begun, run_on, run_paid, run_starts, run_fails, run_refused, run_differs, run_ends, run_begins, run_settles}
+use Rattle.btf_model.proofs.RunStates.{open_pairs, Outcome, BeginsWith, run_begun, run_on, run_compared, run_starts, run_fails, run_refused, run_differs, run_ends, run_begins, run_settles}
 use Rattle.btf_model.proofs.RunLengths.{widest, left_to_do, less_started}
 use Rattle.btf_words.specs.Error.{MeetsOrNoMemory, Meets, refusal_of}
 use Rattle.btf_words.specs.declared.error.BtfError.{BtfError}
@@ -155,8 +155,8 @@ module _ (local target : Table) (root : ℕ × ℕ) where
 -- ---- in the loop
 
 -- the refusal of an error is the refusal of an equal error
-told_again : (answer result : Result Bool BtfError) (e : BtfError) (P : Result Bool Refusal → Type 0) → answer ≡ Err e → result ≡ Err e → Meets (λ b. b) answer P → (refusal : Refusal) × P (Err refusal) × Meets (λ b. b) result (λ a. a ≡ Err refusal)
-told_again answer result e P is same h =
+decided_again : (answer result : Result Bool BtfError) (e : BtfError) (P : Result Bool Refusal → Type 0) → answer ≡ Err e → result ≡ Err e → Meets (λ b. b) answer P → (refusal : Refusal) × P (Err refusal) × Meets (λ b. b) result (λ a. a ≡ Err refusal)
+decided_again answer result e P is same h =
     let given = subst (λ (r : Result Bool BtfError). Meets (λ b. b) r P) is h in
     (given.0, given.2, refusal_reported result e given.0 same given.1)
 
@@ -166,8 +166,8 @@ module _ (local target : Table) (root : Pair) (opened settled : PairSet) (top : 
 
   pub ends_refused : (answer result : Result Bool BtfError) (e : BtfError) → answer ≡ Err e → result ≡ Err e → Meets (λ b. b) answer (λ a. IsNext local target top (runs.Ends a)) → Compares local target root result IsReported
   ends_refused answer result e is same h =
-      let told = told_again answer result e (λ a. IsNext local target top (runs.Ends a)) is same h in
-      answered local target (IsIn settled) root (Err told.0) state.listed result IsReported (run_fails local target (IsIn settled) root top below state.listed state.run (Err told.0) told.1 (not_true told.0)) told.2 state.added
+      let decided = decided_again answer result e (λ a. IsNext local target top (runs.Ends a)) is same h in
+      answered local target (IsIn settled) root (Err decided.0) state.listed result IsReported (run_fails local target (IsIn settled) root top below state.listed state.run (Err decided.0) decided.1 (not_true decided.0)) decided.2 state.added
 
   pub ends_false : IsNext local target top (runs.Ends (Ok false)) → Compares local target root (Ok false) IsReported
   ends_false next = answered local target (IsIn settled) root (Ok false) state.listed (Ok false) IsReported (run_fails local target (IsIn settled) root top below state.listed state.run (Ok false) next false_is_not_true) refl state.added
@@ -193,12 +193,12 @@ module _ (local target : Table) (root : Pair) (opened settled : PairSet) (top : 
     same_pair : top.pair ≡ g.pair
     same_pair = sym (ap (λ (x : runs.Frame). x.pair) next.5)
 
-    pub pays : IsIn settled p → IsRunning local target root opened settled g below many IsReported
-    pays is = record {
+    pub compares_all : IsIn settled p → IsRunning local target root opened settled g below many IsReported
+    compares_all is = record {
       listed = state.listed;
       counts = state.counts;
       added = state.added;
-      run = run_paid local target (IsIn settled) root top g p below state.listed state.run next is;
+      run = run_compared local target (IsIn settled) root top g p below state.listed state.run next is;
       among = subst (λ (o : Pair). (q : Pair) → IsIn opened q → Among (o ∷ open_pairs below) q) same_pair state.among;
       has_all = subst (λ (o : Pair). (q : Pair) → Among (o ∷ open_pairs below) q → IsIn opened q) same_pair state.has_all;
     }
@@ -303,6 +303,6 @@ no_answer result P is = subst (λ (r : Result Bool BtfError). MeetsOrNoMemory (�
 pub answers : (local target : Table) (root : Pair) (result : Result Bool BtfError) (IsReported : List (ℕ × ℕ) → Type 0) → Compares local target root result IsReported → MeetsOrNoMemory (λ b. b) result (λ answer. (listed : List Pair) × Plain local target [] root answer listed)
 answers local target root result IsReported h =
     elim h.3 [
-      | inl told ↦ tells_answer result h.0 (λ answer. (listed : List Pair) × Plain local target [] root answer listed) told.0 (h.1, h.2)
+      | inl decided ↦ tells_answer result h.0 (λ answer. (listed : List Pair) × Plain local target [] root answer listed) decided.0 (h.1, h.2)
       | inr short ↦ no_answer result (λ answer. (listed : List Pair) × Plain local target [] root answer listed) short.0
     ]

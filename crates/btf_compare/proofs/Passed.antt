@@ -11,11 +11,11 @@ use Rattle.std.specs.Cmp.{both_tied, unsigned_ties}
 use Rattle.std.proofs.lemmas.Bool.{false≢true}
 use Rattle.btf_model.specs.Table.{Table}
 use Rattle.btf_model.specs.Fields.{Pair}
-use Rattle.btf_model.specs.Compat.{Owes, Finds, ResolvesPair, Position, pair_eq}
+use Rattle.btf_model.specs.Compat.{Pending, Finds, ResolvesPair, Position, pair_eq}
 use Rattle.btf_model.specs.Run as runs
 use Rattle.btf_model.specs.Run.{IsNext}
 use Rattle.btf_model.proofs.Comparisons.{one_position, found_alike}
-use Rattle.btf_model.proofs.RunLengths.{owed_at, left_to_do, less_passed}
+use Rattle.btf_model.proofs.RunLengths.{pending_at, left_to_do, less_passed}
 use Rattle.btf_model.proofs.RunStates.{AllBefore, run_passes}
 use Rattle.btf_compare.specs.Entries.{ids_cmp}
 use Rattle.btf_compare.specs.Compared.{GoesPast, passed_in}
@@ -41,26 +41,26 @@ inserted old new p given q = given (ids_of q) ∙ ap (λ (x : Bool). cond x true
 module _ (local target : Table) where
   -- Each parameter of the passed prototypes resolves to a pair that is known to be compatible.
   abbrev pub ArePassed : PairSet → PairSet → Type 0
-  ArePassed settled passed = (p : Pair) → IsIn passed p → (at : Pair) → ResolvesPair local target at (Ok p) → (owed : List Pair) (to : Pair) → Finds local target at (Owes owed to) → AllBefore local target owed (length owed) (IsIn settled)
+  ArePassed settled passed = (p : Pair) → IsIn passed p → (at : Pair) → ResolvesPair local target at (Ok p) → (pending : List Pair) (to : Pair) → Finds local target at (Pending pending to) → AllBefore local target pending (length pending) (IsIn settled)
 
   pub none_passed : (settled passed : PairSet) → ((p : Pair) → passed p ≡ false) → ArePassed settled passed
   none_passed settled passed none p is = absurd (false≢true (sym (none p) ∙ is))
 
   pub still_passed : (settled more passed : PairSet) → ((q : Pair) → IsIn settled q → IsIn more q) → ArePassed settled passed → ArePassed more passed
-  still_passed settled more passed still are p is at resolves owed to finds index lt at_index there =
-      let was = are p is at resolves owed to finds index lt at_index there in
+  still_passed settled more passed still are p is at resolves pending to finds index lt at_index there =
+      let was = are p is at resolves pending to finds index lt at_index there in
       (was.0, was.1, still was.0 was.2)
 
   module _ (root : Pair) (opened settled : PairSet) (top g : runs.Frame) (below : List runs.Frame) (many : ℕ) (IsReported : List (ℕ × ℕ) → Type 0) (state : IsRunning local target root opened settled top below many IsReported) (ids : Pair) (past : GoesPast local target top g ids) where
     -- after their last parameter, the prototypes are passed
-    pub more_passed : (passed more : PairSet) → length past.owed ≤ top.parameter → ((q : Pair) → IsIn more q → IsIn passed q ⊎ (ids ≡ q)) → ArePassed settled passed → ArePassed settled more
-    more_passed passed more le gains are p is at resolves owed to finds index lt at_index there =
+    pub more_passed : (passed more : PairSet) → length past.pending ≤ top.parameter → ((q : Pair) → IsIn more q → IsIn passed q ⊎ (ids ≡ q)) → ArePassed settled passed → ArePassed settled more
+    more_passed passed more le gains are p is at resolves pending to finds index lt at_index there =
         elim (gains p is) [
-          | inl was ↦ are p was at resolves owed to finds index lt at_index there
+          | inl was ↦ are p was at resolves pending to finds index lt at_index there
           | inr same ↦
-              let found : Finds local target (top.at) (Owes owed to) = found_alike local target at (top.at) p (Owes owed to) resolves (subst (λ (x : Pair). ResolvesPair local target (top.at) (Ok x)) same past.resolves) finds in
-              let few : length owed ≡ length past.owed = ap (λ (x : Position). length (owed_at x)) (one_position local target (top.at) (Owes owed to) (Owes past.owed past.to) found past.finds) in
-              state.run.walks.paid owed to found index (omega (arith, lt, few, le)) at_index there
+              let found : Finds local target (top.at) (Pending pending to) = found_alike local target at (top.at) p (Pending pending to) resolves (subst (λ (x : Pair). ResolvesPair local target (top.at) (Ok x)) same past.resolves) finds in
+              let few : length pending ≡ length past.pending = ap (λ (x : Position). length (pending_at x)) (one_position local target (top.at) (Pending pending to) (Pending past.pending past.to) found past.finds) in
+              state.run.walks.compared pending to found index (omega (arith, lt, few, le)) at_index there
         ]
 
     pub skips : (passed : PairSet) → IsIn passed ids → top.parameter ≡ 0 → ArePassed settled passed → IsRunning local target root opened settled g below many IsReported
@@ -70,7 +70,7 @@ module _ (local target : Table) where
           listed = state.listed;
           counts = state.counts;
           added = state.added;
-          run = run_passes local target (IsIn settled) root (length past.owed) top past.left past.owed past.to below state.listed state.run past.was past.finds (are ids is (top.at) past.resolves past.owed past.to past.finds) (omega (arith, none));
+          run = run_passes local target (IsIn settled) root (length past.pending) top past.left past.pending past.to below state.listed state.run past.was past.finds (are ids is (top.at) past.resolves past.pending past.to past.finds) (omega (arith, none));
           among = state.among;
           has_all = state.has_all;
         })

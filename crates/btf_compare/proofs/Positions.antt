@@ -11,7 +11,7 @@ use Rattle.btf_model.specs.Refusal.{Refusal}
 use Rattle.btf_model.specs.Table.{Table}
 use Rattle.btf_model.specs.Fields.{Pair}
 use Rattle.btf_model.specs.Compat as model
-use Rattle.btf_model.specs.Compat.{Told, On, Owes, Finds, PositionFound, parameter_types, pairs, prototypes, ResolvesPair}
+use Rattle.btf_model.specs.Compat.{Decided, On, Pending, Finds, PositionFound, parameter_types, pairs, prototypes, ResolvesPair}
 use Rattle.btf_model.proofs.Comparisons.{same_pair}
 use Rattle.btf_words.specs.Error.{Meets}
 use Rattle.btf_words.specs.declared.error.BtfError.{BtfError}
@@ -35,28 +35,28 @@ count_of : (params : List BtfParam) → length (types_of params) ≡ length para
 count_of params = length-map params (λ (p : BtfParam). p.btf_type)
 
 pub as_many_parameters : (r s : Record) (params others : List BtfParam) → r.tail ≡ flat_map param_words params → s.tail ≡ flat_map param_words others → length params ≡ length others
-    → Owes (pairs (types_of params) (types_of others)) (record { local = r.third; target = s.third }) ≡ prototypes r s
+    → Pending (pairs (types_of params) (types_of others)) (record { local = r.third; target = s.third }) ≡ prototypes r s
 as_many_parameters r s params others is there same =
     rw (its_types r params is, its_types s others there, eq-eqb (length (types_of params)) (length (types_of others)) (count_of params ∙ same ∙ sym (count_of others))) refl
 
-pub other_parameters : (r s : Record) (params others : List BtfParam) → r.tail ≡ flat_map param_words params → s.tail ≡ flat_map param_words others → (length params ≡ length others → ⊥) → Told (Ok false) ≡ prototypes r s
+pub other_parameters : (r s : Record) (params others : List BtfParam) → r.tail ≡ flat_map param_words params → s.tail ≡ flat_map param_words others → (length params ≡ length others → ⊥) → Decided (Ok false) ≡ prototypes r s
 other_parameters r s params others is there differ =
     rw (its_types r params is, its_types s others there, ne_eqb (length (types_of params)) (length (types_of others)) (λ same. differ (sym (count_of params) ∙ same ∙ count_of others))) refl
 
 -- ---- the position after modifiers
 
-pub no_local_type : (local target : Table) (at : Pair) (refusal : Refusal) → IsResolved local at.local (Err refusal) → Finds local target at (Told (Err refusal))
+pub no_local_type : (local target : Table) (at : Pair) (refusal : Refusal) → IsResolved local at.local (Err refusal) → Finds local target at (Decided (Err refusal))
 no_local_type local target at refusal h = inl (refusal, inl h, refl)
 
-pub no_target_type : (local target : Table) (at : Pair) (found : ℕ × Kind × Record) (refusal : Refusal) → IsResolved local at.local (Ok found) → IsResolved target at.target (Err refusal) → Finds local target at (Told (Err refusal))
+pub no_target_type : (local target : Table) (at : Pair) (found : ℕ × Kind × Record) (refusal : Refusal) → IsResolved local at.local (Ok found) → IsResolved target at.target (Err refusal) → Finds local target at (Decided (Err refusal))
 no_target_type local target at found refusal h g = inl (refusal, inr (found.0, h.0, g), refl)
 
-told_more : (answer : Result Bool BtfError) (P Q : model.Position → Type 0) → ((x : model.Position) → P x → Q x) → Meets (λ b. b) answer (λ a. P (Told a)) → Meets (λ b. b) answer (λ a. Q (Told a))
-told_more (Ok b) P Q more h = more (Told (Ok b)) h
-told_more (Err e) P Q more h = (h.0, h.1, more (Told (Err h.0)) h.2)
+decided_more : (answer : Result Bool BtfError) (P Q : model.Position → Type 0) → ((x : model.Position) → P x → Q x) → Meets (λ b. b) answer (λ a. P (Decided a)) → Meets (λ b. b) answer (λ a. Q (Decided a))
+decided_more (Ok b) P Q more h = more (Decided (Ok b)) h
+decided_more (Err e) P Q more h = (h.0, h.1, more (Decided (Err h.0)) h.2)
 
 position_more : (x : Position) (P Q : model.Position → Type 0) → ((y : model.Position) → P y → Q y) → PositionIs x P → PositionIs x Q
-position_more (positions.Decided answer) P Q more h = told_more answer P Q more h
+position_more (positions.Decided answer) P Q more h = decided_more answer P Q more h
 position_more (positions.On next) P Q more h = more _ h
 position_more (positions.Prototypes found) P Q more h = more _ h
 
@@ -66,7 +66,7 @@ found_at_ends local target at found other x h g is =
     (λ y is. inr (record { local = found.0; target = other.0 }, found.1, other.1, found.2, other.2, (h.0, g.0), h.1, g.1, is)) is
 
 -- the pair resolves to the ids of the prototypes of its position
-pub if_prototypes : (local target : Table) (at ids : Pair) (x : Position) → ResolvesPair local target at (Ok ids) → IfPrototypes x (λ owing. owing ≡ ids) → IfPrototypes x (λ owing. ResolvesPair local target at (Ok owing))
+pub if_prototypes : (local target : Table) (at ids : Pair) (x : Position) → ResolvesPair local target at (Ok ids) → IfPrototypes x (λ ids_of_prototypes. ids_of_prototypes ≡ ids) → IfPrototypes x (λ ids_of_prototypes. ResolvesPair local target at (Ok ids_of_prototypes))
 if_prototypes local target at ids (positions.Decided answer) h is = tt
 if_prototypes local target at ids (positions.On next) h is = tt
 if_prototypes local target at ids (positions.Prototypes found) h is = subst (λ (p : Pair). ResolvesPair local target at (Ok p)) (sym is) h

@@ -19,9 +19,9 @@ use Rattle.btf_compare.proofs.EntryLists.{ids_eq, is_same}
 use Rattle.btf_compare.proofs.Comparing.{Changes}
 
 -- a function of a value that a condition picks
-told_of : (f : Option Progress → Bool) (c : Bool) (v : Progress) (o : Option Progress) → f (cond c (Some v) o) ≡ cond c (f (Some v)) (f o)
-told_of f true v o = refl
-told_of f false v o = refl
+decided_of : (f : Option Progress → Bool) (c : Bool) (v : Progress) (o : Option Progress) → f (cond c (Some v) o) ≡ cond c (f (Some v)) (f o)
+decided_of f true v o = refl
+decided_of f false v o = refl
 
 cond_same : (c b : Bool) (x : Bool) → (c ≡ true → x ≡ b) → cond c b x ≡ x
 cond_same true b x is = sym (is refl)
@@ -31,7 +31,7 @@ module _ (old new : PairMap) (ids : ℕ × ℕ) (v : Progress) (learns : Learns 
   -- the value of f at the progress of each pair
   pub learned : (f : Option Progress → Bool) → Changes (λ q. f (known old (ids_of q))) (λ q. f (known new (ids_of q))) (pair_of ids) (f (Some v))
   learned f q =
-      ap f (learns (ids_of q)) ∙ told_of f (is_ids ids (ids_of q)) v (known old (ids_of q))
+      ap f (learns (ids_of q)) ∙ decided_of f (is_ids ids (ids_of q)) v (known old (ids_of q))
       ∙ ap (λ (c : Bool). cond c (f (Some v)) (f (known old (ids_of q)))) (sym (ids_eq ids (ids_of q)))
 
   -- if it is the same for the pair as before, it is the same for all pairs

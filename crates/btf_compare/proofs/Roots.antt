@@ -24,7 +24,7 @@ nothing_passed set none = λ i p. nothing_in set none p i
 abbrev pub root_frame : ℕ × ℕ → Frame
 root_frame ids = record { pair = ids; at = ids; taken = 0; parameter = 0 }
 
-module _ (local target : Table) (ids : ℕ × ℕ) (IsReported : List (ℕ × ℕ) → Type 0) (begins : IsStarted local target (pair_of ids) true) (told : IsReported (ids ∷ [])) where
+module _ (local target : Table) (ids : ℕ × ℕ) (IsReported : List (ℕ × ℕ) → Type 0) (begins : IsStarted local target (pair_of ids) true) (decided : IsReported (ids ∷ [])) where
   -- it alone is open
   abbrev opened : PairSet
   opened q = cond (pair_eq (pair_of ids) q) true false
@@ -33,7 +33,7 @@ module _ (local target : Table) (ids : ℕ × ℕ) (IsReported : List (ℕ × �
   settled q = false
 
   root_runs : IsRunning local target (pair_of ids) opened settled (new_frame (pair_of ids)) [] 1 IsReported
-  root_runs = root_started local target ids (root_frame ids) (λ q. false) opened settled [] 1 IsReported begins refl refl (λ q. refl) (λ q. refl) (λ q. refl) refl told
+  root_runs = root_started local target ids (root_frame ids) (λ q. false) opened settled [] 1 IsReported begins refl refl (λ q. refl) (λ q. refl) (λ q. refl) refl decided
 
   pub root_no_memory : HaveKinds local → HaveKinds target → (result : Result Bool BtfError) → result ≡ Err errors.OutOfMemory → Compares local target (pair_of ids) result IsReported
   root_no_memory ls ts result is = no_memory local target (pair_of ids) opened settled (new_frame (pair_of ids)) [] 1 IsReported root_runs ls ts result is

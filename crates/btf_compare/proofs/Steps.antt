@@ -6,7 +6,7 @@ use Rattle.btf_model.specs.Refusal.{Refusal, MaximumTypeDepthReached}
 use Rattle.btf_model.specs.Table.{Table}
 use Rattle.btf_model.specs.Walk.{walk_limit}
 use Rattle.btf_model.specs.Fields.{Pair}
-use Rattle.btf_model.specs.Compat.{Told, On, Finds, ResolvesPair}
+use Rattle.btf_model.specs.Compat.{Decided, On, Finds, ResolvesPair}
 use Rattle.btf_model.specs.Run as runs
 use Rattle.btf_model.specs.Run.{IsNext}
 use Rattle.btf_words.specs.Error.{Meets, refusal_of}
@@ -23,9 +23,9 @@ module _ (local target : Table) (f : Frame) where
   pub too_deep : walk_limit ≤ f.taken → IsNext local target (frame_of f) (runs.Ends (Err (MaximumTypeDepthReached f.at.0)))
   too_deep le = inl (omega (arith, le), refl)
 
-  pub told : (answer : Result Bool BtfError) → f.taken < walk_limit → Meets (λ b. b) answer (λ a. Finds local target (pair_of f.at) (Told a)) → Meets (λ b. b) answer (λ a. IsNext local target (frame_of f) (runs.Ends a))
-  told (Ok b) lt h = inr (walk_limit - (f.taken + 1), one_more f.taken lt, inl h)
-  told (Err e) lt h = (h.0, h.1, inr (walk_limit - (f.taken + 1), one_more f.taken lt, inl h.2))
+  pub decided : (answer : Result Bool BtfError) → f.taken < walk_limit → Meets (λ b. b) answer (λ a. Finds local target (pair_of f.at) (Decided a)) → Meets (λ b. b) answer (λ a. IsNext local target (frame_of f) (runs.Ends a))
+  decided (Ok b) lt h = inr (walk_limit - (f.taken + 1), one_more f.taken lt, inl h)
+  decided (Err e) lt h = (h.0, h.1, inr (walk_limit - (f.taken + 1), one_more f.taken lt, inl h.2))
 
   -- the walk goes on to this position
   abbrev pub GoesTo : Frame → ℕ × ℕ → Type 0
@@ -34,10 +34,10 @@ module _ (local target : Table) (f : Frame) where
   pub on : (g : Frame) (to : ℕ × ℕ) → f.taken < walk_limit → GoesTo g to → Finds local target (pair_of f.at) (On (pair_of to)) → IsNext local target (frame_of f) (runs.GoesOn (frame_of g))
   on g to lt is found = (walk_limit - (f.taken + 1), pair_of to, one_more f.taken lt, ap frame_of is, inl found)
 
-  pub past : (owed : List Pair) (j : ℕ) → None ≡ slice_get owed j → length owed ≤ j
-  past owed j is =
-      elim (cases_lt j (length owed)) [
-        | inl lt ↦ absurd (none-some (get_or owed j (pair_of f.at)) (is ∙ slice_get-get_or owed j (pair_of f.at) lt))
+  pub past : (pending : List Pair) (j : ℕ) → None ≡ slice_get pending j → length pending ≤ j
+  past pending j is =
+      elim (cases_lt j (length pending)) [
+        | inl lt ↦ absurd (none-some (get_or pending j (pair_of f.at)) (is ∙ slice_get-get_or pending j (pair_of f.at) lt))
         | inr le ↦ le
       ]
 
@@ -46,7 +46,7 @@ module _ (local target : Table) (f : Frame) where
   module _ (found : ProtoPair) (here : AreAt local target f found) where
     abbrev pub goes_past : (g : Frame) → GoesTo g found.returns → GoesPast local target (frame_of f) (frame_of g) (pair_of found.ids)
     goes_past g is = record {
-      owed = pending_of found;
+      pending = pending_of found;
       to = pair_of found.returns;
       left = walk_limit - (f.taken + 1);
       finds = here.finds;

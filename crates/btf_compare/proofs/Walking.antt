@@ -123,7 +123,7 @@ module _ (local target : Table) (root : Pair) (seen : PairMap) (passed : BTreeSe
 
   module _ (found : ProtoPair) (here : AreAt local target top found) (le : length (pending_of found) ≤ top.parameter) (g : Frame) (goes : GoesTo local target top g found.returns) where
     is_next : IsNext local target (frame_of top) (runs.GoesOn (frame_of g))
-    is_next = let past = goes_past local target top found here g goes in (past.left, past.to, past.was, past.is, inr (past.owed, past.finds, le))
+    is_next = let past = goes_past local target top found here g goes in (past.left, past.to, past.was, past.is, inr (past.pending, past.finds, le))
 
     pub returned : Running local target root seen below g IsReported
     returned = goes_on local target root (opened_in seen) (compatible_in seen) (frame_of top) (stack_of below) (count seen) IsReported state (frame_of g) is_next

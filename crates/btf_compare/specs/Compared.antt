@@ -12,7 +12,7 @@ use Rattle.btf_model.specs.Refusal.{Refusal}
 use Rattle.btf_model.specs.Table.{Table}
 use Rattle.btf_model.specs.Walk.{walk_limit}
 use Rattle.btf_model.specs.Fields.{Pair}
-use Rattle.btf_model.specs.Compat.{Told, On, Owes, pairs, Finds, ResolvesPair, AreKnown, pair_eq}
+use Rattle.btf_model.specs.Compat.{Decided, On, Pending, pairs, Finds, ResolvesPair, AreKnown, pair_eq}
 use Rattle.btf_model.specs.Compat as model
 use Rattle.btf_model.specs.Laws.{AreIds}
 use Rattle.btf_model.specs.Run as runs
@@ -49,9 +49,9 @@ are_long found = ltb 8 (length found.params.now)
 
 -- P holds of the position
 abbrev pub PositionIs : Position → (model.Position → Type 0) → Type 0
-PositionIs (positions.Decided answer) P = Meets (λ b. b) answer (λ a. P (Told a))
+PositionIs (positions.Decided answer) P = Meets (λ b. b) answer (λ a. P (Decided a))
 PositionIs (positions.On next) P = P (On (pair_of next))
-PositionIs (positions.Prototypes found) P = P (Owes (pending_of found) (pair_of found.returns))
+PositionIs (positions.Prototypes found) P = P (Pending (pending_of found) (pair_of found.returns))
 
 -- P holds of the ids of the prototypes, if the position is at prototypes
 abbrev pub IfPrototypes : Position → (Pair → Type 0) → Type 0
@@ -71,20 +71,20 @@ passed_in set p = ordered.contains ids_cmp set (ids_of p)
 abbrev pub frame_of : Frame → runs.Frame
 frame_of f = record { pair = pair_of f.pair; at = pair_of f.at; left = walk_limit - f.taken; parameter = f.parameter }
 
--- An open pair f is at prototypes of these ids, with the pending pairs `owed`. After these pairs it is g: its walk is
--- at the return types of the prototypes.
+-- An open pair f is at prototypes of these ids, with these pending pairs. After these pairs it is g: its walk is at the
+-- return types of the prototypes.
 pub record GoesPast (local target : Table) (f g : runs.Frame) (ids : Pair) : Type 0 where
-  pub owed : List Pair
+  pub pending : List Pair
   pub to : Pair
   pub left : ℕ
-  pub finds : Finds local target f.at (Owes owed to)
+  pub finds : Finds local target f.at (Pending pending to)
   pub resolves : ResolvesPair local target f.at (Ok ids)
   pub was : f.left ≡ suc left
   pub is : g ≡ record { pair = f.pair; at = to; left = left; parameter = 0 }
 
 -- An open pair is at these two prototypes, and its walk is not beyond the limit.
 pub record AreAt (local target : Table) (f : Frame) (found : ProtoPair) : Type 0 where
-  pub finds : Finds local target (pair_of f.at) (Owes (pending_of found) (pair_of found.returns))
+  pub finds : Finds local target (pair_of f.at) (Pending (pending_of found) (pair_of found.returns))
   pub resolves : ResolvesPair local target (pair_of f.at) (Ok (pair_of found.ids))
   pub within : f.taken < walk_limit
   pub few : length (pending_of found) < 2 ^ 16

@@ -61,7 +61,7 @@ fn types_at<'a>(ids: (u32, u32), local_type: &'a BtfType, target_type: &'a BtfTy
     ensures position { PositionIs result
         (PositionFound ids.0 (type_kind local_type.now) (type_kind target_type.now)
         (record_of local_type.now) (record_of target_type.now)) }
-    ensures ids { IfPrototypes result (λ owing. owing ≡ pair_of ids) }
+    ensures ids { IfPrototypes result (λ ids_of_prototypes. ids_of_prototypes ≡ pair_of ids) }
     ensures few { HasFew result }
 {
     if !local_type.is_compatible(target_type) {
@@ -137,7 +137,7 @@ fn prototypes<'a>(ids: (u32, u32), local: &'a FuncProto, target_type: &'a BtfTyp
     ensures position { type_kind target_type.now ≡ model.FuncProto
         → PositionIs result (λ found. found ≡ position_by 0 model.FuncProto local.now
         (record_of target_type.now)) }
-    ensures ids { IfPrototypes result (λ owing. owing ≡ pair_of ids) }
+    ensures ids { IfPrototypes result (λ ids_of_prototypes. ids_of_prototypes ≡ pair_of ids) }
     ensures few { HasFew result }
 {
     let BtfType::FuncProto(target) = target_type else {

@@ -7,10 +7,10 @@ use Rattle.btf_model.specs.Refusal.{Refusal, MaximumTypeDepthReached}
 use Rattle.btf_model.specs.Table.{Table}
 use Rattle.btf_model.specs.Walk.{Resolves, unmodified_in, after_modifier, modified, walk_limit}
 use Rattle.btf_model.specs.Fields.{Pair, IsAt}
-use Rattle.btf_model.specs.Compat.{Plain, Walked, Paid, Finds, ResolvesPair, position_by}
+use Rattle.btf_model.specs.Compat.{Plain, Walked, ComparedInOrder, Finds, ResolvesPair, position_by}
 use Rattle.btf_model.specs.Compat.Plain.{walked}
-use Rattle.btf_model.specs.Compat.Walked.{too_deep, told, on, paid}
-use Rattle.btf_model.specs.Compat.Paid.{all, next}
+use Rattle.btf_model.specs.Compat.Walked.{too_deep, decided, on, compared}
+use Rattle.btf_model.specs.Compat.ComparedInOrder.{all, next}
 use Rattle.btf_model.specs.CompatExamples.{table_of, pair, itself, none_open}
 
 -- ---- steps
@@ -19,12 +19,12 @@ use Rattle.btf_model.specs.CompatExamples.{table_of, pair, itself, none_open}
 pub no_modifier : (t : Table) (id : ℕ) (k : Kind) (r : Record) → IsAt t id k r → modified (Some k) r ≡ None → Resolves t.records id (Ok id)
 no_modifier t id k r is plain = itself t id (ap (unmodified_in id) is.0 ∙ ap (λ (x : Option Kind). after_modifier id (modified x r)) is.1 ∙ ap (after_modifier id) plain)
 
-owed_itself : (t : Table) (id : ℕ) (k : Kind) (r : Record) → IsAt t id k r → modified (Some k) r ≡ None → ResolvesPair t t (pair id id) (Ok (pair id id))
-owed_itself t id k r is plain = (no_modifier t id k r is plain, no_modifier t id k r is plain)
+pending_itself : (t : Table) (id : ℕ) (k : Kind) (r : Record) → IsAt t id k r → modified (Some k) r ≡ None → ResolvesPair t t (pair id id) (Ok (pair id id))
+pending_itself t id k r is plain = (no_modifier t id k r is plain, no_modifier t id k r is plain)
 
 -- what is found when it is compared with itself
 pub on_itself : (t : Table) (id : ℕ) (k : Kind) (r : Record) → IsAt t id k r → modified (Some k) r ≡ None → Finds t t (pair id id) (position_by id k r r)
-on_itself t id k r is plain = inr (pair id id, k, k, r, r, owed_itself t id k r is plain, is, is, inr (refl, refl))
+on_itself t id k r is plain = inr (pair id id, k, k, r, r, pending_itself t id k r is plain, is, is, inr (refl, refl))
 
 -- this pair is started while nothing is open, and while another type is compared with itself
 pub alone : (t : Table) (id : ℕ) (k : Kind) (r : Record) (answer : Result Bool Refusal) (starts : List Pair) → IsAt t id k r → Walked t t (pair id id ∷ []) walk_limit (pair id id) answer starts → Plain t t [] (pair id id) answer (pair id id ∷ starts)
@@ -58,7 +58,7 @@ abbrev shifted : Table
 shifted = table_of (record { name = 0; info = 0x01000000; third = 4; tail = 0x00080010 ∷ [] } ∷ [])
 
 shifted_is_not_itself : Plain shifted shifted [] (pair 1 1) (Ok false) (pair 1 1 ∷ [])
-shifted_is_not_itself = alone shifted 1 Int _ (Ok false) [] (refl, refl) (told _ 31 (pair 1 1) (Ok false) (on_itself shifted 1 Int _ (refl, refl) refl))
+shifted_is_not_itself = alone shifted 1 Int _ (Ok false) [] (refl, refl) (decided _ 31 (pair 1 1) (Ok false) (on_itself shifted 1 Int _ (refl, refl) refl))
 
 -- FUNC_PROTO 1 has two parameters of type 2 and returns type 2, which is an INT. The pair of 2 is started for each
 -- parameter, because no result is remembered. The return type is a position of the walk, so its pair is not started.
@@ -66,16 +66,16 @@ abbrev two_parameters : Table
 two_parameters = table_of (record { name = 0; info = 0x0d000002; third = 2; tail = 0 ∷ 2 ∷ 0 ∷ 2 ∷ [] } ∷ int ∷ [])
 
 int_parameter : Plain two_parameters two_parameters (pair 1 1 ∷ []) (pair 2 2) (Ok true) (pair 2 2 ∷ [])
-int_parameter = under_one two_parameters 1 2 Int _ (Ok true) [] (λ e. omega (arith, e)) (refl, refl) (told _ 31 (pair 2 2) (Ok true) (on_itself two_parameters 2 Int _ (refl, refl) refl))
+int_parameter = under_one two_parameters 1 2 Int _ (Ok true) [] (λ e. omega (arith, e)) (refl, refl) (decided _ 31 (pair 2 2) (Ok true) (on_itself two_parameters 2 Int _ (refl, refl) refl))
 
 parameters_are_started_again : Plain two_parameters two_parameters [] (pair 1 1) (Ok true) (pair 1 1 ∷ pair 2 2 ∷ pair 2 2 ∷ [])
 parameters_are_started_again =
-    let owed = owed_itself two_parameters 2 Int _ (refl, refl) refl in
+    let pending = pending_itself two_parameters 2 Int _ (refl, refl) refl in
     alone two_parameters 1 FuncProto _ (Ok true) (pair 2 2 ∷ pair 2 2 ∷ []) (refl, refl)
-    (paid _ 31 (pair 1 1) (pair 2 2) (pair 2 2 ∷ pair 2 2 ∷ []) (Ok true) (pair 2 2 ∷ pair 2 2 ∷ []) [] (on_itself two_parameters 1 FuncProto _ (refl, refl) refl)
-    (next _ (pair 2 2) (pair 2 2) (pair 2 2 ∷ []) (Ok true) (pair 2 2 ∷ []) (pair 2 2 ∷ []) owed int_parameter
-    (next _ (pair 2 2) (pair 2 2) [] (Ok true) (pair 2 2 ∷ []) [] owed int_parameter (all _)))
-    (told _ 30 (pair 2 2) (Ok true) (on_itself two_parameters 2 Int _ (refl, refl) refl)))
+    (compared _ 31 (pair 1 1) (pair 2 2) (pair 2 2 ∷ pair 2 2 ∷ []) (Ok true) (pair 2 2 ∷ pair 2 2 ∷ []) [] (on_itself two_parameters 1 FuncProto _ (refl, refl) refl)
+    (next _ (pair 2 2) (pair 2 2) (pair 2 2 ∷ []) (Ok true) (pair 2 2 ∷ []) (pair 2 2 ∷ []) pending int_parameter
+    (next _ (pair 2 2) (pair 2 2) [] (Ok true) (pair 2 2 ∷ []) [] pending int_parameter (all _)))
+    (decided _ 30 (pair 2 2) (Ok true) (on_itself two_parameters 2 Int _ (refl, refl) refl)))
 
 -- ---- a walk in a circle
 
@@ -84,10 +84,10 @@ parameters_are_started_again =
 abbrev circle : Table
 circle = table_of (prototype 2 3 ∷ int ∷ pointer 1 ∷ [])
 
-its_parameter : Paid circle circle (pair 1 1 ∷ []) (pair 2 2 ∷ []) (Ok true) (pair 2 2 ∷ [])
+its_parameter : ComparedInOrder circle circle (pair 1 1 ∷ []) (pair 2 2 ∷ []) (Ok true) (pair 2 2 ∷ [])
 its_parameter =
-    next _ (pair 2 2) (pair 2 2) [] (Ok true) (pair 2 2 ∷ []) [] (owed_itself circle 2 Int _ (refl, refl) refl)
-    (under_one circle 1 2 Int _ (Ok true) [] (λ e. omega (arith, e)) (refl, refl) (told _ 31 (pair 2 2) (Ok true) (on_itself circle 2 Int _ (refl, refl) refl)))
+    next _ (pair 2 2) (pair 2 2) [] (Ok true) (pair 2 2 ∷ []) [] (pending_itself circle 2 Int _ (refl, refl) refl)
+    (under_one circle 1 2 Int _ (Ok true) [] (λ e. omega (arith, e)) (refl, refl) (decided _ 31 (pair 2 2) (Ok true) (on_itself circle 2 Int _ (refl, refl) refl)))
     (all _)
 
 -- a round has two positions
@@ -98,7 +98,7 @@ positions (suc turns) = suc (suc (positions turns))
 turns : (n : ℕ) → Walked circle circle (pair 1 1 ∷ []) (positions n) (pair 1 1) (Err (MaximumTypeDepthReached 1)) (replicate n (pair 2 2))
 turns zero = too_deep _ (pair 1 1)
 turns (suc n) =
-    paid _ (suc (positions n)) (pair 1 1) (pair 3 3) (pair 2 2 ∷ []) (Err (MaximumTypeDepthReached 1)) (pair 2 2 ∷ []) (replicate n (pair 2 2)) (on_itself circle 1 FuncProto _ (refl, refl) refl) its_parameter
+    compared _ (suc (positions n)) (pair 1 1) (pair 3 3) (pair 2 2 ∷ []) (Err (MaximumTypeDepthReached 1)) (pair 2 2 ∷ []) (replicate n (pair 2 2)) (on_itself circle 1 FuncProto _ (refl, refl) refl) its_parameter
     (on _ (positions n) (pair 3 3) (pair 1 1) (Err (MaximumTypeDepthReached 1)) (replicate n (pair 2 2)) (on_itself circle 3 Ptr _ (refl, refl) refl) (turns n))
 
 circle_is_cut : Plain circle circle [] (pair 1 1) (Err (MaximumTypeDepthReached 1)) (pair 1 1 ∷ replicate 16 (pair 2 2))
@@ -125,7 +125,7 @@ is_pointer k lt = (pointer_at 1 31 k lt ∙ ap (λ (id : ℕ). Some (pointer id)
 
 -- the walk from the pointer k + 1 reaches the INT after k + 1 positions
 comes_to_int : (above : List Pair) (k : ℕ) → k < 32 → Walked chain chain above (suc k) (pair (suc k) (suc k)) (Ok true) []
-comes_to_int above zero lt = told above zero (pair 1 1) (Ok true) (on_itself chain 1 Int _ (refl, refl) refl)
+comes_to_int above zero lt = decided above zero (pair 1 1) (Ok true) (on_itself chain 1 Int _ (refl, refl) refl)
 comes_to_int above (suc k) lt =
     on above (suc k) (pair (suc (suc k)) (suc (suc k))) (pair (suc k) (suc k)) (Ok true) [] (on_itself chain (suc (suc k)) Ptr (pointer (suc k)) (is_pointer k (omega (arith, lt))) refl) (comes_to_int above k (omega (arith, lt)))
 
@@ -140,8 +140,8 @@ is_cut above (suc k) lt =
 true_pair_is_walked_through : Plain chain chain [] (pair 33 33) (Err (MaximumTypeDepthReached 1)) (pair 33 33 ∷ pair 32 32 ∷ [])
 true_pair_is_walked_through =
     alone chain 33 FuncProto _ (Err (MaximumTypeDepthReached 1)) (pair 32 32 ∷ []) (refl, refl)
-    (paid _ 31 (pair 33 33) (pair 32 32) (pair 32 32 ∷ []) (Err (MaximumTypeDepthReached 1)) (pair 32 32 ∷ []) [] (on_itself chain 33 FuncProto _ (refl, refl) refl)
-    (next _ (pair 32 32) (pair 32 32) [] (Ok true) (pair 32 32 ∷ []) [] (owed_itself chain 32 Ptr _ (refl, refl) refl)
+    (compared _ 31 (pair 33 33) (pair 32 32) (pair 32 32 ∷ []) (Err (MaximumTypeDepthReached 1)) (pair 32 32 ∷ []) [] (on_itself chain 33 FuncProto _ (refl, refl) refl)
+    (next _ (pair 32 32) (pair 32 32) [] (Ok true) (pair 32 32 ∷ []) [] (pending_itself chain 32 Ptr _ (refl, refl) refl)
     (under_one chain 33 32 Ptr _ (Ok true) [] (λ e. omega (arith, e)) (refl, refl) (comes_to_int _ 31 (omega arith)))
     (all _))
     (is_cut _ 31 (omega arith)))

@@ -8,7 +8,7 @@ use Rattle.btf_model.specs.Refusal.{Refusal, MaximumTypeDepthReached}
 use Rattle.btf_model.specs.Table.{Table}
 use Rattle.btf_model.specs.Walk.{By, unmodified_in, Resolves}
 use Rattle.btf_model.specs.Fields.{Pair, IsAt, HaveKinds}
-use Rattle.btf_model.specs.Compat.{Position, Told, position_by, PositionFound, ResolvesPair, Finds}
+use Rattle.btf_model.specs.Compat.{Position, Decided, position_by, PositionFound, ResolvesPair, Finds}
 use Rattle.btf_model.proofs.Walks.{one_answer, by_one, resolving_has_answer, resolved_is_known}
 use Rattle.btf_model.proofs.SameKinds.{same_kind_or_not}
 
@@ -76,7 +76,7 @@ found_of_same id other k l q m r t s u a ids ks qs rs ss h =
 
 -- at most one thing is found at a position
 pub one_position : (local target : Table) (at : Pair) (a b : Position) → Finds local target at a → Finds local target at b → a ≡ b
-one_position local target at a b (inl p) (inl q) = p.2 ∙ ap (λ (x : Refusal). Told (Err x)) (one_refusal local target at p.0 q.0 p.1 q.1) ∙ sym q.2
+one_position local target at a b (inl p) (inl q) = p.2 ∙ ap (λ (x : Refusal). Decided (Err x)) (one_refusal local target at p.0 q.0 p.1 q.1) ∙ sym q.2
 one_position local target at a b (inl p) (inr q) = absurd (pair_not_refused local target at q.0 p.0 q.5 p.1)
 one_position local target at a b (inr p) (inl q) = absurd (pair_not_refused local target at p.0 q.0 p.5 q.1)
 one_position local target at a b (inr p) (inr q) =
@@ -112,7 +112,7 @@ something_found : (id : ℕ) (k q : Kind) (r s : Record) → (found : Position) 
 something_found id k q r s =
     elim (same_kind_or_not (compared_kind k) (compared_kind q)) [
       | inl same ↦ (position_by id k r s, inr (same, refl))
-      | inr differ ↦ (Told (Ok false), inl (differ, refl))
+      | inr differ ↦ (Decided (Ok false), inl (differ, refl))
     ]
 
 -- the type that an id resolves to has a record and a kind
@@ -123,7 +123,7 @@ resolved_is_at t id end kinds h =
     (is.0, here.0, (here.1, is.1))
 
 position_of : (local target : Table) (at : Pair) (a : Result Pair Refusal) → HaveKinds local → HaveKinds target → ResolvesPair local target at a → (found : Position) × Finds local target at found
-position_of local target at (Err refusal) ls ts h = (Told (Err refusal), inl (refusal, h, refl))
+position_of local target at (Err refusal) ls ts h = (Decided (Err refusal), inl (refusal, h, refl))
 position_of local target at (Ok p) ls ts h =
     let here = resolved_is_at local at.local p.local ls h.0 in
     let there = resolved_is_at target at.target p.target ts h.1 in

@@ -10,7 +10,7 @@ use Rattle.std.proofs.lemmas.Option.{slice_get_within}
 use Rattle.btf_model.specs.Refusal.{Refusal}
 use Rattle.btf_model.specs.Table.{Table}
 use Rattle.btf_model.specs.Fields.{Pair}
-use Rattle.btf_model.specs.Compat.{Plain, Walked, Paid, AreKnown, pair_eq, firsts}
+use Rattle.btf_model.specs.Compat.{Plain, Walked, ComparedInOrder, AreKnown, pair_eq, firsts}
 use Rattle.btf_model.specs.Laws.{AreIds}
 use Rattle.btf_model.proofs.Known.{Among, HasIds, without, known_pairs, known_pairs_among, length-known_pairs}
 use Rattle.btf_model.proofs.Firsts.{eq_itself}
@@ -33,18 +33,18 @@ module _ (local target : Table) where
 
     walked_known : (above : List Pair) (n : ℕ) (at : Pair) (a : Result Bool Refusal) (starts : List Pair) → Walked local target above n at a starts → (q : Pair) → Among starts q → HasIds local target q
     walked_known above n at a starts (Walked.too_deep _ _) q m = elim m [ ]
-    walked_known above n at a starts (Walked.told _ k _ answer found) q m = elim m [ ]
+    walked_known above n at a starts (Walked.decided _ k _ answer found) q m = elim m [ ]
     walked_known above n at a starts (Walked.on _ k _ to answer rest found behind) q m = walked_known above k to answer rest behind q m
-    walked_known above n at a starts (Walked.paid _ k _ to owed answer first rest found pays goes) q m =
-        elim (among_append first rest q m) [ inl h ↦ paid_known above owed (Ok true) first pays q h | inr h ↦ walked_known above k to answer rest goes q h ]
-    walked_known above n at a starts (Walked.unpaid _ k _ to owed answer rest found pays not_true) q m = paid_known above owed answer rest pays q m
+    walked_known above n at a starts (Walked.compared _ k _ to pending answer first rest found compares_all goes) q m =
+        elim (among_append first rest q m) [ inl h ↦ compared_known above pending (Ok true) first compares_all q h | inr h ↦ walked_known above k to answer rest goes q h ]
+    walked_known above n at a starts (Walked.not_compatible _ k _ to pending answer rest found compares_all not_true) q m = compared_known above pending answer rest compares_all q m
 
-    paid_known : (above : List Pair) (owed : List Pair) (a : Result Bool Refusal) (starts : List Pair) → Paid local target above owed a starts → (q : Pair) → Among starts q → HasIds local target q
-    paid_known above owed a starts (Paid.all _) q m = elim m [ ]
-    paid_known above owed a starts (Paid.unresolved _ at more refusal refused) q m = elim m [ ]
-    paid_known above owed a starts (Paid.other _ at p more answer rest resolved plain not_true) q m = plain_known above p answer rest plain q m
-    paid_known above owed a starts (Paid.next _ at p more answer first rest resolved plain pays) q m =
-        elim (among_append first rest q m) [ inl h ↦ plain_known above p (Ok true) first plain q h | inr h ↦ paid_known above more answer rest pays q h ]
+    compared_known : (above : List Pair) (pending : List Pair) (a : Result Bool Refusal) (starts : List Pair) → ComparedInOrder local target above pending a starts → (q : Pair) → Among starts q → HasIds local target q
+    compared_known above pending a starts (ComparedInOrder.all _) q m = elim m [ ]
+    compared_known above pending a starts (ComparedInOrder.unresolved _ at more refusal refused) q m = elim m [ ]
+    compared_known above pending a starts (ComparedInOrder.other _ at p more answer rest resolved plain not_true) q m = plain_known above p answer rest plain q m
+    compared_known above pending a starts (ComparedInOrder.next _ at p more answer first rest resolved plain compares_all) q m =
+        elim (among_append first rest q m) [ inl h ↦ plain_known above p (Ok true) first plain q h | inr h ↦ compared_known above more answer rest compares_all q h ]
 
 -- ---- without repeats
 

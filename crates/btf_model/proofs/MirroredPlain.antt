@@ -8,7 +8,7 @@ use Rattle.btf_model.specs.Refusal.{Refusal}
 use Rattle.btf_model.specs.Table.{Table}
 use Rattle.btf_model.specs.Walk.{walk_limit}
 use Rattle.btf_model.specs.Fields.{Pair, HaveKinds}
-use Rattle.btf_model.specs.Compat.{Position, Told, On, Owes, PositionFound, Finds, AreKnown, Plain, Walked, Paid}
+use Rattle.btf_model.specs.Compat.{Position, Decided, On, Pending, PositionFound, Finds, AreKnown, Plain, Walked, ComparedInOrder}
 use Rattle.btf_model.specs.Laws.{exchanged}
 use Rattle.btf_model.proofs.Known.{Among, among_from_contains, contains_from_among}
 use Rattle.btf_model.proofs.OnePlain.{one_plain}
@@ -55,25 +55,25 @@ module _ (local target : Table) where
     walked_turned : (above : List Pair) (n : ℕ) (at : Pair) (answer : Result Bool Refusal) (starts : List Pair) → Walked local target above n at answer starts → IsGiven answer
         → Walked target local (map exchanged above) n (exchanged at) answer (map exchanged starts)
     walked_turned above n at answer starts (Walked.too_deep _ _) given = absurd given
-    walked_turned above n at answer starts (Walked.told _ m _ _ found) given = Walked.told (map exchanged above) m (exchanged at) answer (finds_turned at (Told answer) given found)
+    walked_turned above n at answer starts (Walked.decided _ m _ _ found) given = Walked.decided (map exchanged above) m (exchanged at) answer (finds_turned at (Decided answer) given found)
     walked_turned above n at answer starts (Walked.on _ m _ to _ _ found behind) given =
         Walked.on (map exchanged above) m (exchanged at) (exchanged to) answer (map exchanged starts) (finds_turned at (On to) tt found) (walked_turned above m to answer starts behind given)
-    walked_turned above n at answer starts (Walked.paid _ m _ to owed _ first behind found pays goes) given =
+    walked_turned above n at answer starts (Walked.compared _ m _ to pending _ first behind found compares_all goes) given =
         subst (λ (x : List Pair). Walked target local (map exchanged above) (suc m) (exchanged at) answer x) (sym (map-append exchanged first behind))
-        (Walked.paid (map exchanged above) m (exchanged at) (exchanged to) (map exchanged owed) answer (map exchanged first) (map exchanged behind) (finds_turned at (Owes owed to) tt found)
-        (paid_turned above owed (Ok true) first pays tt) (walked_turned above m to answer behind goes given))
-    walked_turned above n at answer starts (Walked.unpaid _ m _ to owed _ _ found pays not_true) given =
-        Walked.unpaid (map exchanged above) m (exchanged at) (exchanged to) (map exchanged owed) answer (map exchanged starts) (finds_turned at (Owes owed to) tt found) (paid_turned above owed answer starts pays given) not_true
+        (Walked.compared (map exchanged above) m (exchanged at) (exchanged to) (map exchanged pending) answer (map exchanged first) (map exchanged behind) (finds_turned at (Pending pending to) tt found)
+        (compared_turned above pending (Ok true) first compares_all tt) (walked_turned above m to answer behind goes given))
+    walked_turned above n at answer starts (Walked.not_compatible _ m _ to pending _ _ found compares_all not_true) given =
+        Walked.not_compatible (map exchanged above) m (exchanged at) (exchanged to) (map exchanged pending) answer (map exchanged starts) (finds_turned at (Pending pending to) tt found) (compared_turned above pending answer starts compares_all given) not_true
 
-    paid_turned : (above owed : List Pair) (answer : Result Bool Refusal) (starts : List Pair) → Paid local target above owed answer starts → IsGiven answer → Paid target local (map exchanged above) (map exchanged owed) answer (map exchanged starts)
-    paid_turned above owed answer starts (Paid.all _) given = Paid.all (map exchanged above)
-    paid_turned above owed answer starts (Paid.unresolved _ at rest refusal resolved) given = absurd given
-    paid_turned above owed answer starts (Paid.other _ at p rest _ _ resolved plain not_true) given =
-        Paid.other (map exchanged above) (exchanged at) (exchanged p) (map exchanged rest) answer (map exchanged starts) (resolved.1, resolved.0) (plain_turned above p answer starts plain given) not_true
-    paid_turned above owed answer starts (Paid.next _ at p rest _ first behind resolved plain pays) given =
-        subst (λ (x : List Pair). Paid target local (map exchanged above) (exchanged at ∷ map exchanged rest) answer x) (sym (map-append exchanged first behind))
-        (Paid.next (map exchanged above) (exchanged at) (exchanged p) (map exchanged rest) answer (map exchanged first) (map exchanged behind) (resolved.1, resolved.0)
-        (plain_turned above p (Ok true) first plain tt) (paid_turned above rest answer behind pays given))
+    compared_turned : (above pending : List Pair) (answer : Result Bool Refusal) (starts : List Pair) → ComparedInOrder local target above pending answer starts → IsGiven answer → ComparedInOrder target local (map exchanged above) (map exchanged pending) answer (map exchanged starts)
+    compared_turned above pending answer starts (ComparedInOrder.all _) given = ComparedInOrder.all (map exchanged above)
+    compared_turned above pending answer starts (ComparedInOrder.unresolved _ at rest refusal resolved) given = absurd given
+    compared_turned above pending answer starts (ComparedInOrder.other _ at p rest _ _ resolved plain not_true) given =
+        ComparedInOrder.other (map exchanged above) (exchanged at) (exchanged p) (map exchanged rest) answer (map exchanged starts) (resolved.1, resolved.0) (plain_turned above p answer starts plain given) not_true
+    compared_turned above pending answer starts (ComparedInOrder.next _ at p rest _ first behind resolved plain compares_all) given =
+        subst (λ (x : List Pair). ComparedInOrder target local (map exchanged above) (exchanged at ∷ map exchanged rest) answer x) (sym (map-append exchanged first behind))
+        (ComparedInOrder.next (map exchanged above) (exchanged at) (exchanged p) (map exchanged rest) answer (map exchanged first) (map exchanged behind) (resolved.1, resolved.0)
+        (plain_turned above p (Ok true) first plain tt) (compared_turned above rest answer behind compares_all given))
 
   pub plain_mirrored : (above : List Pair) (p : Pair) (b : Bool) (starts : List Pair) → Plain local target above p (Ok b) starts → Plain target local (map exchanged above) (exchanged p) (Ok b) (map exchanged starts)
   plain_mirrored above p b starts h = plain_turned above p (Ok b) starts h tt

@@ -12,7 +12,7 @@ use Rattle.btf_model.specs.Table.{Table}
 use Rattle.btf_model.specs.Text.{text_at}
 use Rattle.btf_model.specs.Walk.{Finding, Ends, GoesOn}
 use Rattle.btf_model.specs.Fields.{Pair, int_offset, same_names, before_flavor, field_by}
-use Rattle.btf_model.specs.Compat.{Position, Told, On, Owes, parameter_types, pairs, prototypes, position_by}
+use Rattle.btf_model.specs.Compat.{Position, Decided, On, Pending, parameter_types, pairs, prototypes, position_by}
 use Rattle.btf_model.specs.Laws.{exchanged}
 
 -- ---- kinds
@@ -109,14 +109,14 @@ module _ (local target : Table) (id other : ℕ) (r s : Record) where
 -- ---- positions
 
 abbrev pub turned : Position → Position
-turned (Told answer) = Told answer
+turned (Decided answer) = Decided answer
 turned (On next) = On (exchanged next)
-turned (Owes owed next) = Owes (map exchanged owed) (exchanged next)
+turned (Pending pending next) = Pending (map exchanged pending) (exchanged next)
 
 abbrev pub IsFinePosition : Position → Type 0
-IsFinePosition (Told answer) = IsGiven answer
+IsFinePosition (Decided answer) = IsGiven answer
 IsFinePosition (On next) = Unit {0}
-IsFinePosition (Owes owed next) = Unit {0}
+IsFinePosition (Pending pending next) = Unit {0}
 
 pairs_turned : (xs ys : List ℕ) → pairs ys xs ≡ map exchanged (pairs xs ys)
 pairs_turned [] [] = refl
@@ -125,13 +125,13 @@ pairs_turned (x ∷ xs) [] = refl
 pairs_turned (x ∷ xs) (y ∷ ys) = ap (λ (ps : List Pair). record { local = y; target = x } ∷ ps) (pairs_turned xs ys)
 
 -- two prototypes whose numbers of parameters are equal or differ
-by_count : (b : Bool) (owed back : List Pair) (next : Pair) → back ≡ map exchanged owed → (if b then Owes back (exchanged next) else Told (Ok false)) ≡ turned (if b then Owes owed next else Told (Ok false))
-by_count true owed back next is = ap (λ (ps : List Pair). Owes ps (exchanged next)) is
-by_count false owed back next is = refl
+by_count : (b : Bool) (pending back : List Pair) (next : Pair) → back ≡ map exchanged pending → (if b then Pending back (exchanged next) else Decided (Ok false)) ≡ turned (if b then Pending pending next else Decided (Ok false))
+by_count true pending back next is = ap (λ (ps : List Pair). Pending ps (exchanged next)) is
+by_count false pending back next is = refl
 
 prototypes_turned : (r s : Record) → prototypes s r ≡ turned (prototypes r s)
 prototypes_turned r s =
-    ap (λ (b : Bool). if b then Owes (pairs (parameter_types s.tail) (parameter_types r.tail)) (record { local = s.third; target = r.third }) else Told (Ok false)) (eq_flips (length (parameter_types s.tail)) (length (parameter_types r.tail)))
+    ap (λ (b : Bool). if b then Pending (pairs (parameter_types s.tail) (parameter_types r.tail)) (record { local = s.third; target = r.third }) else Decided (Ok false)) (eq_flips (length (parameter_types s.tail)) (length (parameter_types r.tail)))
     ∙ by_count (length (parameter_types r.tail) == length (parameter_types s.tail)) (pairs (parameter_types r.tail) (parameter_types s.tail)) (pairs (parameter_types s.tail) (parameter_types r.tail)) (record { local = r.third; target = s.third })
     (pairs_turned (parameter_types r.tail) (parameter_types s.tail))
 
@@ -144,7 +144,7 @@ module _ (id other : ℕ) (r s : Record) where
   one_kind_turned Enum64 fine = refl
   one_kind_turned Fwd fine = refl
   one_kind_turned Float fine = refl
-  one_kind_turned Int fine = ap (λ (a : Result Bool Refusal). Told a) (offsets_flip r s)
+  one_kind_turned Int fine = ap (λ (a : Result Bool Refusal). Decided a) (offsets_flip r s)
   one_kind_turned Ptr fine = refl
   one_kind_turned Array fine = refl
   one_kind_turned FuncProto fine = prototypes_turned r s

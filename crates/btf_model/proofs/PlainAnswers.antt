@@ -9,7 +9,7 @@ use Rattle.btf_model.specs.Refusal.{Refusal, UnknownBtfType, MaximumTypeDepthRea
 use Rattle.btf_model.specs.Table.{Table}
 use Rattle.btf_model.specs.Walk.{walk_limit}
 use Rattle.btf_model.specs.Fields.{Pair, HaveKinds}
-use Rattle.btf_model.specs.Compat.{Position, Told, On, Owes, ResolvesPair, Finds, AreKnown, Plain, Walked, Paid}
+use Rattle.btf_model.specs.Compat.{Position, Decided, On, Pending, ResolvesPair, Finds, AreKnown, Plain, Walked, ComparedInOrder}
 use Rattle.btf_model.proofs.SameKinds.{same_kind_or_not}
 use Rattle.btf_model.proofs.Comparisons.{pair_answer, position_answer}
 use Rattle.btf_model.proofs.Known.{Among, HasIds, Covers, known_pairs, known_pairs_cover, without, still_covers, open_or_not}
@@ -27,39 +27,39 @@ module _ (local target : Table) where
   abbrev pub HasWalked : List Pair → ℕ → Pair → Type 0
   HasWalked above n at = (answer : Result Bool Refusal) × (starts : List Pair) × Walked local target above n at answer starts
 
-  abbrev pub HasPaid : List Pair → List Pair → Type 0
-  HasPaid above owed = (answer : Result Bool Refusal) × (starts : List Pair) × Paid local target above owed answer starts
+  abbrev pub HasCompared : List Pair → List Pair → Type 0
+  HasCompared above pending = (answer : Result Bool Refusal) × (starts : List Pair) × ComparedInOrder local target above pending answer starts
 
   -- ---- pending pairs of parameters
 
-  pay_next : (above : List Pair) (at p : Pair) (owed : List Pair) → ResolvesPair local target at (Ok p) → HasPlain above p → HasPaid above owed → HasPaid above (at ∷ owed)
-  pay_next above at p owed resolved first behind =
+  pay_next : (above : List Pair) (at p : Pair) (pending : List Pair) → ResolvesPair local target at (Ok p) → HasPlain above p → HasCompared above pending → HasCompared above (at ∷ pending)
+  pay_next above at p pending resolved first behind =
       elim (true_or_not first.0) [
-        | inl is ↦ (behind.0, first.1 ++ behind.1, Paid.next above at p owed behind.0 first.1 behind.1 resolved (subst (λ (x : Result Bool Refusal). Plain local target above p x first.1) is first.2) behind.2)
-        | inr not_true ↦ (first.0, first.1, Paid.other above at p owed first.0 first.1 resolved first.2 not_true)
+        | inl is ↦ (behind.0, first.1 ++ behind.1, ComparedInOrder.next above at p pending behind.0 first.1 behind.1 resolved (subst (λ (x : Result Bool Refusal). Plain local target above p x first.1) is first.2) behind.2)
+        | inr not_true ↦ (first.0, first.1, ComparedInOrder.other above at p pending first.0 first.1 resolved first.2 not_true)
       ]
 
-  pay_by : (above : List Pair) (at : Pair) (owed : List Pair) (a : Result Pair Refusal) → ResolvesPair local target at a → ((p : Pair) → HasPlain above p) → HasPaid above owed → HasPaid above (at ∷ owed)
-  pay_by above at owed (Err refusal) resolved plain behind = (Err refusal, [], Paid.unresolved above at owed refusal resolved)
-  pay_by above at owed (Ok p) resolved plain behind = pay_next above at p owed resolved (plain p) behind
+  pay_by : (above : List Pair) (at : Pair) (pending : List Pair) (a : Result Pair Refusal) → ResolvesPair local target at a → ((p : Pair) → HasPlain above p) → HasCompared above pending → HasCompared above (at ∷ pending)
+  pay_by above at pending (Err refusal) resolved plain behind = (Err refusal, [], ComparedInOrder.unresolved above at pending refusal resolved)
+  pay_by above at pending (Ok p) resolved plain behind = pay_next above at p pending resolved (plain p) behind
 
-  paid_by : (above owed : List Pair) → ((p : Pair) → HasPlain above p) → HasPaid above owed
-  paid_by above [] plain = (Ok true, [], Paid.all above)
-  paid_by above (at ∷ owed) plain = pay_by above at owed (pair_answer local target at).0 (pair_answer local target at).1 plain (paid_by above owed plain)
+  compared_by : (above pending : List Pair) → ((p : Pair) → HasPlain above p) → HasCompared above pending
+  compared_by above [] plain = (Ok true, [], ComparedInOrder.all above)
+  compared_by above (at ∷ pending) plain = pay_by above at pending (pair_answer local target at).0 (pair_answer local target at).1 plain (compared_by above pending plain)
 
   -- ---- walks
 
-  pay_and_go : (above : List Pair) (n : ℕ) (at to : Pair) (owed : List Pair) → Finds local target at (Owes owed to) → HasPaid above owed → HasWalked above n to → HasWalked above (suc n) at
-  pay_and_go above n at to owed found first behind =
+  pay_and_go : (above : List Pair) (n : ℕ) (at to : Pair) (pending : List Pair) → Finds local target at (Pending pending to) → HasCompared above pending → HasWalked above n to → HasWalked above (suc n) at
+  pay_and_go above n at to pending found first behind =
       elim (true_or_not first.0) [
-        | inl is ↦ (behind.0, first.1 ++ behind.1, Walked.paid above n at to owed behind.0 first.1 behind.1 found (subst (λ (x : Result Bool Refusal). Paid local target above owed x first.1) is first.2) behind.2)
-        | inr not_true ↦ (first.0, first.1, Walked.unpaid above n at to owed first.0 first.1 found first.2 not_true)
+        | inl is ↦ (behind.0, first.1 ++ behind.1, Walked.compared above n at to pending behind.0 first.1 behind.1 found (subst (λ (x : Result Bool Refusal). ComparedInOrder local target above pending x first.1) is first.2) behind.2)
+        | inr not_true ↦ (first.0, first.1, Walked.not_compatible above n at to pending first.0 first.1 found first.2 not_true)
       ]
 
   walk_by : (above : List Pair) (n : ℕ) (at : Pair) (found : Position) → Finds local target at found → ((p : Pair) → HasPlain above p) → ((to : Pair) → HasWalked above n to) → HasWalked above (suc n) at
-  walk_by above n at (Told answer) found plain behind = (answer, [], Walked.told above n at answer found)
+  walk_by above n at (Decided answer) found plain behind = (answer, [], Walked.decided above n at answer found)
   walk_by above n at (On to) found plain behind = ((behind to).0, (behind to).1, Walked.on above n at to (behind to).0 (behind to).1 found (behind to).2)
-  walk_by above n at (Owes owed to) found plain behind = pay_and_go above n at to owed found (paid_by above owed plain) (behind to)
+  walk_by above n at (Pending pending to) found plain behind = pay_and_go above n at to pending found (compared_by above pending plain) (behind to)
 
   walked_by : (above : List Pair) (n : ℕ) (at : Pair) → HaveKinds local → HaveKinds target → ((p : Pair) → HasPlain above p) → HasWalked above n at
   walked_by above zero at ls ts plain = (Err (MaximumTypeDepthReached at.local), [], Walked.too_deep above at)
@@ -113,5 +113,5 @@ module _ (local target : Table) where
   pub walked_answers : HaveKinds local → HaveKinds target → (above : List Pair) (n : ℕ) (at : Pair) → HasWalked above n at
   walked_answers ls ts above n at = walked_by above n at ls ts (λ p. plain_answers ls ts above p)
 
-  pub paid_answers : HaveKinds local → HaveKinds target → (above owed : List Pair) → HasPaid above owed
-  paid_answers ls ts above owed = paid_by above owed (λ p. plain_answers ls ts above p)
+  pub compared_answers : HaveKinds local → HaveKinds target → (above pending : List Pair) → HasCompared above pending
+  compared_answers ls ts above pending = compared_by above pending (λ p. plain_answers ls ts above p)

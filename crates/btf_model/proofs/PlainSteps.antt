@@ -6,7 +6,7 @@ use Rattle.btf_model.specs.Refusal.{Refusal, UnknownBtfType, MaximumTypeDepthRea
 use Rattle.btf_model.specs.Table.{Table}
 use Rattle.btf_model.specs.Walk.{walk_limit}
 use Rattle.btf_model.specs.Fields.{Pair}
-use Rattle.btf_model.specs.Compat.{Position, Told, On, Owes, ResolvesPair, Finds, AreKnown, Plain, Walked, Paid}
+use Rattle.btf_model.specs.Compat.{Position, Decided, On, Pending, ResolvesPair, Finds, AreKnown, Plain, Walked, ComparedInOrder}
 use Rattle.btf_model.proofs.Comparisons.{one_position, one_resolved}
 
 -- the answer and the starts are these
@@ -18,16 +18,16 @@ module _ (local target : Table) where
 
   -- the premises of a walk from a position, by what is found there
   abbrev pub Follows : List Pair → ℕ → Position → Result Bool Refusal → List Pair → Type 0
-  Follows above n (Told a) b t = Are b t a []
+  Follows above n (Decided a) b t = Are b t a []
   Follows above n (On to) b t = Walked local target above n to b t
-  Follows above n (Owes owed to) b t =
-      ((first behind : List Pair) × Paid local target above owed (Ok true) first × Walked local target above n to b behind × (t ≡ first ++ behind)) ⊎ (Paid local target above owed b t × (b ≢ Ok true))
+  Follows above n (Pending pending to) b t =
+      ((first behind : List Pair) × ComparedInOrder local target above pending (Ok true) first × Walked local target above n to b behind × (t ≡ first ++ behind)) ⊎ (ComparedInOrder local target above pending b t × (b ≢ Ok true))
 
   walked_finds : (above : List Pair) (n : ℕ) (at : Pair) (b : Result Bool Refusal) (t : List Pair) → Walked local target above (suc n) at b t → (found : Position) × Finds local target at found × Follows above n found b t
-  walked_finds above n at b t (Walked.told _ _ _ answer found) = (Told answer, found, (refl, refl))
+  walked_finds above n at b t (Walked.decided _ _ _ answer found) = (Decided answer, found, (refl, refl))
   walked_finds above n at b t (Walked.on _ _ _ to answer starts found behind) = (On to, found, behind)
-  walked_finds above n at b t (Walked.paid _ _ _ to owed answer first behind found pays goes) = (Owes owed to, found, inl (first, behind, pays, goes, refl))
-  walked_finds above n at b t (Walked.unpaid _ _ _ to owed answer starts found pays not_true) = (Owes owed to, found, inr (pays, not_true))
+  walked_finds above n at b t (Walked.compared _ _ _ to pending answer first behind found compares_all goes) = (Pending pending to, found, inl (first, behind, compares_all, goes, refl))
+  walked_finds above n at b t (Walked.not_compatible _ _ _ to pending answer starts found compares_all not_true) = (Pending pending to, found, inr (compares_all, not_true))
 
   -- a walk has these premises
   pub walked_follows : (above : List Pair) (n : ℕ) (at : Pair) (found : Position) (b : Result Bool Refusal) (t : List Pair) → Finds local target at found → Walked local target above (suc n) at b t → Follows above n found b t
@@ -38,23 +38,23 @@ module _ (local target : Table) where
   -- ---- pending pairs of parameters
 
   -- the premises of the first pending pair, by what it resolves to
-  abbrev pub Pays : List Pair → List Pair → Result Pair Refusal → Result Bool Refusal → List Pair → Type 0
-  Pays above owed (Err refusal) b t = Are b t (Err refusal) []
-  Pays above owed (Ok p) b t =
-      ((first behind : List Pair) × Plain local target above p (Ok true) first × Paid local target above owed b behind × (t ≡ first ++ behind)) ⊎ (Plain local target above p b t × (b ≢ Ok true))
+  abbrev pub ComparesAll : List Pair → List Pair → Result Pair Refusal → Result Bool Refusal → List Pair → Type 0
+  ComparesAll above pending (Err refusal) b t = Are b t (Err refusal) []
+  ComparesAll above pending (Ok p) b t =
+      ((first behind : List Pair) × Plain local target above p (Ok true) first × ComparedInOrder local target above pending b behind × (t ≡ first ++ behind)) ⊎ (Plain local target above p b t × (b ≢ Ok true))
 
-  pub paid_none : (above : List Pair) (b : Result Bool Refusal) (t : List Pair) → Paid local target above [] b t → Are b t (Ok true) []
-  paid_none above b t (Paid.all _) = (refl, refl)
+  pub compared_none : (above : List Pair) (b : Result Bool Refusal) (t : List Pair) → ComparedInOrder local target above [] b t → Are b t (Ok true) []
+  compared_none above b t (ComparedInOrder.all _) = (refl, refl)
 
-  paid_resolves : (above : List Pair) (at : Pair) (owed : List Pair) (b : Result Bool Refusal) (t : List Pair) → Paid local target above (at ∷ owed) b t → (a : Result Pair Refusal) × ResolvesPair local target at a × Pays above owed a b t
-  paid_resolves above at owed b t (Paid.unresolved _ _ _ refusal resolved) = (Err refusal, resolved, (refl, refl))
-  paid_resolves above at owed b t (Paid.other _ _ p _ answer starts resolved plain not_true) = (Ok p, resolved, inr (plain, not_true))
-  paid_resolves above at owed b t (Paid.next _ _ p _ answer first behind resolved plain pays) = (Ok p, resolved, inl (first, behind, plain, pays, refl))
+  compared_resolves : (above : List Pair) (at : Pair) (pending : List Pair) (b : Result Bool Refusal) (t : List Pair) → ComparedInOrder local target above (at ∷ pending) b t → (a : Result Pair Refusal) × ResolvesPair local target at a × ComparesAll above pending a b t
+  compared_resolves above at pending b t (ComparedInOrder.unresolved _ _ _ refusal resolved) = (Err refusal, resolved, (refl, refl))
+  compared_resolves above at pending b t (ComparedInOrder.other _ _ p _ answer starts resolved plain not_true) = (Ok p, resolved, inr (plain, not_true))
+  compared_resolves above at pending b t (ComparedInOrder.next _ _ p _ answer first behind resolved plain compares_all) = (Ok p, resolved, inl (first, behind, plain, compares_all, refl))
 
-  pub paid_follows : (above : List Pair) (at : Pair) (owed : List Pair) (a : Result Pair Refusal) (b : Result Bool Refusal) (t : List Pair) → ResolvesPair local target at a → Paid local target above (at ∷ owed) b t → Pays above owed a b t
-  paid_follows above at owed a b t is h =
-      let step = paid_resolves above at owed b t h in
-      subst (λ (x : Result Pair Refusal). Pays above owed x b t) (one_resolved local target at step.0 a step.1 is) step.2
+  pub paid_follows : (above : List Pair) (at : Pair) (pending : List Pair) (a : Result Pair Refusal) (b : Result Bool Refusal) (t : List Pair) → ResolvesPair local target at a → ComparedInOrder local target above (at ∷ pending) b t → ComparesAll above pending a b t
+  paid_follows above at pending a b t is h =
+      let step = compared_resolves above at pending b t h in
+      subst (λ (x : Result Pair Refusal). ComparesAll above pending x b t) (one_resolved local target at step.0 a step.1 is) step.2
 
   -- ---- a pair
 

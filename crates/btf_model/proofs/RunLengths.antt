@@ -5,7 +5,7 @@ use Rattle.std.proofs.lemmas.Option.{same_Some, slice_get_within}
 use Rattle.btf_model.specs.Record.{Record, Kind, Unknown, Int, Ptr, Array, Struct, Union, Enum, Fwd, Typedef, Volatile, Const, Restrict, Func, FuncProto, Var, DataSec, Float, DeclTag, TypeTag, Enum64}
 use Rattle.btf_model.specs.Table.{Table}
 use Rattle.btf_model.specs.Fields.{Pair}
-use Rattle.btf_model.specs.Compat.{Position, Told, On, Owes, Finds, parameter_types, pairs, position_by, PositionFound}
+use Rattle.btf_model.specs.Compat.{Position, Decided, On, Pending, Finds, parameter_types, pairs, position_by, PositionFound}
 use Rattle.btf_model.specs.Run.{Frame, new_frame, GoesOn, Waits, IsNext}
 
 -- ---- how many parameters a prototype has
@@ -21,10 +21,10 @@ tail_within (s ∷ rs) zero r is = omega (arith, ap (λ (x : Record). length x.t
 tail_within (s ∷ rs) (suc id) r is = omega (arith, tail_within rs id r is)
 
 -- the pending pairs of parameters at a position
-abbrev pub owed_at : Position → List Pair
-owed_at (Told answer) = []
-owed_at (On to) = []
-owed_at (Owes owed to) = owed
+abbrev pub pending_at : Position → List Pair
+pending_at (Decided answer) = []
+pending_at (On to) = []
+pending_at (Pending pending to) = pending
 
 length-parameter_types : (words : List ℕ) → length (parameter_types words) ≤ length words
 length-parameter_types [] = omega arith
@@ -36,42 +36,42 @@ length-pairs [] others = omega arith
 length-pairs (id ∷ ids) [] = omega arith
 length-pairs (id ∷ ids) (other ∷ others) = omega (arith, length-pairs ids others)
 
-few_owed_if : (b : Bool) (r : Record) (owed : List Pair) (to : Pair) → length owed ≤ length r.tail → length (owed_at (if b then Owes owed to else Told (Ok false))) ≤ length r.tail
-few_owed_if true r owed to le = le
-few_owed_if false r owed to le = omega arith
+few_pending_if : (b : Bool) (r : Record) (pending : List Pair) (to : Pair) → length pending ≤ length r.tail → length (pending_at (if b then Pending pending to else Decided (Ok false))) ≤ length r.tail
+few_pending_if true r pending to le = le
+few_pending_if false r pending to le = omega arith
 
-few_owed_by : (id : ℕ) (k : Kind) (r s : Record) → length (owed_at (position_by id k r s)) ≤ length r.tail
-few_owed_by id FuncProto r s =
-    few_owed_if (length (parameter_types r.tail) == length (parameter_types s.tail)) r (pairs (parameter_types r.tail) (parameter_types s.tail)) (record { local = r.third; target = s.third })
+few_pending_by : (id : ℕ) (k : Kind) (r s : Record) → length (pending_at (position_by id k r s)) ≤ length r.tail
+few_pending_by id FuncProto r s =
+    few_pending_if (length (parameter_types r.tail) == length (parameter_types s.tail)) r (pairs (parameter_types r.tail) (parameter_types s.tail)) (record { local = r.third; target = s.third })
     (omega (arith, length-pairs (parameter_types r.tail) (parameter_types s.tail), length-parameter_types r.tail))
-few_owed_by id Unknown r s = omega arith
-few_owed_by id Int r s = omega arith
-few_owed_by id Ptr r s = omega arith
-few_owed_by id Array r s = omega arith
-few_owed_by id Struct r s = omega arith
-few_owed_by id Union r s = omega arith
-few_owed_by id Enum r s = omega arith
-few_owed_by id Fwd r s = omega arith
-few_owed_by id Typedef r s = omega arith
-few_owed_by id Volatile r s = omega arith
-few_owed_by id Const r s = omega arith
-few_owed_by id Restrict r s = omega arith
-few_owed_by id Func r s = omega arith
-few_owed_by id Var r s = omega arith
-few_owed_by id DataSec r s = omega arith
-few_owed_by id Float r s = omega arith
-few_owed_by id DeclTag r s = omega arith
-few_owed_by id TypeTag r s = omega arith
-few_owed_by id Enum64 r s = omega arith
+few_pending_by id Unknown r s = omega arith
+few_pending_by id Int r s = omega arith
+few_pending_by id Ptr r s = omega arith
+few_pending_by id Array r s = omega arith
+few_pending_by id Struct r s = omega arith
+few_pending_by id Union r s = omega arith
+few_pending_by id Enum r s = omega arith
+few_pending_by id Fwd r s = omega arith
+few_pending_by id Typedef r s = omega arith
+few_pending_by id Volatile r s = omega arith
+few_pending_by id Const r s = omega arith
+few_pending_by id Restrict r s = omega arith
+few_pending_by id Func r s = omega arith
+few_pending_by id Var r s = omega arith
+few_pending_by id DataSec r s = omega arith
+few_pending_by id Float r s = omega arith
+few_pending_by id DeclTag r s = omega arith
+few_pending_by id TypeTag r s = omega arith
+few_pending_by id Enum64 r s = omega arith
 
-few_owed_found : (id : ℕ) (k q : Kind) (r s : Record) (found : Position) → PositionFound id k q r s found → length (owed_at found) ≤ length r.tail
-few_owed_found id k q r s found (inl h) = omega (arith, ap (λ (x : Position). length (owed_at x)) h.1)
-few_owed_found id k q r s found (inr h) = omega (arith, ap (λ (x : Position). length (owed_at x)) h.1, few_owed_by id k r s)
+few_pending_found : (id : ℕ) (k q : Kind) (r s : Record) (found : Position) → PositionFound id k q r s found → length (pending_at found) ≤ length r.tail
+few_pending_found id k q r s found (inl h) = omega (arith, ap (λ (x : Position). length (pending_at x)) h.1)
+few_pending_found id k q r s found (inr h) = omega (arith, ap (λ (x : Position). length (pending_at x)) h.1, few_pending_by id k r s)
 
 -- the number of pending pairs is at most the number of words of the widest record
-pub few_owed : (local target : Table) (at : Pair) (found : Position) → Finds local target at found → length (owed_at found) ≤ widest local.records
-few_owed local target at found (inl h) = omega (arith, ap (λ (x : Position). length (owed_at x)) h.2)
-few_owed local target at found (inr h) = omega (arith, few_owed_found h.0.local h.1 h.2 h.3 h.4 found h.8, tail_within local.records h.0.local h.3 h.6.0)
+pub few_pending : (local target : Table) (at : Pair) (found : Position) → Finds local target at found → length (pending_at found) ≤ widest local.records
+few_pending local target at found (inl h) = omega (arith, ap (λ (x : Position). length (pending_at x)) h.2)
+few_pending local target at found (inr h) = omega (arith, few_pending_found h.0.local h.1 h.2 h.3 h.4 found h.8, tail_within local.records h.0.local h.3 h.6.0)
 
 -- ---- what is left to do
 
@@ -107,9 +107,9 @@ module _ (local target : Table) where
   waits_is_less f g p next =
       let left : g.left ≡ f.left = ap (λ (x : Frame). x.left) next.5 in
       let parameter : g.parameter ≡ suc f.parameter = ap (λ (x : Frame). x.parameter) next.5 in
-      let owes = next.4 in
-      let few : length next.1 ≤ widest local.records = few_owed local target f.at (Owes next.1 next.2) owes.0 in
-      let lt : f.parameter < length next.1 = slice_get_within next.1 f.parameter owes.1.0 owes.1.1 in
+      let is_pending = next.4 in
+      let few : length next.1 ≤ widest local.records = few_pending local target f.at (Pending next.1 next.2) is_pending.0 in
+      let lt : f.parameter < length next.1 = slice_get_within next.1 f.parameter is_pending.1.0 is_pending.1.1 in
       rw (left, parameter) (omega (arith, few, lt))
 
   pub less_on : (known listed w : ℕ) (f g : Frame) (below : List Frame) → IsNext local target f (GoesOn g) → left_to_do known listed w g below < left_to_do known listed w f below
@@ -119,8 +119,8 @@ module _ (local target : Table) where
   pub less_passed : (known listed w n : ℕ) (f : Frame) (to : Pair) (below : List Frame) → f.left ≡ suc n → left_to_do known listed w (record { pair = f.pair; at = to; left = n; parameter = zero }) below < left_to_do known listed w f below
   less_passed known listed w n f to below left = rw left (omega (arith, fewer_positions n w f.parameter))
 
-  pub less_paid : (known listed : ℕ) (f g : Frame) (p : Pair) (below : List Frame) → IsNext local target f (Waits p g) → left_to_do known listed (widest local.records) g below < left_to_do known listed (widest local.records) f below
-  less_paid known listed f g p below next = omega (arith, waits_is_less f g p next)
+  pub less_compared : (known listed : ℕ) (f g : Frame) (p : Pair) (below : List Frame) → IsNext local target f (Waits p g) → left_to_do known listed (widest local.records) g below < left_to_do known listed (widest local.records) f below
+  less_compared known listed f g p below next = omega (arith, waits_is_less f g p next)
 
   pub less_started : (known listed : ℕ) (f g : Frame) (p : Pair) (below : List Frame) → IsNext local target f (Waits p g) → listed < known → left_to_do known (listed + 1) (widest local.records) (new_frame p) (g ∷ below) < left_to_do known listed (widest local.records) f below
   less_started known listed f g p below next lt =

@@ -9,16 +9,16 @@ use Rattle.btf_model.specs.Table.{Table}
 use Rattle.btf_model.specs.Walk.{walk_limit}
 use Rattle.btf_model.specs.Fields.{Pair, HaveKinds}
 use Rattle.std.specs.List.{filter}
-use Rattle.btf_model.specs.Compat.{Plain, Owes, Finds, ResolvesPair, pair_eq, firsts}
+use Rattle.btf_model.specs.Compat.{Plain, Pending, Finds, ResolvesPair, pair_eq, firsts}
 use Rattle.btf_model.proofs.Comparisons.{one_position}
-use Rattle.btf_model.proofs.RunLengths.{owed_at}
+use Rattle.btf_model.proofs.RunLengths.{pending_at}
 use Rattle.std.proofs.lemmas.Option.{same_Some, slice_get_cases}
 use Rattle.btf_model.proofs.Known.{Among, among_from_contains, HasIds, Covers, known_pairs, known_pairs_cover, known_pairs_among, Without, without}
 use Rattle.btf_model.proofs.PlainAnswers.{true_or_not}
 use Rattle.btf_model.specs.Run.{Begins}
 use Rattle.btf_model.proofs.Firsts.{firsts_new, firsts_of_known, firsts_begin}
 use Rattle.btf_model.specs.Run.{Frame, new_frame, Ends, GoesOn, Waits, IsNext}
-use Rattle.btf_model.proofs.Runs.{RestOf, WalkOf, walked_from_rest, ends_rest, goes_on_rest, fails_rest, pays_rest, rest_answers}
+use Rattle.btf_model.proofs.Runs.{RestOf, WalkOf, walked_from_rest, ends_rest, goes_on_rest, fails_rest, compares_rest, rest_answers}
 
 -- ---- lists of pairs
 
@@ -89,17 +89,17 @@ earlier_or_last zero (suc place) lt = inl (omega arith)
 earlier_or_last (suc index) zero lt = absurd (omega (arith, lt))
 earlier_or_last (suc index) (suc place) lt = elim (earlier_or_last index place (omega (arith, lt))) [ inl less ↦ inl (omega (arith, less)) | inr is ↦ inr (ap (λ (n : ℕ). suc n) is) ]
 
-there_within : (owed : List Pair) (index : ℕ) → index < length owed → (at : Pair) × (slice_get owed index ≡ Some at)
-there_within owed index lt = elim (slice_get_cases owed index).1 [ inl h ↦ (h.0, h.2) | inr past ↦ absurd (omega (arith, past.0, lt)) ]
+there_within : (pending : List Pair) (index : ℕ) → index < length pending → (at : Pair) × (slice_get pending index ≡ Some at)
+there_within pending index lt = elim (slice_get_cases pending index).1 [ inl h ↦ (h.0, h.2) | inr past ↦ absurd (omega (arith, past.0, lt)) ]
 
 module _ (local target : Table) where
   -- each pair before this place resolves to a pair for which P holds
   abbrev pub AllBefore : List Pair → ℕ → (Pair → Type 0) → Type 0
-  AllBefore owed place P = (index : ℕ) → index < place → (at : Pair) → slice_get owed index ≡ Some at → (p : Pair) × ResolvesPair local target at (Ok p) × P p
+  AllBefore pending place P = (index : ℕ) → index < place → (at : Pair) → slice_get pending index ≡ Some at → (p : Pair) × ResolvesPair local target at (Ok p) × P p
 
   -- the same for the parameters of an open pair's position that were compared
-  abbrev pub HavePaid : Frame → (Pair → Type 0) → Type 0
-  HavePaid f P = (owed : List Pair) (to : Pair) → Finds local target f.at (Owes owed to) → AllBefore owed f.parameter P
+  abbrev pub HaveCompared : Frame → (Pair → Type 0) → Type 0
+  HaveCompared f P = (pending : List Pair) (to : Pair) → Finds local target f.at (Pending pending to) → AllBefore pending f.parameter P
 
   -- the comparison of a pair that is started and walked
   walked_pair : (above : List Pair) (p : Pair) (b : Result Bool Refusal) (t : List Pair) → Begins local target p → (Among above p → ⊥) → WalkOf local target above p b t → Plain local target above p b (p ∷ t)
@@ -111,16 +111,16 @@ module _ (local target : Table) where
     pub record Walks (f : Frame) (went : List Pair) : Type 0 where
       pub begins : Begins local target f.pair
       pub starts : (q : Pair) → Among went q → Settled q
-      pub paid : HavePaid f Settled
+      pub compared : HaveCompared f Settled
       pub goes : (above : List Pair) → AvoidsAll Settled above → (b : Result Bool Refusal) (t : List Pair) → RestOf local target above f b t → WalkOf local target above f.pair b (went ++ t)
 
     -- The same for an open pair that waits for the answer of p, and then goes on.
     pub record Awaits (g : Frame) (p : Pair) (went : List Pair) : Type 0 where
       pub begins : Begins local target g.pair
       pub starts : (q : Pair) → Among went q → Settled q
-      pub paid : HavePaid g (λ q. Settled q ⊎ (p ≡ q))
+      pub compared : HaveCompared g (λ q. Settled q ⊎ (p ≡ q))
       pub fails : (above : List Pair) → AvoidsAll Settled above → (b : Result Bool Refusal) (t : List Pair) → Plain local target (g.pair ∷ above) p b t → b ≢ Ok true → WalkOf local target above g.pair b (went ++ t)
-      pub pays : (above : List Pair) → AvoidsAll Settled above → (first : List Pair) → Plain local target (g.pair ∷ above) p (Ok true) first → (b : Result Bool Refusal) (t : List Pair) → RestOf local target above g b t
+      pub compares_all : (above : List Pair) → AvoidsAll Settled above → (first : List Pair) → Plain local target (g.pair ∷ above) p (Ok true) first → (b : Result Bool Refusal) (t : List Pair) → RestOf local target above g b t
           → WalkOf local target above g.pair b (went ++ (first ++ t))
 
     -- Each settled pair is compatible under any open pairs that are not settled. It starts only settled pairs, and
@@ -139,7 +139,7 @@ module _ (local target : Table) where
     begun_walks p begins = record {
       begins = begins;
       starts = λ q m. elim m [ ];
-      paid = λ owed to finds index lt. absurd (omega (arith, lt));
+      compared = λ pending to finds index lt. absurd (omega (arith, lt));
       goes = λ above avoids b t h. walked_from_rest local target (p ∷ above) walk_limit p b t h;
     }
 
@@ -151,39 +151,39 @@ module _ (local target : Table) where
         (record {
           begins = walks.begins;
           starts = walks.starts;
-          paid = λ owed to finds index lt. absurd (omega (arith, lt));
+          compared = λ pending to finds index lt. absurd (omega (arith, lt));
           goes = λ above avoids b t h. walks.goes above avoids b t (goes_on_rest local target f on to above b t h);
         })
 
     -- the parameters that were compared, and the one that the frame waits for now
-    paid_or_next : (f : Frame) (p : Pair) (went : List Pair) → Walks f went → IsNext local target f (Waits p (record f { parameter = suc f.parameter })) → (owed : List Pair) (to : Pair) → Finds local target f.at (Owes owed to) → (index : ℕ) (at : Pair) → slice_get owed index ≡ Some at
+    compared_or_next : (f : Frame) (p : Pair) (went : List Pair) → Walks f went → IsNext local target f (Waits p (record f { parameter = suc f.parameter })) → (pending : List Pair) (to : Pair) → Finds local target f.at (Pending pending to) → (index : ℕ) (at : Pair) → slice_get pending index ≡ Some at
         → (index < f.parameter) ⊎ (f.parameter ≡ index) → (q : Pair) × ResolvesPair local target at (Ok q) × (Settled q ⊎ (p ≡ q))
-    paid_or_next f p went walks next owed to finds index at is (inl lt) = let was = walks.paid owed to finds index lt at is in (was.0, was.1, inl was.2)
-    paid_or_next f p went walks next owed to finds index at is (inr last) =
-        let owes = next.4 in
-        let same : next.1 ≡ owed = ap owed_at (one_position local target f.at (Owes next.1 next.2) (Owes owed to) owes.0 finds) in
-        let there : owes.1.0 ≡ at = same_Some owes.1.0 at (sym owes.1.1 ∙ ap (λ (x : List Pair). slice_get x f.parameter) same ∙ ap (slice_get owed) last ∙ is) in
-        (p, subst (λ (x : Pair). ResolvesPair local target x (Ok p)) there owes.1.2, inr refl)
+    compared_or_next f p went walks next pending to finds index at is (inl lt) = let was = walks.compared pending to finds index lt at is in (was.0, was.1, inl was.2)
+    compared_or_next f p went walks next pending to finds index at is (inr last) =
+        let is_pending = next.4 in
+        let same : next.1 ≡ pending = ap pending_at (one_position local target f.at (Pending next.1 next.2) (Pending pending to) is_pending.0 finds) in
+        let there : is_pending.1.0 ≡ at = same_Some is_pending.1.0 at (sym is_pending.1.1 ∙ ap (λ (x : List Pair). slice_get x f.parameter) same ∙ ap (slice_get pending) last ∙ is) in
+        (p, subst (λ (x : Pair). ResolvesPair local target x (Ok p)) there is_pending.1.2, inr refl)
 
     walks_into : (f : Frame) (p : Pair) (went : List Pair) → Walks f went → IsNext local target f (Waits p (record f { parameter = suc f.parameter })) → Awaits (record f { parameter = suc f.parameter }) p went
     walks_into f p went walks next = record {
       begins = walks.begins;
       starts = walks.starts;
-      paid = λ owed to finds index lt at is. paid_or_next f p went walks next owed to finds index at is (earlier_or_last index f.parameter lt);
+      compared = λ pending to finds index lt at is. compared_or_next f p went walks next pending to finds index at is (earlier_or_last index f.parameter lt);
       fails = λ above avoids b t plain not_true. walks.goes above avoids b t (fails_rest local target f (record f { parameter = suc f.parameter }) p next above b t plain not_true);
-      pays = λ above avoids first plain b t h. walks.goes above avoids b (first ++ t) (pays_rest local target f (record f { parameter = suc f.parameter }) p next above first plain b t h);
+      compares_all = λ above avoids first plain b t h. walks.goes above avoids b (first ++ t) (compares_rest local target f (record f { parameter = suc f.parameter }) p next above first plain b t h);
     }
 
     -- a pair goes on with its walk after it got the answer
-    paid_walks : (g : Frame) (p : Pair) (went first : List Pair) → Awaits g p went → ((q : Pair) → Among first q → Settled q) → ((above : List Pair) → AvoidsAll Settled above → Plain local target above p (Ok true) first) → (Settled g.pair → ⊥) → Settled p
+    compared_walks : (g : Frame) (p : Pair) (went first : List Pair) → Awaits g p went → ((q : Pair) → Among first q → Settled q) → ((above : List Pair) → AvoidsAll Settled above → Plain local target above p (Ok true) first) → (Settled g.pair → ⊥) → Settled p
         → Walks g (went ++ first)
-    paid_walks g p went first awaits starts plain not_settled settled = record {
+    compared_walks g p went first awaits starts plain not_settled settled = record {
       begins = awaits.begins;
       starts = λ q m. elim (among_append went first q m) [ inl h ↦ awaits.starts q h | inr h ↦ starts q h ];
-      paid = λ owed to finds index lt at is. let was = awaits.paid owed to finds index lt at is in (was.0, was.1, elim was.2 [ inl s ↦ s | inr same ↦ subst Settled same settled ]);
+      compared = λ pending to finds index lt at is. let was = awaits.compared pending to finds index lt at is in (was.0, was.1, elim was.2 [ inl s ↦ s | inr same ↦ subst Settled same settled ]);
       goes = λ above avoids b t h.
           subst (λ (x : List Pair). WalkOf local target above g.pair b x) (sym (append_assoc went first t))
-          (awaits.pays above avoids first (plain (g.pair ∷ above) (λ q. elim [ inl is ↦ (λ s. not_settled (subst Settled (sym is) s)) | inr m ↦ avoids q m ])) b t h);
+          (awaits.compares_all above avoids first (plain (g.pair ∷ above) (λ q. elim [ inl is ↦ (λ s. not_settled (subst Settled (sym is) s)) | inr m ↦ avoids q m ])) b t h);
     }
 
     -- ---- the whole invariant
@@ -224,9 +224,9 @@ module _ (local target : Table) where
           counts = run.counts;
         })
 
-    -- a parameter whose pair is already settled is paid immediately
-    pub run_paid : (root : Pair) (f g : Frame) (p : Pair) (below : List Frame) (listed : List Pair) → Run root f below listed → IsNext local target f (Waits p g) → Settled p → Run root g below listed
-    run_paid root f g p below listed run next settled =
+    -- a parameter whose pair is already settled is compared immediately
+    pub run_compared : (root : Pair) (f g : Frame) (p : Pair) (below : List Frame) (listed : List Pair) → Run root f below listed → IsNext local target f (Waits p g) → Settled p → Run root g below listed
+    run_compared root f g p below listed run next settled =
         let on : Frame = record f { parameter = suc f.parameter } in
         let to : IsNext local target f (Waits p on) = (next.0, next.1, next.2, next.3, next.4, refl) in
         let known = run.closed p settled in
@@ -237,7 +237,7 @@ module _ (local target : Table) where
           before = run.before;
           went = run.went ++ known.0;
           stack = run.stack;
-          walks = paid_walks on p run.went known.0 (walks_into f p run.went run.walks to) known.1 known.2 (run.avoids f.pair (inl refl)) settled;
+          walks = compared_walks on p run.went known.0 (walks_into f p run.went run.walks to) known.1 known.2 (run.avoids f.pair (inl refl)) settled;
           lists = ap firsts same ∙ firsts_of_known listed_so_far known.0 (λ q m. run.seen q (known.1 q m)) ∙ run.lists;
           closed = run.closed;
           avoids = run.avoids;
@@ -249,16 +249,16 @@ module _ (local target : Table) where
           counts = run.counts;
         })
 
-    -- If each parameter from here on resolves to a settled pair, all are paid, and the walk goes on.
-    pub run_passes : (root : Pair) (many : ℕ) (f : Frame) (n : ℕ) (owed : List Pair) (to : Pair) (below : List Frame) (listed : List Pair) → Run root f below listed → f.left ≡ suc n → Finds local target f.at (Owes owed to) → AllBefore owed (length owed) Settled → f.parameter + many ≡ length owed
+    -- If each parameter from here on resolves to a settled pair, all are compared, and the walk goes on.
+    pub run_passes : (root : Pair) (many : ℕ) (f : Frame) (n : ℕ) (pending : List Pair) (to : Pair) (below : List Frame) (listed : List Pair) → Run root f below listed → f.left ≡ suc n → Finds local target f.at (Pending pending to) → AllBefore pending (length pending) Settled → f.parameter + many ≡ length pending
         → Run root (record { pair = f.pair; at = to; left = n; parameter = zero }) below listed
-    run_passes root zero f n owed to below listed run left finds settled is = run_on root f (record { pair = f.pair; at = to; left = n; parameter = zero }) below listed run (n, to, left, refl, inr (owed, finds, omega (arith, is)))
-    run_passes root (suc many) f n owed to below listed run left finds settled is =
-        let lt : f.parameter < length owed = omega (arith, is) in
-        let there = there_within owed f.parameter lt in
-        let pays = settled f.parameter lt there.0 there.1 in
+    run_passes root zero f n pending to below listed run left finds settled is = run_on root f (record { pair = f.pair; at = to; left = n; parameter = zero }) below listed run (n, to, left, refl, inr (pending, finds, omega (arith, is)))
+    run_passes root (suc many) f n pending to below listed run left finds settled is =
+        let lt : f.parameter < length pending = omega (arith, is) in
+        let there = there_within pending f.parameter lt in
+        let compares_all = settled f.parameter lt there.0 there.1 in
         let on : Frame = record f { parameter = suc f.parameter } in
-        run_passes root many on n owed to below listed (run_paid root f on pays.0 below listed run (n, owed, to, left, (finds, (there.0, there.1, pays.1)), refl) pays.2) left finds settled (omega (arith, is))
+        run_passes root many on n pending to below listed (run_compared root f on compares_all.0 below listed run (n, pending, to, left, (finds, (there.0, there.1, compares_all.1)), refl) compares_all.2) left finds settled (omega (arith, is))
 
     ids_of : (p : Pair) → Begins local target p → HasIds local target p
     ids_of p begins = (begins.2.0, begins.2.1, begins.2.2.0, begins.2.3.0)
@@ -329,7 +329,7 @@ module _ (local target : Table) where
         elim (true_or_not b) [
           | inl is ↦
               let whole = whole_has_answer ls ts root below g.pair stack.0 more.0 (g.pair ∷ (stack.1 ++ (t ++ more.1))) stack.3 avoids_below apart.1
-              (walked_pair (open_pairs below) g.pair more.0 (stack.1 ++ (t ++ more.1)) awaits.begins apart.0 (awaits.pays (open_pairs below) avoids_below t (subst (λ (x : Result Bool Refusal). Plain local target (g.pair ∷ open_pairs below) p x t) is plain) more.0 more.1 more.2)) in
+              (walked_pair (open_pairs below) g.pair more.0 (stack.1 ++ (t ++ more.1)) awaits.begins apart.0 (awaits.compares_all (open_pairs below) avoids_below t (subst (λ (x : Result Bool Refusal). Plain local target (g.pair ∷ open_pairs below) p x t) is plain) more.0 more.1 more.2)) in
               (whole.0, more.1 ++ whole.1, subst (λ (x : List Pair). Plain local target [] root whole.0 x) (lists_on stack.0 stack.1 before t more.1 whole.1 g.pair stack.2) whole.2)
           | inr not_true ↦
               let whole = whole_has_answer ls ts root below g.pair stack.0 b (g.pair ∷ (stack.1 ++ t)) stack.3 avoids_below apart.1 (walked_pair (open_pairs below) g.pair b (stack.1 ++ t) awaits.begins apart.0 (awaits.fails (open_pairs below) avoids_below b t plain not_true)) in
@@ -425,9 +425,9 @@ module _ (local target : Table) where
     awaits_more g p went awaits = record {
       begins = awaits.begins;
       starts = λ q m. more q (awaits.starts q m);
-      paid = λ owed to finds index lt at is. let was = awaits.paid owed to finds index lt at is in (was.0, was.1, elim was.2 [ inl s ↦ inl (more was.0 s) | inr same ↦ inr same ]);
+      compared = λ pending to finds index lt at is. let was = awaits.compared pending to finds index lt at is in (was.0, was.1, elim was.2 [ inl s ↦ inl (more was.0 s) | inr same ↦ inr same ]);
       fails = λ above avoids. awaits.fails above (avoids_less above avoids);
-      pays = λ above avoids. awaits.pays above (avoids_less above avoids);
+      compares_all = λ above avoids. awaits.compares_all above (avoids_less above avoids);
     }
 
     stack_more : (root : Pair) (below : List Frame) (p : Pair) (before : List Pair) → IsStack Settled root below p before → IsStack More root below p before
@@ -463,7 +463,7 @@ module _ (local target : Table) where
           before = early;
           went = went ++ (f.pair ∷ run.went);
           stack = stack_more root below g.pair early run.stack.3;
-          walks = paid_walks More g f.pair went (f.pair ∷ run.went) (awaits_more g f.pair went run.stack.4) (its_starts root f (g ∷ below) listed run next settled either) (is_plain root f (g ∷ below) listed run next settled either) (avoids g.pair (inl refl)) settled;
+          walks = compared_walks More g f.pair went (f.pair ∷ run.went) (awaits_more g f.pair went run.stack.4) (its_starts root f (g ∷ below) listed run next settled either) (is_plain root f (g ∷ below) listed run next settled either) (avoids g.pair (inl refl)) settled;
           lists = ap firsts same ∙ run.lists;
           closed = now_closed root f (g ∷ below) listed run next settled either;
           avoids = avoids;

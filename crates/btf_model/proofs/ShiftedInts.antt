@@ -7,8 +7,8 @@ use Rattle.btf_model.specs.Spelling.{IsWhole}
 use Rattle.btf_model.specs.Table.{Table}
 use Rattle.btf_model.specs.Walk.{Ends}
 use Rattle.btf_model.specs.Fields.{Fields, FieldsFind, BothComposite, int_offset}
-use Rattle.btf_model.specs.Compat.{Plain, Told, Finds}
-use Rattle.btf_model.specs.Compat.Walked.{told}
+use Rattle.btf_model.specs.Compat.{Plain, Decided, Finds}
+use Rattle.btf_model.specs.Compat.Walked.{decided}
 use Rattle.btf_model.specs.CompatExamples.{table_of}
 use Rattle.btf_model.specs.Laws.{IsShifted, with_itself}
 use Rattle.btf_model.specs.Blob.{IsValid}
@@ -36,7 +36,7 @@ fields_shifted t id (r, is, moved) =
 pub types_shifted : (t : Table) (id : ℕ) → IsShifted t id → Plain t t [] (with_itself id) (Ok false) (with_itself id ∷ [])
 types_shifted t id (r, is, moved) =
     alone t id Int r (Ok false) [] is
-    (told _ 31 (with_itself id) (Ok false) (subst (λ (b : Bool). Finds t t (with_itself id) (Told (Ok b))) (not_at_zero r moved) (on_itself t id Int r is refl)))
+    (decided _ 31 (with_itself id) (Ok false) (subst (λ (b : Bool). Finds t t (with_itself id) (Decided (Ok b))) (not_at_zero r moved) (on_itself t id Int r is refl)))
 
 -- INT 1 of 16 bits, from bit 8 on
 abbrev shifted : Record

@@ -3,10 +3,10 @@
 -- profile: the comparison refuses a pair that it meets again while the pair is open, and a walk has at most 32
 -- positions.
 -- The words of this module: a pair of ids is *started* when its kinds are looked up and compared; it is then *walked*
--- from position to position (pointees, element types, return types), and is *open* until its walk ends. `Told` means
--- that a position decides the answer; `On` means that the walk goes on to another position; `Owes` means that pairs of
--- parameters are pending, and must be compared before the walk goes on to the return types. `Paid` compares the pending
--- pairs in order.
+-- from position to position (pointees, element types, return types), and is *open* until its walk ends. `Decided` means
+-- that a position decides the answer; `On` means that the walk goes on to another position; `Pending` means that pairs
+-- of parameters are pending, and must be compared before the walk goes on to the return types. `ComparedInOrder`
+-- compares the pending pairs in order.
 use Rattle.std.specs.Prelude.{◌≡◌, ◌≢◌, ◌⊎◌, ℕ, zero, suc, ◌==◌, ◌&&◌, not, Bool, true, false, if◌then◌else◌, List, [], ◌∷◌, ◌++◌, length, slice_get, Some, None, Result, Ok, Err, Contains}
 use Rattle.std.specs.List.{filter}
 use Rattle.btf_model.specs.Record.{Kind, Unknown, Int, Ptr, Array, Struct, Union, Enum, Fwd, FuncProto, Float, Enum64, Record, compared_kind}
@@ -20,9 +20,9 @@ use Rattle.btf_model.specs.Fields.{Pair, int_offset, element_type, IsAt}
 -- What is found at a position: an answer, the next position, or the pairs of parameters of two prototypes, which must
 -- be compatible first, with the position after them.
 pub data Position : Type 0 where
-  Told : Result Bool Refusal → Position
+  Decided : Result Bool Refusal → Position
   On : Pair → Position
-  Owes : List Pair → Pair → Position
+  Pending : List Pair → Pair → Position
 
 -- the types of a prototype's parameters, by its words: a name and a type for each parameter
 abbrev pub parameter_types : List ℕ → List ℕ
@@ -38,28 +38,28 @@ pairs ids others = []
 abbrev pub prototypes : Record → Record → Position
 prototypes r s =
     if length (parameter_types r.tail) == length (parameter_types s.tail)
-    then Owes (pairs (parameter_types r.tail) (parameter_types s.tail))
-    (record { local = r.third; target = s.third }) else Told (Ok false)
+    then Pending (pairs (parameter_types r.tail) (parameter_types s.tail))
+    (record { local = r.third; target = s.third }) else Decided (Ok false)
 
 -- What is found at two types of compatible kinds, by the kind of the local type, which has this id.
 abbrev pub position_by : ℕ → Kind → Record → Record → Position
-position_by id Unknown r s = Told (Ok true)
-position_by id Struct r s = Told (Ok true)
-position_by id Union r s = Told (Ok true)
-position_by id Enum r s = Told (Ok true)
-position_by id Enum64 r s = Told (Ok true)
-position_by id Fwd r s = Told (Ok true)
-position_by id Float r s = Told (Ok true)
-position_by id Int r s = Told (Ok (int_offset r == 0 && int_offset s == 0))
+position_by id Unknown r s = Decided (Ok true)
+position_by id Struct r s = Decided (Ok true)
+position_by id Union r s = Decided (Ok true)
+position_by id Enum r s = Decided (Ok true)
+position_by id Enum64 r s = Decided (Ok true)
+position_by id Fwd r s = Decided (Ok true)
+position_by id Float r s = Decided (Ok true)
+position_by id Int r s = Decided (Ok (int_offset r == 0 && int_offset s == 0))
 position_by id Ptr r s = On (record { local = r.third; target = s.third })
 position_by id Array r s = On (record { local = element_type r; target = element_type s })
 position_by id FuncProto r s = prototypes r s
-position_by id k r s = Told (Err (UnexpectedBtfType id))
+position_by id k r s = Decided (Err (UnexpectedBtfType id))
 
 -- what is found at two types of any kinds: types of different kinds are incompatible, except ENUM with ENUM64
 abbrev pub PositionFound : ℕ → Kind → Kind → Record → Record → Position → Type 0
 PositionFound id k q r s found =
-    ((compared_kind k ≢ compared_kind q) × (found ≡ Told (Ok false)))
+    ((compared_kind k ≢ compared_kind q) × (found ≡ Decided (Ok false)))
     ⊎ ((compared_kind k ≡ compared_kind q) × (found ≡ position_by id k r s))
 
 -- Two ids resolve to a pair, or to a refusal; the local id is resolved first.
@@ -73,7 +73,7 @@ ResolvesPair local target at (Err refusal) =
 -- What is found at two ids: both are resolved first.
 abbrev pub Finds : Table → Table → Pair → Position → Type 0
 Finds local target at found =
-    ((refusal : Refusal) × ResolvesPair local target at (Err refusal) × (found ≡ Told (Err refusal)))
+    ((refusal : Refusal) × ResolvesPair local target at (Err refusal) × (found ≡ Decided (Err refusal)))
     ⊎ ((p : Pair) × (k q : Kind) × (r s : Record) × ResolvesPair local target at (Ok p) × IsAt local p.local k r
     × IsAt target p.target q s × PositionFound p.local k q r s found)
 
@@ -88,7 +88,8 @@ AreKnown local target p k q = (r s : Record) × IsAt local p.local k r × IsAt t
 mutual
   pub data Plain (local target : Table) : List Pair → Pair → Result Bool Refusal → List Pair → Type 0 where
     -- an open pair is refused
-    again : (above : List Pair) (p : Pair) → Contains above p → Plain local target above p (Err (MaximumTypeDepthReached p.local)) []
+    again : (above : List Pair) (p : Pair) → Contains above p
+        → Plain local target above p (Err (MaximumTypeDepthReached p.local)) []
     -- both ids are looked up; the local id is first
     no_local : (above : List Pair) (p : Pair) → ¬ (Contains above p) → slice_get local.records p.local ≡ None
         → Plain local target above p (Err (UnknownBtfType p.local)) []
@@ -107,33 +108,37 @@ mutual
   pub data Walked (local target : Table) : List Pair → ℕ → Pair → Result Bool Refusal → List Pair → Type 0 where
     too_deep : (above : List Pair) (at : Pair)
         → Walked local target above zero at (Err (MaximumTypeDepthReached at.local)) []
-    told : (above : List Pair) (n : ℕ) (at : Pair) (answer : Result Bool Refusal) → Finds local target at (Told answer)
-        → Walked local target above (suc n) at answer []
+    decided : (above : List Pair) (n : ℕ) (at : Pair) (answer : Result Bool Refusal)
+        → Finds local target at (Decided answer) → Walked local target above (suc n) at answer []
     on : (above : List Pair) (n : ℕ) (at next : Pair) (answer : Result Bool Refusal) (starts : List Pair)
         → Finds local target at (On next) → Walked local target above n next answer starts
         → Walked local target above (suc n) at answer starts
     -- all parameters are compatible, and the walk goes on to the return types
-    paid : (above : List Pair) (n : ℕ) (at next : Pair) (owed : List Pair) (answer : Result Bool Refusal)
-        (first behind : List Pair) → Finds local target at (Owes owed next)
-        → Paid local target above owed (Ok true) first
+    compared : (above : List Pair) (n : ℕ) (at next : Pair) (pending : List Pair) (answer : Result Bool Refusal)
+        (first behind : List Pair) → Finds local target at (Pending pending next)
+        → ComparedInOrder local target above pending (Ok true) first
         → Walked local target above n next answer behind → Walked local target above (suc n) at answer (first ++ behind)
     -- a parameter is incompatible or refused, and its answer is the answer of the walk
-    unpaid : (above : List Pair) (n : ℕ) (at next : Pair) (owed : List Pair) (answer : Result Bool Refusal)
-        (starts : List Pair) → Finds local target at (Owes owed next) → Paid local target above owed answer starts
+    not_compatible : (above : List Pair) (n : ℕ) (at next : Pair) (pending : List Pair) (answer : Result Bool Refusal)
+        (starts : List Pair) → Finds local target at (Pending pending next)
+        → ComparedInOrder local target above pending answer starts
         → answer ≢ Ok true → Walked local target above (suc n) at answer starts
 
   -- The pending pairs of parameters in order: the result is true, or the first answer that is not true. Each pair is
   -- resolved just before it is compared.
-  pub data Paid (local target : Table) : List Pair → List Pair → Result Bool Refusal → List Pair → Type 0 where
-    all : (above : List Pair) → Paid local target above [] (Ok true) []
-    unresolved : (above : List Pair) (at : Pair) (owed : List Pair) (refusal : Refusal)
-        → ResolvesPair local target at (Err refusal) → Paid local target above (at ∷ owed) (Err refusal) []
-    other : (above : List Pair) (at p : Pair) (owed : List Pair) (answer : Result Bool Refusal) (starts : List Pair)
+  pub data ComparedInOrder (local target : Table)
+      : List Pair → List Pair → Result Bool Refusal → List Pair → Type 0 where
+    all : (above : List Pair) → ComparedInOrder local target above [] (Ok true) []
+    unresolved : (above : List Pair) (at : Pair) (pending : List Pair) (refusal : Refusal)
+        → ResolvesPair local target at (Err refusal)
+        → ComparedInOrder local target above (at ∷ pending) (Err refusal) []
+    other : (above : List Pair) (at p : Pair) (pending : List Pair) (answer : Result Bool Refusal) (starts : List Pair)
         → ResolvesPair local target at (Ok p) → Plain local target above p answer starts → answer ≢ Ok true
-        → Paid local target above (at ∷ owed) answer starts
-    next : (above : List Pair) (at p : Pair) (owed : List Pair) (answer : Result Bool Refusal)
+        → ComparedInOrder local target above (at ∷ pending) answer starts
+    next : (above : List Pair) (at p : Pair) (pending : List Pair) (answer : Result Bool Refusal)
         (first behind : List Pair) → ResolvesPair local target at (Ok p) → Plain local target above p (Ok true) first
-        → Paid local target above owed answer behind → Paid local target above (at ∷ owed) answer (first ++ behind)
+        → ComparedInOrder local target above pending answer behind
+        → ComparedInOrder local target above (at ∷ pending) answer (first ++ behind)
 
 -- ---- what is listed
 

@@ -12,8 +12,8 @@ use Rattle.btf_model.specs.Walk.{Ends, Resolves, unmodified_in}
 use Rattle.btf_model.specs.Fields.{Pair}
 use Rattle.btf_model.specs.Compat.{Plain}
 use Rattle.btf_model.specs.Compat.Plain.{again, kinds_differ, walked}
-use Rattle.btf_model.specs.Compat.Walked.{on, unpaid}
-use Rattle.btf_model.specs.Compat.Paid.{unresolved, other}
+use Rattle.btf_model.specs.Compat.Walked.{on, not_compatible}
+use Rattle.btf_model.specs.Compat.ComparedInOrder.{unresolved, other}
 
 -- a table of these records from id 1 on
 abbrev pub table_of : List Record → Table
@@ -58,7 +58,7 @@ without_parameter = table_of (record { name = 0; info = 0x0d000001; third = 0; t
 parameter_is_unknown : Plain without_parameter without_parameter [] (pair 1 1) (Err (UnknownBtfType 9)) (pair 1 1 ∷ [])
 parameter_is_unknown =
     walked [] (pair 1 1) FuncProto FuncProto (Err (UnknownBtfType 9)) [] (none_open (pair 1 1)) (_, _, (refl, refl), (refl, refl)) refl
-    (unpaid (pair 1 1 ∷ []) 31 (pair 1 1) (pair 0 0) (pair 9 9 ∷ []) (Err (UnknownBtfType 9)) []
+    (not_compatible (pair 1 1 ∷ []) 31 (pair 1 1) (pair 0 0) (pair 9 9 ∷ []) (Err (UnknownBtfType 9)) []
     (inr (pair 1 1, FuncProto, FuncProto, _, _, (itself without_parameter 1 refl, itself without_parameter 1 refl), (refl, refl), (refl, refl), inr (refl, refl)))
     (unresolved (pair 1 1 ∷ []) (pair 9 9) [] (UnknownBtfType 9) (inl (no_record without_parameter 9 refl)))
     (refused_is_not_true (UnknownBtfType 9)))
@@ -73,7 +73,7 @@ open_pair_is_refused =
     walked [] (pair 1 1) Ptr Ptr (Err (MaximumTypeDepthReached 1)) [] (none_open (pair 1 1)) (_, _, (refl, refl), (refl, refl)) refl
     (on (pair 1 1 ∷ []) 31 (pair 1 1) (pair 2 2) (Err (MaximumTypeDepthReached 1)) []
     (inr (pair 1 1, Ptr, Ptr, _, _, (itself cyclic 1 refl, itself cyclic 1 refl), (refl, refl), (refl, refl), inr (refl, refl)))
-    (unpaid (pair 1 1 ∷ []) 30 (pair 2 2) (pair 0 0) (pair 1 1 ∷ []) (Err (MaximumTypeDepthReached 1)) []
+    (not_compatible (pair 1 1 ∷ []) 30 (pair 2 2) (pair 0 0) (pair 1 1 ∷ []) (Err (MaximumTypeDepthReached 1)) []
     (inr (pair 2 2, FuncProto, FuncProto, _, _, (itself cyclic 2 refl, itself cyclic 2 refl), (refl, refl), (refl, refl), inr (refl, refl)))
     (other (pair 1 1 ∷ []) (pair 1 1) (pair 1 1) [] (Err (MaximumTypeDepthReached 1)) [] (itself cyclic 1 refl, itself cyclic 1 refl)
     (again (pair 1 1 ∷ []) (pair 1 1) (0, omega arith, refl))

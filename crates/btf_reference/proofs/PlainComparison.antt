@@ -11,7 +11,7 @@ use Rattle.btf_model.specs.Table.{Table}
 use Rattle.btf_model.specs.Walk.{walk_limit}
 use Rattle.btf_model.specs.Fields.{Pair, IsAt}
 use Rattle.btf_model.specs.Compat as model
-use Rattle.btf_model.specs.Compat.{Told, On, Owes, Finds, PositionFound, parameter_types, pairs, prototypes, ResolvesPair, Plain, Walked, Paid, AreKnown, pair_eq}
+use Rattle.btf_model.specs.Compat.{Decided, On, Pending, Finds, PositionFound, parameter_types, pairs, prototypes, ResolvesPair, Plain, Walked, ComparedInOrder, AreKnown, pair_eq}
 use Rattle.btf_model.proofs.Known.{Among, among_from_contains, contains_from_among}
 use Rattle.btf_model.proofs.Firsts.{eq_itself, eq_same}
 use Rattle.btf_words.specs.Error.{Meets, refusal_of}
@@ -26,12 +26,12 @@ use Rattle.btf_reference.specs.PlainComparison.{PositionIs, AreStarted, Lists}
 
 -- ---- the position after modifiers
 
-told_more : (answer : Result Bool BtfError) (P Q : model.Position → Type 0) → ((x : model.Position) → P x → Q x) → Meets (λ b. b) answer (λ a. P (Told a)) → Meets (λ b. b) answer (λ a. Q (Told a))
-told_more (Ok b) P Q more h = more (Told (Ok b)) h
-told_more (Err e) P Q more h = (h.0, h.1, more (Told (Err h.0)) h.2)
+decided_more : (answer : Result Bool BtfError) (P Q : model.Position → Type 0) → ((x : model.Position) → P x → Q x) → Meets (λ b. b) answer (λ a. P (Decided a)) → Meets (λ b. b) answer (λ a. Q (Decided a))
+decided_more (Ok b) P Q more h = more (Decided (Ok b)) h
+decided_more (Err e) P Q more h = (h.0, h.1, more (Decided (Err h.0)) h.2)
 
 position_more : (x : Position) (P Q : model.Position → Type 0) → ((y : model.Position) → P y → Q y) → PositionIs x P → PositionIs x Q
-position_more (positions.Decided answer) P Q more h = told_more answer P Q more h
+position_more (positions.Decided answer) P Q more h = decided_more answer P Q more h
 position_more (positions.On next) P Q more h = more _ h
 position_more (positions.Prototypes params others next) P Q more h = more _ h
 
@@ -42,9 +42,9 @@ found_at_ends local target at found other x h g is =
 
 -- ---- errors that are propagated
 
-pub told_err : {X Y : Type 0} (view : X → Y) (P : Result Y Refusal → Type 0) (r : Result X BtfError) (e : BtfError) (f : Refusal) → IsErrAnd r (λ y. y ≡ e) → refusal_of e ≡ Some f → P (Err f) → Meets view r P
-told_err view P (Ok x) e f is told h = absurd is
-told_err view P (Err y) e f is told h = (f, ap refusal_of is ∙ told, h)
+pub decided_err : {X Y : Type 0} (view : X → Y) (P : Result Y Refusal → Type 0) (r : Result X BtfError) (e : BtfError) (f : Refusal) → IsErrAnd r (λ y. y ≡ e) → refusal_of e ≡ Some f → P (Err f) → Meets view r P
+decided_err view P (Ok x) e f is decided h = absurd is
+decided_err view P (Err y) e f is decided h = (f, ap refusal_of is ∙ decided, h)
 
 -- ---- open pairs
 
@@ -124,70 +124,70 @@ module _ (local target : Table) where
       lists_none (Walked local target above n (pair_of ids)) (Err (errors.MaximumTypeDepthReached ids.0)) old
       (MaximumTypeDepthReached ids.0, refl, subst (λ (m : ℕ). Walked local target above m (pair_of ids) (Err (MaximumTypeDepthReached ids.0)) []) (sym is) (Walked.too_deep above (pair_of ids)))
 
-  told_walk : (above : List Pair) (n m : ℕ) (at : Pair) (r : Result Bool BtfError) → m ≡ suc n → Meets (λ b. b) r (λ a. Finds local target at (Told a)) → Meets (λ b. b) r (λ a. Walked local target above m at a [])
-  told_walk above n m at (Ok b) is h = subst (λ (k : ℕ). Walked local target above k at (Ok b) []) (sym is) (Walked.told above n at (Ok b) h)
-  told_walk above n m at (Err e) is h = (h.0, h.1, subst (λ (k : ℕ). Walked local target above k at (Err h.0) []) (sym is) (Walked.told above n at (Err h.0) h.2))
+  decided_walk : (above : List Pair) (n m : ℕ) (at : Pair) (r : Result Bool BtfError) → m ≡ suc n → Meets (λ b. b) r (λ a. Finds local target at (Decided a)) → Meets (λ b. b) r (λ a. Walked local target above m at a [])
+  decided_walk above n m at (Ok b) is h = subst (λ (k : ℕ). Walked local target above k at (Ok b) []) (sym is) (Walked.decided above n at (Ok b) h)
+  decided_walk above n m at (Err e) is h = (h.0, h.1, subst (λ (k : ℕ). Walked local target above k at (Err h.0) []) (sym is) (Walked.decided above n at (Err h.0) h.2))
 
-  pub told_lists : (above : List Pair) (n m : ℕ) (at : Pair) (r : Result Bool BtfError) (old : List (ℕ × ℕ)) → m ≡ suc n → Meets (λ b. b) r (λ a. Finds local target at (Told a)) → Lists (Walked local target above m at) r old old
-  told_lists above n m at r old is h = lists_none (Walked local target above m at) r old (told_walk above n m at r is h)
+  pub decided_lists : (above : List Pair) (n m : ℕ) (at : Pair) (r : Result Bool BtfError) (old : List (ℕ × ℕ)) → m ≡ suc n → Meets (λ b. b) r (λ a. Finds local target at (Decided a)) → Lists (Walked local target above m at) r old old
+  decided_lists above n m at r old is h = lists_none (Walked local target above m at) r old (decided_walk above n m at r is h)
 
   pub on_lists : (above : List Pair) (n m : ℕ) (at next : Pair) (r : Result Bool BtfError) (old new : List (ℕ × ℕ)) → m ≡ suc n → Finds local target at (On next) → Lists (Walked local target above n next) r old new → Lists (Walked local target above m at) r old new
   on_lists above n m at next r old new is h walk =
       lists_more (Walked local target above n next) (Walked local target above m at) r old new (λ a t w. subst (λ (k : ℕ). Walked local target above k at a t) (sym is) (Walked.on above n at next a t h w)) walk
 
-  pub paid_walk_lists : (above owed : List Pair) (n m : ℕ) (at next : Pair) (r : Result Bool BtfError) (old mid new : List (ℕ × ℕ)) → m ≡ suc n → Finds local target at (Owes owed next) → Lists (Paid local target above owed) (Ok true) old mid
+  pub compared_walk_lists : (above pending : List Pair) (n m : ℕ) (at next : Pair) (r : Result Bool BtfError) (old mid new : List (ℕ × ℕ)) → m ≡ suc n → Finds local target at (Pending pending next) → Lists (ComparedInOrder local target above pending) (Ok true) old mid
       → Lists (Walked local target above n next) r mid new → Lists (Walked local target above m at) r old new
-  paid_walk_lists above owed n m at next r old mid new is h paid walk =
-      lists_behind (Walked local target above n next) (Walked local target above m at) r paid.0 old mid new
-      (λ a t w. subst (λ (k : ℕ). Walked local target above k at a (paid.0 ++ t)) (sym is) (Walked.paid above n at next owed a paid.0 t h paid.1 w))
-      paid.2 walk
+  compared_walk_lists above pending n m at next r old mid new is h compared walk =
+      lists_behind (Walked local target above n next) (Walked local target above m at) r compared.0 old mid new
+      (λ a t w. subst (λ (k : ℕ). Walked local target above k at a (compared.0 ++ t)) (sym is) (Walked.compared above n at next pending a compared.0 t h compared.1 w))
+      compared.2 walk
 
-  pub unpaid_walk_lists : (above owed : List Pair) (n m : ℕ) (at next : Pair) (r : Result Bool BtfError) (old new : List (ℕ × ℕ)) → m ≡ suc n → Finds local target at (Owes owed next) → (r ≡ Ok true → ⊥) → Lists (Paid local target above owed) r old new
+  pub not_compatible_walk_lists : (above pending : List Pair) (n m : ℕ) (at next : Pair) (r : Result Bool BtfError) (old new : List (ℕ × ℕ)) → m ≡ suc n → Finds local target at (Pending pending next) → (r ≡ Ok true → ⊥) → Lists (ComparedInOrder local target above pending) r old new
       → Lists (Walked local target above m at) r old new
-  unpaid_walk_lists above owed n m at next r old new is h never paid =
-      lists_other (Paid local target above owed) (Walked local target above m at) r old new never
-      (λ a t p other. subst (λ (k : ℕ). Walked local target above k at a t) (sym is) (Walked.unpaid above n at next owed a t h p other))
-      paid
+  not_compatible_walk_lists above pending n m at next r old new is h never compared =
+      lists_other (ComparedInOrder local target above pending) (Walked local target above m at) r old new never
+      (λ a t p other. subst (λ (k : ℕ). Walked local target above k at a t) (sym is) (Walked.not_compatible above n at next pending a t h p other))
+      compared
 
   -- ---- parameters
 
-  pub all_paid_lists : (above owed : List Pair) (old : List (ℕ × ℕ)) → owed ≡ [] → Lists (Paid local target above owed) (Ok true) old old
-  all_paid_lists above owed old is = lists_none (Paid local target above owed) (Ok true) old (subst (λ (o : List Pair). Paid local target above o (Ok true) []) (sym is) (Paid.all above))
+  pub all_compared_lists : (above pending : List Pair) (old : List (ℕ × ℕ)) → pending ≡ [] → Lists (ComparedInOrder local target above pending) (Ok true) old old
+  all_compared_lists above pending old is = lists_none (ComparedInOrder local target above pending) (Ok true) old (subst (λ (o : List Pair). ComparedInOrder local target above o (Ok true) []) (sym is) (ComparedInOrder.all above))
 
-  pub unresolved_lists : (above owed rest : List Pair) (at : Pair) (e : BtfError) (old : List (ℕ × ℕ)) → owed ≡ at ∷ rest → Meets pair_of (Err e) (ResolvesPair local target at) → Lists (Paid local target above owed) (Err e) old old
-  unresolved_lists above owed rest at e old is h =
-      lists_none (Paid local target above owed) (Err e) old (h.0, h.1, subst (λ (o : List Pair). Paid local target above o (Err h.0) []) (sym is) (Paid.unresolved above at rest h.0 h.2))
+  pub unresolved_lists : (above pending rest : List Pair) (at : Pair) (e : BtfError) (old : List (ℕ × ℕ)) → pending ≡ at ∷ rest → Meets pair_of (Err e) (ResolvesPair local target at) → Lists (ComparedInOrder local target above pending) (Err e) old old
+  unresolved_lists above pending rest at e old is h =
+      lists_none (ComparedInOrder local target above pending) (Err e) old (h.0, h.1, subst (λ (o : List Pair). ComparedInOrder local target above o (Err h.0) []) (sym is) (ComparedInOrder.unresolved above at rest h.0 h.2))
 
-  pub next_lists : (above owed rest : List Pair) (at p : Pair) (r : Result Bool BtfError) (old mid new : List (ℕ × ℕ)) → owed ≡ at ∷ rest → ResolvesPair local target at (Ok p) → Lists (Plain local target above p) (Ok true) old mid
-      → Lists (Paid local target above rest) r mid new → Lists (Paid local target above owed) r old new
-  next_lists above owed rest at p r old mid new is h plain behind =
-      lists_behind (Paid local target above rest) (Paid local target above owed) r plain.0 old mid new
-      (λ a t q. subst (λ (o : List Pair). Paid local target above o a (plain.0 ++ t)) (sym is) (Paid.next above at p rest a plain.0 t h plain.1 q))
+  pub next_lists : (above pending rest : List Pair) (at p : Pair) (r : Result Bool BtfError) (old mid new : List (ℕ × ℕ)) → pending ≡ at ∷ rest → ResolvesPair local target at (Ok p) → Lists (Plain local target above p) (Ok true) old mid
+      → Lists (ComparedInOrder local target above rest) r mid new → Lists (ComparedInOrder local target above pending) r old new
+  next_lists above pending rest at p r old mid new is h plain behind =
+      lists_behind (ComparedInOrder local target above rest) (ComparedInOrder local target above pending) r plain.0 old mid new
+      (λ a t q. subst (λ (o : List Pair). ComparedInOrder local target above o a (plain.0 ++ t)) (sym is) (ComparedInOrder.next above at p rest a plain.0 t h plain.1 q))
       plain.2 behind
 
-  pub other_lists : (above owed rest : List Pair) (at p : Pair) (r : Result Bool BtfError) (old new : List (ℕ × ℕ)) → owed ≡ at ∷ rest → ResolvesPair local target at (Ok p) → (r ≡ Ok true → ⊥) → Lists (Plain local target above p) r old new
-      → Lists (Paid local target above owed) r old new
-  other_lists above owed rest at p r old new is h never plain =
-      lists_other (Plain local target above p) (Paid local target above owed) r old new never
-      (λ a t q other. subst (λ (o : List Pair). Paid local target above o a t) (sym is) (Paid.other above at p rest a t h q other))
+  pub other_lists : (above pending rest : List Pair) (at p : Pair) (r : Result Bool BtfError) (old new : List (ℕ × ℕ)) → pending ≡ at ∷ rest → ResolvesPair local target at (Ok p) → (r ≡ Ok true → ⊥) → Lists (Plain local target above p) r old new
+      → Lists (ComparedInOrder local target above pending) r old new
+  other_lists above pending rest at p r old new is h never plain =
+      lists_other (Plain local target above p) (ComparedInOrder local target above pending) r old new never
+      (λ a t q other. subst (λ (o : List Pair). ComparedInOrder local target above o a t) (sym is) (ComparedInOrder.other above at p rest a t h q other))
       plain
 
 -- ---- pending parameter pairs
 
-pub owed_first : (params others ps os : List BtfParam) (param other : BtfParam) → params ≡ param ∷ ps → others ≡ other ∷ os → pairs (types_of params) (types_of others) ≡ pair_of (param.btf_type, other.btf_type) ∷ pairs (types_of ps) (types_of os)
-owed_first params others ps os param other is there = rw (is, there) refl
+pub pending_first : (params others ps os : List BtfParam) (param other : BtfParam) → params ≡ param ∷ ps → others ≡ other ∷ os → pairs (types_of params) (types_of others) ≡ pair_of (param.btf_type, other.btf_type) ∷ pairs (types_of ps) (types_of os)
+pending_first params others ps os param other is there = rw (is, there) refl
 
-pub none_owed : (params others : List BtfParam) → length params ≡ 0 → pairs (types_of params) (types_of others) ≡ []
-none_owed [] others is = refl
-none_owed (p ∷ ps) others is = absurd (omega (arith, is))
+pub none_pending : (params others : List BtfParam) → length params ≡ 0 → pairs (types_of params) (types_of others) ≡ []
+none_pending [] others is = refl
+none_pending (p ∷ ps) others is = absurd (omega (arith, is))
 
-pub none_owed_there : (params others : List BtfParam) → length others ≡ 0 → pairs (types_of params) (types_of others) ≡ []
-none_owed_there [] others is = refl
-none_owed_there (p ∷ ps) [] is = refl
-none_owed_there (p ∷ ps) (o ∷ os) is = absurd (omega (arith, is))
+pub none_pending_there : (params others : List BtfParam) → length others ≡ 0 → pairs (types_of params) (types_of others) ≡ []
+none_pending_there [] others is = refl
+none_pending_there (p ∷ ps) [] is = refl
+none_pending_there (p ∷ ps) (o ∷ os) is = absurd (omega (arith, is))
 
 -- ---- the kinds of a pair
 
-pub kinds_told : (local target : Table) (p : Pair) (k q : Kind) (r s : Record) (b : Bool) → IsAt local p.local k r → IsAt target p.target q s → (b ≡ true) ↔ (compared_kind k ≡ compared_kind q) → AreStarted local target p (Ok b)
-kinds_told local target p k q r s true here there same = (k, q, (r, s, here, there), same.0 refl)
-kinds_told local target p k q r s false here there same = (k, q, (r, s, here, there), λ e. false≢true (same.1 e))
+pub kinds_decided : (local target : Table) (p : Pair) (k q : Kind) (r s : Record) (b : Bool) → IsAt local p.local k r → IsAt target p.target q s → (b ≡ true) ↔ (compared_kind k ≡ compared_kind q) → AreStarted local target p (Ok b)
+kinds_decided local target p k q r s true here there same = (k, q, (r, s, here, there), same.0 refl)
+kinds_decided local target p k q r s false here there same = (k, q, (r, s, here, there), λ e. false≢true (same.1 e))

@@ -4,7 +4,7 @@ use Rattle.btf_model.specs.Record.{Record, Kind, compared_kind}
 use Rattle.btf_model.specs.Refusal.{Refusal, UnknownBtfType}
 use Rattle.btf_model.specs.Table.{Table}
 use Rattle.btf_model.specs.Fields.{Pair}
-use Rattle.btf_model.specs.Compat.{Told, On, Owes, pairs, AreKnown}
+use Rattle.btf_model.specs.Compat.{Decided, On, Pending, pairs, AreKnown}
 use Rattle.btf_model.specs.Compat as model
 use Rattle.btf_words.specs.Error.{Meets}
 use Rattle.btf_words.specs.declared.error.BtfError.{BtfError}
@@ -15,10 +15,10 @@ use Rattle.btf_reference.specs.declared.plain_comparison.Position.TheVariants as
 
 -- P holds of the position
 abbrev pub PositionIs : Position → (model.Position → Type 0) → Type 0
-PositionIs (positions.Decided answer) P = Meets (λ b. b) answer (λ a. P (Told a))
+PositionIs (positions.Decided answer) P = Meets (λ b. b) answer (λ a. P (Decided a))
 PositionIs (positions.On next) P = P (On (pair_of next))
 PositionIs (positions.Prototypes params others next) P =
-    P (Owes (pairs (types_of params.now) (types_of others.now)) (pair_of next))
+    P (Pending (pairs (types_of params.now) (types_of others.now)) (pair_of next))
 
 -- The ids of the pair are both known, and this is whether their kinds are compatible; or this is the error of the first
 -- unknown id.

@@ -4,7 +4,7 @@
 ghost use Rattle.std.specs.Prelude.{◌≡◌, ◌∷◌, ◌≤◌, ◌↔◌, true, [], map, Contains, IfOk, IsTrue};
 ghost use Rattle.btf_model.specs.Record as model;
 ghost use Rattle.btf_model.specs.Walk.{walk_limit};
-ghost use Rattle.btf_model.specs.Compat.{Finds, Plain, Walked, Paid, PositionFound, ResolvesPair, pairs, position_by};
+ghost use Rattle.btf_model.specs.Compat.{Finds, Plain, Walked, ComparedInOrder, PositionFound, ResolvesPair, pairs, position_by};
 ghost use Rattle.btf_words.specs.Error.{Meets};
 ghost use Rattle.btf_records.specs.BtfType.{record_of, type_kind};
 ghost use Rattle.btf_types.specs.Compared.{types_of};
@@ -171,7 +171,7 @@ fn compared_parameters(
     depth: u32,
 ) -> Result<Result<bool, BtfError>, Stop>
     ensures { IfOk result (λ answer. Lists
-        (Paid local.now target.now (map pair_of above.now)
+        (ComparedInOrder local.now target.now (map pair_of above.now)
         (pairs (types_of params.now) (types_of others.now))) answer starts.old.items
         starts.new.items) }
 {

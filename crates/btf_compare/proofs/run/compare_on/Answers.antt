@@ -1,5 +1,5 @@
 use Rattle.std.proofs.Common.{◌≡◌, ◌∷◌, ◌++◌, ◌+◌, ◌≤◌, [], ℕ, List, Option, Bool, true, false, Result, Ok, Err, ◌∙◌, refl, sym, ap, subst, length, inl, inr}
-use Rattle.btf_model.proofs.RunLengths.{less_paid}
+use Rattle.btf_model.proofs.RunLengths.{less_compared}
 use Rattle.btf_model.proofs.Known.{known_pairs}
 use Rattle.btf_words.specs.declared.error.BtfError.{BtfError}
 use Rattle.btf_words.specs.declared.error.BtfError.TheVariants.{OutOfMemory}
@@ -11,7 +11,7 @@ use Rattle.btf_compare.specs.PairMap.{known, count, Learns}
 use Rattle.btf_compare.specs.Compared.{HasStarted, NextParameterIs, frame_of, passed_in, pending_of, is_progress_open, is_progress_compatible, opened_in, compatible_in, progress_of}
 use Rattle.btf_compare.specs.Pairs.{pair_of}
 use Rattle.btf_compare.proofs.Comparing as runs_of
-use Rattle.btf_compare.proofs.Comparing.{Compares, ReportsOneMore, propagated, stack_of, no_memory, ends_refused, ends_true, pays, is_open, is_refused, differs, reported_on}
+use Rattle.btf_compare.proofs.Comparing.{Compares, ReportsOneMore, propagated, stack_of, no_memory, ends_refused, ends_true, compares_all, is_open, is_refused, differs, reported_on}
 use Rattle.btf_compare.proofs.Progresses.{known_if_open, open_if, compatible_if, unknown_if}
 use Rattle.btf_compare.proofs.Walking.{waits_for, still_pending, Running, PassedIn, shorter, begun, begun_passed, walks, walks_less, walk_fails, ends_by, settled_below, settled_less, settled_passed, returned, returned_less, returned_passed}
 use Rattle.btf_compare.proofs.Inner.{Above, inner_no_memory, inner_fails, inner_false, inner_settled, inner_settled_less, inner_settled_passed, inner_open, inner_open_less, inner_open_passed}
@@ -196,11 +196,11 @@ pub steps-smaller-then-branch : goal.steps-smaller-then-branch
 steps-smaller-then-branch g c =
     let local = c.args.local.now in
     let target = c.args.target.now in
-    less_paid local target (length (known_pairs local target)) (count c.steps.run.seen) (frame_of c.steps.top) (frame_of c.next_parameter.new.self) (pair_of c.in-Some-2.pair) (stack_of c.steps.run.below.items) (waits_for c.args.local.now c.args.target.now c.steps.top c.next_parameter.new.self c.in-Pending.found c.in_ok-pair.field-0 c.in-Some-2.pair c.in-Some-2.is c.in_ok-pair.ensures.next)
+    less_compared local target (length (known_pairs local target)) (count c.steps.run.seen) (frame_of c.steps.top) (frame_of c.next_parameter.new.self) (pair_of c.in-Some-2.pair) (stack_of c.steps.run.below.items) (waits_for c.args.local.now c.args.target.now c.steps.top c.next_parameter.new.self c.in-Pending.found c.in_ok-pair.field-0 c.in-Some-2.pair c.in-Some-2.is c.in_ok-pair.ensures.next)
 
 pub steps-preserved-then-branch : goal.steps-preserved-then-branch
 steps-preserved-then-branch g c = (
-  pays c.args.local.now c.args.target.now (pair_of c.args.first.pair) (opened_in c.steps.run.seen) (compatible_in c.steps.run.seen) (frame_of c.steps.top) (stack_of c.steps.run.below.items) (count c.steps.run.seen) (reported g c.args.first.pair c.args.starts.now c.steps.starts) c.steps.invariant.0
+  compares_all c.args.local.now c.args.target.now (pair_of c.args.first.pair) (opened_in c.steps.run.seen) (compatible_in c.steps.run.seen) (frame_of c.steps.top) (stack_of c.steps.run.below.items) (count c.steps.run.seen) (reported g c.args.first.pair c.args.starts.now c.steps.starts) c.steps.invariant.0
       (pair_of c.in-Some-2.pair) (frame_of c.next_parameter.new.self) (waits_for c.args.local.now c.args.target.now c.steps.top c.next_parameter.new.self c.in-Pending.found c.in_ok-pair.field-0 c.in-Some-2.pair c.in-Some-2.is c.in_ok-pair.ensures.next) (compatible_if c.in-Some-2.pair.0 (known c.steps.run.seen c.in-Some-2.pair) (sym c.in_ok-is_known_compatible.ensures ∙ ap (λ (b : Bool). Ok b) c.if-branch.true)),
   c.steps.invariant.1,
   still_pending c.args.local.now c.args.target.now c.next_parameter.new.self c.steps.place c.in-Pending.found c.in-Pending.is c.next_parameter.ensures.here,

@@ -1,11 +1,11 @@
 use Rattle.std.proofs.Common.{◌-◌, sym, ap, subst, ◌∙◌, map, arith, Ok, Result, Bool}
 use Rattle.std.proofs.lemmas.Bool.{false≢true}
-use Rattle.btf_model.specs.Compat.{Plain, Paid, pairs}
+use Rattle.btf_model.specs.Compat.{Plain, ComparedInOrder, pairs}
 use Rattle.btf_words.specs.declared.error.BtfError.{BtfError}
 use Rattle.btf_types.specs.Pairs.{pair_of}
 use Rattle.btf_types.specs.Compared.{types_of}
 use Rattle.btf_reference.specs.PlainComparison.{AreStarted, Lists}
-use Rattle.btf_reference.proofs.PlainComparison.{ok_more, again_lists, unknown_lists, differing_lists, walk_lists, deep_lists, told_lists, on_lists, paid_walk_lists, unpaid_walk_lists, all_paid_lists, unresolved_lists, next_lists, other_lists, owed_first, none_owed, none_owed_there}
+use Rattle.btf_reference.proofs.PlainComparison.{ok_more, again_lists, unknown_lists, differing_lists, walk_lists, deep_lists, decided_lists, on_lists, compared_walk_lists, not_compatible_walk_lists, all_compared_lists, unresolved_lists, next_lists, other_lists, pending_first, none_pending, none_pending_there}
 use Rattle.btf_reference.proofs.plain_comparison.+plain.Goals as goal
 
 -- ---- a pair
@@ -34,22 +34,22 @@ compared-returns t c =
 
 pub compared_parameters-returns-in_default : goal.compared_parameters-returns-in_default
 compared_parameters-returns-in_default t c =
-    all_paid_lists c.args.local.now c.args.target.now (map pair_of c.args.above.now) (pairs (types_of c.args.params.now) (types_of c.args.others.now)) c.args.starts.now.items (none_owed c.args.params.now c.args.others.now c.in_default.ensures.cases)
+    all_compared_lists c.args.local.now c.args.target.now (map pair_of c.args.above.now) (pairs (types_of c.args.params.now) (types_of c.args.others.now)) c.args.starts.now.items (none_pending c.args.params.now c.args.others.now c.in_default.ensures.cases)
 
 pub compared_parameters-returns-in_default-split_first : goal.compared_parameters-returns-in_default-split_first
 compared_parameters-returns-in_default-split_first t c =
-    all_paid_lists c.args.local.now c.args.target.now (map pair_of c.args.above.now) (pairs (types_of c.args.params.now) (types_of c.args.others.now)) c.args.starts.now.items
-    (none_owed_there c.args.params.now c.args.others.now c.in_default-split_first.ensures.cases)
+    all_compared_lists c.args.local.now c.args.target.now (map pair_of c.args.above.now) (pairs (types_of c.args.params.now) (types_of c.args.others.now)) c.args.starts.now.items
+    (none_pending_there c.args.params.now c.args.others.now c.in_default-split_first.ensures.cases)
 
 pub compared_parameters-returns-in-Err : goal.compared_parameters-returns-in-Err
 compared_parameters-returns-in-Err t c =
     unresolved_lists c.args.local.now c.args.target.now (map pair_of c.args.above.now) (pairs (types_of c.args.params.now) (types_of c.args.others.now)) _ _ c.in-Err.e c.args.starts.now.items
-    (owed_first c.args.params.now c.args.others.now c.in-Some.params.now c.in-Some-split_first.others.now c.in-Some.param.now c.in-Some-split_first.other.now c.in-Some.ensures.cases.0 c.in-Some-split_first.ensures.cases.0) c.in-Err.ensures
+    (pending_first c.args.params.now c.args.others.now c.in-Some.params.now c.in-Some-split_first.others.now c.in-Some.param.now c.in-Some-split_first.other.now c.in-Some.ensures.cases.0 c.in-Some-split_first.ensures.cases.0) c.in-Err.ensures
 
 pub compared_parameters-returns-then-not-is_true : goal.compared_parameters-returns-then-not-is_true
 compared_parameters-returns-then-not-is_true t c =
     other_lists c.args.local.now c.args.target.now (map pair_of c.args.above.now) (pairs (types_of c.args.params.now) (types_of c.args.others.now)) _ _ (pair_of c.in-Ok.pair) c.in_ok-answer.answer c.args.starts.now.items c.compared.new.starts.items
-    (owed_first c.args.params.now c.args.others.now c.in-Some.params.now c.in-Some-split_first.others.now c.in-Some.param.now c.in-Some-split_first.other.now c.in-Some.ensures.cases.0 c.in-Some-split_first.ensures.cases.0) c.in-Ok.ensures
+    (pending_first c.args.params.now c.args.others.now c.in-Some.params.now c.in-Some-split_first.others.now c.in-Some.param.now c.in-Some-split_first.other.now c.in-Some.ensures.cases.0 c.in-Some-split_first.ensures.cases.0) c.in-Ok.ensures
     (λ is. false≢true (sym c.if-not-is_true.true ∙ c.is_true.ensures.1 is)) c.in_ok-answer.ensures
 
 pub compared_parameters-returns : goal.compared_parameters-returns
@@ -57,7 +57,7 @@ compared_parameters-returns t c =
     ok_more _ _ c.compared_parameters.result
     (λ answer.
     next_lists c.args.local.now c.args.target.now (map pair_of c.args.above.now) (pairs (types_of c.args.params.now) (types_of c.args.others.now)) _ _ (pair_of c.in-Ok.pair) answer c.args.starts.now.items c.compared.new.starts.items _
-    (owed_first c.args.params.now c.args.others.now c.in-Some.params.now c.in-Some-split_first.others.now c.in-Some.param.now c.in-Some-split_first.other.now c.in-Some.ensures.cases.0 c.in-Some-split_first.ensures.cases.0) c.in-Ok.ensures
+    (pending_first c.args.params.now c.args.others.now c.in-Some.params.now c.in-Some-split_first.others.now c.in-Some.param.now c.in-Some-split_first.other.now c.in-Some.ensures.cases.0 c.in-Some-split_first.ensures.cases.0) c.in-Ok.ensures
     (subst (λ (r : Result Bool BtfError). Lists (Plain c.args.local.now c.args.target.now (map pair_of c.args.above.now) (pair_of c.in-Ok.pair)) r c.args.starts.now.items c.compared.new.starts.items) (c.is_true.ensures.0 c.if-not-is_true.false) c.in_ok-answer.ensures))
     c.compared_parameters.ensures
 
@@ -67,7 +67,7 @@ pub walked-returns-then-left-eq0 : goal.walked-returns-then-left-eq0
 walked-returns-then-left-eq0 t c = deep_lists c.args.local.now c.args.target.now (map pair_of c.args.above.now) c.args.left c.args.at c.args.starts.now.items (omega arith)
 
 pub walked-returns-in-Decided : goal.walked-returns-in-Decided
-walked-returns-in-Decided t c = told_lists c.args.local.now c.args.target.now (map pair_of c.args.above.now) (c.args.left - 1) c.args.left (pair_of c.args.at) c.in-Decided.answer c.args.starts.now.items (omega arith) c.in-Decided.ensures
+walked-returns-in-Decided t c = decided_lists c.args.local.now c.args.target.now (map pair_of c.args.above.now) (c.args.left - 1) c.args.left (pair_of c.args.at) c.in-Decided.answer c.args.starts.now.items (omega arith) c.in-Decided.ensures
 
 pub walked-returns-in-On : goal.walked-returns-in-On
 walked-returns-in-On t c =
@@ -77,13 +77,13 @@ walked-returns-in-On t c =
 
 pub walked-returns-then-not-is_true : goal.walked-returns-then-not-is_true
 walked-returns-then-not-is_true t c =
-    unpaid_walk_lists c.args.local.now c.args.target.now (map pair_of c.args.above.now) _ (c.args.left - 1) c.args.left (pair_of c.args.at) (pair_of c.in-Prototypes.next) c.in_ok-answer-in-Prototypes.answer c.args.starts.now.items c.compared_parameters.new.starts.items (omega arith) c.in-Prototypes.ensures
+    not_compatible_walk_lists c.args.local.now c.args.target.now (map pair_of c.args.above.now) _ (c.args.left - 1) c.args.left (pair_of c.args.at) (pair_of c.in-Prototypes.next) c.in_ok-answer-in-Prototypes.answer c.args.starts.now.items c.compared_parameters.new.starts.items (omega arith) c.in-Prototypes.ensures
     (λ is. false≢true (sym c.if-not-is_true.true ∙ c.is_true.ensures.1 is)) c.in_ok-answer-in-Prototypes.ensures
 
 pub walked-returns-else-not-is_true : goal.walked-returns-else-not-is_true
 walked-returns-else-not-is_true t c =
     ok_more _ _ c.walked-in-Prototypes.result
     (λ answer.
-    paid_walk_lists c.args.local.now c.args.target.now (map pair_of c.args.above.now) (pairs (types_of c.in-Prototypes.params.now) (types_of c.in-Prototypes.others.now)) (c.args.left - 1) c.args.left (pair_of c.args.at) (pair_of c.in-Prototypes.next) answer c.args.starts.now.items c.compared_parameters.new.starts.items _ (omega arith) c.in-Prototypes.ensures
-    (subst (λ (r : Result Bool BtfError). Lists (Paid c.args.local.now c.args.target.now (map pair_of c.args.above.now) (pairs (types_of c.in-Prototypes.params.now) (types_of c.in-Prototypes.others.now))) r c.args.starts.now.items c.compared_parameters.new.starts.items) (c.is_true.ensures.0 c.if-not-is_true.false) c.in_ok-answer-in-Prototypes.ensures))
+    compared_walk_lists c.args.local.now c.args.target.now (map pair_of c.args.above.now) (pairs (types_of c.in-Prototypes.params.now) (types_of c.in-Prototypes.others.now)) (c.args.left - 1) c.args.left (pair_of c.args.at) (pair_of c.in-Prototypes.next) answer c.args.starts.now.items c.compared_parameters.new.starts.items _ (omega arith) c.in-Prototypes.ensures
+    (subst (λ (r : Result Bool BtfError). Lists (ComparedInOrder c.args.local.now c.args.target.now (map pair_of c.args.above.now) (pairs (types_of c.in-Prototypes.params.now) (types_of c.in-Prototypes.others.now))) r c.args.starts.now.items c.compared_parameters.new.starts.items) (c.is_true.ensures.0 c.if-not-is_true.false) c.in_ok-answer-in-Prototypes.ensures))
     c.walked-in-Prototypes.ensures

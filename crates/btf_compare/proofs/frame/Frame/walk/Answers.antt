@@ -7,7 +7,7 @@ use Rattle.btf_words.specs.declared.error.BtfError.{BtfError}
 use Rattle.btf_compare.specs.declared.frame.Frame.{Frame}
 use Rattle.btf_compare.specs.Compared.{AreAt, WalksTo, frame_of}
 use Rattle.btf_compare.specs.Pairs.{pair_of}
-use Rattle.btf_compare.proofs.Steps.{too_deep, told, on, goes_past}
+use Rattle.btf_compare.proofs.Steps.{too_deep, decided, on, goes_past}
 use Rattle.btf_compare.proofs.frame.Frame.walk.Goals as goal
 
 pub positions-init : goal.positions-init
@@ -17,12 +17,12 @@ pub returns-in_err-answer-in-Decided-clause-comes : goal.returns-in_err-answer-i
 returns-in_err-answer-in-Decided-clause-comes c =
     let given = err_from_is_err_and c.from_residual.result c.from_residual.ensures.1 in
     rw (given.1, given.2) (subst (λ (r : Result Bool BtfError). Meets (λ b. b) r (λ a. IsNext c.args.local.now c.args.target.now (frame_of c.positions.self) (runs.Ends a))) c.in_err-answer-in-Decided.was
-    (told c.args.local.now c.args.target.now c.positions.self c.in-Decided.answer c.positions-test.true c.in-Decided.ensures.position))
+    (decided c.args.local.now c.args.target.now c.positions.self c.in-Decided.answer c.positions-test.true c.in-Decided.ensures.position))
 
 pub returns-in-Decided-clause-comes : goal.returns-in-Decided-clause-comes
 returns-in-Decided-clause-comes c =
     subst (λ (r : Result Bool BtfError). Meets (λ b. b) r (λ a. IsNext c.args.local.now c.args.target.now (frame_of c.positions.self) (runs.Ends a))) c.in_ok-answer-in-Decided.was
-    (told c.args.local.now c.args.target.now c.positions.self c.in-Decided.answer c.positions-test.true c.in-Decided.ensures.position)
+    (decided c.args.local.now c.args.target.now c.positions.self c.in-Decided.answer c.positions-test.true c.in-Decided.ensures.position)
 
 pub positions-preserved-in-On : goal.positions-preserved-in-On
 positions-preserved-in-On c = record {
