@@ -9,6 +9,11 @@ use Rattle.btfobj_cli.specs.declared.blob.Blob.TheVariants.{Object, Table}
 abbrev pub BeginsObject : List ℕ → Type 0
 BeginsObject bytes = slice_index bytes 0 ≡ 127
 
+-- The bytes begin with ELF's magic number (the gABI, chapter 4, "ELF Identification").
+abbrev pub HasMagic : List ℕ → Type 0
+HasMagic bytes =
+    (slice_index bytes 0 ≡ 127) × (slice_index bytes 1 ≡ 69) × (slice_index bytes 2 ≡ 76) × (slice_index bytes 3 ≡ 70)
+
 -- The bytes begin with BTF's magic number, 0xeb9f, in a byte order (the kernel's documentation, "BTF_MAGIC").
 abbrev pub BeginsTable : Endianness → List ℕ → Type 0
 BeginsTable Little bytes = (slice_index bytes 0 ≡ 159) × (slice_index bytes 1 ≡ 235)

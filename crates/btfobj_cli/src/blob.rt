@@ -22,9 +22,11 @@ pub enum Blob<'a> {
 }
 
 impl<'a> Blob<'a> {
-    ghost use Rattle.std.specs.Prelude.{◌≡◌, true, IfOk, IsOkAnd};
+    ghost use Rattle.std.specs.Prelude.{◌≡◌, true, Err, IfOk, IfErr, IsOkAnd};
     ghost use Rattle.btf_model.specs.declared.endianness.Endianness.TheVariants.{Little, Big};
-    ghost use Rattle.btfobj_cli.specs.Blob.{BeginsObject, BeginsTable, IsTable, is_object};
+    ghost use Rattle.btfobj_cli.specs.Blob.{BeginsObject, BeginsTable, HasMagic, IsTable, is_object};
+    ghost use Rattle.btfobj_cli.specs.Fault.{ReportsObject};
+    ghost use Rattle.btfobj_cli.specs.declared.fault.Fault.TheVariants as faults;
 
     /// The file of these bytes: an object if they begin with ELF's magic number, and a table if they begin with BTF's
     /// magic number (`BTF_MAGIC`, 0xeb9f) in either byte order.
@@ -36,6 +38,9 @@ impl<'a> Blob<'a> {
         ensures little { BeginsTable Little bytes.now
             → IsOkAnd result (IsTable Little bytes.now) }
         ensures big { BeginsTable Big bytes.now → IsOkAnd result (IsTable Big bytes.now) }
+        ensures malformed { HasMagic bytes.now → IfErr result (ReportsObject bytes.now) }
+        ensures unknown { (HasMagic bytes.now → ⊥) → (BeginsTable Little bytes.now → ⊥)
+            → (BeginsTable Big bytes.now → ⊥) → result ≡ Err faults.UnknownFormat }
     {
         match bytes {
             [0x7f, b'E', b'L', b'F', ..] => Ok(Blob::Object(Object::parse(alloc, bytes)?)),

@@ -54,6 +54,11 @@ impl From<BtfError> for Fault {
 }
 
 impl From<ObjectError> for Fault {
+    ghost use Rattle.std.specs.Prelude.{◌≡◌};
+    ghost use Rattle.btfobj_cli.specs.Fault.{object_fault};
+
+    ghost from_gives = { λ e fault. fault ≡ object_fault e };
+
     fn from(e: ObjectError) -> Fault {
         match e {
             ObjectError::OutOfMemory => Fault::OutOfMemory,
