@@ -1,7 +1,12 @@
 -- The kind of a file, by its bytes.
-use Rattle.std.specs.Prelude.{◌≡◌, ℕ, List, Bool, true, false, slice_index}
+use Rattle.std.specs.Prelude.{◌≡◌, ℕ, List, Bool, true, false, slice_get, slice_index, Some}
+use Rattle.btf_model.specs.Blob as model
+use Rattle.btf_model.specs.Table as tables
 use Rattle.btf_model.specs.declared.endianness.Endianness.{Endianness}
 use Rattle.btf_model.specs.declared.endianness.Endianness.TheVariants.{Little, Big}
+use Rattle.btf_elf_model.specs.Object as elf
+use Rattle.btf_elf_model.specs.declared.section_header.SectionHeader.{SectionHeader}
+use Rattle.btf_object_model.specs.Sanitized.{index_of, table_name, ext_name}
 use Rattle.btfobj_cli.specs.declared.blob.Blob.{Blob}
 use Rattle.btfobj_cli.specs.declared.blob.Blob.TheVariants.{Object, Table}
 
@@ -28,3 +33,28 @@ is_object (Table bytes order) = false
 abbrev pub IsTable : Endianness → List ℕ → Blob → Type 0
 IsTable order bytes (Object object) = ⊥
 IsTable order bytes (Table own own_order) = (own.now ≡ bytes) × (own_order ≡ order)
+
+-- the byte order of the words: of an object, the order in its header
+abbrev pub order_of : Blob → Endianness
+order_of (Object object) = object.header.order
+order_of (Table bytes order) = order
+
+-- The first section of a name has these bytes.
+abbrev pub IsSection : elf.Object → List ℕ → List ℕ → Type 0
+IsSection o name bytes =
+    (index : ℕ) × (s : SectionHeader) × (index_of o name ≡ Some index) × (slice_get o.sections index ≡ Some s)
+    × (bytes ≡ elf.section_bytes o s)
+
+-- The bytes of the table: of the section `.BTF` of an object, or of the file.
+abbrev pub HasTableBytes : Blob → List ℕ → Type 0
+HasTableBytes (Object object) bytes = IsSection object table_name bytes
+HasTableBytes (Table own order) bytes = bytes ≡ own.now
+
+-- The file has this table.
+abbrev pub HasTable : Blob → tables.Table → Type 0
+HasTable blob t = (bytes : List ℕ) × HasTableBytes blob bytes × model.IsTable (order_of blob) bytes t
+
+-- The file is an object, and these are the bytes of its section `.BTF.ext`.
+abbrev pub HasExt : Blob → List ℕ → Type 0
+HasExt (Object object) bytes = IsSection object ext_name bytes
+HasExt (Table own order) bytes = ⊥

@@ -1,5 +1,9 @@
 //! Files with a table: objects, and tables alone.
 
+ghost use Rattle.std.specs.Prelude.{MatchResult};
+ghost use Rattle.btfobj_cli.specs.Blob.{IsSection};
+ghost use Rattle.btfobj_cli.specs.Fault.{LacksSection};
+
 use crate::fault::Fault;
 use btf_elf::Object;
 use btf_model::Endianness;
@@ -22,10 +26,10 @@ pub enum Blob<'a> {
 }
 
 impl<'a> Blob<'a> {
-    ghost use Rattle.std.specs.Prelude.{◌≡◌, true, Err, IfOk, IfErr, IsOkAnd};
+    ghost use Rattle.std.specs.Prelude.{◌≡◌, true, Err, IfOk, IfErr, IsOkAnd, MatchResult};
     ghost use Rattle.btf_model.specs.declared.endianness.Endianness.TheVariants.{Little, Big};
-    ghost use Rattle.btfobj_cli.specs.Blob.{BeginsObject, BeginsTable, HasMagic, IsTable, is_object};
-    ghost use Rattle.btfobj_cli.specs.Fault.{ReportsObject};
+    ghost use Rattle.btfobj_cli.specs.Blob.{BeginsObject, BeginsTable, HasExt, HasMagic, HasTable, IsTable, is_object, order_of};
+    ghost use Rattle.btfobj_cli.specs.Fault.{ReportsObject, ReportsTable, ReportsExt};
     ghost use Rattle.btfobj_cli.specs.declared.fault.Fault.TheVariants as faults;
 
     /// The file of these bytes: an object if they begin with ELF's magic number, and a table if they begin with BTF's
@@ -51,7 +55,9 @@ impl<'a> Blob<'a> {
     }
 
     /// The byte order of the words.
-    pub fn endianness(&self) -> Endianness {
+    pub fn endianness(&self) -> Endianness
+        ensures { result ≡ order_of self.now }
+    {
         match self {
             Blob::Object(object) => object.header().order,
             Blob::Table(_, order) => *order,
@@ -60,7 +66,9 @@ impl<'a> Blob<'a> {
 
     /// The table. The error is `NoSection` if an object has none, `Table` with the error of `Btf::parse`, or
     /// `OutOfMemory`.
-    pub fn table(&self, alloc: Global) -> Result<Btf, Fault> {
+    pub fn table(&self, alloc: Global) -> Result<Btf, Fault>
+        ensures { MatchResult result (HasTable self.now) (ReportsTable self.now) }
+    {
         let bytes = match self {
             Blob::Object(object) => section(object, TABLE_SECTION)?,
             Blob::Table(bytes, _) => *bytes,
@@ -69,7 +77,9 @@ impl<'a> Blob<'a> {
     }
 
     /// The bytes of `.BTF.ext`. The error is `NoSection` if an object has none, and `NoExt` for a table alone.
-    pub fn ext(&self) -> Result<&'a [u8], Fault> {
+    pub fn ext(&self) -> Result<&'a [u8], Fault>
+        ensures { MatchResult result (λ bytes. HasExt self.now bytes.now) (ReportsExt self.now) }
+    {
         match self {
             Blob::Object(object) => section(object, EXT_SECTION),
             Blob::Table(_, _) => Err(Fault::NoExt),
@@ -78,7 +88,11 @@ impl<'a> Blob<'a> {
 }
 
 /// The bytes of the first section of a name, or `NoSection`.
-fn section<'a>(object: &Object<'a>, name: &'static str) -> Result<&'a [u8], Fault> {
+fn section<'a>(object: &Object<'a>, name: &'static str) -> Result<&'a [u8], Fault>
+    ensures { MatchResult result
+        (λ bytes. IsSection object.now name.now bytes.now)
+        (LacksSection object.now name.now) }
+{
     match object.section_by_name(name.as_bytes()) {
         Some(index) => Ok(object.section_bytes(&object.sections()[index])),
         None => Err(Fault::NoSection(name)),

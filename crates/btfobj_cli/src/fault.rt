@@ -45,6 +45,11 @@ pub enum Fault {
 }
 
 impl From<BtfError> for Fault {
+    ghost use Rattle.std.specs.Prelude.{◌≡◌};
+    ghost use Rattle.btfobj_cli.specs.Fault.{table_fault};
+
+    ghost from_gives = { λ e fault. fault ≡ table_fault e };
+
     fn from(e: BtfError) -> Fault {
         match e {
             BtfError::OutOfMemory => Fault::OutOfMemory,
