@@ -1,11 +1,10 @@
 # Each target is a command that could be typed instead. NAME is a crate, as in `make check NAME=btf_ext`.
-NAME ?= btf_words
+NAME ?=
 # The table of the running kernel, or one of this repository.
 FILE ?= $(firstword $(wildcard /sys/kernel/btf/vmlinux) crates/btf_examples/data/kernel.btf)
 PREFIX ?= $(HOME)/.local
-TESTS = record_tests table_tests ext_tests kernel_tests program_tests
 
-.PHONY: try list build check mutants test gate bench install
+.PHONY: try list build test check mutants bench install
 
 # Lists the types of a small table by btftool as it is compiled without proofs, which takes a minute.
 try:
@@ -19,21 +18,17 @@ list:
 build:
 	./btftool little copy < crates/btftool/stdin > /dev/null
 
+# Proves and tests everything: the merge gate.
+test:
+	bash .ci/run
+
 # Proves one crate, from what earlier checks cached.
 check:
-	cd crates/$(NAME) && rt check
+	cd crates/$(or $(NAME),btf_words) && rt check
 
-# Tries the mutants of one crate.
+# Tries the mutants of one crate, or without NAME those of all crates.
 mutants:
-	rt must-fail $(NAME) && scripts/mutants $(NAME)
-
-# Proves and runs the tests, with the crates that they use.
-test:
-	rt ci $(TESTS)
-
-# Proves and tests everything: the merge gate.
-gate:
-	bash .ci/run
+	scripts/mutants $(NAME)
 
 # Times the calls of the library over a table.
 bench:
