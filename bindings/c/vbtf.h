@@ -3,7 +3,7 @@
  *
  * The library below these calls is proved: each call terminates on every input, and docs/C.md has its results. A call
  * returns a status: VBTF_OK, the number of an error of the library, or a status of this binding. If the last argument
- * is a struct vbtf_error, the call describes an error of the library there; the argument may not be null.
+ * is a struct vbtf_error, the call describes an error of the library there; the argument may be null.
  *
  * Nothing checks these duties of the caller:
  *
@@ -23,6 +23,12 @@
 #ifdef __cplusplus
 extern "C" {
 #endif
+
+/* The version of this header. vbtf_version returns that of the library, in the same form. */
+#define VBTF_VERSION_MAJOR 0
+#define VBTF_VERSION_MINOR 1
+#define VBTF_VERSION_PATCH 0
+#define VBTF_VERSION (VBTF_VERSION_MAJOR << 16 | VBTF_VERSION_MINOR << 8 | VBTF_VERSION_PATCH)
 
 /* ---- statuses */
 
@@ -211,18 +217,18 @@ struct vbtf_relocation {
 
 /* The features of a kernel, by the position of their bits in `features`. */
 enum vbtf_feature {
-	VBTF_FUNC,               /* FUNC and FUNC_PROTO */
-	VBTF_FUNC_GLOBAL,        /* a FUNC whose linkage is Global */
-	VBTF_DATASEC,            /* VAR and DATASEC */
-	VBTF_DATASEC_ZERO,       /* a DATASEC without entries */
-	VBTF_FLOAT,
-	VBTF_DECL_TAG,
-	VBTF_TYPE_TAG,
-	VBTF_ENUM64              /* ENUM64, and an ENUM with a sign */
+	VBTF_FEATURE_FUNC,         /* FUNC and FUNC_PROTO */
+	VBTF_FEATURE_FUNC_GLOBAL,  /* a FUNC whose linkage is Global */
+	VBTF_FEATURE_DATASEC,      /* VAR and DATASEC */
+	VBTF_FEATURE_DATASEC_ZERO, /* a DATASEC without entries */
+	VBTF_FEATURE_FLOAT,
+	VBTF_FEATURE_DECL_TAG,
+	VBTF_FEATURE_TYPE_TAG,
+	VBTF_FEATURE_ENUM64        /* ENUM64, and an ENUM with a sign */
 };
 
 struct vbtf_kernel {
-	uint32_t features;       /* 1 << VBTF_FUNC for FUNC, and so on */
+	uint32_t features;       /* 1 << VBTF_FEATURE_FUNC for FUNC, and so on */
 	uint32_t fill_sized;     /* not 0: a sized DATASEC without entries gets an entry if the kernel requires one */
 	uint32_t ksyms;          /* the id of the DATASEC .ksyms; 0 for none */
 	uint32_t placeholder;    /* the id of the variable that replaces functions in it; 0 for none */
@@ -246,13 +252,14 @@ struct vbtf_names {
 /* The features that a rewrite asked about, in order, and whether the kernel has them (1) or not (0). */
 struct vbtf_asked {
 	uint32_t count;
-	uint8_t features[8];
-	uint8_t granted[8];
+	uint8_t features[32];    /* as many as the bits of a kernel's features: later versions may know more than eight */
+	uint8_t granted[32];
 };
 
 /* ---- the exported calls, which the inline functions below call; slices may not be null */
 
-uint32_t vbtf_new(struct vbtf_table *table, struct vbtf_error *error);
+uint32_t vbtf_version(void);
+uint32_t vbtf_raw_new(struct vbtf_table *table, struct vbtf_error *error);
 void vbtf_close(struct vbtf_table *table);
 uint32_t vbtf_raw_parse(struct vbtf_table *table, const uint8_t *data, size_t len, uint32_t order,
                         struct vbtf_error *error);
@@ -283,7 +290,8 @@ uint32_t vbtf_lent_types_compatible(struct vbtf_table *local, uint32_t id, struc
 uint32_t vbtf_raw_rewrite(struct vbtf_table *table, const uint8_t *section_names, size_t section_names_len,
                           const struct vbtf_named *sections, size_t section_count, const uint8_t *symbol_names,
                           size_t symbol_names_len, const struct vbtf_named *symbols, size_t symbol_count,
-                          const struct vbtf_kernel *kernel, struct vbtf_asked *asked, struct vbtf_error *error);
+                          const struct vbtf_kernel *kernel, uint64_t seed, struct vbtf_asked *asked,
+                          struct vbtf_error *error);
 
 uint32_t vbtf_raw_sanitize_object(const uint8_t *object, size_t len, const struct vbtf_kernel *kernel,
                                   const uint8_t *placeholder, size_t placeholder_len, uint64_t seed, uint8_t *out,
@@ -318,13 +326,19 @@ static inline const uint8_t *vbtf_bytes_or_none(const void *bytes)
 
 /* ---- errors */
 
+/* The error that a call writes: the caller's, or another one that nobody reads. */
+static inline struct vbtf_error *vbtf_error_or(struct vbtf_error *error, struct vbtf_error *unread)
+{
+	return error ? error : unread;
+}
+
 /* The maximum length of the text of an error, including the zero byte after it. */
 #define VBTF_ERROR_ROOM 400
 
 /*
  * Writes the text of a status, and of the error that the call described, to the buffer, with a zero byte after it, and
- * returns the buffer. If the buffer is too short, the text is truncated. If an allocation for the text fails, the text
- * is "out of memory".
+ * returns the buffer. Without an error, the text has 0 in place of its number, and no name. If the buffer is too short,
+ * the text is truncated. If an allocation for the text fails, the text is "out of memory".
  */
 static inline const char *vbtf_error_text(uint32_t status, const struct vbtf_error *error, char *out, size_t room)
 {
@@ -332,6 +346,7 @@ static inline const char *vbtf_error_text(uint32_t status, const struct vbtf_err
 		"buffer too short", "not open", "invalid argument", "no such item", "not an ELF object that is read here",
 		"the object has no section .BTF", "the bytes of the section .BTF cannot be replaced",
 	};
+	struct vbtf_error unknown = { 0, 0, 0, 0, 0, 0, { 0 } };
 	uint8_t written[1024];
 	const char *text = "unknown error";
 	uint64_t len = 0;
@@ -342,7 +357,8 @@ static inline const char *vbtf_error_text(uint32_t status, const struct vbtf_err
 	} else if (status >= VBTF_NO_ROOM) {
 		text = status - VBTF_NO_ROOM < sizeof texts / sizeof *texts ? texts[status - VBTF_NO_ROOM] : text;
 	} else {
-		answer = vbtf_raw_error_text(error, written, sizeof written - 1, &len);
+		unknown.number = status;
+		answer = vbtf_raw_error_text(error ? error : &unknown, written, sizeof written - 1, &len);
 		written[len < sizeof written ? len : 0] = 0;
 		if (answer == VBTF_OK)
 			text = (const char *)written;
@@ -360,6 +376,8 @@ static inline const char *vbtf_error_text(uint32_t status, const struct vbtf_err
 /* Describes an error that a function of this header found, and returns its status. */
 static inline uint32_t vbtf_describe(struct vbtf_error *error, uint32_t number, uint32_t id)
 {
+	if (!error)
+		return number;
 	error->number = number;
 	error->id = id;
 	error->offset = 0;
@@ -371,7 +389,15 @@ static inline uint32_t vbtf_describe(struct vbtf_error *error, uint32_t number, 
 
 /* ---- open and write */
 
-/* Opens a closed table that has no type but that of id 0, in little-endian order: `vbtf_new`, above. */
+/*
+ * Opens a closed table that has no type but that of id 0, in little-endian order. VBTF_BAD_ARGUMENT if the table is
+ * open; it is then unchanged.
+ */
+static inline uint32_t vbtf_new(struct vbtf_table *table, struct vbtf_error *error)
+{
+	struct vbtf_error unread;
+	return vbtf_raw_new(table, vbtf_error_or(error, &unread));
+}
 
 /*
  * Opens a closed table with the table that the bytes of a .BTF section represent, whose words are in this order.
@@ -383,7 +409,8 @@ static inline uint32_t vbtf_describe(struct vbtf_error *error, uint32_t number, 
 static inline uint32_t vbtf_parse(struct vbtf_table *table, const void *data, size_t len, uint32_t order,
                                   struct vbtf_error *error)
 {
-	return vbtf_raw_parse(table, vbtf_bytes_or_none(data), len, order, error);
+	struct vbtf_error unread;
+	return vbtf_raw_parse(table, vbtf_bytes_or_none(data), len, order, vbtf_error_or(error, &unread));
 }
 
 /* Closes a table and its .BTF.ext, and frees their memory: `vbtf_close`, above. A closed table stays closed. */
@@ -395,9 +422,10 @@ static inline uint32_t vbtf_parse(struct vbtf_table *table, const void *data, si
 static inline uint32_t vbtf_bytes(const struct vbtf_table *table, void *out, size_t room, uint64_t *needed,
                                   struct vbtf_error *error)
 {
+	struct vbtf_error unread;
 	struct vbtf_table loan = vbtf_loan(table);
 	uint8_t none;
-	return vbtf_lent_bytes(&loan, out ? (uint8_t *)out : &none, out ? room : 0, needed, error);
+	return vbtf_lent_bytes(&loan, out ? (uint8_t *)out : &none, out ? room : 0, needed, vbtf_error_or(error, &unread));
 }
 
 /* ---- read */
@@ -413,8 +441,9 @@ static inline uint32_t vbtf_count(const struct vbtf_table *table, uint64_t *coun
 static inline uint32_t vbtf_type_by_id(const struct vbtf_table *table, uint32_t id, struct vbtf_type *type,
                                        struct vbtf_error *error)
 {
+	struct vbtf_error unread;
 	struct vbtf_table loan = vbtf_loan(table);
-	return vbtf_lent_type(&loan, id, type, error);
+	return vbtf_lent_type(&loan, id, type, vbtf_error_or(error, &unread));
 }
 
 /*
@@ -425,9 +454,11 @@ static inline uint32_t vbtf_type_by_id(const struct vbtf_table *table, uint32_t 
 static inline uint32_t vbtf_text_at(const struct vbtf_table *table, uint32_t offset, void *out, size_t room,
                                     uint64_t *needed, struct vbtf_error *error)
 {
+	struct vbtf_error unread;
 	struct vbtf_table loan = vbtf_loan(table);
 	uint8_t none;
-	return vbtf_lent_text(&loan, offset, out ? (uint8_t *)out : &none, out ? room : 0, needed, error);
+	return vbtf_lent_text(&loan, offset, out ? (uint8_t *)out : &none, out ? room : 0, needed,
+	                      vbtf_error_or(error, &unread));
 }
 
 /* ---- items of a type, by their index */
@@ -436,7 +467,8 @@ static inline uint32_t vbtf_text_at(const struct vbtf_table *table, uint32_t off
 static inline uint32_t vbtf_type_of_kinds(struct vbtf_table *loan, uint32_t id, uint32_t kinds, struct vbtf_type *type,
                                           struct vbtf_error *error)
 {
-	uint32_t status = vbtf_lent_type(loan, id, type, error);
+	struct vbtf_error unread;
+	uint32_t status = vbtf_lent_type(loan, id, type, vbtf_error_or(error, &unread));
 	if (status == VBTF_OK && !(kinds >> type->kind & 1))
 		return vbtf_describe(error, VBTF_UNEXPECTED_TYPE, id);
 	return status;
@@ -457,11 +489,12 @@ static inline bool vbtf_info_flag(uint32_t info)
 static inline uint32_t vbtf_item_of_kinds(const struct vbtf_table *table, uint32_t id, uint32_t index, uint32_t kinds,
                                           struct vbtf_item *item, struct vbtf_error *error)
 {
+	struct vbtf_error unread;
 	struct vbtf_table loan = vbtf_loan(table);
 	struct vbtf_type type;
-	uint32_t wanted, status = vbtf_lent_item(&loan, id, index, item, error);
+	uint32_t wanted, status = vbtf_lent_item(&loan, id, index, item, vbtf_error_or(error, &unread));
 	if (status == VBTF_NO_ITEM) {
-		wanted = vbtf_type_of_kinds(&loan, id, kinds, &type, error);
+		wanted = vbtf_type_of_kinds(&loan, id, kinds, &type, vbtf_error_or(error, &unread));
 		return wanted == VBTF_OK ? status : wanted;
 	}
 	if (status == VBTF_OK && !(kinds >> vbtf_info_kind(item->info) & 1))
@@ -564,13 +597,14 @@ static inline uint32_t vbtf_int_of(const struct vbtf_table *table, uint32_t id, 
 static inline uint32_t vbtf_linkage_of(const struct vbtf_table *table, uint32_t id, uint32_t *linkage,
                                        struct vbtf_error *error)
 {
+	struct vbtf_error unread;
 	const uint32_t kinds = 1u << VBTF_KIND_VAR | 1u << VBTF_KIND_FUNC;
 	struct vbtf_table loan = vbtf_loan(table);
 	struct vbtf_type type;
 	struct vbtf_item item;
-	uint32_t status = vbtf_type_of_kinds(&loan, id, kinds, &type, error);
+	uint32_t status = vbtf_type_of_kinds(&loan, id, kinds, &type, vbtf_error_or(error, &unread));
 	if (status == VBTF_OK && type.kind == VBTF_KIND_VAR)
-		status = vbtf_lent_item(&loan, id, 0, &item, error);
+		status = vbtf_lent_item(&loan, id, 0, &item, vbtf_error_or(error, &unread));
 	if (status != VBTF_OK)
 		return status;
 	*linkage = type.kind == VBTF_KIND_VAR ? item.words[0] : vbtf_vlen(&type);
@@ -600,8 +634,9 @@ static inline uint32_t vbtf_component_of(const struct vbtf_table *table, uint32_
 static inline uint32_t vbtf_value(const struct vbtf_table *table, uint32_t id, const char *name, size_t len,
                                   uint64_t *value, struct vbtf_error *error)
 {
+	struct vbtf_error unread;
 	struct vbtf_table loan = vbtf_loan(table);
-	return vbtf_lent_value(&loan, id, vbtf_bytes_or_none(name), len, value, error);
+	return vbtf_lent_value(&loan, id, vbtf_bytes_or_none(name), len, value, vbtf_error_or(error, &unread));
 }
 
 /* ---- look up and walk */
@@ -614,8 +649,9 @@ static inline uint32_t vbtf_value(const struct vbtf_table *table, uint32_t id, c
 static inline uint32_t vbtf_find(const struct vbtf_table *table, const char *name, size_t len, uint32_t kind,
                                  uint32_t *id, struct vbtf_error *error)
 {
+	struct vbtf_error unread;
 	struct vbtf_table loan = vbtf_loan(table);
-	return vbtf_lent_find(&loan, vbtf_bytes_or_none(name), len, kind, id, error);
+	return vbtf_lent_find(&loan, vbtf_bytes_or_none(name), len, kind, id, vbtf_error_or(error, &unread));
 }
 
 /*
@@ -625,8 +661,9 @@ static inline uint32_t vbtf_find(const struct vbtf_table *table, const char *nam
 static inline uint32_t vbtf_resolve(const struct vbtf_table *table, uint32_t id, uint32_t *to,
                                     struct vbtf_error *error)
 {
+	struct vbtf_error unread;
 	struct vbtf_table loan = vbtf_loan(table);
-	return vbtf_lent_resolve(&loan, id, to, error);
+	return vbtf_lent_resolve(&loan, id, to, vbtf_error_or(error, &unread));
 }
 
 /*
@@ -636,38 +673,50 @@ static inline uint32_t vbtf_resolve(const struct vbtf_table *table, uint32_t id,
 static inline uint32_t vbtf_size(const struct vbtf_table *table, uint32_t id, uint64_t *size,
                                  struct vbtf_error *error)
 {
+	struct vbtf_error unread;
 	struct vbtf_table loan = vbtf_loan(table);
-	return vbtf_lent_size(&loan, id, size, error);
+	return vbtf_lent_size(&loan, id, size, vbtf_error_or(error, &unread));
 }
 
 /* ---- compare; both tables may be one */
 
-/* Whether the types of two fields are compatible, by the rules of libbpf's bpf_core_fields_are_compat. */
+/*
+ * Whether the types of two fields are compatible, by the rules of aya. docs/C.md lists where libbpf's
+ * bpf_core_fields_are_compat answers otherwise. VBTF_UNEXPECTED_TYPE of a kind that no field has; VBTF_UNKNOWN_TYPE;
+ * VBTF_INVALID_STRING_OFFSET; VBTF_TOO_DEEP. After an error `answer` is false.
+ */
 static inline uint32_t vbtf_fields_are_compatible(const struct vbtf_table *local, uint32_t id,
                                                   const struct vbtf_table *target, uint32_t other, bool *answer,
                                                   struct vbtf_error *error)
 {
+	struct vbtf_error unread;
 	struct vbtf_table here = vbtf_loan(local), there = vbtf_loan(target);
 	*answer = false;
-	return vbtf_lent_fields_compatible(&here, id, &there, other, answer, error);
+	return vbtf_lent_fields_compatible(&here, id, &there, other, answer, vbtf_error_or(error, &unread));
 }
 
-/* Whether two types are compatible, by the rules of libbpf's bpf_core_types_are_compat, on cyclic types too. */
+/*
+ * Whether two types are compatible, by the rules of aya, on cyclic types too. docs/C.md lists where libbpf's
+ * bpf_core_types_are_compat answers otherwise. VBTF_UNEXPECTED_TYPE of a VAR, FUNC, DATASEC or DECL_TAG;
+ * VBTF_UNKNOWN_TYPE; VBTF_TOO_DEEP, also of a pair of types that depends on itself. After an error `answer` is false.
+ */
 static inline uint32_t vbtf_types_are_compatible(const struct vbtf_table *local, uint32_t id,
                                                  const struct vbtf_table *target, uint32_t other, bool *answer,
                                                  struct vbtf_error *error)
 {
+	struct vbtf_error unread;
 	struct vbtf_table here = vbtf_loan(local), there = vbtf_loan(target);
 	*answer = false;
-	return vbtf_lent_types_compatible(&here, id, &there, other, answer, error);
+	return vbtf_lent_types_compatible(&here, id, &there, other, answer, vbtf_error_or(error, &unread));
 }
 
 /* ---- rewrite */
 
 /*
  * Rewrites a table for a kernel that lacks some features, and reports the features that the rewrite asked about.
- * `sections` has the sizes of the program's sections, and `symbols` the offsets of its symbols; either may be null. Ids
- * stay, strings are only appended, and at most four types are appended.
+ * `sections` has the sizes of the program's sections, and `symbols` the offsets of its symbols; either may be null.
+ * `seed` is a random number, as for vbtf_open_ext, with which their names are hashed. Ids stay, strings are only
+ * appended, and at most four types are appended.
  *
  * The first error: VBTF_INVALID_STRING_OFFSET, VBTF_UNKNOWN_TYPE, VBTF_UNEXPECTED_TYPE,
  * VBTF_INVALID_DATASEC, VBTF_UNKNOWN_SECTION_SIZE, VBTF_SYMBOL_NOT_FOUND, VBTF_INVALID_TYPE_INFO; VBTF_BAD_ARGUMENT
@@ -675,15 +724,17 @@ static inline uint32_t vbtf_types_are_compatible(const struct vbtf_table *local,
  */
 static inline uint32_t vbtf_rewrite(struct vbtf_table *table, const struct vbtf_names *sections,
                                     const struct vbtf_names *symbols, const struct vbtf_kernel *kernel,
-                                    struct vbtf_asked *asked, struct vbtf_error *error)
+                                    uint64_t seed, struct vbtf_asked *asked, struct vbtf_error *error)
 {
+	struct vbtf_error unread;
 	static const struct vbtf_named nothing = { 0, 0, 0 };
 	static const struct vbtf_names none = { "", 0, &nothing, 0 };
 	const struct vbtf_names *sizes = sections ? sections : &none, *offsets = symbols ? symbols : &none;
 	return vbtf_raw_rewrite(table, vbtf_bytes_or_none(sizes->names), sizes->names_len,
 	                        sizes->entries ? sizes->entries : &nothing, sizes->count,
 	                        vbtf_bytes_or_none(offsets->names), offsets->names_len,
-	                        offsets->entries ? offsets->entries : &nothing, offsets->count, kernel, asked, error);
+	                        offsets->entries ? offsets->entries : &nothing, offsets->count, kernel, seed, asked,
+	                        vbtf_error_or(error, &unread));
 }
 
 /*
@@ -703,10 +754,11 @@ static inline uint32_t vbtf_sanitize_object(const void *object, size_t len, cons
                                             void *out, size_t room, uint64_t *needed, struct vbtf_asked *asked,
                                             struct vbtf_error *error)
 {
+	struct vbtf_error unread;
 	uint8_t none = 0;
 	return vbtf_raw_sanitize_object(vbtf_bytes_or_none(object), len, kernel, vbtf_bytes_or_none(placeholder),
 	                                placeholder_len, seed, out ? (uint8_t *)out : &none, out ? room : 0, needed,
-	                                asked, error);
+	                                asked, vbtf_error_or(error, &unread));
 }
 
 /* ---- build */
@@ -718,7 +770,8 @@ static inline uint32_t vbtf_sanitize_object(const void *object, size_t len, cons
 static inline uint32_t vbtf_add_string(struct vbtf_table *table, const char *text, size_t len, uint32_t *offset,
                                        struct vbtf_error *error)
 {
-	return vbtf_raw_add_string(table, vbtf_bytes_or_none(text), len, offset, error);
+	struct vbtf_error unread;
+	return vbtf_raw_add_string(table, vbtf_bytes_or_none(text), len, offset, vbtf_error_or(error, &unread));
 }
 
 /*
@@ -729,7 +782,8 @@ static inline uint32_t vbtf_add_string(struct vbtf_table *table, const char *tex
 static inline uint32_t vbtf_add_type(struct vbtf_table *table, const void *record, size_t len, uint32_t order,
                                      uint32_t *id, struct vbtf_error *error)
 {
-	return vbtf_raw_add_type(table, vbtf_bytes_or_none(record), len, order, id, error);
+	struct vbtf_error unread;
+	return vbtf_raw_add_type(table, vbtf_bytes_or_none(record), len, order, id, vbtf_error_or(error, &unread));
 }
 
 /* ---- .BTF.ext */
@@ -745,7 +799,8 @@ static inline uint32_t vbtf_add_type(struct vbtf_table *table, const void *recor
 static inline uint32_t vbtf_open_ext(struct vbtf_table *table, const void *data, size_t len, uint32_t order,
                                      uint64_t seed, struct vbtf_error *error)
 {
-	return vbtf_raw_open_ext(table, vbtf_bytes_or_none(data), len, order, seed, error);
+	struct vbtf_error unread;
+	return vbtf_raw_open_ext(table, vbtf_bytes_or_none(data), len, order, seed, vbtf_error_or(error, &unread));
 }
 
 /* Closes the .BTF.ext of a table, and frees it: `vbtf_close_ext`, above. The table stays open. */
@@ -765,9 +820,11 @@ static inline uint32_t vbtf_ext(const struct vbtf_table *table, struct vbtf_ext_
 static inline uint32_t vbtf_ext_names(const struct vbtf_table *table, uint32_t part, char *out, size_t room,
                                       uint64_t *needed, struct vbtf_error *error)
 {
+	struct vbtf_error unread;
 	struct vbtf_table loan = vbtf_loan(table);
 	uint8_t none;
-	return vbtf_lent_ext_names(&loan, part, out ? (uint8_t *)out : &none, out ? room : 0, needed, error);
+	return vbtf_lent_ext_names(&loan, part, out ? (uint8_t *)out : &none, out ? room : 0, needed,
+	                           vbtf_error_or(error, &unread));
 }
 
 /*
@@ -785,12 +842,13 @@ static inline uint32_t vbtf_ext_words(const struct vbtf_table *table, uint32_t p
                                       uint32_t *out, size_t room, uint64_t *needed, size_t words,
                                       struct vbtf_error *error)
 {
+	struct vbtf_error unread;
 	struct vbtf_table loan = vbtf_loan(table);
 	uint32_t none = 0, status;
 	uint8_t *bytes = (uint8_t *)(out ? out : &none);
 	uint64_t written = 0;
 	status = vbtf_lent_ext_records(&loan, part, vbtf_bytes_or_none(section), len, bytes, out ? 4 * words * room : 0,
-	                               &written, error);
+	                               &written, vbtf_error_or(error, &unread));
 	for (uint64_t i = 0; out && status == VBTF_OK && i < written; i += 4)
 		out[i / 4] = (uint32_t)bytes[i] | (uint32_t)bytes[i + 1] << 8 | (uint32_t)bytes[i + 2] << 16
 		             | (uint32_t)bytes[i + 3] << 24;
@@ -823,11 +881,12 @@ static inline uint32_t vbtf_ext_relocations(const struct vbtf_table *table, cons
                                             struct vbtf_relocation *out, size_t room, uint64_t *needed,
                                             struct vbtf_error *error)
 {
+	struct vbtf_error unread;
 	struct vbtf_table loan = vbtf_loan(table);
 	uint32_t none = 0, status;
 	uint64_t words = 0;
 	status = vbtf_lent_ext_relocations(&loan, vbtf_bytes_or_none(section), len, out ? (uint32_t *)out : &none,
-	                                   out ? 4 * room : 0, &words, error);
+	                                   out ? 4 * room : 0, &words, vbtf_error_or(error, &unread));
 	if (status == VBTF_OK || status == VBTF_NO_ROOM)
 		*needed = words / 4;
 	return status;

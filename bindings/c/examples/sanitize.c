@@ -9,6 +9,7 @@
 #include "input.h"
 
 #include <string.h>
+#include <sys/random.h>
 
 static const char *const features[] = {
 	"Func", "FuncGlobal", "DataSec", "DataSecZero", "Float", "DeclTag", "TypeTag", "Enum64",
@@ -57,8 +58,10 @@ static int rewrite(struct vbtf_table *table, const struct list *sections, const 
 	struct vbtf_names offsets = { symbols->names, symbols->len, symbols->entries, symbols->count };
 	struct vbtf_error error;
 	struct vbtf_asked asked;
-	uint64_t len = 0;
-	uint32_t status = vbtf_rewrite(table, &sizes, &offsets, kernel, &asked, &error);
+	uint64_t len = 0, seed;
+	if (getrandom(&seed, sizeof seed, 0) != sizeof seed)
+		return 1;
+	uint32_t status = vbtf_rewrite(table, &sizes, &offsets, kernel, seed, &asked, &error);
 	if (status != VBTF_OK)
 		return report("sanitize", status, &error);
 	for (uint32_t i = 0; i < asked.count; i++)

@@ -1,6 +1,22 @@
 /* Each call if allocation succeeds, each status, and the table after an error, which is unchanged. */
 #include "table.h"
 
+/* The error may be null, in calls that succeed and in calls that do not. */
+static void undescribed_errors(void)
+{
+	struct vbtf_table table = VBTF_TABLE_INIT;
+	struct vbtf_member member;
+	char out[VBTF_ERROR_ROOM];
+	uint32_t id;
+	check(vbtf_new(&table, NULL) == VBTF_OK);
+	check(vbtf_find(&table, "", 0, VBTF_KIND_UNKNOWN, &id, NULL) == VBTF_OK && id == 0);
+	check(vbtf_find(&table, "int", 3, VBTF_KIND_INT, &id, NULL) == VBTF_UNKNOWN_TYPE_NAME);
+	check(vbtf_member_at(&table, 0, 0, &member, NULL) == VBTF_UNEXPECTED_TYPE);
+	check(vbtf_member_at(&table, 1, 0, &member, NULL) == VBTF_UNKNOWN_TYPE);
+	check(strcmp(vbtf_error_text(VBTF_UNKNOWN_TYPE, NULL, out, sizeof out), "unknown BTF type id `0`") == 0);
+	vbtf_close(&table);
+}
+
 static void new_tables(void)
 {
 	struct vbtf_table table = VBTF_TABLE_INIT;
@@ -185,19 +201,19 @@ static void rewritten(void)
 	struct vbtf_error error;
 	struct vbtf_asked asked;
 	struct vbtf_type type;
-	struct vbtf_kernel kernel = { 1u << VBTF_FUNC | 1u << VBTF_DATASEC, 0, 0, 0 };
-	check(vbtf_rewrite(&table, NULL, NULL, &kernel, &asked, &error) == VBTF_UNKNOWN_SECTION_SIZE);
+	struct vbtf_kernel kernel = { 1u << VBTF_FEATURE_FUNC | 1u << VBTF_FEATURE_DATASEC, 0, 0, 0 };
+	check(vbtf_rewrite(&table, NULL, NULL, &kernel, 7, &asked, &error) == VBTF_UNKNOWN_SECTION_SIZE);
 	check(error.name_len == 7 && memcmp(error.name, "license", 7) == 0);
-	check(vbtf_rewrite(&table, &section_sizes, NULL, &kernel, &asked, &error) == VBTF_SYMBOL_NOT_FOUND);
+	check(vbtf_rewrite(&table, &section_sizes, NULL, &kernel, 7, &asked, &error) == VBTF_SYMBOL_NOT_FOUND);
 	check(vbtf_type_by_id(&table, 3, &type, &error) == VBTF_OK && type.size_or_type == 0);
-	check(vbtf_rewrite(&table, &section_sizes, &symbol_offsets, &kernel, &asked, &error) == VBTF_OK);
+	check(vbtf_rewrite(&table, &section_sizes, &symbol_offsets, &kernel, 7, &asked, &error) == VBTF_OK);
 	check(vbtf_type_by_id(&table, 3, &type, &error) == VBTF_OK && type.size_or_type == 13);
 	check(vbtf_type_by_id(&table, 5, &type, &error) == VBTF_OK && type.info == 0x0c000000);
-	check(asked.count == 3 && asked.features[0] == VBTF_DATASEC && asked.granted[0] == 1);
-	check(asked.features[1] == VBTF_FUNC && asked.granted[1] == 1);
-	check(asked.features[2] == VBTF_FUNC_GLOBAL && asked.granted[2] == 0);
+	check(asked.count == 3 && asked.features[0] == VBTF_FEATURE_DATASEC && asked.granted[0] == 1);
+	check(asked.features[1] == VBTF_FEATURE_FUNC && asked.granted[1] == 1);
+	check(asked.features[2] == VBTF_FEATURE_FUNC_GLOBAL && asked.granted[2] == 0);
 	vbtf_close(&table);
-	check(vbtf_rewrite(&table, NULL, NULL, &kernel, &asked, &error) == VBTF_CLOSED);
+	check(vbtf_rewrite(&table, NULL, NULL, &kernel, 7, &asked, &error) == VBTF_CLOSED);
 }
 
 static void denied(void)
@@ -209,8 +225,8 @@ static void denied(void)
 	struct vbtf_asked asked;
 	struct vbtf_type type;
 	struct vbtf_kernel none = { 0, 0, 0, 0 };
-	check(vbtf_rewrite(&table, &unreadable, NULL, &none, &asked, &error) == VBTF_BAD_ARGUMENT);
-	check(vbtf_rewrite(&table, NULL, NULL, &none, &asked, &error) == VBTF_OK);
+	check(vbtf_rewrite(&table, &unreadable, NULL, &none, 7, &asked, &error) == VBTF_BAD_ARGUMENT);
+	check(vbtf_rewrite(&table, NULL, NULL, &none, 7, &asked, &error) == VBTF_OK);
 	check(vbtf_type_by_id(&table, 3, &type, &error) == VBTF_OK && type.kind == VBTF_KIND_STRUCT);
 	check(vbtf_type_by_id(&table, 4, &type, &error) == VBTF_OK && type.kind == VBTF_KIND_ENUM);
 	check(asked.count == 2 && asked.granted[0] == 0 && asked.granted[1] == 0);
@@ -302,7 +318,9 @@ static void longest_error_text(void)
 
 int main(void)
 {
+	check(vbtf_version() == VBTF_VERSION);
 	new_tables();
+	undescribed_errors();
 	orders();
 	refused_bytes();
 	rewritten();

@@ -164,7 +164,7 @@ static void ext_calls(void)
 		struct vbtf_error error;
 		struct vbtf_asked asked;
 		uint64_t count = 0;
-		check(vbtf_rewrite(&table, NULL, NULL, &all, &asked, &error) == VBTF_OK);
+		check(vbtf_rewrite(&table, NULL, NULL, &all, 7, &asked, &error) == VBTF_OK);
 		read_records(&table);
 		absent_records(&table);
 		names_of_sections(&table);

@@ -268,7 +268,7 @@ static void replaced_values(void)
 	uint8_t bytes[24 + sizeof records + sizeof strings], out[256];
 	table_bytes_of(bytes, records, sizeof records, strings, sizeof strings);
 	check(vbtf_parse(&table, bytes, sizeof bytes, VBTF_LITTLE, &error) == VBTF_OK);
-	check(vbtf_rewrite(&table, NULL, NULL, &none, &asked, &error) == VBTF_OK);
+	check(vbtf_rewrite(&table, NULL, NULL, &none, 7, &asked, &error) == VBTF_OK);
 	check(vbtf_type_by_id(&table, 1, &type, &error) == VBTF_OK && type.kind == VBTF_KIND_UNION);
 	check(vbtf_value(&table, 1, "high", 4, &value, &error) == VBTF_OK && value == 0x300000004);
 	check(vbtf_bytes(&table, out, sizeof out, &needed, &error) == VBTF_OK);

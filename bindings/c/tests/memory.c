@@ -123,7 +123,7 @@ static uint32_t rewrite(struct vbtf_table *table)
 	static const struct vbtf_names sections = { "data", 4, &size, 1 };
 	static const struct vbtf_kernel all = { 0xff, 0, 0, 0 };
 	struct vbtf_asked asked;
-	return vbtf_rewrite(table, &sections, &sections, &all, &asked, &error);
+	return vbtf_rewrite(table, &sections, &sections, &all, 7, &asked, &error);
 }
 
 static uint32_t add_string(struct vbtf_table *table)

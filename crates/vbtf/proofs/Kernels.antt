@@ -1,6 +1,6 @@
 -- The answers that a rewrite gets are the bits of a kernel.
 use Rattle.std.proofs.Common.{◌≡◌, ℕ, List, [], ◌∷◌, Bool, Option, None, Some, Result, Ok, Err, IfOk, sym, subst}
-use Rattle.std.specs.Prelude.{IfSome}
+use Rattle.std.specs.Prelude.{IfSome, OnOk}
 use Rattle.arrayvec.specs.declared.array_vec.ArrayVec.{ArrayVec}
 use Rattle.btf_model.specs.Refusal.{Refusal}
 use Rattle.btf_model.specs.Table.{Table}
@@ -9,7 +9,7 @@ use Rattle.btf_rewrite_model.specs.declared.ksyms_ids.KsymsIds.{KsymsIds}
 use Rattle.btf_rewrite_model.specs.Pass.{Layout}
 use Rattle.btf_rewrite_model.specs.declared.feature.BtfFeature.{BtfFeature}
 use Rattle.btf_rewrite_model.specs.declared.feature.FeatureAnswer.{FeatureAnswer}
-use Rattle.btf_table.specs.Rewrites.{Rewrites}
+use Rattle.btf_table.specs.Rewrites.{Rewrites, NeedsAreGranted}
 use Rattle.btf_types.specs.Features.{Called}
 use Rattle.btf_words.specs.declared.error.BtfError.{BtfError}
 use Rattle.btf_words.specs.Error.{MeetsOrNoMemory, refusal_of}
@@ -42,6 +42,15 @@ pub for_handle : (features : ℕ) (policy : FillPolicy) (ids : Option KsymsIds) 
 for_handle features policy ids t old l layout n new r same_old same_layout same_new rewrites =
     subst (λ x. RewritesFor features policy x ids layout new r) same_old
     (subst (λ x. RewritesFor features policy t ids x new r) same_layout (subst (λ x. RewritesFor features policy t ids l x r) (sym same_new) rewrites))
+
+-- the features that the answers grant, of equal answers, policies and ids
+pub granted_for : (policy other : FillPolicy) (old new : Table) (ids same : Option KsymsIds) (asked : List FeatureAnswer) (r : Result (ArrayVec FeatureAnswer 8 (Unit {0})) BtfError)
+    → policy ≡ other → ids ≡ same → IfOk r (λ a. a.items ≡ asked) → OnOk r (NeedsAreGranted policy old ids asked new)
+    → IfOk r (λ a. NeedsAreGranted other old same a.items new)
+granted_for policy other old new ids same asked (Ok a) p i is granted =
+    subst (λ x. NeedsAreGranted x old same a.items new) p
+    (subst (λ x. NeedsAreGranted policy old x a.items new) i (subst (λ x. NeedsAreGranted policy old ids x new) (sym is) granted))
+granted_for policy other old new ids same asked (Err e) p i is granted = tt
 
 pub carried : (R : Table → Table → Type 0) (t old n new : Table) → t ≡ old → new ≡ n → R t n → R old new
 carried R t old n new same_old same_new r = subst (λ x. R x new) same_old (subst (λ x. R t x) (sym same_new) r)

@@ -8,7 +8,7 @@ use Rattle.btf_model.specs.declared.endianness.Endianness.{Endianness}
 use Rattle.btf_rewrite_model.specs.Checks.{record_len}
 use Rattle.vbtf.specs.declared.fault.Fault.{Fault}
 use Rattle.vbtf.specs.declared.handle.Handle.{Handle}
-use Rattle.vbtf.specs.Status.{Reports, Fails, no_memory}
+use Rattle.vbtf.specs.Status.{Reports, ReportsNoMemory, Fails}
 
 -- The outcomes of a call that adds to the table of a handle: status 0 and the position, and the handle owns the new
 -- table; or an error or a failed allocation, and the handle owns the unchanged table.
@@ -38,6 +38,6 @@ EndsAddingType status order bytes old new id fault =
     (new.state ≡ 1) × (new.opened.ext ≡ old.opened.ext)
     × (((status ≡ 0) × AddsRecord order bytes old.opened.btf new.opened.btf (Ok (Some id)))
     ⊎ ((status ≡ 102) × AddsRecord order bytes old.opened.btf new.opened.btf (Ok None))
-    ⊎ ((status ≡ no_memory) × (new.opened.btf ≡ old.opened.btf))
+    ⊎ (ReportsNoMemory status fault × (new.opened.btf ≡ old.opened.btf))
     ⊎ ((refusal : Refusal) × Reports status fault refusal
     × AddsRecord order bytes old.opened.btf new.opened.btf (Err refusal)))

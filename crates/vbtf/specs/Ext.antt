@@ -4,7 +4,7 @@ use Rattle.std.specs.List.{IsDistinct}
 use Rattle.std.specs.Set.{is_member}
 use Rattle.std.specs.Str.{bytes_eq}
 use Rattle.std.specs.declared.hash.DefaultHasher.{DefaultHasher}
-use Rattle.std.specs.declared.hash.RandomState.{RandomState}
+use Rattle.vbtf.specs.declared.seed.Keys.{Keys}
 use Rattle.btf_ext.specs.declared.ext.BtfExt.{BtfExt}
 use Rattle.btf_ext.specs.BtfExt.{ext as said}
 use Rattle.btf_model.specs.Ext.{IsExt}
@@ -14,11 +14,11 @@ use Rattle.vbtf.specs.declared.ext.ExtSizes.{ExtSizes}
 use Rattle.vbtf.specs.declared.fault.Fault.{Fault}
 use Rattle.vbtf.specs.declared.handle.Handle.{Handle}
 use Rattle.vbtf.specs.declared.opened.Opened.{Opened}
-use Rattle.vbtf.specs.Status.{Reports, no_memory}
+use Rattle.vbtf.specs.Status.{Reports, ReportsNoMemory}
 
 -- a .BTF.ext whose maps have random keys
 abbrev pub OpenedExt : Type 0
-OpenedExt = BtfExt RandomState DefaultHasher
+OpenedExt = BtfExt Keys DefaultHasher
 
 -- The result of opening: true, and the opened .BTF.ext has the contents of the bytes, with names in the table's
 -- strings; false if a .BTF.ext is open; or the error of the bytes. In the last two cases nothing changes.
@@ -36,7 +36,7 @@ EndsOpeningExt status order bytes old new fault =
     (new.state ≡ 1)
     × (((status ≡ 0) × AddsExt order bytes old.opened new.opened (Ok true))
     ⊎ ((status ≡ 102) × AddsExt order bytes old.opened new.opened (Ok false))
-    ⊎ ((status ≡ no_memory) × (new.opened ≡ old.opened))
+    ⊎ (ReportsNoMemory status fault × (new.opened ≡ old.opened))
     ⊎ ((refusal : Refusal) × Reports status fault refusal × AddsExt order bytes old.opened new.opened (Err refusal)))
 
 -- These are the names for which a look-up finds something, each once, in any order.

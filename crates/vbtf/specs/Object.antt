@@ -1,9 +1,8 @@
 -- The rewrite of an object for a kernel, for C.
-use Rattle.std.specs.Prelude.{◌≡◌, ◌⊎◌, ℕ, List, [], Option, Some, None, if◌then◌else◌, length, ◌==◌}
+use Rattle.std.specs.Prelude.{◌≡◌, ◌⊎◌, ℕ, List, Option, Some, None, if◌then◌else◌, length, ◌==◌}
 use Rattle.btf_elf_model.specs.declared.error.ParseError.{ParseError}
 use Rattle.btf_elf_model.specs.declared.error.ParseError.TheVariants as parse
 use Rattle.btf_elf.specs.declared.error.ObjectError.TheVariants as elf
-use Rattle.btf_elf.specs.declared.error.ReplaceError.{ReplaceError}
 use Rattle.btf_elf.specs.declared.error.ReplaceError.TheVariants as replace
 use Rattle.btf_object_model.specs.Sanitized.{Target, IsSanitized}
 use Rattle.btf_object.specs.Errors.{IsCause}
@@ -12,7 +11,7 @@ use Rattle.btf_object.specs.declared.error.SanitizeError.TheVariants.{Object, No
 use Rattle.btf_rewrite_model.specs.declared.feature.FeatureAnswer.{FeatureAnswer}
 use Rattle.btf_words.specs.Error.{refusal_of}
 use Rattle.vbtf.specs.Kernel.{has_bit, policy_chosen, ListsAnswers}
-use Rattle.vbtf.specs.Status.{Fills, ReportsError, no_memory}
+use Rattle.vbtf.specs.Status.{Details, no_details, HasDetails, Fills, ReportsError, ReportsNoMemory}
 use Rattle.vbtf.specs.declared.fault.Fault.{Fault}
 use Rattle.vbtf.specs.declared.kernel.Asked.{Asked}
 use Rattle.vbtf.specs.declared.kernel.Kernel.{Kernel}
@@ -54,19 +53,20 @@ detail_of (parse.BadSectionName index) = index
 detail_of (parse.BadSymbolName index) = index
 detail_of e = 0
 
--- The status of a failed allocation.
-abbrev pub ReportsNoMemory : ℕ → Fault → Type 0
-ReportsNoMemory status fault = (status ≡ no_memory) × (fault.number ≡ no_memory)
+-- The status and the fault report an error of an object by its number, with these details.
+abbrev pub ReportsNumber : ℕ → Fault → ℕ → Details → Type 0
+ReportsNumber status fault number details =
+    (status ≡ number) × (fault.number ≡ number) × HasDetails fault details
 
 -- The status and the fault report the cause.
 abbrev pub ReportsCause : ℕ → Fault → SanitizeError → Type 0
 ReportsCause status fault (Object (elf.Parse e)) =
-    (status ≡ 104) × (fault.number ≡ 104) × (fault.id ≡ place_of e) × (fault.offset ≡ detail_of e)
+    ReportsNumber status fault 104 (record no_details { id = place_of e; offset = detail_of e })
 ReportsCause status fault (Object elf.OutOfMemory) = ReportsNoMemory status fault
-ReportsCause status fault NoTable = (status ≡ 105) × (fault.number ≡ 105)
+ReportsCause status fault NoTable = ReportsNumber status fault 105 no_details
 ReportsCause status fault (Table e) = ReportsError status fault (refusal_of e)
 ReportsCause status fault (Section replace.OutOfMemory) = ReportsNoMemory status fault
-ReportsCause status fault (Section e) = (status ≡ 106) × (fault.number ≡ 106)
+ReportsCause status fault (Section e) = ReportsNumber status fault 106 no_details
 ReportsCause status fault OutOfMemory = ReportsNoMemory status fault
 
 -- The outcomes of a call that rewrites an object: the rewritten object in the buffer, if it fits, and the answers of

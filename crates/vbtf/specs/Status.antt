@@ -1,5 +1,5 @@
 -- The status that an exported call returns, and the details of an error in the fault.
-use Rattle.std.specs.Prelude.{◌≡◌, ◌⊎◌, ◌<◌, ◌≤◌, ℕ, List, ◌++◌, take, drop, length, Option, Some, None, Result, Ok, Err}
+use Rattle.std.specs.Prelude.{◌≡◌, ◌⊎◌, ◌<◌, ◌≤◌, ℕ, List, [], ◌++◌, take, drop, length, Option, Some, None, Result, Ok, Err}
 use Rattle.btf_model.specs.Refusal as refusals
 use Rattle.btf_model.specs.Refusal.{Refusal}
 use Rattle.btf_model.specs.Table.{Table}
@@ -36,50 +36,72 @@ no_memory = 20
 abbrev pub name_room : ℕ
 name_room = 255
 
--- The fault has the first bytes of a name, as many as fit.
-abbrev pub HasName : Fault → List ℕ → Type 0
-HasName fault name = (fault.name_len ≡ length (take name_room name)) × (take fault.name_len fault.name ≡ take name_room name)
+-- The details of an error. A number that the error does not have is 0, and a name that it does not have is empty.
+pub record Details : Type 0 where
+  pub id : ℕ
+  pub offset : ℕ
+  pub len : ℕ
+  pub section_len : ℕ
+  pub name : List ℕ
 
--- The fault has the id, or the kind, of the error.
-abbrev pub HasId : Fault → ℕ → Type 0
-HasId fault id = fault.id ≡ id
+abbrev pub no_details : Details
+no_details = record { id = 0; offset = 0; len = 0; section_len = 0; name = [] }
 
--- The fault has an offset and the lengths of a section in the bytes.
-abbrev pub HasPlace : Fault → ℕ → ℕ → ℕ → Type 0
-HasPlace fault offset len section_len =
-    (fault.offset ≡ offset) × (fault.len ≡ len) × (fault.section_len ≡ section_len)
+-- the id of a type, or the number of a kind
+abbrev pub an_id : ℕ → Details
+an_id id = record no_details { id = id }
 
--- The fault has the details of the error.
-abbrev pub Describes : Fault → Refusal → Type 0
-Describes fault refusals.InvalidHeader = Unit {0}
-Describes fault refusals.InvalidTypeInfo = Unit {0}
-Describes fault refusals.InvalidRelocationInfo = Unit {0}
-Describes fault (refusals.InvalidTypeKind kind) = HasId fault kind
-Describes fault (refusals.InvalidRelocationKind kind) = HasId fault kind
-Describes fault (refusals.InvalidStringOffset offset) = fault.offset ≡ offset
-Describes fault (refusals.InvalidInfo offset len section_len) = HasPlace fault offset len section_len
-Describes fault (refusals.InvalidLineInfo offset len section_len) = HasPlace fault offset len section_len
-Describes fault (refusals.UnknownBtfType type_id) = HasId fault type_id
-Describes fault (refusals.UnexpectedBtfType type_id) = HasId fault type_id
-Describes fault (refusals.UnknownBtfTypeName type_name) = HasName fault type_name
-Describes fault (refusals.MaximumTypeDepthReached type_id) = HasId fault type_id
-Describes fault (refusals.SymbolOffsetNotFound symbol_name) = HasName fault symbol_name
-Describes fault refusals.InvalidDatasec = Unit {0}
-Describes fault (refusals.UnknownSectionSize section_name) = HasName fault section_name
-Describes fault refusals.InvalidSymbolName = Unit {0}
-Describes fault (refusals.InnerMapCannotBePinned name) = HasName fault name
-Describes fault (refusals.MultiLevelMapInMapNotSupported name) = HasName fault name
-Describes fault (refusals.InvalidValuesSpec name) = HasName fault name
+-- an offset and the lengths of a section in the bytes
+abbrev pub a_place : ℕ → ℕ → ℕ → Details
+a_place offset len section_len = record { id = 0; offset = offset; len = len; section_len = section_len; name = [] }
+
+abbrev pub a_name : List ℕ → Details
+a_name name = record no_details { name = name }
+
+-- the details of each error
+abbrev pub details_of : Refusal → Details
+details_of refusals.InvalidHeader = no_details
+details_of refusals.InvalidTypeInfo = no_details
+details_of refusals.InvalidRelocationInfo = no_details
+details_of (refusals.InvalidTypeKind kind) = an_id kind
+details_of (refusals.InvalidRelocationKind kind) = an_id kind
+details_of (refusals.InvalidStringOffset offset) = a_place offset 0 0
+details_of (refusals.InvalidInfo offset len section_len) = a_place offset len section_len
+details_of (refusals.InvalidLineInfo offset len section_len) = a_place offset len section_len
+details_of (refusals.UnknownBtfType type_id) = an_id type_id
+details_of (refusals.UnexpectedBtfType type_id) = an_id type_id
+details_of (refusals.UnknownBtfTypeName type_name) = a_name type_name
+details_of (refusals.MaximumTypeDepthReached type_id) = an_id type_id
+details_of (refusals.SymbolOffsetNotFound symbol_name) = a_name symbol_name
+details_of refusals.InvalidDatasec = no_details
+details_of (refusals.UnknownSectionSize section_name) = a_name section_name
+details_of refusals.InvalidSymbolName = no_details
+details_of (refusals.InnerMapCannotBePinned name) = a_name name
+details_of (refusals.MultiLevelMapInMapNotSupported name) = a_name name
+details_of (refusals.InvalidValuesSpec name) = a_name name
+
+-- The fault has exactly these details, and the first bytes of the name, as many as fit.
+pub record HasDetails (fault : Fault) (details : Details) : Type 0 where
+  pub id : fault.id ≡ details.id
+  pub offset : fault.offset ≡ details.offset
+  pub len : fault.len ≡ details.len
+  pub section_len : fault.section_len ≡ details.section_len
+  pub name_len : fault.name_len ≡ length (take name_room details.name)
+  pub name : take fault.name_len fault.name ≡ take name_room details.name
 
 -- The status and the fault report the error.
 abbrev pub Reports : ℕ → Fault → Refusal → Type 0
 Reports status fault refusal =
-    (status ≡ status_of refusal) × (fault.number ≡ status_of refusal) × Describes fault refusal
+    (status ≡ status_of refusal) × (fault.number ≡ status_of refusal) × HasDetails fault (details_of refusal)
+
+-- The status and the fault report a failed allocation.
+abbrev pub ReportsNoMemory : ℕ → Fault → Type 0
+ReportsNoMemory status fault = (status ≡ no_memory) × (fault.number ≡ no_memory) × HasDetails fault no_details
 
 -- The status and the fault report the error, or a failed allocation.
 abbrev pub ReportsError : ℕ → Fault → Option Refusal → Type 0
 ReportsError status fault (Some refusal) = Reports status fault refusal
-ReportsError status fault None = (status ≡ no_memory) × (fault.number ≡ no_memory)
+ReportsError status fault None = ReportsNoMemory status fault
 
 -- The outcomes of a call that allocates nothing: status 0 and a value, or an error; each meets P.
 abbrev pub Ends : {Y : Type 0} → ℕ → Y → Fault → (Result Y Refusal → Type 0) → Type 0
@@ -95,16 +117,16 @@ EndsFinding status value fault P =
 
 -- The outcomes of a search that allocates: the same, or an allocation fails.
 abbrev pub EndsFindingOrNoMemory : {Y : Type 0} → ℕ → Y → Fault → (Result (Option Y) Refusal → Type 0) → Type 0
-EndsFindingOrNoMemory status value fault P = EndsFinding status value fault P ⊎ (status ≡ no_memory)
+EndsFindingOrNoMemory status value fault P = EndsFinding status value fault P ⊎ ReportsNoMemory status fault
 
 -- The outcomes of a call that allocates: as of one that does not, or an allocation fails.
 abbrev pub EndsOrNoMemory : {Y : Type 0} → ℕ → Y → Fault → (Result Y Refusal → Type 0) → Type 0
-EndsOrNoMemory status value fault P = Ends status value fault P ⊎ (status ≡ no_memory)
+EndsOrNoMemory status value fault P = Ends status value fault P ⊎ ReportsNoMemory status fault
 
 -- The failures of a call: a failed allocation, or an error that meets P.
 abbrev pub Fails : {Y : Type 0} → ℕ → Fault → (Result Y Refusal → Type 0) → Type 0
 Fails status fault P =
-    (status ≡ no_memory) ⊎ ((refusal : Refusal) × Reports status fault refusal × P (Err refusal))
+    ReportsNoMemory status fault ⊎ ((refusal : Refusal) × Reports status fault refusal × P (Err refusal))
 
 -- The outcomes of a call that opens a handle: status 0, and the handle owns a table that meets P; or an error that
 -- meets P or a failed allocation, and the handle is unchanged.
@@ -134,3 +156,10 @@ Fills items old new needed status =
 abbrev pub EndsFilling : ℕ → List ℕ → List ℕ → ℕ → Fault → (Result (List ℕ) Refusal → Type 0) → Type 0
 EndsFilling status old new needed fault P =
     ((bytes : List ℕ) × Fills bytes old new needed status × P (Ok bytes)) ⊎ ((new ≡ old) × Fails status fault P)
+
+-- The outcomes of a call that writes bytes to a buffer and allocates nothing: bytes that meet P; or an error that meets
+-- P, and the buffer is unchanged.
+abbrev pub FillsOrReports : ℕ → List ℕ → List ℕ → ℕ → Fault → (Result (List ℕ) Refusal → Type 0) → Type 0
+FillsOrReports status old new needed fault P =
+    ((bytes : List ℕ) × Fills bytes old new needed status × P (Ok bytes))
+    ⊎ ((new ≡ old) × (refusal : Refusal) × Reports status fault refusal × P (Err refusal))

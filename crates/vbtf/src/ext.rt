@@ -11,7 +11,7 @@ use crate::fault::{CLOSED, Fault, INVALID_ARGUMENT, report};
 use crate::handle::{Handle, lent, owner, taken};
 use crate::opened::Opened;
 use crate::orders::chosen_order;
-use crate::seed::keyed_by;
+use crate::seed::Keys;
 use btf::{BtfError, BtfExt, Endianness};
 use std::alloc::Global;
 
@@ -119,11 +119,7 @@ fn add_ext(
     if opened.ext.is_some() {
         return Ok(false);
     }
-    // A `Seed` never fails; only the trait's type allows it.
-    let Ok(hash_builder) = keyed_by(seed) else {
-        return Err(BtfError::OutOfMemory);
-    };
-    let ext = BtfExt::parse_with_hasher(data, endianness, &opened.btf, hash_builder)?;
+    let ext = BtfExt::parse_with_hasher(data, endianness, &opened.btf, Keys { seed })?;
     opened.ext = Some(ext);
     Ok(true)
 }

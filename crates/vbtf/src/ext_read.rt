@@ -13,11 +13,11 @@ ghost use Rattle.vbtf.specs.Status.{EndsFilling, Keeps};
 use crate::fault::{CLOSED, Fault, INVALID_ARGUMENT, NO_ITEM, report};
 use crate::handle::{Handle, lent};
 use crate::opened::{KeyedExt, Opened};
+use crate::seed::Keys;
 use crate::write::fill;
 use btf::{BtfError, relocations_of};
 use std::alloc::{AllocError, Global};
 use std::collections::HashMap;
-use std::hash::RandomState;
 
 /// The names of the sections that have function records (part 0) or line records (part 1) in `.BTF.ext`. Each name is
 /// listed once, with a zero byte after it, in no particular order.
@@ -186,10 +186,7 @@ fn names_of_part(alloc: Global, ext: &KeyedExt, part: u32) -> Option<Result<Vec<
 }
 
 /// The names of a map's sections, each with a zero byte after it.
-fn names_of<S>(
-    alloc: Global,
-    sections: &HashMap<String, S, RandomState>,
-) -> Result<Vec<u8>, BtfError>
+fn names_of<S>(alloc: Global, sections: &HashMap<String, S, Keys>) -> Result<Vec<u8>, BtfError>
     ensures { MeetsOrNoMemory (λ v. v.items) result (ListsNames (get_by_text sections.now)) }
 {
     let mut names = Vec::new(alloc);

@@ -2,7 +2,7 @@
 
 ghost use Rattle.std.specs.Prelude.{◌≡◌, length, min};
 ghost use Rattle.btf_words.specs.Error.{refusal_of};
-ghost use Rattle.vbtf.specs.Status.{ReportsError, HasName, name_room};
+ghost use Rattle.vbtf.specs.Status.{ReportsError, HasDetails, no_details, a_name, name_room};
 
 use btf::BtfError;
 
@@ -48,10 +48,8 @@ pub struct Fault {
 fn write(fault: &mut Fault, number: u32, id: u32, offset: u64, len: u64, section_len: u64) -> u32
     ensures status { result ≡ number }
     ensures number { fault.new.number ≡ number }
-    ensures id { fault.new.id ≡ id }
-    ensures offset { fault.new.offset ≡ offset }
-    ensures len { fault.new.len ≡ len }
-    ensures section_len { fault.new.section_len ≡ section_len }
+    ensures details { HasDetails fault.new
+        (record no_details { id = id; offset = offset; len = len; section_len = section_len }) }
 {
     fault.number = number;
     fault.id = id;
@@ -66,8 +64,7 @@ fn write(fault: &mut Fault, number: u32, id: u32, offset: u64, len: u64, section
 pub(crate) fn report_number(fault: &mut Fault, number: u32, id: u32, offset: u64) -> u32
     ensures status { result ≡ number }
     ensures number { fault.new.number ≡ number }
-    ensures id { fault.new.id ≡ id }
-    ensures offset { fault.new.offset ≡ offset }
+    ensures details { HasDetails fault.new (record no_details { id = id; offset = offset }) }
 {
     write(fault, number, id, offset, 0, 0)
 }
@@ -87,7 +84,7 @@ fn name_len(name: &[u8]) -> usize
 fn write_name(fault: &mut Fault, number: u32, name: &str) -> u32
     ensures status { result ≡ number }
     ensures number { fault.new.number ≡ number }
-    ensures name { HasName fault.new name.now }
+    ensures details { HasDetails fault.new (a_name name.now) }
 {
     write(fault, number, 0, 0, 0, 0);
     let bytes = name.as_bytes();

@@ -28,9 +28,9 @@ pub struct Asked {
     /// The number of features.
     pub count: u32,
     /// Their numbers.
-    pub features: [u8; 8],
+    pub features: [u8; 32],
     /// 1 for each that the kernel has, and 0 for one that it lacks.
-    pub granted: [u8; 8],
+    pub granted: [u8; 32],
 }
 
 impl Kernel {

@@ -1,18 +1,19 @@
 //! Objects that are rewritten for a kernel.
 
-ghost use Rattle.std.specs.Prelude.{◌≡◌, Some, None, IfOk, IfErr};
+ghost use Rattle.std.specs.Prelude.{◌≡◌, ℕ, List, Some, None, IfOk, IfErr};
 ghost use Rattle.std.specs.Option.{option_map};
 ghost use Rattle.std.specs.Str.{IsUtf8};
 ghost use Rattle.btf_rewrite_model.specs.declared.feature.BtfFeature.{BtfFeature};
-ghost use Rattle.btf_object_model.specs.Sanitized.{IsSanitized};
-ghost use Rattle.btf_object.specs.Errors.{target_of, IsCause};
-ghost use Rattle.btf_object.specs.Kernel as object;
-ghost use Rattle.vbtf.specs.Kernel.{has_bit};
+ghost use Rattle.btf_elf_model.specs.Object as elf;
+ghost use Rattle.btf_elf_model.specs.declared.section_header.SectionHeader.{SectionHeader};
+ghost use Rattle.btf_object_model.specs.Laws.{KeepsExt};
+ghost use Rattle.btf_object_model.specs.Sanitized.{HasSection, ext_name};
+ghost use Rattle.vbtf.specs.Status.{Fills};
 ghost use Rattle.vbtf.specs.Object.{name_or_none, target_chosen, place_of, detail_of, ReportsCause, EndsSanitizing};
 
 use crate::fault::{Fault, INVALID_ARGUMENT, OUT_OF_MEMORY, report, report_number};
 use crate::kernel::{Asked, Kernel};
-use crate::seed::keyed_by;
+use crate::seed::Keys;
 use crate::write::fill;
 use arrayvec::ArrayVec;
 use btf_elf::{ObjectError, ParseError, ReplaceError};
@@ -54,6 +55,11 @@ pub extern "C" fn vbtf_raw_sanitize_object(
 ) -> u32
     ensures sanitized { IsUtf8 placeholder.now → EndsSanitizing result object.now
         (target_chosen kernel.now placeholder.now) out.old out.new needed.new asked.new fault.new }
+    // With the new table the object's section `.BTF.ext` has the same contents as with the old table.
+    ensures ext { IsUtf8 placeholder.now → result ≡ 0 → (o : elf.Object) (index : ℕ)
+        (s : SectionHeader) → HasSection object.now ext_name o index s
+        → (file : List ℕ) × Fills file out.old out.new needed.new result
+        × (new : elf.Object) × KeepsExt object.now file o new index s }
     ensures unreadable { (IsUtf8 placeholder.now → ⊥)
         → (result ≡ INVALID_ARGUMENT) × (out.new ≡ out.old) }
 {
@@ -61,35 +67,20 @@ pub extern "C" fn vbtf_raw_sanitize_object(
         return INVALID_ARGUMENT;
     };
     let features = btf_object::Kernel::of_bits(kernel.features);
-    match sanitize_keyed(alloc, object, &features, kernel.policy(), named(name), seed) {
+    match sanitize_object_with(
+        alloc,
+        object,
+        &features,
+        kernel.policy(),
+        named(name),
+        Keys { seed },
+    ) {
         Ok((file, answers)) => {
             asked.list(&answers);
             fill(&file, out, needed)
         }
         Err(error) => report_cause(error, fault),
     }
-}
-
-/// Rewrites the table of an object as `sanitize_object_with` does, with the hasher that a number keys.
-fn sanitize_keyed(
-    alloc: Global,
-    object: &[u8],
-    kernel: &btf_object::Kernel,
-    policy: FillPolicy,
-    placeholder: Option<&str>,
-    seed: u64,
-) -> Result<(Vec<u8>, ArrayVec<FeatureAnswer, 8>), SanitizeError>
-    ensures sanitized { IfOk result (λ r. IsSanitized object.now
-        (target_of kernel.now policy (option_map (λ name. name.now) placeholder.entry))
-        r.0.items r.1.items) }
-    ensures refused { IfErr result (IsCause object.now
-        (target_of kernel.now policy (option_map (λ name. name.now) placeholder.entry))) }
-{
-    // A `Seed` never fails; only the trait's type allows it.
-    let Ok(keys) = keyed_by(seed) else {
-        return Err(SanitizeError::OutOfMemory);
-    };
-    sanitize_object_with(alloc, object, kernel, policy, placeholder, keys)
 }
 
 /// A name, or None if it is empty.

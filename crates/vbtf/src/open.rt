@@ -18,7 +18,7 @@ use std::alloc::Global;
 ///
 /// Status 20 if an allocation fails, and 102 if the handle is not closed; it is then unchanged.
 #[unsafe(no_mangle)]
-pub extern "C" fn vbtf_new(alloc: Global, table: &mut Handle, fault: &mut Fault) -> u32
+pub extern "C" fn vbtf_raw_new(alloc: Global, table: &mut Handle, fault: &mut Fault) -> u32
     ensures opened { table.old.state ≡ 0
         → Opens result table.old table.new fault.new (λ answer. answer ≡ Ok empty_table) }
     ensures refused { table.old.state ≢ 0 → (result ≡ INVALID_ARGUMENT) × (table.new ≡ table.old) }

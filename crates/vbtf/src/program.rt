@@ -4,6 +4,7 @@ ghost use Rattle.std.specs.Prelude.{◌≡◌, ℕ, List, IfOk, IfSome, IfNone};
 ghost use Rattle.btf_types.specs.Layout.{sizes_of, offsets_of, layout_of};
 ghost use Rattle.vbtf.specs.Program.{name_in, number_named, layout_named, IsReadable, AreReadable};
 
+use crate::seed::Keys;
 use btf::SectionIndex;
 use std::alloc::{AllocError, Global};
 use std::collections::HashMap;
@@ -24,15 +25,16 @@ pub struct Named {
 /// The sizes of sections and the offsets of symbols, by name.
 #[derive(Drop)]
 pub(crate) struct Program {
-    pub(crate) sections: HashMap<String, (SectionIndex, u64)>,
-    pub(crate) symbols: HashMap<String, u64>,
+    pub(crate) sections: HashMap<String, (SectionIndex, u64), Keys>,
+    pub(crate) symbols: HashMap<String, u64, Keys>,
 }
 
 impl Program {
-    /// The sections and symbols of these entries. If several entries have one name, the last one counts. None if a name
-    /// is not in its buffer, or is not UTF-8.
+    /// The sections and symbols of these entries, in maps whose hashers have these keys. If several entries have one
+    /// name, the last one counts. None if a name is not in its buffer, or is not UTF-8.
     pub(crate) fn read(
         alloc: Global,
+        keys: Keys,
         section_names: &[u8],
         sections: &[Named],
         symbol_names: &[u8],
@@ -47,10 +49,10 @@ impl Program {
             (AreReadable section_names.now sections.now
             × AreReadable symbol_names.now symbols.now → ⊥)) }
     {
-        let Some(sections) = read_sections(alloc, section_names, sections)? else {
+        let Some(sections) = read_sections(alloc, keys, section_names, sections)? else {
             return Ok(None);
         };
-        let Some(symbols) = read_symbols(alloc, symbol_names, symbols)? else {
+        let Some(symbols) = read_symbols(alloc, keys, symbol_names, symbols)? else {
             return Ok(None);
         };
         Ok(Some(Program { sections, symbols }))
@@ -71,16 +73,17 @@ fn name_of<'a>(names: &'a [u8], entry: &Named) -> Option<&'a str>
 /// The sizes of the sections of these entries. Their indices are not used. None if a name cannot be read.
 fn read_sections(
     alloc: Global,
+    keys: Keys,
     names: &[u8],
     entries: &[Named],
-) -> Result<Option<HashMap<String, (SectionIndex, u64)>>, AllocError>
+) -> Result<Option<HashMap<String, (SectionIndex, u64), Keys>>, AllocError>
     ensures some { IfOk result (λ found. IfSome found (λ map. (name : List ℕ)
         → sizes_of map name ≡ number_named names.now entries.now name)) }
     ensures readable { IfOk result (λ found. IfSome found
         (λ _. AreReadable names.now entries.now)) }
     ensures none { IfOk result (λ found. IfNone found (AreReadable names.now entries.now → ⊥)) }
 {
-    let mut map = HashMap::new(alloc);
+    let mut map = HashMap::with_hasher(alloc, keys);
     for entry in entries {
         let Some(name) = name_of(names, entry) else {
             return Ok(None);
@@ -93,16 +96,17 @@ fn read_sections(
 /// The offsets of the symbols of these entries. None if a name cannot be read.
 fn read_symbols(
     alloc: Global,
+    keys: Keys,
     names: &[u8],
     entries: &[Named],
-) -> Result<Option<HashMap<String, u64>>, AllocError>
+) -> Result<Option<HashMap<String, u64, Keys>>, AllocError>
     ensures some { IfOk result (λ found. IfSome found (λ map. (name : List ℕ)
         → offsets_of map name ≡ number_named names.now entries.now name)) }
     ensures readable { IfOk result (λ found. IfSome found
         (λ _. AreReadable names.now entries.now)) }
     ensures none { IfOk result (λ found. IfNone found (AreReadable names.now entries.now → ⊥)) }
 {
-    let mut map = HashMap::new(alloc);
+    let mut map = HashMap::with_hasher(alloc, keys);
     for entry in entries {
         let Some(name) = name_of(names, entry) else {
             return Ok(None);

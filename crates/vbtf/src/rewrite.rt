@@ -1,10 +1,11 @@
 //! The rewrite of a table for a kernel that lacks some features.
 
-ghost use Rattle.std.specs.Prelude.{◌≡◌, ◌≢◌, ◌⊎◌, OnOk, OnErr};
+ghost use Rattle.std.specs.Prelude.{◌≡◌, ◌≢◌, ◌⊎◌, List, IfOk, OnOk, OnErr};
+ghost use Rattle.btf_rewrite_model.specs.declared.feature.FeatureAnswer.{FeatureAnswer};
 ghost use Rattle.btf_types.specs.Layout.{layout_of};
-ghost use Rattle.btf_table.specs.Rewrites.{KeepsSizes, KeepsResolutions, KeepsValues, AppendsAtMost};
+ghost use Rattle.btf_table.specs.Rewrites.{NeedsAreGranted, KeepsSizes, KeepsResolutions, KeepsValues, AppendsAtMost};
 ghost use Rattle.btf_words.specs.Error.{MeetsOrNoMemory};
-ghost use Rattle.vbtf.specs.Kernel.{has_bit, policy_chosen, ids_chosen, RewritesFor, EndsRewriting};
+ghost use Rattle.vbtf.specs.Kernel.{has_bit, policy_chosen, ids_chosen, ListsAnswers, RewritesFor, EndsRewriting};
 ghost use Rattle.vbtf.specs.Program.{layout_named, AreReadable};
 ghost use Rattle.vbtf.specs.Status.{no_memory};
 
@@ -12,13 +13,15 @@ use crate::fault::{CLOSED, Fault, INVALID_ARGUMENT, report};
 use crate::handle::{Handle, OWNED, owner, taken};
 use crate::kernel::{Asked, Kernel};
 use crate::program::{Named, Program};
+use crate::seed::Keys;
 use arrayvec::ArrayVec;
 use btf::{Btf, BtfError, BtfFeature, BtfFeatureResolver, FeatureAnswer};
 use std::alloc::Global;
 
 /// Rewrites the table that a handle owns for a kernel, and reports the features that the rewrite asked about.
 /// `sections` has the sizes of the program's sections, and `symbols` the offsets of its symbols. Their names are in
-/// `section_names` and `symbol_names`, which can be the string tables of an object.
+/// `section_names` and `symbol_names`, which can be the string tables of an object. `seed` is a random number, with which
+/// the names are hashed.
 ///
 /// Status 2, 6, 9, 10, 13, 14 or 15 with the first error, 20 if an allocation fails, 101 if the
 /// handle's state is not 1, and 102 if a name is not in its buffer, or is not UTF-8; the table is then unchanged.
@@ -31,6 +34,7 @@ pub extern "C" fn vbtf_raw_rewrite(
     symbol_names: &[u8],
     symbols: &[Named],
     kernel: &Kernel,
+    seed: u64,
     asked: &mut Asked,
     fault: &mut Fault,
 ) -> u32
@@ -42,6 +46,10 @@ pub extern "C" fn vbtf_raw_rewrite(
     ensures unreadable { table.old.state ≡ 1 → (AreReadable section_names.now sections.now
         × AreReadable symbol_names.now symbols.now → ⊥)
         → ((result ≡ INVALID_ARGUMENT) ⊎ (result ≡ no_memory)) × (table.new ≡ table.old) }
+    // The kernel has each feature that it needs for the new table.
+    ensures granted { result ≡ 0 → (listed : List FeatureAnswer) × ListsAnswers asked.new listed
+        × NeedsAreGranted (policy_chosen kernel.now) table.old.opened.btf
+        (ids_chosen kernel.now) listed table.new.opened.btf }
     // The size of a type does not change if its walk meets no VAR, FUNC, FUNC_PROTO, DATASEC or DECL_TAG.
     ensures sizes { result ≡ 0 → KeepsSizes table.old.opened.btf table.new.opened.btf }
     // An id resolves to the same id as before, unless that was a FUNC.
@@ -54,7 +62,8 @@ pub extern "C" fn vbtf_raw_rewrite(
     if table.seen() != OWNED {
         return CLOSED;
     }
-    let program = match Program::read(alloc, section_names, sections, symbol_names, symbols) {
+    let keys = Keys { seed };
+    let program = match Program::read(alloc, keys, section_names, sections, symbol_names, symbols) {
         Ok(Some(program)) => program,
         Ok(None) => return INVALID_ARGUMENT,
         Err(_) => return report(BtfError::OutOfMemory, fault),
@@ -83,6 +92,8 @@ fn rewritten(
         (RewritesFor kernel.now.features (policy_chosen kernel.now) btf.old
         (ids_chosen kernel.now) (layout_of program.now.sections program.now.symbols) btf.new) }
     ensures err { OnErr result (btf.new ≡ btf.old) }
+    ensures granted { IfOk result (λ a. NeedsAreGranted (policy_chosen kernel.now) btf.old
+        (ids_chosen kernel.now) a.items btf.new) }
     ensures sizes { OnOk result (KeepsSizes btf.old btf.new) }
     ensures resolutions { OnOk result (KeepsResolutions btf.old btf.new) }
     ensures values { OnOk result (KeepsValues btf.old btf.new) }

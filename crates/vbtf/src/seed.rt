@@ -1,26 +1,23 @@
 //! Keys of a hasher, from a random number of the caller.
 
-use std::hash::RandomState;
-use std::io;
-use std::random::RandomSource;
+ghost use Rattle.core.specs.Hash.DefaultHasher.{with_keys};
 
-/// A random number of the caller.
-#[derive(Drop)]
-struct Seed(u64);
+use core::hash::keyed_hasher;
+use std::hash::{BuildHasher, DefaultHasher};
 
-impl RandomSource for Seed {
-    /// Repeats the bytes of the number. Never fails.
-    fn fill_bytes(&self, bytes: &mut [u8]) -> io::Result<()> {
-        let word = self.0.to_le_bytes();
-        for (index, byte) in bytes.iter_mut().enumerate() {
-            *byte = word[index % 8];
-        }
-        Ok(())
-    }
+/// A hash builder whose two keys are a random number of the caller. An attacker who does not know the number cannot
+/// choose names that collide.
+#[derive(Clone, Copy)]
+pub struct Keys {
+    pub(crate) seed: u64,
 }
 
-/// A hash builder whose keys are derived from a number. An attacker who does not know the number cannot choose names
-/// that collide.
-pub(crate) fn keyed_by(seed: u64) -> io::Result<RandomState> {
-    RandomState::new(&Seed(seed))
+impl BuildHasher for Keys {
+    type Hasher = DefaultHasher;
+
+    ghost build_hasher = { λ k. with_keys k.seed k.seed };
+
+    fn build_hasher(&self) -> DefaultHasher {
+        keyed_hasher(self.seed, self.seed)
+    }
 }

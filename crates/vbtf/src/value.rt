@@ -3,7 +3,8 @@
 ghost use Rattle.std.specs.Prelude.{◌≡◌, ◌≢◌};
 ghost use Rattle.std.specs.Str.{IsUtf8};
 ghost use Rattle.btf_model.specs.Value.{Value};
-ghost use Rattle.vbtf.specs.Status.{EndsFindingOrNoMemory, Keeps};
+ghost use Rattle.btf_above.specs.Variants.{NamesAreUtf8};
+ghost use Rattle.vbtf.specs.Status.{EndsFinding, EndsFindingOrNoMemory, Keeps};
 
 use crate::fault::{CLOSED, Fault, INVALID_ARGUMENT, NO_ITEM, report};
 use crate::handle::{Handle, lent};
@@ -24,6 +25,10 @@ pub extern "C" fn vbtf_lent_value(
 ) -> u32
     ensures found { table.old.state ≡ 2 → IsUtf8 name.now
         → EndsFindingOrNoMemory result value.new fault.new
+        (Value table.old.opened.btf id name.now) }
+    // Nothing is allocated if the names of the variants are UTF-8.
+    ensures no_memory { table.old.state ≡ 2 → IsUtf8 name.now
+        → NamesAreUtf8 table.old.opened.btf id → EndsFinding result value.new fault.new
         (Value table.old.opened.btf id name.now) }
     ensures closed { table.old.state ≢ 2 → IsUtf8 name.now → result ≡ CLOSED }
     ensures not_utf8 { (IsUtf8 name.now → ⊥) → result ≡ INVALID_ARGUMENT }

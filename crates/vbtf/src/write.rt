@@ -1,9 +1,10 @@
 //! Texts and blobs in buffers of C.
 
-ghost use Rattle.std.specs.Prelude.{◌≡◌, ◌≢◌, Ok};
+ghost use Rattle.std.specs.Prelude.{◌≡◌, ◌≢◌, Ok, IfSome};
+ghost use Rattle.std.specs.Str.{IsUtf8};
 ghost use Rattle.btf_model.specs.Blob.{canon};
-ghost use Rattle.btf_model.specs.Text.{text_at};
-ghost use Rattle.vbtf.specs.Status.{Fills, EndsFilling, Keeps};
+ghost use Rattle.btf_model.specs.Text.{bytes_at, text_at};
+ghost use Rattle.vbtf.specs.Status.{Fills, EndsFilling, FillsOrReports, Keeps};
 
 use crate::fault::{CLOSED, Fault, NO_ROOM, report};
 use crate::handle::{Handle, lent};
@@ -22,6 +23,11 @@ pub extern "C" fn vbtf_lent_text(
     fault: &mut Fault,
 ) -> u32
     ensures text { table.old.state ≡ 2 → EndsFilling result out.old out.new needed.new fault.new
+        (λ answer. answer ≡ text_at table.old.opened.btf.strings offset) }
+    // Nothing is allocated for a text that is UTF-8.
+    ensures no_memory { table.old.state ≡ 2
+        → IfSome (bytes_at table.old.opened.btf.strings offset) IsUtf8
+        → FillsOrReports result out.old out.new needed.new fault.new
         (λ answer. answer ≡ text_at table.old.opened.btf.strings offset) }
     ensures closed { table.old.state ≢ 2 → (result ≡ CLOSED) × (out.new ≡ out.old) }
     ensures kept { Keeps table.old table.new }
@@ -60,7 +66,10 @@ pub extern "C" fn vbtf_lent_bytes(
 
 /// Writes the text at a string offset to a buffer.
 fn write_text(table: &Btf, offset: u32, out: &mut [u8], needed: &mut u64, fault: &mut Fault) -> u32
-    ensures { EndsFilling result out.old out.new needed.new fault.new
+    ensures text { EndsFilling result out.old out.new needed.new fault.new
+        (λ answer. answer ≡ text_at table.now.strings offset) }
+    ensures no_memory { IfSome (bytes_at table.now.strings offset) IsUtf8
+        → FillsOrReports result out.old out.new needed.new fault.new
         (λ answer. answer ≡ text_at table.now.strings offset) }
 {
     match table.string_at(offset) {

@@ -60,8 +60,8 @@ pub struct vbtf_named {
 #[derive(Debug, Clone, Copy, Default)]
 pub struct vbtf_asked {
     pub count: u32,
-    pub features: [u8; 8],
-    pub granted: [u8; 8],
+    pub features: [u8; 32],
+    pub granted: [u8; 32],
 }
 
 /// An item of a type as words of its record.
@@ -96,10 +96,25 @@ extern "C" {
         symbols: *const vbtf_named,
         symbol_count: usize,
         kernel: *const vbtf_kernel,
+        seed: u64,
         asked: *mut vbtf_asked,
         error: *mut vbtf_error,
     ) -> u32;
-    pub fn vbtf_new(table: *mut vbtf_table, error: *mut vbtf_error) -> u32;
+    pub fn vbtf_raw_sanitize_object(
+        object: *const u8,
+        len: usize,
+        kernel: *const vbtf_kernel,
+        placeholder: *const u8,
+        placeholder_len: usize,
+        seed: u64,
+        out: *mut u8,
+        room: usize,
+        needed: *mut u64,
+        asked: *mut vbtf_asked,
+        error: *mut vbtf_error,
+    ) -> u32;
+    pub fn vbtf_version() -> u32;
+    pub fn vbtf_raw_new(table: *mut vbtf_table, error: *mut vbtf_error) -> u32;
     pub fn vbtf_close(table: *mut vbtf_table);
     pub fn vbtf_raw_parse(
         table: *mut vbtf_table,

@@ -19,6 +19,7 @@ use vbtf_sys::{
 /// # Ok::<(), vbtf::Error>(())
 /// ```
 #[derive(Debug, Clone, Copy, PartialEq, Eq, Hash)]
+#[non_exhaustive]
 pub enum Part {
     /// The first instructions of functions.
     FuncInfo,

@@ -1,5 +1,6 @@
 //! The kernel of a rewrite.
 
+use crate::error::Error;
 use vbtf_sys::{vbtf_asked, vbtf_kernel, vbtf_named};
 
 /// A feature that an older kernel may lack: a kind of BTF, or a use of one.
@@ -12,6 +13,7 @@ use vbtf_sys::{vbtf_asked, vbtf_kernel, vbtf_named};
 /// assert_eq!(lacks[0], Feature::FuncGlobal);
 /// ```
 #[derive(Debug, Clone, Copy, PartialEq, Eq, Hash)]
+#[non_exhaustive]
 pub enum Feature {
     /// FUNC and FUNC_PROTO.
     Func,
@@ -43,6 +45,15 @@ impl Feature {
         Feature::TypeTag,
         Feature::Enum64,
     ];
+}
+
+impl TryFrom<u32> for Feature {
+    type Error = Error;
+
+    /// The feature whose bit in a kernel's features has this number; [`Error::InvalidArgument`] if none has.
+    fn try_from(number: u32) -> Result<Self, Error> {
+        Feature::ALL.get(number as usize).copied().ok_or(Error::InvalidArgument)
+    }
 }
 
 /// A feature that a rewrite asked about, and whether the kernel has it.

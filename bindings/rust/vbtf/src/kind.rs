@@ -1,5 +1,6 @@
 //! The order of a table's words, and the kinds of its types.
 
+use crate::error::Error;
 use std::fmt;
 
 /// The byte order of a table.
@@ -29,8 +30,11 @@ pub enum Endianness {
 /// assert_eq!(Kind::Struct as u32, 4);
 /// assert_eq!(Kind::Struct.to_string(), "[STRUCT]");
 /// assert_eq!(Kind::from_number(20), None);
+/// assert_eq!(Kind::try_from(4), Ok(Kind::Struct));
+/// assert_eq!(Kind::try_from(20), Err(vbtf::Error::InvalidTypeKind { kind: 20 }));
 /// ```
 #[derive(Debug, Clone, Copy, PartialEq, Eq, Hash)]
+#[non_exhaustive]
 pub enum Kind {
     /// The type of id 0, which is void.
     Unknown,
@@ -102,6 +106,15 @@ impl Kind {
     /// The kind of this number; None above 19.
     pub fn from_number(number: u32) -> Option<Self> {
         KINDS.get(usize::try_from(number).ok()?).map(|(kind, _)| *kind)
+    }
+}
+
+impl TryFrom<u32> for Kind {
+    type Error = Error;
+
+    /// The kind of this number; [`Error::InvalidTypeKind`] above 19.
+    fn try_from(number: u32) -> Result<Self, Error> {
+        Kind::from_number(number).ok_or(Error::InvalidTypeKind { kind: number })
     }
 }
 

@@ -13,6 +13,11 @@ use vbtf_sys::*;
 /// The number of the byte order of the magic at the beginning of the data.
 const BY_MAGIC: u32 = 2;
 
+/// A random number, from which the library derives the keys of its hashes: nobody can choose names that collide.
+fn random_seed() -> u64 {
+    RandomState::new().build_hasher().finish()
+}
+
 /// A table of types. Several threads may read one at the same time.
 ///
 /// ```
@@ -54,7 +59,7 @@ impl Table {
     pub fn new() -> Result<Self, Error> {
         let mut handle = Self::closed();
         // SAFETY: the table is closed.
-        called::<()>(|_, error| unsafe { vbtf_new(&mut handle, error) })?;
+        called::<()>(|_, error| unsafe { vbtf_raw_new(&mut handle, error) })?;
         Ok(Self { handle, room: 256 })
     }
 
@@ -196,8 +201,7 @@ impl Table {
 impl Table {
     /// Opens the `.BTF.ext` that bytes represent, whose order has this number.
     fn open_ext_as(&mut self, data: &[u8], order: u32) -> Result<(), Error> {
-        // Random keys, so that nobody can choose names of sections that collide.
-        let seed = RandomState::new().build_hasher().finish();
+        let seed = random_seed();
         // SAFETY: the table is open, and nobody reads it meanwhile; the slice lives as long as the call.
         called(|_, error| unsafe {
             vbtf_raw_open_ext(&mut self.handle, data.as_ptr(), data.len(), order, seed, error)
@@ -256,6 +260,7 @@ impl Table {
                 symbols.entries.as_ptr(),
                 symbols.entries.len(),
                 words,
+                random_seed(),
                 asked,
                 error,
             )

@@ -87,10 +87,20 @@ impl<'a> Type<'a> {
     /// The id of the type that a PTR, TYPEDEF, VOLATILE, CONST, RESTRICT, VAR, DECL_TAG or TYPE_TAG is about, that a
     /// FUNC_PROTO returns, or that is the prototype of a FUNC.
     pub fn target(&self) -> Option<u32> {
-        use Kind::{Const, DeclTag, Func, FuncProto, Ptr, Restrict, TypeTag, Typedef, Var, Volatile};
+        use Kind::{
+            Const, DeclTag, Func, FuncProto, Ptr, Restrict, TypeTag, Typedef, Var, Volatile,
+        };
         let has_target = matches!(
             self.kind(),
-            Ptr | Typedef | Volatile | Const | Restrict | Var | DeclTag | TypeTag | Func | FuncProto
+            Ptr | Typedef
+                | Volatile
+                | Const
+                | Restrict
+                | Var
+                | DeclTag
+                | TypeTag
+                | Func
+                | FuncProto
         );
         has_target.then_some(self.words.size_or_type)
     }
@@ -154,10 +164,10 @@ impl<'a> Type<'a> {
     /// The linkage of a VAR or FUNC.
     pub fn linkage(&self) -> Option<Linkage> {
         if self.kind() == Kind::Func {
-            return Some(Linkage::from_number(self.vlen()));
+            return Some(Linkage::from(self.vlen()));
         }
         let [number, ..] = self.single(Kind::Var)?;
-        Some(Linkage::from_number(number))
+        Some(Linkage::from(number))
     }
 
     /// The index of the member or parameter that a DECL_TAG is on, or -1 if it is on the type as a whole.
@@ -236,6 +246,26 @@ impl ExactSizeIterator for Types<'_> {
 }
 
 impl FusedIterator for Types<'_> {}
+
+/// The types of a table, as [`Table::types`] has them.
+///
+/// ```
+/// use vbtf::Table;
+///
+/// let table = Table::new()?;
+/// for it in &table {
+///     println!("{}: {}", it.id(), it.kind());
+/// }
+/// # Ok::<(), vbtf::Error>(())
+/// ```
+impl<'a> IntoIterator for &'a Table {
+    type Item = Type<'a>;
+    type IntoIter = Types<'a>;
+
+    fn into_iter(self) -> Types<'a> {
+        self.types()
+    }
+}
 
 /// The members, variants, parameters or entries of a type, in order.
 ///
@@ -503,6 +533,7 @@ impl Int {
 /// # Ok::<(), vbtf::Error>(())
 /// ```
 #[derive(Debug, Clone, Copy, PartialEq, Eq, Hash)]
+#[non_exhaustive]
 pub enum Linkage {
     /// Of this object alone.
     Static,
@@ -514,8 +545,9 @@ pub enum Linkage {
     Unknown,
 }
 
-impl Linkage {
-    fn from_number(number: u32) -> Self {
+impl From<u32> for Linkage {
+    /// The linkage of this number; `Unknown` above 2.
+    fn from(number: u32) -> Self {
         match number {
             0 => Linkage::Static,
             1 => Linkage::Global,

@@ -56,10 +56,7 @@ fn sections_are_named() {
     let mut table = table();
     table.open_ext(&bytes(Endianness::Big), Endianness::Big).unwrap();
     let ext = table.ext().unwrap();
-    let parts = [
-        (Part::FuncInfo, vec!["run"]),
-        (Part::LineInfo, vec!["run"]),
-    ];
+    let parts = [(Part::FuncInfo, vec!["run"]), (Part::LineInfo, vec!["run"])];
     for (part, names) in parts {
         assert_eq!(ext.section_count(part), names.len() as u64);
         assert_eq!(ext.sections(part).unwrap(), names);

@@ -1,8 +1,8 @@
 use Rattle.std.proofs.Common.{◌≡◌, rules, ap, subst}
 use Rattle.btf_types.specs.Layout.{layout_of}
 use Rattle.btf_words.specs.Error.{MeetsOrNoMemory}
-use Rattle.vbtf.specs.Kernel.{RewritesFor, policy_chosen}
-use Rattle.vbtf.proofs.Kernels.{all_of, for_kernel}
+use Rattle.vbtf.specs.Kernel.{RewritesFor, policy_chosen, ids_chosen}
+use Rattle.vbtf.proofs.Kernels.{all_of, for_kernel, granted_for}
 use Rattle.vbtf.proofs.rewrite.rewritten.Goals as goal
 
 pub returns-clause-rewrites : goal.returns-clause-rewrites
@@ -15,3 +15,9 @@ returns-clause-rewrites c =
     let for = for_kernel kernel.features c.policy.result c.args.btf.now c.ksyms_ids-ids.result layout call.new.self call.new.resolver.1 call.result of call.ensures.answers call.ensures.rewrites in
     subst (λ ids. MeetsOrNoMemory (λ a. a.items) call.result (RewritesFor kernel.features (policy_chosen kernel) c.args.btf.now ids layout call.new.self)) c.ksyms_ids-ids.ensures
     (subst (λ policy. MeetsOrNoMemory (λ a. a.items) call.result (RewritesFor kernel.features policy c.args.btf.now c.ksyms_ids-ids.result layout call.new.self)) c.policy.ensures for)
+
+pub returns-clause-granted : goal.returns-clause-granted
+returns-clause-granted c =
+    let kernel = c.args.kernel.now in
+    let call = c.fixup_and_sanitize_with in
+    granted_for c.policy.result (policy_chosen kernel) c.args.btf.now call.new.self c.ksyms_ids-ids.result (ids_chosen kernel) call.new.resolver.1 call.result c.policy.ensures c.ksyms_ids-ids.ensures call.ensures.answers call.ensures.granted

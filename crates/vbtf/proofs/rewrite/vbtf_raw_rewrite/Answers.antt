@@ -1,7 +1,7 @@
 use Rattle.std.proofs.Common.{◌≡◌, List, Ok, Err, refl, ap, subst, ◌∙◌, inl, inr}
 use Rattle.std.specs.Prelude.{IfSome}
 use Rattle.btf_rewrite_model.specs.declared.feature.FeatureAnswer.{FeatureAnswer}
-use Rattle.btf_table.specs.Rewrites.{KeepsSizes, KeepsResolutions, KeepsValues}
+use Rattle.btf_table.specs.Rewrites.{NeedsAreGranted, KeepsSizes, KeepsResolutions, KeepsValues}
 use Rattle.btf_types.specs.Layout.{layout_of}
 use Rattle.btf_words.specs.Error.{refusal_of}
 use Rattle.vbtf.specs.Kernel.{RewritesFor, ListsAnswers, policy_chosen, ids_chosen}
@@ -48,6 +48,16 @@ pub returns-in-Ok-clause-values : goal.returns-in-Ok-clause-values
 returns-in-Ok-clause-values c = λ zero.
     let w = (goal.at.returns-in-Ok-clause-values c).After-owner in
     carried KeepsValues _ _ _ _ (same_old w) (same_new w) c.in-Ok.ensures.values
+
+pub returns-in-Ok-clause-granted : goal.returns-in-Ok-clause-granted
+returns-in-Ok-clause-granted c = λ zero.
+    let w = (goal.at.returns-in-Ok-clause-granted c).After-owner in
+    let kernel = c.args.kernel.now in
+    let listed : List FeatureAnswer = c.in-Ok.answers.items in (
+      listed,
+      subst (λ xs. ListsAnswers c.list.new.self xs) c.deref.ensures.0 c.list.ensures,
+      carried (λ old new. NeedsAreGranted (policy_chosen kernel) old (ids_chosen kernel) listed new) _ _ _ _ (same_old w) (same_new w) c.in-Ok.ensures.granted,
+    )
 
 pub returns-in-Ok-clause-rewritten : goal.returns-in-Ok-clause-rewritten
 returns-in-Ok-clause-rewritten c = λ owned sections symbols.
