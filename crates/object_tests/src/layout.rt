@@ -125,10 +125,16 @@ fn has_rows(layout: &ObjectLayout) -> bool {
         && has_index(layout, ".BTF.ext", 15)
 }
 
-/// Whether an object has the sizes and offsets of the rows.
-fn is_read(alloc: Global, file: &[u8]) -> Result<bool, Fail> {
-    let layout = ObjectLayout::read(alloc, &Object::parse(alloc, file)?, fixed_keys())?;
+/// Whether the layout of an object has the sizes and offsets of the rows.
+fn has_layout(alloc: Global, object: &Object<'_>) -> Result<bool, Fail> {
+    let layout = ObjectLayout::read(alloc, object, fixed_keys())?;
     Ok(has_rows(&layout))
+}
+
+/// Whether an object file has the sizes and offsets of the rows.
+fn is_read(alloc: Global, file: &[u8]) -> Result<bool, Fail> {
+    let object = Object::parse(alloc, file)?;
+    has_layout(alloc, &object)
 }
 
 #[test]

@@ -1,7 +1,9 @@
-//! Tests of objects that are rewritten for a kernel. The expected values are the output of readelf and bpftool, or are
-//! computed by hand from the format.
+//! Tests of objects that a compiler wrote, of modified copies, and of objects that are rewritten for a kernel. The
+//! expected values are the output of readelf and bpftool, or are computed by hand from the format.
 #![tactic(auto)]
 
+#[cfg(test)]
+mod elf;
 #[cfg(test)]
 mod kernels;
 #[cfg(test)]
@@ -12,3 +14,5 @@ mod refusals;
 mod rewritten;
 #[cfg(test)]
 mod sample;
+#[cfg(test)]
+mod spelled;

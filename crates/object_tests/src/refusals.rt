@@ -1,6 +1,7 @@
 //! Objects that are not rewritten: the first error of each.
 
-use crate::sample::{fixed_keys, little, overwrite};
+use crate::sample::{fixed_keys, little};
+use crate::spelled::overwrite;
 use btf_object::{FillPolicy, Kernel, SanitizeError, sanitize_object, sanitize_object_with};
 use std::alloc::Global;
 use std::test::Fail;
@@ -56,11 +57,14 @@ static MALFORMED: [Malformed; 6] = [
     },
 ];
 
+fn are_equal(a: &str, b: &str) -> bool {
+    a == b
+}
+
 /// Whether the text of an error is this.
 fn has_text(alloc: Global, error: &SanitizeError, text: &str) -> Result<bool, Fail> {
-    let mut written = String::new(alloc);
-    write!(written, "{error}")?;
-    Ok(written.as_str() == text)
+    let written = format!(in alloc; "{error}")?;
+    Ok(are_equal(written.as_str(), text))
 }
 
 /// Whether the rewrite of an object fails with an error of this text.
@@ -84,12 +88,23 @@ fn is_refused(
     }
 }
 
+/// The object with the bytes of a row.
+fn overwritten(alloc: Global, row: &Malformed) -> Result<Vec<u8>, Fail> {
+    let mut file = little(alloc)?;
+    overwrite(&mut file, row.at, row.bytes)?;
+    Ok(file)
+}
+
+/// Whether the rewrite of the object with the bytes of a row fails with the row's error.
+fn is_row(alloc: Global, row: &Malformed) -> Result<bool, Fail> {
+    let file = overwritten(alloc, row)?;
+    is_refused(alloc, &file, None, row.text)
+}
+
 #[test]
 fn the_first_cause_is_reported(rt: HostRuntime) -> Result<(), Fail> {
-    for malformed in &MALFORMED {
-        let mut file = little(rt.alloc())?;
-        overwrite(&mut file, malformed.at, malformed.bytes)?;
-        assert!(rt; is_refused(rt.alloc(), &file, None, malformed.text)?);
+    for row in &MALFORMED {
+        assert!(rt; is_row(rt.alloc(), row)?, "{}", row.text);
     }
     Ok(())
 }

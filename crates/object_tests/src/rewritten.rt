@@ -103,13 +103,26 @@ fn rewritten(alloc: Global, file: &[u8], version: &str) -> Result<Vec<u8>, Fail>
     Ok(file)
 }
 
+/// The bytes of an object's table, or none.
+fn table_bytes<'a>(object: &Object<'a>) -> &'a [u8] {
+    match object.section_by_name(b".BTF") {
+        Some(index) => match object.sections().get(index) {
+            Some(section) => object.section_bytes(section),
+            None => b"",
+        },
+        None => b"",
+    }
+}
+
 /// The table of an object.
+fn table_in(alloc: Global, object: &Object<'_>) -> Result<Btf, Fail> {
+    Ok(Btf::parse(alloc, table_bytes(object), object.header().order)?)
+}
+
+/// The table of an object file.
 fn table_of(alloc: Global, file: &[u8]) -> Result<Btf, Fail> {
     let object = Object::parse(alloc, file)?;
-    let index = object.section_by_name(b".BTF").ok_or("no table")?;
-    let section = object.sections().get(index).ok_or("no section")?;
-    let bytes = object.section_bytes(section);
-    Ok(Btf::parse(alloc, bytes, object.header().order)?)
+    table_in(alloc, &object)
 }
 
 /// Whether a type of the table has this kind.
@@ -122,42 +135,76 @@ fn has_kind(btf: &Btf, id: u32, kind: BtfKind) -> bool {
 
 /// Whether the ids have the kinds of the version of this index.
 fn has_kinds(btf: &Btf, version: usize) -> bool {
-    KINDS.iter().all(|row| match row.kinds.get(version) {
-        Some(kind) => has_kind(btf, row.id, *kind),
-        None => false,
-    })
+    for row in &KINDS {
+        let kind = row.kinds.get(version).copied().unwrap_or_default();
+        if !has_kind(btf, row.id, kind) {
+            return false;
+        }
+    }
+    true
+}
+
+/// Whether two sections have the same name, and the same bytes if the name is not `.BTF`.
+fn is_same(old: &Object<'_>, a: &SectionHeader, new: &Object<'_>, b: &SectionHeader) -> bool {
+    are_equal(old.section_name(a), new.section_name(b))
+        && (are_equal(old.section_name(a), b".BTF")
+            || are_equal(old.section_bytes(a), new.section_bytes(b)))
 }
 
 /// Whether the sections of two objects have the same bytes, except for those with the name `.BTF`.
 fn has_same_sections(old: &Object<'_>, new: &Object<'_>) -> bool {
-    let is_same = |(a, b): (&SectionHeader, &SectionHeader)| {
-        old.section_name(a) == new.section_name(b)
-            && (old.section_name(a) == b".BTF".as_slice()
-                || old.section_bytes(a) == new.section_bytes(b))
-    };
+    for (a, b) in old.sections().iter().zip(new.sections()) {
+        if !is_same(old, a, new, b) {
+            return false;
+        }
+    }
     old.sections().len() == new.sections().len()
-        && old.sections().iter().zip(new.sections()).all(is_same)
 }
 
-/// Whether the rewrite of an object for the version of an index is correct, and a second rewrite changes nothing.
-fn is_right(alloc: Global, file: &[u8], version: usize) -> Result<bool, Fail> {
-    let text = VERSIONS.get(version).ok_or("no such version")?;
+fn are_equal(a: &[u8], b: &[u8]) -> bool {
+    a == b
+}
+
+/// Whether an object is its own rewrite for a version.
+fn is_unchanged(alloc: Global, file: &[u8], version: &str) -> Result<bool, Fail> {
+    let again = rewritten(alloc, file, version)?;
+    Ok(are_equal(&again, file))
+}
+
+/// Whether the table of an object has the kinds of the version of this index.
+fn has_kinds_of(alloc: Global, file: &[u8], version: usize) -> Result<bool, Fail> {
+    let btf = table_of(alloc, file)?;
+    Ok(has_kinds(&btf, version))
+}
+
+/// Whether these bytes are an object with the sections of another one.
+fn has_sections_of(alloc: Global, old: &Object<'_>, file: &[u8]) -> Result<bool, Fail> {
+    let new = Object::parse(alloc, file)?;
+    Ok(has_same_sections(old, &new))
+}
+
+/// Whether both are objects with the same sections.
+fn keeps_sections(alloc: Global, old: &[u8], new: &[u8]) -> Result<bool, Fail> {
+    let object = Object::parse(alloc, old)?;
+    has_sections_of(alloc, &object, new)
+}
+
+/// Whether an object is the correct rewrite of another one for the version of an index.
+fn is_rewrite(alloc: Global, old: &[u8], new: &[u8], version: usize) -> Result<bool, Fail> {
+    Ok(has_kinds_of(alloc, new, version)? && keeps_sections(alloc, old, new)?)
+}
+
+/// Whether the rewrite of an object for a version is correct, and a second rewrite changes nothing.
+fn is_right(alloc: Global, file: &[u8], version: usize, text: &str) -> Result<bool, Fail> {
     let new = rewritten(alloc, file, text)?;
-    let again = rewritten(alloc, &new, text)?;
-    let btf = table_of(alloc, &new)?;
-    let (old, object) = (Object::parse(alloc, file)?, Object::parse(alloc, &new)?);
-    Ok(
-        has_kinds(&btf, version)
-            && has_same_sections(&old, &object)
-            && again.as_slice() == new.as_slice(),
-    )
+    Ok(is_rewrite(alloc, file, &new, version)? && is_unchanged(alloc, &new, text)?)
 }
 
 #[test]
 fn the_little_object_is_rewritten_for_each_kernel(rt: HostRuntime) -> Result<(), Fail> {
     let file = little(rt.alloc())?;
-    for version in 0..VERSIONS.len() {
-        assert!(rt; is_right(rt.alloc(), &file, version)?);
+    for (version, text) in VERSIONS.iter().enumerate() {
+        assert!(rt; is_right(rt.alloc(), &file, version, text)?, "{text}");
     }
     Ok(())
 }
@@ -165,8 +212,8 @@ fn the_little_object_is_rewritten_for_each_kernel(rt: HostRuntime) -> Result<(),
 #[test]
 fn the_big_object_is_rewritten_for_each_kernel(rt: HostRuntime) -> Result<(), Fail> {
     let file = big(rt.alloc())?;
-    for version in 0..VERSIONS.len() {
-        assert!(rt; is_right(rt.alloc(), &file, version)?);
+    for (version, text) in VERSIONS.iter().enumerate() {
+        assert!(rt; is_right(rt.alloc(), &file, version, text)?, "{text}");
     }
     Ok(())
 }
@@ -184,27 +231,48 @@ fn has_ids(btf: &Btf, placeholder: Option<&str>, placeholder_id: Option<u32>) ->
     }
 }
 
-/// The type that the first entry of `.ksyms` names in an object that is rewritten with a placeholder of this name.
-fn first_symbol(alloc: Global, file: &[u8], placeholder: &str) -> Result<u32, Fail> {
+/// The type that the first entry of the DATASEC of `.ksyms` names, or 0.
+fn first_entry(btf: &Btf) -> u32 {
+    match btf.type_by_id(42) {
+        Ok(BtfType::DataSec(section)) => match section.entries().first() {
+            Some(entry) => entry.btf_type,
+            None => 0,
+        },
+        _ => 0,
+    }
+}
+
+/// The same in an object.
+fn first_symbol_of(alloc: Global, file: &[u8]) -> Result<u32, Fail> {
+    let btf = table_of(alloc, file)?;
+    Ok(first_entry(&btf))
+}
+
+/// An object that is rewritten for 6.0, with a placeholder of this name.
+fn with_placeholder(alloc: Global, file: &[u8], placeholder: &str) -> Result<Vec<u8>, Fail> {
     let kernel = Kernel::of_version("6.0").ok_or("this is no version")?;
     let policy = FillPolicy::KeepSized;
     let keys = fixed_keys();
     let (file, _) = sanitize_object_with(alloc, file, &kernel, policy, Some(placeholder), keys)?;
-    let btf = table_of(alloc, &file)?;
-    match btf.type_by_id(42) {
-        Ok(BtfType::DataSec(section)) => {
-            let entry = section.entries().first().ok_or("no entry")?;
-            Ok(entry.btf_type)
-        }
-        _ => Ok(0),
-    }
+    Ok(file)
+}
+
+/// The type that the first entry of `.ksyms` names in that object.
+fn first_symbol(alloc: Global, file: &[u8], placeholder: &str) -> Result<u32, Fail> {
+    let file = with_placeholder(alloc, file, placeholder)?;
+    first_symbol_of(alloc, &file)
+}
+
+/// Whether an object has those ids without a placeholder, and with the placeholder 29.
+fn finds_ids(alloc: Global, file: &[u8]) -> Result<bool, Fail> {
+    let btf = table_of(alloc, file)?;
+    Ok(has_ids(&btf, None, None) && has_ids(&btf, Some("calls"), Some(29)))
 }
 
 #[test]
 fn symbols_of_the_kernel_are_found_by_name(rt: HostRuntime) -> Result<(), Fail> {
-    let btf = table_of(rt.alloc(), &little(rt.alloc())?)?;
-    assert!(rt; has_ids(&btf, None, None));
-    assert!(rt; has_ids(&btf, Some("calls"), Some(29)));
+    let file = little(rt.alloc())?;
+    assert!(rt; finds_ids(rt.alloc(), &file)?);
     Ok(())
 }
 

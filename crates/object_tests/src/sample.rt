@@ -1,5 +1,6 @@
 //! An object of each byte order, as written by a compiler.
 
+use crate::spelled::spelled;
 use std::alloc::Global;
 use std::hash::{BuildHasherDefault, FoldHasher};
 use std::test::Fail;
@@ -338,15 +339,6 @@ const BIG: &str = "
     00 00 00 01 00 00 00 07 00 00 00 00 00 00 00 08 00 00 00 00 00 00 00 18
 ";
 
-/// The bytes of a text: hexadecimal numbers with white space between them.
-fn spelled(alloc: Global, text: &str) -> Result<Vec<u8>, Fail> {
-    let mut bytes = Vec::new(alloc);
-    for byte in text.split_whitespace() {
-        bytes.push(u8::from_str_radix(byte, 16)?)?;
-    }
-    Ok(bytes)
-}
-
 /// The little-endian object.
 pub fn little(alloc: Global) -> Result<Vec<u8>, Fail> {
     spelled(alloc, LITTLE)
@@ -355,14 +347,6 @@ pub fn little(alloc: Global) -> Result<Vec<u8>, Fail> {
 /// The big-endian object.
 pub fn big(alloc: Global) -> Result<Vec<u8>, Fail> {
     spelled(alloc, BIG)
-}
-
-/// Overwrites the bytes at an offset. An error if they pass the end.
-pub fn overwrite(file: &mut [u8], at: usize, bytes: &[u8]) -> Result<(), Fail> {
-    let rest = file.get_mut(at..).ok_or("the offset is past the end")?;
-    let place = rest.get_mut(..bytes.len()).ok_or("the bytes pass the end")?;
-    place.copy_from_slice(bytes);
-    Ok(())
 }
 
 /// A hasher with a fixed seed.

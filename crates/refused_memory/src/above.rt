@@ -36,8 +36,13 @@ fn read(probe: &Probe, btf: &Btf) -> Result<BtfExt, Fail> {
     Ok(BtfExt::parse(&data, probe.order, btf)?)
 }
 
+/// Finds the relocations with names from a table.
+fn relocations_under(probe: &Probe, btf: &Btf, report: &mut Report) -> Result<(), Fail> {
+    let ext = read(probe, btf)?;
+    probe.twice(&ext, report, || count(probe, &ext, btf))
+}
+
 pub fn relocations(probe: &Probe, blob: &[u8], report: &mut Report) -> Result<(), Fail> {
     let btf = Btf::parse(probe.alloc, blob, probe.order)?;
-    let ext = read(probe, &btf)?;
-    probe.twice(&ext, report, || count(probe, &ext, &btf))
+    relocations_under(probe, &btf, report)
 }

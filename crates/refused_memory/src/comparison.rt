@@ -30,8 +30,12 @@ fn compare_again(work: &str, probe: &Probe, btf: &Btf, report: &mut Report) -> R
     report.pairs("all", &all)
 }
 
+fn compared_in(work: &str, probe: &Probe, btf: &Btf, report: &mut Report) -> Result<(), Fail> {
+    compare_first(work, probe, btf, report)?;
+    compare_again(work, probe, btf, report)
+}
+
 pub fn compared(work: &str, probe: &Probe, blob: &[u8], report: &mut Report) -> Result<(), Fail> {
     let btf = Btf::parse(probe.alloc, blob, probe.order)?;
-    compare_first(work, probe, &btf, report)?;
-    compare_again(work, probe, &btf, report)
+    compared_in(work, probe, &btf, report)
 }

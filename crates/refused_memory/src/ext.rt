@@ -41,9 +41,55 @@ impl Show for Section<'_> {
     }
 }
 
-/// Does the work on a parsed section. The bytes of a section's records are made from a copy of the section, so that the
-/// copy is allocated before the call.
+/// The number of function records of the program's section.
+fn count_functions(ext: &BtfExt) -> Result<u64, BtfError> {
+    let found = ext.func_info().get("xdp/pass")?;
+    Ok(found.len() as u64)
+}
+
+/// The number of line records of the program's section.
+fn count_lines(ext: &BtfExt) -> Result<u64, BtfError> {
+    let found = ext.line_info().get("xdp/pass")?;
+    Ok(found.len() as u64)
+}
+
+/// Makes the bytes of function records, from a copy that is allocated before the call.
+fn function_bytes(probe: &Probe, section: &Section<'_>, report: &mut Report) -> Result<(), Fail> {
+    let functions = section.ext.func_info().get("xdp/pass")?;
+    probe.twice(section, report, || functions.func_info_bytes())
+}
+
+/// Makes the bytes of line records, from a copy that is allocated before the call.
+fn line_bytes(probe: &Probe, section: &Section<'_>, report: &mut Report) -> Result<(), Fail> {
+    let lines = section.ext.line_info().get("xdp/pass")?;
+    probe.twice(section, report, || lines.line_info_bytes())
+}
+
+/// Does the work on a parsed section.
 fn done_on(
+    work: &str,
+    probe: &Probe,
+    data: &[u8],
+    btf: &Btf,
+    section: &Section<'_>,
+    report: &mut Report,
+) -> Result<(), Fail> {
+    let order = probe.order;
+    match work {
+        "parse_ext" => probe.twice(section, report, || BtfExt::parse(data, order, btf)),
+        "parse_ext_with_hasher" => {
+            probe.twice(section, report, || parse_with_hasher(data, order, btf))
+        }
+        "clone_ext" => probe.twice(section, report, || section.ext.try_clone()),
+        "func_get" => probe.twice(section, report, || count_functions(section.ext)),
+        "line_get" => probe.twice(section, report, || count_lines(section.ext)),
+        "func_bytes" => function_bytes(probe, section, report),
+        _ => line_bytes(probe, section, report),
+    }
+}
+
+/// Parses a section, and does the work on it.
+fn done_after_parsing(
     work: &str,
     probe: &Probe,
     data: &[u8],
@@ -56,27 +102,13 @@ fn done_on(
         functions: data.get(28..).unwrap_or(&[]),
         order: probe.order,
     };
-    let functions = ext.func_info().get("xdp/pass")?;
-    let lines = ext.line_info().get("xdp/pass")?;
-    match work {
-        "parse_ext" => probe.twice(&section, report, || BtfExt::parse(data, probe.order, btf)),
-        "parse_ext_with_hasher" => probe.twice(
-            &section,
-            report,
-            || parse_with_hasher(data, probe.order, btf),
-        ),
-        "clone_ext" => probe.twice(&section, report, || ext.try_clone()),
-        "func_get" => probe.twice(&section, report, || {
-            let found = ext.func_info().get("xdp/pass")?;
-            Ok(found.len() as u64)
-        }),
-        "line_get" => probe.twice(&section, report, || {
-            let found = ext.line_info().get("xdp/pass")?;
-            Ok(found.len() as u64)
-        }),
-        "func_bytes" => probe.twice(&section, report, || functions.func_info_bytes()),
-        _ => probe.twice(&section, report, || lines.line_info_bytes()),
-    }
+    done_on(work, probe, data, btf, &section, report)
+}
+
+/// Does the work on a section with names from a table.
+fn done_under(work: &str, probe: &Probe, btf: &Btf, report: &mut Report) -> Result<(), Fail> {
+    let data = program_ext(probe.alloc, probe.order)?;
+    done_after_parsing(work, probe, &data, btf, report)
 }
 
 /// A `.BTF.ext` section with one record of `rec_size` bytes, of functions, lines or relocations, in a section whose
@@ -122,6 +154,17 @@ fn refused(sections: &[Vec<u8>], order: Endianness, btf: &Btf) -> Result<u64, Bt
     Ok(count)
 }
 
+/// Parses such sections with names from a table.
+fn least_sizes_under(
+    part: &str,
+    probe: &Probe,
+    btf: &Btf,
+    report: &mut Report,
+) -> Result<(), Fail> {
+    let sections = sizes_to_least(probe, part)?;
+    probe.twice(btf, report, || refused(&sections, probe.order, btf))
+}
+
 /// Parses sections whose records have each size from 0 to the least, in the part of this name.
 pub fn least_sizes(
     part: &str,
@@ -130,12 +173,10 @@ pub fn least_sizes(
     report: &mut Report,
 ) -> Result<(), Fail> {
     let btf = Btf::parse(probe.alloc, blob, probe.order)?;
-    let sections = sizes_to_least(probe, part)?;
-    probe.twice(&btf, report, || refused(&sections, probe.order, &btf))
+    least_sizes_under(part, probe, &btf, report)
 }
 
 pub fn done(work: &str, probe: &Probe, blob: &[u8], report: &mut Report) -> Result<(), Fail> {
     let btf = Btf::parse(probe.alloc, blob, probe.order)?;
-    let data = program_ext(probe.alloc, probe.order)?;
-    done_on(work, probe, &data, &btf, report)
+    done_under(work, probe, &btf, report)
 }

@@ -155,18 +155,24 @@ fn sanitized(alloc: Global, file: &[u8], kernel: &Kernel) -> Result<Vec<u8>, Btf
     }
 }
 
+/// Replaces the table of a file.
+fn replace(probe: &Probe, file: &Vec<u8>, report: &mut Report) -> Result<(), Fail> {
+    let object = Object::parse(probe.alloc, file)?;
+    probe.twice(file, report, || replaced(probe.alloc, &object))
+}
+
+/// Rewrites a file for Linux 5.4.
+fn sanitize(probe: &Probe, file: &Vec<u8>, report: &mut Report) -> Result<(), Fail> {
+    let kernel = Kernel::of_version("5.4").unwrap_or(Kernel::new());
+    probe.twice(file, report, || sanitized(probe.alloc, file, &kernel))
+}
+
 /// Makes a call on an object that contains the table.
 pub fn done(work: &str, probe: &Probe, blob: &[u8], report: &mut Report) -> Result<(), Fail> {
-    let (alloc, file) = (probe.alloc, object_of(probe.alloc, blob, probe.order)?);
+    let file = object_of(probe.alloc, blob, probe.order)?;
     match work {
-        "parse_object" => probe.twice(&file, report, || symbols(alloc, &file)),
-        "with_section" => {
-            let object = Object::parse(alloc, &file)?;
-            probe.twice(&file, report, || replaced(alloc, &object))
-        }
-        _ => {
-            let kernel = Kernel::of_version("5.4").ok_or("this is no version")?;
-            probe.twice(&file, report, || sanitized(alloc, &file, &kernel))
-        }
+        "parse_object" => probe.twice(&file, report, || symbols(probe.alloc, &file)),
+        "with_section" => replace(probe, &file, report),
+        _ => sanitize(probe, &file, report),
     }
 }

@@ -80,9 +80,9 @@ fn first(
     probe: &Probe,
     blob: &[u8],
     btf: &Btf,
+    made: &mut Made,
     report: &mut Report,
 ) -> Result<(), Fail> {
-    let mut made = Made::new(probe.alloc)?;
     probe.begin_on(btf, report)?;
     let outcome = made.make(work, probe, blob, btf);
     probe.end_on(&outcome, btf, report)?;
@@ -94,15 +94,27 @@ fn again(
     probe: &Probe,
     blob: &[u8],
     btf: &Btf,
+    made: &mut Made,
     report: &mut Report,
 ) -> Result<(), Fail> {
-    let mut made = Made::new(probe.alloc)?;
-    report.last(&made.make(work, probe, blob, btf), btf)?;
+    let outcome = made.make(work, probe, blob, btf);
+    report.last(&outcome, btf)?;
     made.report("all", report)
+}
+
+/// Does the work on the records of a table twice. The second output is allocated after the first call.
+fn all_of(
+    work: &str,
+    probe: &Probe,
+    blob: &[u8],
+    btf: &Btf,
+    report: &mut Report,
+) -> Result<(), Fail> {
+    first(work, probe, blob, btf, &mut Made::new(probe.alloc)?, report)?;
+    again(work, probe, blob, btf, &mut Made::new(probe.alloc)?, report)
 }
 
 pub fn all(work: &str, probe: &Probe, blob: &[u8], report: &mut Report) -> Result<(), Fail> {
     let btf = Btf::parse(probe.alloc, blob, probe.order)?;
-    first(work, probe, blob, &btf, report)?;
-    again(work, probe, blob, &btf, report)
+    all_of(work, probe, blob, &btf, report)
 }

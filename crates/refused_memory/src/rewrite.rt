@@ -132,46 +132,94 @@ fn rewrite(
     rewritten.map(|_| ())
 }
 
-/// Rewrites a table for a kernel that has none of the features.
-pub fn deny_all(alloc: Global, btf: &mut Btf) -> Result<(), Fail> {
-    let program = known(alloc)?;
-    rewrite(
-        Kernel::of("rewrite"),
-        &program,
-        btf,
-        &mut Asked::new(alloc)?,
-    )?;
-    Ok(())
+/// A rewrite: the features of a kernel, and the sections and symbols of a program.
+#[derive(Clone, Copy)]
+struct Setting<'a> {
+    kernel: Kernel,
+    program: &'a Layout,
 }
 
-fn rewritten_twice(
-    kernel: Kernel,
-    probe: &Probe,
-    program: &Layout,
+/// Rewrites a table again after a failure, and reports the result and the questions.
+fn rewrite_again(
+    setting: Setting<'_>,
     btf: &mut Btf,
+    asked: &mut Asked,
     report: &mut Report,
 ) -> Result<(), Fail> {
-    let mut asked = Asked::new(probe.alloc)?;
-    let mut asked_again = Asked::new(probe.alloc)?;
+    let outcome = rewrite(setting.kernel, setting.program, btf, asked);
+    report.last(&outcome, btf)?;
+    report.value("asked again", &asked.calls)
+}
+
+/// Rewrites a table, and again if that fails. Reports the results, and the questions and answers.
+fn rewrite_twice(
+    setting: Setting<'_>,
+    probe: &Probe,
+    btf: &mut Btf,
+    asked: [&mut Asked; 2],
+    report: &mut Report,
+) -> Result<(), Fail> {
+    let [asked, asked_again] = asked;
     probe.begin_on(btf, report)?;
-    let first = rewrite(kernel, program, btf, &mut asked);
+    let first = rewrite(setting.kernel, setting.program, btf, asked);
     if probe.end_on(&first, btf, report)? {
-        report.last(&rewrite(kernel, program, btf, &mut asked_again), btf)?;
-        report.value("asked again", &asked_again.calls)?;
+        rewrite_again(setting, btf, asked_again, report)?;
     }
     report.value("asked", &asked.calls)?;
     report.value("remembered", &asked.answers)?;
     report.value("remembered again", &asked.again)
 }
 
-pub fn whole(work: &str, probe: &Probe, blob: &[u8], report: &mut Report) -> Result<(), Fail> {
-    let kernel = Kernel::of(work);
-    let program = known(probe.alloc)?;
+/// The same, with questions and answers that are allocated before the call.
+fn rewritten_twice(
+    setting: Setting<'_>,
+    probe: &Probe,
+    btf: &mut Btf,
+    report: &mut Report,
+) -> Result<(), Fail> {
+    let mut asked = Asked::new(probe.alloc)?;
+    let mut asked_again = Asked::new(probe.alloc)?;
+    rewrite_twice(setting, probe, btf, [&mut asked, &mut asked_again], report)
+}
+
+/// Rewrites a table.
+fn rewrite_alone(setting: Setting<'_>, probe: &Probe, btf: &mut Btf) -> Result<(), Fail> {
+    let mut asked = Asked::new(probe.alloc)?;
+    Ok(rewrite(setting.kernel, setting.program, btf, &mut asked)?)
+}
+
+/// Does the work with the sections and symbols of a program.
+fn whole_of(
+    work: &str,
+    probe: &Probe,
+    blob: &[u8],
+    setting: Setting<'_>,
+    report: &mut Report,
+) -> Result<(), Fail> {
     let mut btf = Btf::parse(probe.alloc, blob, probe.order)?;
     if work == "rewrite_again" {
-        rewrite(kernel, &program, &mut btf, &mut Asked::new(probe.alloc)?)?;
+        rewrite_alone(setting, probe, &mut btf)?;
     }
-    rewritten_twice(kernel, probe, &program, &mut btf, report)
+    rewritten_twice(setting, probe, &mut btf, report)
+}
+
+/// Rewrites a table for a kernel that has none of the features.
+pub fn deny_all(probe: &Probe, btf: &mut Btf) -> Result<(), Fail> {
+    let program = known(probe.alloc)?;
+    let setting = Setting {
+        kernel: Kernel::of("rewrite"),
+        program: &program,
+    };
+    rewrite_alone(setting, probe, btf)
+}
+
+pub fn whole(work: &str, probe: &Probe, blob: &[u8], report: &mut Report) -> Result<(), Fail> {
+    let program = known(probe.alloc)?;
+    let setting = Setting {
+        kernel: Kernel::of(work),
+        program: &program,
+    };
+    whole_of(work, probe, blob, setting, report)
 }
 
 /// Makes the step of the kernel's symbols alone, with a placeholder of functions or without.
@@ -188,12 +236,12 @@ pub fn step(work: &str, probe: &Probe, blob: &[u8], report: &mut Report) -> Resu
 
 /// The bytes of the rewritten table, whose last id is this one.
 fn rewritten(
-    kernel: Kernel,
+    setting: Setting<'_>,
     probe: &Probe,
-    program: &Layout,
     blob: &[u8],
     last: u32,
 ) -> Result<Vec<u8>, BtfError> {
+    let Setting { kernel, program } = setting;
     let mut resolver = BtfFeatureResolver::new(|feature| kernel.has(feature));
     let (bytes, _) = rewrite_bytes_with(
         probe.alloc,
@@ -208,14 +256,34 @@ fn rewritten(
     Ok(bytes)
 }
 
-pub fn bytes(work: &str, probe: &Probe, blob: &[u8], report: &mut Report) -> Result<(), Fail> {
-    let kernel = Kernel::of(work);
-    let program = known(probe.alloc)?;
+/// Rewrites bytes to bytes, and reports the table of the bytes before and after.
+fn bytes_of(
+    setting: Setting<'_>,
+    probe: &Probe,
+    blob: &[u8],
+    btf: &Btf,
+    report: &mut Report,
+) -> Result<(), Fail> {
+    let last = last_id(btf);
+    probe.twice(btf, report, || rewritten(setting, probe, blob, last))
+}
+
+/// The same with the sections and symbols of a program.
+fn bytes_for(
+    setting: Setting<'_>,
+    probe: &Probe,
+    blob: &[u8],
+    report: &mut Report,
+) -> Result<(), Fail> {
     let btf = Btf::parse(probe.alloc, blob, probe.order)?;
-    let last = last_id(&btf);
-    probe.twice(
-        &btf,
-        report,
-        || rewritten(kernel, probe, &program, blob, last),
-    )
+    bytes_of(setting, probe, blob, &btf, report)
+}
+
+pub fn bytes(work: &str, probe: &Probe, blob: &[u8], report: &mut Report) -> Result<(), Fail> {
+    let program = known(probe.alloc)?;
+    let setting = Setting {
+        kernel: Kernel::of(work),
+        program: &program,
+    };
+    bytes_for(setting, probe, blob, report)
 }

@@ -9,7 +9,7 @@ use btf_records::BtfType;
 use btf_types::Btf;
 use std::test::Fail;
 
-/// Makes a table, or the bytes of one.
+/// Makes a table.
 fn make(work: &str, probe: &Probe, blob: &[u8], btf: &Btf) -> Result<Btf, BtfError> {
     match work {
         "new" => Btf::new(probe.alloc),
@@ -18,17 +18,28 @@ fn make(work: &str, probe: &Probe, blob: &[u8], btf: &Btf) -> Result<Btf, BtfErr
     }
 }
 
+/// Makes a table, or the bytes of this one.
+fn make_twice(
+    work: &str,
+    probe: &Probe,
+    blob: &[u8],
+    btf: &Btf,
+    report: &mut Report,
+) -> Result<(), Fail> {
+    if work == "to_bytes" {
+        probe.twice(btf, report, || btf.to_bytes())
+    } else {
+        probe.twice(btf, report, || make(work, probe, blob, btf))
+    }
+}
+
 pub fn made(work: &str, probe: &Probe, blob: &[u8], report: &mut Report) -> Result<(), Fail> {
     let mut btf = Btf::parse(probe.alloc, blob, probe.order)?;
     if work == "clone_kept" {
         // A UNION has the variants of the ENUM64 that it replaced as its fallback.
-        deny_all(probe.alloc, &mut btf)?;
+        deny_all(probe, &mut btf)?;
     }
-    if work == "to_bytes" {
-        probe.twice(&btf, report, || btf.to_bytes())
-    } else {
-        probe.twice(&btf, report, || make(work, probe, blob, &btf))
-    }
+    make_twice(work, probe, blob, &btf, report)
 }
 
 /// Adds a string or a type.
@@ -45,18 +56,23 @@ pub fn added(work: &str, probe: &Probe, blob: &[u8], report: &mut Report) -> Res
     probe.twice_on(&mut btf, report, |btf| add(work, btf))
 }
 
-pub fn named(work: &str, probe: &Probe, blob: &[u8], report: &mut Report) -> Result<(), Fail> {
-    let btf = Btf::parse(probe.alloc, blob, probe.order)?;
-    let last = btf.type_by_id(last_id(&btf))?;
+/// Reads the name of the last type of a table, or finds a type by its name.
+fn named_in(work: &str, probe: &Probe, btf: &Btf, report: &mut Report) -> Result<(), Fail> {
+    let last = btf.type_by_id(last_id(btf))?;
     match work {
-        "string_at" => probe.twice(&btf, report, || btf.string_at(1)),
-        "type_name" => probe.twice(&btf, report, || btf.type_name(last)),
-        "err_type_name" => probe.twice(&btf, report, || btf.err_type_name(last)),
+        "string_at" => probe.twice(btf, report, || btf.string_at(1)),
+        "type_name" => probe.twice(btf, report, || btf.type_name(last)),
+        "err_type_name" => probe.twice(btf, report, || btf.err_type_name(last)),
         // A name with U+FFFD is compared with the texts of bytes that are not UTF-8.
-        _ => probe.twice(&btf, report, || {
+        _ => probe.twice(btf, report, || {
             btf.id_by_type_name_kind("\u{fffd}A", BtfKind::Int)
         }),
     }
+}
+
+pub fn named(work: &str, probe: &Probe, blob: &[u8], report: &mut Report) -> Result<(), Fail> {
+    let btf = Btf::parse(probe.alloc, blob, probe.order)?;
+    named_in(work, probe, &btf, report)
 }
 
 /// Parses bytes that need not be a valid table.

@@ -1,6 +1,6 @@
 //! The relocations of a section of a program.
 
-use crate::spelled::{ext_bytes, parsed_under};
+use crate::ext::spelled::{ext_bytes, parsed_under};
 use btf_above::relocations_of;
 use btf_plain::{BtfError, Endianness};
 use btf_samples::blobs::table_of;

@@ -1,5 +1,5 @@
 #!/bin/sh
-# Makes the objects of this folder, and the texts of src/sample.rt and of the listings in README.md.
+# Makes the objects of this folder, and the texts of src/elf/sample.rt and of the lists in src/elf/reading.rt.
 # clang and readelf are those of Debian 12: clang 14.0.6, GNU readelf 2.40.
 set -e
 cd "$(dirname "$0")"

@@ -1,6 +1,6 @@
 //! The records of functions, of lines and of relocations.
 
-use crate::spelled::parsed_words;
+use crate::ext::spelled::parsed_words;
 use btf_plain::Endianness;
 use btf_samples::spelled::{ORDERS, spelled_decimals};
 use btf_types::{BtfExt, FuncInfo, FuncSecInfo, LineInfo, LineSecInfo};

@@ -1,6 +1,6 @@
 //! The header of a section, and the ranges that it names.
 
-use crate::spelled::{ext_bytes, parses_as};
+use crate::ext::spelled::{ext_bytes, parses_as};
 use btf_plain::Endianness;
 use btf_samples::spelled::ORDERS;
 use std::alloc::Global;

@@ -1,9 +1,10 @@
-//! Two small objects, as written by a compiler, and modified copies of them.
+//! A small object of each byte order, as written by a compiler.
 
+use crate::spelled::spelled;
 use std::alloc::Global;
 use std::test::Fail;
 
-/// The bytes of data/small.bpfel.o, of 1096 bytes.
+/// The bytes of data/small/small.bpfel.o, of 1096 bytes.
 const LITTLE: &str = "
     7f 45 4c 46 02 01 01 00 00 00 00 00 00 00 00 00 01 00 f7 00 01 00 00 00 00 00 00 00 00 00 00 00
     00 00 00 00 00 00 00 00 c8 01 00 00 00 00 00 00 00 00 00 00 40 00 00 00 00 00 40 00 0a 00 01 00
@@ -42,7 +43,7 @@ const LITTLE: &str = "
     18 00 00 00 00 00 00 00
 ";
 
-/// The bytes of data/small.bpfeb.o, of 1096 bytes.
+/// The bytes of data/small/small.bpfeb.o, of 1096 bytes.
 const BIG: &str = "
     7f 45 4c 46 02 02 01 00 00 00 00 00 00 00 00 00 00 01 00 f7 00 00 00 01 00 00 00 00 00 00 00 00
     00 00 00 00 00 00 00 00 00 00 00 00 00 00 01 c8 00 00 00 00 00 40 00 00 00 00 00 40 00 0a 00 01
@@ -81,15 +82,6 @@ const BIG: &str = "
     00 00 00 00 00 00 00 18
 ";
 
-/// The bytes of a text: hexadecimal numbers with white space between them.
-fn spelled(alloc: Global, text: &str) -> Result<Vec<u8>, Fail> {
-    let mut bytes = Vec::new(alloc);
-    for byte in text.split_whitespace() {
-        bytes.push(u8::from_str_radix(byte, 16)?)?;
-    }
-    Ok(bytes)
-}
-
 /// The little-endian object.
 pub fn little(alloc: Global) -> Result<Vec<u8>, Fail> {
     spelled(alloc, LITTLE)
@@ -98,12 +90,4 @@ pub fn little(alloc: Global) -> Result<Vec<u8>, Fail> {
 /// The big-endian object.
 pub fn big(alloc: Global) -> Result<Vec<u8>, Fail> {
     spelled(alloc, BIG)
-}
-
-/// Overwrites the bytes at an offset. An error if they pass the end.
-pub fn overwrite(file: &mut [u8], at: usize, bytes: &[u8]) -> Result<(), Fail> {
-    let rest = file.get_mut(at..).ok_or("the offset is past the end")?;
-    let place = rest.get_mut(..bytes.len()).ok_or("the bytes pass the end")?;
-    place.copy_from_slice(bytes);
-    Ok(())
 }

@@ -1,6 +1,7 @@
 //! Objects that are malformed: the first error of each.
 
-use crate::sample::{little, overwrite};
+use crate::elf::sample::little;
+use crate::spelled::overwrite;
 use btf_elf::{Object, ObjectError, ParseError};
 use std::alloc::Global;
 use std::test::Fail;

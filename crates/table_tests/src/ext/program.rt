@@ -1,7 +1,7 @@
 //! The section of a program that returns immediately, as written by a compiler.
 
-use crate::records::{has_funcs, has_lines};
-use crate::spelled::{parsed_under, parses_as};
+use crate::ext::records::{has_funcs, has_lines};
+use crate::ext::spelled::{parsed_under, parses_as};
 use btf_plain::{BtfError, Endianness};
 use btf_samples::program::{program_ext, program_table};
 use btf_samples::spelled::ORDERS;
