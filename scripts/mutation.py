@@ -15,7 +15,7 @@ from typing import Iterator, NamedTuple
 HEAD = re.compile(r"^(\s*)(?:pub(?:\([a-z]+\))? )?(?:const )?(?:extern \"C\" )?fn (\w+)", re.M)
 IMPL = re.compile(r"^impl\b(.*?)\{?$", re.M)
 CONST = re.compile(r"\s*(?:pub(?:\([a-z]+\))? )?const (\w+):")
-NOTE = re.compile(r"# (?:refused|unproved) at: ")
+NOTE = re.compile(r"# refused at: ")
 
 KILLED, SURVIVED, WRONG, NOT_APPLICABLE = "killed", "survived", "killed for the wrong reason", "not applicable"
 

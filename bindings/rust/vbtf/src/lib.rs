@@ -35,3 +35,8 @@ pub use kernel::{Feature, FeatureAnswer, Kernel};
 pub use kind::{Endianness, Kind};
 pub use table::{fields_are_compatible, types_are_compatible, Table};
 pub use types::{Array, Entry, Int, Items, Linkage, Member, Param, Type, Types, Variant};
+
+/// The example of the README, for `cargo test`.
+#[cfg(doctest)]
+#[doc = include_str!("../README.md")]
+struct Readme;
