@@ -25,6 +25,18 @@ fn granted(alloc: Global, count: usize) -> usize {
     count
 }
 
+/// Makes a call that changes a table again, and reports its result and the table after it.
+fn again_on<T: Show + Drop, F: Fn(&mut Btf) -> Result<T, BtfError>>(
+    btf: &mut Btf,
+    report: &mut Report,
+    call: F,
+) -> Result<(), Fail>
+    requires { F.IsAlwaysCallable call }
+{
+    let outcome = call(btf);
+    report.last(&outcome, btf)
+}
+
 impl Probe {
     pub fn new(alloc: Global, order: Endianness, before: usize, after: usize) -> Self {
         Probe {
@@ -46,8 +58,7 @@ impl Probe {
         requires { F.IsAlwaysCallable call }
     {
         self.begin_on(value, report)?;
-        let first = call();
-        if self.end_on(&first, value, report)? {
+        if self.end_on(&call(), value, report)? {
             report.last(&call(), value)?;
         }
         Ok(())
@@ -66,7 +77,7 @@ impl Probe {
         self.begin_on(btf, report)?;
         let first = call(btf);
         if self.end_on(&first, btf, report)? {
-            report.last(&call(btf), btf)?;
+            again_on(btf, report, call)?;
         }
         Ok(())
     }

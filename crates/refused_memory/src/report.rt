@@ -186,16 +186,19 @@ fn show_walks(btf: &Btf, id: u32, out: &mut String) -> Result<(), Fail> {
     Ok(())
 }
 
+/// Reports a name if it is UTF-8.
+fn push_name(name: &Result<BtfStr<'_>, BtfError>, out: &mut String) -> Result<(), Fail> {
+    match name {
+        Ok(BtfStr::Borrowed(name)) => Ok(write!(out, ":{name}")?),
+        _ => Ok(()),
+    }
+}
+
 /// Reports the name of an id if it is UTF-8, by both calls that return a name and allocate nothing for such a name.
 fn show_name(btf: &Btf, id: u32, out: &mut String) -> Result<(), Fail> {
     let record = btf.type_by_id(id)?;
-    if let Ok(BtfStr::Borrowed(name)) = btf.type_name(record) {
-        write!(out, ":{name}")?;
-    }
-    if let Ok(BtfStr::Borrowed(name)) = btf.string_at(record.name_offset()) {
-        write!(out, ":{name}")?;
-    }
-    Ok(())
+    push_name(&btf.type_name(record), out)?;
+    push_name(&btf.string_at(record.name_offset()), out)
 }
 
 /// Reports the fallbacks of a table, and the results of calls that allocate nothing on its types.

@@ -156,10 +156,10 @@ fn rewrite_twice(
     setting: Setting<'_>,
     probe: &Probe,
     btf: &mut Btf,
-    asked: [&mut Asked; 2],
+    asked: &mut Asked,
+    asked_again: &mut Asked,
     report: &mut Report,
 ) -> Result<(), Fail> {
-    let [asked, asked_again] = asked;
     probe.begin_on(btf, report)?;
     let first = rewrite(setting.kernel, setting.program, btf, asked);
     if probe.end_on(&first, btf, report)? {
@@ -179,7 +179,7 @@ fn rewritten_twice(
 ) -> Result<(), Fail> {
     let mut asked = Asked::new(probe.alloc)?;
     let mut asked_again = Asked::new(probe.alloc)?;
-    rewrite_twice(setting, probe, btf, [&mut asked, &mut asked_again], report)
+    rewrite_twice(setting, probe, btf, &mut asked, &mut asked_again, report)
 }
 
 /// Rewrites a table.
