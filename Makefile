@@ -4,7 +4,7 @@ NAME ?=
 FILE ?= $(firstword $(wildcard /sys/kernel/btf/vmlinux) crates/btf_examples/data/kernel.btf)
 PREFIX ?= $(HOME)/.local
 
-.PHONY: try list build test check mutants bench install
+.PHONY: try list build objects test check mutants bench install
 
 # Lists the types of a small table by btftool as it is compiled without proofs, which takes a minute.
 try:
@@ -17,6 +17,10 @@ list:
 # Proves and builds btftool where it is older than its sources.
 build:
 	./btftool little copy < crates/btftool/stdin > /dev/null
+
+# Proves and builds btfobj where it is older than its sources.
+objects:
+	./btfobj --version
 
 # Proves and tests everything: the merge gate.
 test:
@@ -34,7 +38,8 @@ mutants:
 bench:
 	cd crates/btf_bench && rt run -- $(abspath $(FILE))
 
-# Installs the C library and btftool below PREFIX.
-install: build
-	bindings/install $(PREFIX)
-	install -D crates/btftool/out/btftool $(PREFIX)/bin/btftool
+# Installs the C library, btftool and btfobj below PREFIX.
+install: build objects
+	bindings/install "$(PREFIX)"
+	install -D crates/btftool/out/btftool "$(PREFIX)/bin/btftool"
+	install -D crates/btfobj/out/btfobj "$(PREFIX)/bin/btfobj"

@@ -15,17 +15,19 @@ use std::fmt::Write;
 /// variants, parameters or variables. The text equals the output of `bpftool btf dump file FILE format raw` of bpftool
 /// 7.1, except for names that are not UTF-8, which are written as `Btf::string_at` reads them.
 ///
-/// The error is `Write` if the writer fails, and `Table` with `OutOfMemory` if an allocation fails. Only a name that is
-/// not UTF-8 needs an allocation.
+/// Returns whether a type was selected. The error is `Write` if the writer fails, and `Table` with `OutOfMemory` if an
+/// allocation fails. Only a name that is not UTF-8 needs an allocation.
 pub fn write_dump<W: Write>(
     table: &Btf,
     selection: &Selection<'_>,
     out: &mut W,
-) -> Result<(), TextError> {
+) -> Result<bool, TextError> {
+    let mut is_any = false;
     for (id, btf_type) in table.types().enumerate() {
         if id > 0 && selection.has(table, id, btf_type)? {
             write_type(out, table, id, btf_type)?;
+            is_any = true;
         }
     }
-    Ok(())
+    Ok(is_any)
 }

@@ -1,55 +1,34 @@
-//! Reading and writing files.
+//! Reading files.
 
+use std::alloc::Global;
 use std::fs::File;
-use std::io::{Read, Write};
-use std::{fs, io};
+use std::io;
+use std::io::Read;
 
 /// The name of standard input, and of standard output.
-const STREAM: &str = "-";
+pub const STREAM: &str = "-";
 
-/// The ending of a new file's name until the file is complete.
-const UNFINISHED: &str = ".btfobj-new";
-
-/// The whole of a file, or of standard input for `-`.
+/// The whole of a file, or of standard input for `-`. Of a file that begins neither as an object nor as a table it is
+/// the first four bytes, which suffice for the error: a device may have no end.
 pub fn read_file(rt: &HostRuntime, name: &str) -> io::Result<Vec<u8>> {
-    if name != STREAM {
-        return fs::read(rt, name);
+    if name == STREAM {
+        read_whole(rt.alloc(), &mut rt.stdin())
+    } else {
+        read_whole(rt.alloc(), &mut File::open(rt, name)?)
     }
-    let mut bytes = Vec::new(rt.alloc());
-    rt.stdin().read_to_end(&mut bytes)?;
+}
+
+/// The same of a reader.
+fn read_whole<R: Read>(alloc: Global, reader: &mut R) -> io::Result<Vec<u8>> {
+    let mut bytes = Vec::new(alloc);
+    (&mut *reader).take(4).read_to_end(&mut bytes)?;
+    if is_known(&bytes) {
+        reader.read_to_end(&mut bytes)?;
+    }
     Ok(bytes)
 }
 
-/// Writes these bytes to a file, or to standard output for `-`.
-///
-/// The bytes are written to a new file `NAME.btfobj-new`, which is renamed at the end, so that the name never refers to
-/// an incomplete file. An unfinished file that a killed process left is not overwritten.
-pub fn write_file(rt: &HostRuntime, name: &str, bytes: &[u8]) -> io::Result<()> {
-    if name == STREAM {
-        return rt.stdout().write_all(bytes);
-    }
-    let unfinished = format!(in rt.alloc(); "{name}{UNFINISHED}")?;
-    let unfinished = unfinished.as_str();
-    let mut file = File::create_new(rt, unfinished)?;
-    match finish(rt, &mut file, bytes, unfinished, name) {
-        Ok(()) => Ok(()),
-        Err(e) => {
-            // An error of the removal is ignored, because the first error is returned.
-            let _ = fs::remove_file(rt, unfinished);
-            Err(e)
-        }
-    }
-}
-
-/// Writes the bytes to an unfinished file, waits until the disk has them, and gives the file its name.
-fn finish(
-    rt: &HostRuntime,
-    file: &mut File,
-    bytes: &[u8],
-    unfinished: &str,
-    name: &str,
-) -> io::Result<()> {
-    file.write_all(bytes)?;
-    file.sync_all()?;
-    fs::rename(rt, unfinished, name)
+/// Whether bytes begin as an object or as a table.
+fn is_known(bytes: &[u8]) -> bool {
+    matches!(bytes, b"\x7fELF" | [0x9f, 0xeb, ..] | [0xeb, 0x9f, ..])
 }

@@ -2,6 +2,8 @@
 #![tactic(auto)]
 
 mod files;
+mod new_file;
+mod output;
 mod run;
 
 use crate::run::carry_out;

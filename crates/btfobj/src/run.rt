@@ -1,11 +1,17 @@
 //! Carrying out a request.
 
-use crate::files::{read_file, write_file};
+use crate::files::{STREAM, read_file};
+use crate::new_file::write_file;
+use crate::output::Output;
 use btf_table::Btf;
 use btfobj_cli::{Blob, Fault, Request, Rewrite, check, compat, dump, ext, layout, sanitize};
 use std::hash::RandomState;
+use std::io::{ErrorKind, Write};
 use std::process::ExitCode;
 use std::{fmt, io};
+
+/// The status of a program that SIGPIPE ends, in a shell.
+const CLOSED_PIPE: u8 = 141;
 
 /// The error of a request: the file, and its error.
 #[derive(Drop)]
@@ -33,53 +39,70 @@ impl fmt::Display for Failure<'_> {
     }
 }
 
-/// Carries out a request, and returns the status: 0 on success, and 1 for an error or a negative check.
+/// Carries out a request, and returns the status: 0 on success, 1 for an error or a negative check, and 141 if the
+/// reader of standard output closed it.
 pub fn carry_out(rt: &HostRuntime, request: &Request<'_>) -> ExitCode {
-    match answer(rt, request) {
+    let mut out = Output::new(rt);
+    match answer(rt, request, &mut out) {
         Ok(true) => ExitCode::SUCCESS,
         Ok(false) => ExitCode::FAILURE,
-        Err(failure) => {
-            // An error of standard error cannot be reported.
-            let _ = eprintln!(rt; "{failure}");
-            ExitCode::FAILURE
-        }
+        Err(failure) => report(rt, &failure, out.failure()),
     }
 }
 
+/// Reports a failure, with the reason if standard output failed, and returns the status. A closed pipe is not reported.
+fn report(rt: &HostRuntime, failure: &Failure<'_>, output: Option<ErrorKind>) -> ExitCode {
+    // An error of standard error cannot be reported.
+    match output {
+        Some(ErrorKind::BrokenPipe) => return ExitCode::from(CLOSED_PIPE),
+        Some(reason) => {
+            let _ = eprintln!(rt; "btfobj: cannot write standard output: {reason}");
+        }
+        None => {
+            let _ = eprintln!(rt; "{failure}");
+        }
+    }
+    ExitCode::FAILURE
+}
+
 /// Carries out a request. Returns false for a negative check.
-fn answer<'a>(rt: &HostRuntime, request: &Request<'a>) -> Result<bool, Failure<'a>> {
+fn answer<'a>(
+    rt: &HostRuntime,
+    request: &Request<'a>,
+    out: &mut Output<'_>,
+) -> Result<bool, Failure<'a>> {
     match request {
         Request::Dump { file, selection } => {
             let bytes = read(rt, file)?;
-            let done = dump(rt.alloc(), &bytes, selection, &mut rt.stdout());
+            let done = dump(rt.alloc(), &bytes, selection, out);
             blame(file, done)?;
         }
         Request::Layout { file, name } => {
             let bytes = read(rt, file)?;
-            let done = layout(rt.alloc(), &bytes, name, &mut rt.stdout());
+            let done = layout(rt.alloc(), &bytes, name, out);
             blame(file, done)?;
         }
         Request::Ext { file } => {
             let bytes = read(rt, file)?;
-            let done = ext(rt.alloc(), &bytes, &mut rt.stdout());
+            let done = ext(rt.alloc(), &bytes, out);
             blame(file, done)?;
         }
         Request::Check { file, rewrite } => {
             let bytes = read(rt, file)?;
             let keys = hasher(rt, file)?;
-            let changes = check(rt.alloc(), &bytes, rewrite, keys, &mut rt.stdout());
+            let changes = check(rt.alloc(), &bytes, rewrite, keys, out);
             return Ok(!blame(file, changes)?);
         }
         Request::Sanitize {
             file,
             output,
             rewrite,
-        } => write_sanitized(rt, file, output, rewrite)?,
+        } => write_sanitized(rt, file, output, rewrite, out)?,
         Request::Compat {
             local,
             target,
             names,
-        } => return are_compatible(rt, local, target, names),
+        } => return are_compatible(rt, local, target, names, out),
     }
     Ok(true)
 }
@@ -123,11 +146,17 @@ fn write_sanitized<'a>(
     file: &'a str,
     output: &'a str,
     rewrite: &Rewrite<'_>,
+    out: &mut Output<'_>,
 ) -> Result<(), Failure<'a>> {
     let bytes = read(rt, file)?;
     let keys = hasher(rt, file)?;
     let (written, _) = blame(file, sanitize(rt.alloc(), &bytes, rewrite, keys))?;
-    match write_file(rt, output, &written) {
+    let done = if output == STREAM {
+        out.write_all(&written)
+    } else {
+        write_file(rt, output, &written)
+    };
+    match done {
         Ok(()) => Ok(()),
         Err(e) => Err(Failure {
             file: output,
@@ -149,11 +178,9 @@ fn are_compatible<'a>(
     local: &'a str,
     target: &'a str,
     names: &[&str],
+    out: &mut Output<'_>,
 ) -> Result<bool, Failure<'a>> {
     let local_table = read_table(rt, local)?;
     let target_table = read_table(rt, target)?;
-    blame(
-        local,
-        compat(&local_table, &target_table, names, &mut rt.stdout()),
-    )
+    blame(local, compat(&local_table, &target_table, names, out))
 }

@@ -70,10 +70,9 @@ fn file<'a>(alloc: Global, id: &'a str, name: &'a str, help: &'a str) -> Arg<'a>
 
 /// The command `dump`.
 fn dump<'a>(alloc: Global) -> Result<Command<'a>, AllocError> {
-    let ids = Arg::new(alloc, "ids")
-        .long("ids")
-        .value_name("A..B")
-        .help("Only ids from A on and below B; either may be left out");
+    let ids = Arg::new(alloc, "ids").long("ids").value_name("A..B").help(
+        "Only ids from A on and below B, either of which may be left out; or only this id",
+    );
     let name = Arg::new(alloc, "name")
         .long("name")
         .value_name("TEXT")
@@ -157,7 +156,9 @@ fn with_kernel<'a>(alloc: Global, command: Command<'a>) -> Result<Command<'a>, A
     let kernel = Arg::new(alloc, "kernel")
         .long("kernel")
         .value_name("VERSION")
-        .help("The features of this version of Linux, as 5.4 or what uname -r prints");
+        .help(
+            "The features of this version of Linux, as 5.4 or what uname -r prints; from 4.18 on",
+        );
     let has = Arg::new(alloc, "has")
         .long("has")
         .value_name("FEATURE")

@@ -35,6 +35,14 @@ pub enum Fault {
     #[error("{0}")]
     Rewrite(SanitizeError),
 
+    /// No type of the table has the selected name.
+    #[error("no type has this name")]
+    NoType,
+
+    /// The name is that of a type of this kind.
+    #[error("{0} has no layout: name a structure, a union, or a typedef of one")]
+    NoLayout(&'static str),
+
     /// Standard output fails.
     #[error("cannot write standard output")]
     Write,

@@ -2,11 +2,28 @@
 
 use crate::blob::Blob;
 use crate::fault::Fault;
-use btf_text::{Selection, TextBuffer, find_layout, write_dump, write_ext, write_layout};
+use btf_table::Btf;
+use btf_text::{
+    Selection, TextBuffer, find_layout, kind_name, write_dump, write_ext, write_layout,
+};
+use btf_words::{BtfError, BtfKind};
 use std::alloc::Global;
 use std::io::Write;
 
+/// The kinds of types that have a name and no layout.
+const OTHERS: [BtfKind; 8] = [
+    BtfKind::Enum,
+    BtfKind::Enum64,
+    BtfKind::Int,
+    BtfKind::Float,
+    BtfKind::Fwd,
+    BtfKind::Func,
+    BtfKind::Var,
+    BtfKind::DataSec,
+];
+
 /// Writes the selected types of a file's table, as `write_dump` does. The table is parsed before anything is written.
+/// The error is `NoType` if a name is selected, and no type has it and meets the other conditions.
 pub fn dump<W: Write>(
     alloc: Global,
     bytes: &[u8],
@@ -15,19 +32,57 @@ pub fn dump<W: Write>(
 ) -> Result<(), Fault> {
     let table = Blob::read(alloc, bytes)?.table(alloc)?;
     let mut text = TextBuffer::new(out);
-    write_dump(&table, selection, &mut text)?;
+    let is_any = write_dump(&table, selection, &mut text)?;
     text.flush()?;
+    if selection.name.is_some() && !is_any {
+        return Err(Fault::NoType);
+    }
     Ok(())
 }
 
-/// Writes the layout of the structure or union of a name, as `find_layout` finds it and `write_layout` writes it.
+/// Writes the layout of the structure or union of a name, as `find_layout` finds it and `write_layout` writes it. The
+/// error is `NoLayout` if the name is that of a type of another kind.
 pub fn layout<W: Write>(alloc: Global, bytes: &[u8], name: &str, out: &mut W) -> Result<(), Fault> {
     let table = Blob::read(alloc, bytes)?.table(alloc)?;
-    let type_id = find_layout(&table, name)?;
+    let type_id = match find_layout(&table, name) {
+        Ok(type_id) => type_id,
+        Err(e) => return Err(no_layout(&table, name, e)),
+    };
     let mut text = TextBuffer::new(out);
     write_layout(alloc, &table, type_id, &mut text)?;
     text.flush()?;
     Ok(())
+}
+
+/// The fault of a name without a layout, for which `find_layout` has this error.
+fn no_layout(table: &Btf, name: &str, error: BtfError) -> Fault {
+    let kind = match &error {
+        BtfError::UnexpectedBtfType { type_id } => kind_of_id(table, *type_id),
+        BtfError::UnknownBtfTypeName { .. } => kind_of_name(table, name),
+        _ => None,
+    };
+    match kind {
+        Some(kind) => Fault::NoLayout(kind_name(kind)),
+        None => Fault::from(error),
+    }
+}
+
+/// The kind of a type, if there is one of this id.
+fn kind_of_id(table: &Btf, type_id: u32) -> Option<BtfKind> {
+    match table.type_by_id(type_id) {
+        Ok(found) => Some(found.kind()),
+        Err(_) => None,
+    }
+}
+
+/// The first of the other kinds of which a type has this name.
+fn kind_of_name(table: &Btf, name: &str) -> Option<BtfKind> {
+    for kind in OTHERS {
+        if table.id_by_type_name_kind(name, kind).is_ok() {
+            return Some(kind);
+        }
+    }
+    None
 }
 
 /// Writes the functions, lines and relocations of an object's `.BTF.ext`, as `write_ext` does.

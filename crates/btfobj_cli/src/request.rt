@@ -68,12 +68,12 @@ pub fn read_request<'a>(alloc: Global, words: &'a [&'a str]) -> Result<Request<'
         "ext" => Ok(Request::Ext { file }),
         "check" => Ok(Request::Check {
             file,
-            rewrite: read_rewrite(&mut command, matches)?,
+            rewrite: read_rewrite(alloc, &mut command, matches)?,
         }),
         "sanitize" => Ok(Request::Sanitize {
             file,
             output: text(matches, "output"),
-            rewrite: read_rewrite(&mut command, matches)?,
+            rewrite: read_rewrite(alloc, &mut command, matches)?,
         }),
         _ => Ok(Request::Compat {
             local: text(matches, "local"),
@@ -118,14 +118,17 @@ fn read_selection<'a>(
         }
         None => Err(refusal(
             command,
-            "the value of --ids is no range A..B of two numbers",
+            "the value of --ids is no number, and no range A..B of two numbers",
         )),
     }
 }
 
-/// The ends of a range `A..B`. Either end may be left out.
+/// The ends of a range `A..B`, either of which may be left out, or of one number alone.
 fn read_range(text: &str) -> Option<(Option<u32>, Option<u32>)> {
-    let (from, to) = text.split_once("..")?;
+    let Some((from, to)) = text.split_once("..") else {
+        let id = text.parse::<u32>().ok()?;
+        return Some((Some(id), id.checked_add(1)));
+    };
     Some((read_end(from)?, read_end(to)?))
 }
 
@@ -149,6 +152,7 @@ fn kind_of_name(name: &str) -> Option<BtfKind> {
 
 /// The settings of a rewrite.
 fn read_rewrite<'a>(
+    alloc: Global,
     command: &mut Command<'_>,
     matches: &ArgMatches<'a>,
 ) -> Result<Rewrite<'a>, Error> {
@@ -158,20 +162,48 @@ fn read_rewrite<'a>(
         FillPolicy::KeepSized
     };
     let kernel = match matches.get_str("kernel") {
-        Some(version) => Kernel::of_version(version),
-        None => Some(kernel_with(matches.get_strs("has").unwrap_or(&[]))),
+        Some(version) => read_kernel(alloc, command, version)?,
+        None => kernel_with(matches.get_strs("has").unwrap_or(&[])),
     };
-    match kernel {
-        Some(kernel) => Ok(Rewrite {
-            kernel,
-            policy,
-            placeholder: matches.get_str("placeholder"),
-        }),
-        None => Err(refusal(
-            command,
-            "the value of --kernel is no version such as 5.4 or 5.15.0-91-generic",
-        )),
+    Ok(Rewrite {
+        kernel,
+        policy,
+        placeholder: matches.get_str("placeholder"),
+    })
+}
+
+/// The kernel of a version. A number alone, such as 6, is the first version of its series.
+fn read_kernel(alloc: Global, command: &mut Command<'_>, version: &str) -> Result<Kernel, Error> {
+    let first = format!(in alloc; "{version}.0")?;
+    let is_series = version.parse::<u32>().is_ok();
+    let version = if is_series { first.as_str() } else { version };
+    let message = match Kernel::of_version(version) {
+        Some(kernel) if has_btf(version) => return Ok(kernel),
+        Some(_) => "the first version of Linux with BTF is 4.18",
+        None => "the value of --kernel is no version such as 5.4 or 5.15.0-91-generic",
+    };
+    Err(refusal(command, message))
+}
+
+/// Whether a version of Linux is 4.18 or later.
+fn has_btf(version: &str) -> bool {
+    let Some((major, rest)) = version.split_once('.') else {
+        return false;
+    };
+    match (first_number(major), first_number(rest)) {
+        (Some(4), Some(minor)) => minor >= 18,
+        (Some(major), _) => major > 4,
+        _ => false,
     }
+}
+
+/// The number at the start of a text.
+fn first_number(text: &str) -> Option<u32> {
+    let end = text
+        .bytes()
+        .position(|byte| !byte.is_ascii_digit())
+        .unwrap_or(text.len());
+    text.get(..end)?.parse::<u32>().ok()
 }
 
 /// A kernel that has the features of these names.

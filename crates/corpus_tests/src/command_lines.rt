@@ -4,7 +4,7 @@ use btfobj_cli::{Request, read_request};
 
 /// Words of a command line, and their request: a command, `text` for help or the version on standard output, or `usage`
 /// for an error.
-static ROWS: [(&[&str], &str); 28] = [
+static ROWS: [(&[&str], &str); 31] = [
     (&["btfobj", "dump", "a.o"], "dump"),
     (&["btfobj", "dump", "-", "--ids", "3..9"], "dump"),
     (
@@ -21,7 +21,8 @@ static ROWS: [(&[&str], &str); 28] = [
         ],
         "dump",
     ),
-    (&["btfobj", "dump", "-", "--ids", "3"], "usage"),
+    (&["btfobj", "dump", "-", "--ids", "3"], "dump"),
+    (&["btfobj", "dump", "-", "--ids", "3-9"], "usage"),
     (&["btfobj", "dump", "-", "--ids", "3..4294967296"], "usage"),
     (&["btfobj", "dump", "-", "--ids", "a..b"], "usage"),
     (&["btfobj", "dump", "-", "--kind", "POINTER"], "usage"),
@@ -35,6 +36,8 @@ static ROWS: [(&[&str], &str); 28] = [
         &["btfobj", "check", "a.o", "--kernel", "5.15.0-91-generic"],
         "check",
     ),
+    (&["btfobj", "check", "a.o", "--kernel", "6"], "check"),
+    (&["btfobj", "check", "a.o", "--kernel", "4.17.3"], "usage"),
     (&["btfobj", "check", "a.o", "--kernel", "new"], "usage"),
     (&["btfobj", "check", "a.o"], "usage"),
     (

@@ -29,7 +29,8 @@ pub struct Place {
     pub bits: u64,
     /// The size of the member's type in bytes.
     pub size: u64,
-    /// Whether an array without elements is a flexible array here: the member is the last one, and not the first.
+    /// Whether an array without elements is a flexible array here: the member is the last one, and not the first, as
+    /// the array that `DECLARE_FLEX_ARRAY` puts behind an empty structure.
     pub is_flexible: bool,
 }
 
@@ -74,7 +75,8 @@ impl<'a> Group<'a> {
             bit,
             bits,
             size,
-            is_flexible: bit > 0 && index.saturating_add(1) == self.members.len(),
+            is_flexible: (bit > 0 || index > 0 && !self.is_union)
+                && index.saturating_add(1) == self.members.len(),
         })
     }
 }

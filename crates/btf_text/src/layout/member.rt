@@ -8,8 +8,9 @@ use crate::layout::page::Page;
 use crate::layout::type_text::{PROTOTYPE_LIMIT, add_base, add_declared, add_stars};
 use crate::word::text_at;
 use btf_items::BtfMember;
-use btf_records::{BtfType, Enum};
+use btf_records::{BtfType, Enum, Enum64};
 use btf_table::{Btf, BtfStr};
+use std::alloc::{AllocError, Global};
 use std::fmt::Write;
 
 /// The name of a member; empty if it can't be read.
@@ -111,34 +112,130 @@ fn add_offset(line: &mut String, place: &Place, base: u64) -> Result<(), TextErr
     Ok(())
 }
 
-/// Writes the lines of the variants of an enumeration, with their names in a column, and the parenthesis after them.
-pub fn write_variants<W: Write>(
+/// A variant of an enumeration, and its value in C.
+#[derive(Clone, Copy)]
+struct Variant {
+    name_offset: u32,
+    value: Value,
+}
+
+/// The value of a variant.
+#[derive(Clone, Copy)]
+enum Value {
+    Signed(i64),
+    Unsigned(u64),
+}
+
+impl Value {
+    /// The value of a variant of an ENUM.
+    fn of_word(word: u32, is_signed: bool) -> Value {
+        if is_signed {
+            Value::Signed(i64::from(word.cast_signed()))
+        } else {
+            Value::Unsigned(u64::from(word))
+        }
+    }
+
+    /// The value of a variant of an ENUM64.
+    fn of_words(low: u32, high: u32, is_signed: bool) -> Value {
+        let value = u64::from(high) << 32 | u64::from(low);
+        if is_signed {
+            Value::Signed(value.cast_signed())
+        } else {
+            Value::Unsigned(value)
+        }
+    }
+}
+
+/// The variants of an ENUM or an ENUM64; None for a type of another kind.
+fn variants_of(alloc: Global, btf_type: &BtfType) -> Result<Option<Vec<Variant>>, AllocError> {
+    match btf_type {
+        BtfType::Enum(t) => Ok(Some(narrow_variants(alloc, t)?)),
+        BtfType::Enum64(t) => Ok(Some(wide_variants(alloc, t)?)),
+        _ => Ok(None),
+    }
+}
+
+/// The variants of an ENUM.
+fn narrow_variants(alloc: Global, enumeration: &Enum) -> Result<Vec<Variant>, AllocError> {
+    let mut variants = Vec::with_capacity(alloc, enumeration.variants().len())?;
+    for variant in enumeration.variants() {
+        variants.push(Variant {
+            name_offset: variant.name_offset,
+            value: Value::of_word(variant.value, enumeration.is_signed()),
+        })?;
+    }
+    Ok(variants)
+}
+
+/// The variants of an ENUM64.
+fn wide_variants(alloc: Global, enumeration: &Enum64) -> Result<Vec<Variant>, AllocError> {
+    let mut variants = Vec::with_capacity(alloc, enumeration.variants().len())?;
+    for variant in enumeration.variants() {
+        let (low, high) = (variant.value_low, variant.value_high);
+        variants.push(Variant {
+            name_offset: variant.name_offset,
+            value: Value::of_words(low, high, enumeration.is_signed()),
+        })?;
+    }
+    Ok(variants)
+}
+
+/// Writes the lines of an enumeration, with the names of the variants in a column, and the parenthesis after them. For
+/// a type of another kind it writes nothing, and returns false.
+pub fn write_enumeration<W: Write>(
     page: &mut Page<'_, W>,
     indent: usize,
-    enumeration: &Enum,
-) -> Result<(), TextError> {
-    let width = longest_name(page.table, enumeration)?;
-    for variant in enumeration.variants() {
-        page.indent(indent.saturating_add(1))?;
-        if let Some(name) = text_at(page.table, variant.name_offset)? {
-            page.line.push_str(name.as_str())?;
-        }
-        for _ in page.line.len()..width {
-            page.line.push_str(" ")?;
-        }
-        let value = variant.value.cast_signed();
-        write!(page.line, " = {value},")?;
-        page.end_line()?;
-    }
+    btf_type: &BtfType,
+) -> Result<bool, TextError> {
+    let Some(variants) = variants_of(page.alloc, btf_type)? else {
+        return Ok(false);
+    };
+    page.out.write_str("enum {\n")?;
+    write_variants(page, indent, &variants)?;
     page.indent(indent)?;
     page.out.write_str("}")?;
+    Ok(true)
+}
+
+/// Writes the lines of variants.
+fn write_variants<W: Write>(
+    page: &mut Page<'_, W>,
+    indent: usize,
+    variants: &[Variant],
+) -> Result<(), TextError> {
+    let width = longest_name(page.table, variants)?;
+    for variant in variants {
+        page.indent(indent.saturating_add(1))?;
+        add_variant_name(page, variant, width)?;
+        match variant.value {
+            Value::Signed(value) => write!(page.line, " = {value},")?,
+            Value::Unsigned(value) => write!(page.line, " = {value},")?,
+        }
+        page.end_line()?;
+    }
+    Ok(())
+}
+
+/// Adds the name of a variant, in a column of this width.
+fn add_variant_name<W: Write>(
+    page: &mut Page<'_, W>,
+    variant: &Variant,
+    width: usize,
+) -> Result<(), TextError> {
+    if let Some(name) = text_at(page.table, variant.name_offset)? {
+        page.line.push_str(name.as_str())?;
+    }
+    for _ in page.line.len()..width {
+        page.line.push_str(" ")?;
+    }
     Ok(())
 }
 
 /// The length of the longest name of a variant in bytes.
-fn longest_name(table: &Btf, enumeration: &Enum) -> Result<usize, TextError> {
+fn longest_name(table: &Btf, variants: &[Variant]) -> Result<usize, TextError> {
     let mut longest = 0;
-    for variant in enumeration.variants() {
+    for variant in variants {
         if let Some(name) = text_at(table, variant.name_offset)? {
             longest = name.as_str().len().max(longest);
         }

@@ -4,7 +4,9 @@ use crate::error::TextError;
 use crate::layout::column::Columns;
 use crate::layout::declarator::Declarator;
 use crate::layout::group::{Group, Place};
-use crate::layout::member::{is_nameless, member_name, write_closing, write_plain, write_variants};
+use crate::layout::member::{
+    is_nameless, member_name, write_closing, write_enumeration, write_plain,
+};
 use crate::layout::page::Page;
 use crate::layout::progress::Progress;
 use crate::layout::type_text::keyword;
@@ -125,10 +127,7 @@ fn write_nested<'a, W: Write>(
     btf_type: &'a BtfType,
     place: &Place,
 ) -> Result<bool, TextError> {
-    let keyword = keyword(btf_type);
-    if let BtfType::Enum(t) = btf_type {
-        writeln!(page.out, "{keyword} {{")?;
-        write_variants(page, level.indent, t)?;
+    if write_enumeration(page, level.indent, btf_type)? {
         return Ok(true);
     }
     let Some(group) = Group::of(btf_type) else {
@@ -140,6 +139,7 @@ fn write_nested<'a, W: Write>(
     if !page.allows_nested(group.members.len()) {
         return Ok(false);
     }
+    let keyword = keyword(btf_type);
     writeln!(page.out, "{keyword} {{")?;
     if group.is_union {
         write_union(page, &inner)?;

@@ -65,7 +65,7 @@ impl Progress {
         if write_remarks(page, level.indent, self.padding, &hole)? {
             page.out.write_str("\n")?;
         }
-        if self.last.is_some_and(|last| last != place.byte) {
+        if self.last.unwrap_or(0) != place.byte {
             let byte = level.base.saturating_add(place.byte);
             page.write_boundary(byte, level.indent)?;
         }

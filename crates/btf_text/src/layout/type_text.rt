@@ -174,10 +174,12 @@ fn add_params(
         line.push_str("(...)")?;
         return Ok(());
     };
-    line.push_str("(")?;
-    if params.is_empty() {
-        line.push_str("void")?;
+    // In C, `(...)` needs a parameter before it.
+    if let [] | [BtfParam { btf_type: 0, .. }] = params {
+        line.push_str("(void)")?;
+        return Ok(());
     }
+    line.push_str("(")?;
     for (index, param) in params.iter().enumerate() {
         if index > 0 {
             line.push_str(", ")?;
