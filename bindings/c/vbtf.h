@@ -263,6 +263,7 @@ uint32_t vbtf_raw_new(struct vbtf_table *table, struct vbtf_error *error);
 void vbtf_close(struct vbtf_table *table);
 uint32_t vbtf_raw_parse(struct vbtf_table *table, const uint8_t *data, size_t len, uint32_t order,
                         struct vbtf_error *error);
+uint32_t vbtf_lent_clone(struct vbtf_table *table, struct vbtf_table *copy, struct vbtf_error *error);
 uint32_t vbtf_raw_add_string(struct vbtf_table *table, const uint8_t *text, size_t len, uint32_t *offset,
                              struct vbtf_error *error);
 uint32_t vbtf_raw_add_type(struct vbtf_table *table, const uint8_t *record, size_t len, uint32_t order, uint32_t *id,
@@ -411,6 +412,17 @@ static inline uint32_t vbtf_parse(struct vbtf_table *table, const void *data, si
 {
 	struct vbtf_error unread;
 	return vbtf_raw_parse(table, vbtf_bytes_or_none(data), len, order, vbtf_error_or(error, &unread));
+}
+
+/*
+ * Opens a closed table with a copy of another table, without the .BTF.ext of that table. VBTF_CLOSED if `table` is not
+ * open, otherwise VBTF_BAD_ARGUMENT if `copy` is open. After an error `copy` is unchanged.
+ */
+static inline uint32_t vbtf_clone(const struct vbtf_table *table, struct vbtf_table *copy, struct vbtf_error *error)
+{
+	struct vbtf_error unread;
+	struct vbtf_table loan = vbtf_loan(table);
+	return vbtf_lent_clone(&loan, copy, vbtf_error_or(error, &unread));
 }
 
 /* Closes a table and its .BTF.ext, and frees their memory: `vbtf_close`, above. A closed table stays closed. */

@@ -167,6 +167,29 @@ static void written(const struct vbtf_table *table, uint32_t order)
 	check(memcmp(bytes, again, sizeof again) == 0);
 }
 
+/* A copy in the order of its table, which stays when the table changes and is closed. */
+static void copies(uint32_t order)
+{
+	struct vbtf_table table = opened(order), copy = VBTF_TABLE_INIT, other = VBTF_TABLE_INIT;
+	struct vbtf_error error;
+	struct vbtf_ext_sizes ext;
+	uint8_t bytes[EXT_LEN];
+	uint32_t offset;
+	ext_bytes(bytes, order);
+	check(vbtf_open_ext(&table, bytes, sizeof bytes, order, 7, &error) == VBTF_OK);
+	check(vbtf_clone(&table, &copy, &error) == VBTF_OK && copy.state == 1 && copy.at != table.at);
+	check(vbtf_ext(&table, &ext) == VBTF_OK && vbtf_ext(&copy, &ext) == VBTF_CLOSED);
+	check(vbtf_clone(&copy, &table, &error) == VBTF_BAD_ARGUMENT);
+	check(vbtf_clone(&table, &table, NULL) == VBTF_BAD_ARGUMENT);
+	check(vbtf_clone(&other, &copy, &error) == VBTF_CLOSED);
+	check(vbtf_clone(&other, &other, NULL) == VBTF_CLOSED && other.state == 0);
+	check(vbtf_add_string(&table, "text", 4, &offset, &error) == VBTF_OK);
+	written(&copy, order);
+	vbtf_close(&table);
+	written(&copy, order);
+	vbtf_close(&copy);
+}
+
 #define SECTIONS "\0license\0.data"
 #define SYMBOLS "\0_license"
 
@@ -335,6 +358,8 @@ int main(void)
 	comparisons(&little, &big);
 	written(&little, VBTF_LITTLE);
 	written(&big, VBTF_BIG);
+	copies(VBTF_LITTLE);
+	copies(VBTF_BIG);
 	vbtf_close(&little);
 	vbtf_close(&big);
 	return counted("calls");

@@ -254,13 +254,17 @@ static void read_items(void)
 	values(&table);
 	vbtf_close(&table);
 }
-/* An ENUM64 that a rewrite replaces with a UNION: its values stay in this table, and its bytes do not have them. */
+
+/*
+ * An ENUM64 that a rewrite replaces with a UNION: its values stay in this table and a copy of it, and its bytes do not
+ * have them.
+ */
 static void replaced_values(void)
 {
 	static const uint32_t records[] = { 1, 0x13000001, 8, 1, 4, 3 };
 	static const char strings[] = "\0high";
 	static const struct vbtf_kernel none = { 0, 0, 0, 0 };
-	struct vbtf_table table = VBTF_TABLE_INIT, again = VBTF_TABLE_INIT;
+	struct vbtf_table table = VBTF_TABLE_INIT, copy = VBTF_TABLE_INIT, again = VBTF_TABLE_INIT;
 	struct vbtf_error error;
 	struct vbtf_asked asked;
 	struct vbtf_type type;
@@ -271,10 +275,14 @@ static void replaced_values(void)
 	check(vbtf_rewrite(&table, NULL, NULL, &none, 7, &asked, &error) == VBTF_OK);
 	check(vbtf_type_by_id(&table, 1, &type, &error) == VBTF_OK && type.kind == VBTF_KIND_UNION);
 	check(vbtf_value(&table, 1, "high", 4, &value, &error) == VBTF_OK && value == 0x300000004);
+	value = 0;
+	check(vbtf_clone(&table, &copy, &error) == VBTF_OK);
+	check(vbtf_value(&copy, 1, "high", 4, &value, &error) == VBTF_OK && value == 0x300000004);
 	check(vbtf_bytes(&table, out, sizeof out, &needed, &error) == VBTF_OK);
 	check(vbtf_parse(&again, out, needed, VBTF_LITTLE, &error) == VBTF_OK);
 	check(vbtf_value(&again, 1, "high", 4, &value, &error) == VBTF_UNEXPECTED_TYPE && error.id == 1);
 	vbtf_close(&table);
+	vbtf_close(&copy);
 	vbtf_close(&again);
 }
 

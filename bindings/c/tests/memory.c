@@ -73,6 +73,15 @@ static uint32_t make(struct vbtf_table *table)
 	return status;
 }
 
+static uint32_t copy(struct vbtf_table *table)
+{
+	struct vbtf_table made = VBTF_TABLE_INIT;
+	uint32_t status = vbtf_clone(table, &made, &error);
+	check((status == VBTF_OK) == (made.state == 1));
+	vbtf_close(&made);
+	return status;
+}
+
 static uint32_t write_out(struct vbtf_table *table)
 {
 	uint8_t bytes[TABLE_LEN];
@@ -190,6 +199,7 @@ static const struct {
 } calls[] = {
 	{ "vbtf_parse", parse },
 	{ "vbtf_new", make },
+	{ "vbtf_clone", copy },
 	{ "vbtf_bytes", write_out },
 	{ "vbtf_text_at", text },
 	{ "vbtf_find", missing },

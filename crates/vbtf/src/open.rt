@@ -85,7 +85,7 @@ pub extern "C" fn vbtf_close(alloc: Global, table: &mut Handle)
 }
 
 /// The table of a result, in a box, without a `.BTF.ext`.
-fn boxed(alloc: Global, answer: Result<Btf, BtfError>) -> Result<Box<Opened>, BtfError>
+pub(crate) fn boxed(alloc: Global, answer: Result<Btf, BtfError>) -> Result<Box<Opened>, BtfError>
     ensures { MatchResult result
         (λ whole. (answer ≡ Ok whole.value.btf) × (whole.value.ext ≡ None))
         (λ error. (answer ≡ Err error) ⊎ (error ≡ OutOfMemory)) }

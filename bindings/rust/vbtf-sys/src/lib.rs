@@ -115,6 +115,11 @@ extern "C" {
     ) -> u32;
     pub fn vbtf_version() -> u32;
     pub fn vbtf_raw_new(table: *mut vbtf_table, error: *mut vbtf_error) -> u32;
+    pub fn vbtf_lent_clone(
+        table: *mut vbtf_table,
+        copy: *mut vbtf_table,
+        error: *mut vbtf_error,
+    ) -> u32;
     pub fn vbtf_close(table: *mut vbtf_table);
     pub fn vbtf_raw_parse(
         table: *mut vbtf_table,

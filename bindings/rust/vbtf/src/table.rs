@@ -92,6 +92,24 @@ impl Table {
         Self::parse_as(data, BY_MAGIC)
     }
 
+    /// An equal table, without the `.BTF.ext`; [`Error::OutOfMemory`] if an allocation fails.
+    ///
+    /// ```
+    /// let mut table = vbtf::Table::new()?;
+    /// table.add_string("int")?;
+    /// let copy = table.try_clone()?;
+    /// table.add_string("char")?;
+    /// assert_eq!(copy.string_at(1)?, "int");
+    /// assert!(copy.string_at(5).is_err());
+    /// # Ok::<(), vbtf::Error>(())
+    /// ```
+    pub fn try_clone(&self) -> Result<Self, Error> {
+        let mut handle = Self::closed();
+        // SAFETY: the loan lives as long as the call, and the copy is closed.
+        called::<()>(|_, error| unsafe { vbtf_lent_clone(&mut self.loan(), &mut handle, error) })?;
+        Ok(Self { handle, room: self.room })
+    }
+
     /// The bytes of the table, in its own order.
     pub fn to_bytes(&self) -> Result<Vec<u8>, Error> {
         // SAFETY: the loan lives as long as the call.

@@ -64,6 +64,16 @@ fn table(endianness: Endianness) -> Table {
 }
 
 #[test]
+fn copies_are_equal_and_stay() {
+    let mut table = table(Endianness::Big);
+    let copy = table.try_clone().expect("memory is there");
+    table.add_string("text").expect("there is room");
+    assert_ne!(table.to_bytes(), copy.to_bytes());
+    drop(table);
+    assert_eq!(copy.to_bytes(), Ok(bytes(Endianness::Big)));
+}
+
+#[test]
 fn types_are_read() {
     let table = table(Endianness::Big);
     let kinds: Vec<Kind> = table.types().map(|it| it.kind()).collect();
