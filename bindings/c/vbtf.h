@@ -732,7 +732,8 @@ static inline uint32_t vbtf_types_are_compatible(const struct vbtf_table *local,
  *
  * The first error: VBTF_INVALID_STRING_OFFSET, VBTF_UNKNOWN_TYPE, VBTF_UNEXPECTED_TYPE,
  * VBTF_INVALID_DATASEC, VBTF_UNKNOWN_SECTION_SIZE, VBTF_SYMBOL_NOT_FOUND, VBTF_INVALID_TYPE_INFO; VBTF_BAD_ARGUMENT
- * if a name of an entry is not in its buffer, or is not UTF-8. After an error the table is unchanged.
+ * if a name of an entry is not in its buffer, or is not UTF-8. After an error the table is unchanged, and `asked` has
+ * the first features that the rewrite asks about.
  */
 static inline uint32_t vbtf_rewrite(struct vbtf_table *table, const struct vbtf_names *sections,
                                     const struct vbtf_names *symbols, const struct vbtf_kernel *kernel,

@@ -1,6 +1,6 @@
 -- A command has one outcome: if it has an output on a table, it has no error on it.
-use Rattle.std.proofs.Common.{◌≡◌, ◌∙◌, ℕ, Bool, List, [], Ok, Err, refl, sym, ap, subst, ⊎_elim, Result, Option, Some, None, inr}
-use Rattle.std.specs.Prelude.{slice_get, IfOk, IfErr, IfSome, IsErr, IsErrAnd}
+use Rattle.std.proofs.Common.{◌≡◌, ◌∙◌, ℕ, Bool, List, [], Ok, Err, refl, sym, ap, subst, arith, ⊎_elim, Result, Option, Some, None, inr}
+use Rattle.std.specs.Prelude.{◌↔◌, slice_get, IfOk, IfErr, IfSome, IsOk, IsErr, IsErrAnd, OnOk, OnErr}
 use Rattle.std.specs.Result.{is_ok, result_ok}
 use Rattle.std.proofs.lemmas.Bool.{false≢true}
 use Rattle.std.proofs.lemmas.Option.{none-some}
@@ -105,3 +105,19 @@ fault_told {X} line read known e r whole told err =
     elim known as (λ (o : Option (List ℕ)). IfSome o (λ bytes. read ≡ bytes) → IfSome o (λ bytes. IfSome (refusal_of e) (IsDeclined line bytes)))
     [ None ↦ λ none. tt | Some bytes ↦ λ is. subst (λ (bs : List ℕ). IfSome (refusal_of e) (IsDeclined line bs)) is told ] whole in
     subst (λ (x : Result X Fault). IfErr x (λ fault. IfSome known (λ bytes. IfSome (fault_refusal fault) (IsDeclined line bytes)))) (sym (q.1 ∙ ap (λ (x : Fault). Err x) q.2)) here
+
+-- ---- statuses
+
+-- what holds on success, and what holds on failure
+pub of_ok : {T E P : Type 0} (r : Result T E) → OnOk r P → IsOk r → P
+of_ok (Ok x) p is = p
+of_ok (Err e) p is = absurd (false≢true is)
+
+pub of_err : {T E P : Type 0} (r : Result T E) → OnErr r P → IsErr r → P
+of_err (Ok x) p is = absurd (false≢true is)
+of_err (Err e) p is = p
+
+-- the status of an outcome is 0 or 1
+pub is_not_2 : {T E : Type 0} (r : Result T E) (status : ℕ) → (status ≡ 0) ↔ IsOk r → OnErr r (status ≡ 1) → status ≡ 2 → ⊥
+is_not_2 (Ok x) status ok failed two = let zero : status ≡ 0 = ok.1 refl in omega arith
+is_not_2 (Err e) status ok failed two = omega arith

@@ -1,6 +1,6 @@
 //! The program over any streams.
 
-ghost use Rattle.std.specs.Prelude.{◌≡◌, ◌≢◌, ℕ, List, ◌↔◌, None, Some, IfOk, IfErr, OnOk, IfSome, IsErr};
+ghost use Rattle.std.specs.Prelude.{◌≡◌, ◌≢◌, ◌≤◌, ℕ, List, ◌↔◌, None, Some, IfOk, IfErr, OnOk, OnErr, IfSome, IsOk, IsErr};
 ghost use Rattle.std.specs.Io.KnownBytes.{IsAtEnd, Keeps};
 ghost use Rattle.btf_model.specs.Refusal.{Refusal};
 ghost use Rattle.btf_words.specs.Error.{refusal_of};
@@ -104,6 +104,21 @@ fn carry_out<R: Read, W: Write>(
     output.write_to(out)
 }
 
+/// The status of an outcome. The text of a fault is written to `err`.
+fn status_of<E: Write>(outcome: Result<(), Fault>, err: &mut E) -> u8
+    ensures ok { (result ≡ 0) ↔ IsOk outcome }
+    ensures failed { OnErr outcome (result ≡ 1) }
+    ensures quiet { OnOk outcome (err.new ≡ err.old) }
+{
+    match outcome {
+        Ok(()) => 0,
+        Err(fault) => {
+            let _ = writeln!(err, "{fault}");
+            1
+        }
+    }
+}
+
 /// The program: parses the command line, reads the input to its end, and writes the output.
 ///
 /// Returns the status: 0 on success; 1 if a stream or an allocation fails, the table is invalid, or the command fails,
@@ -124,6 +139,10 @@ pub fn run<R: Read, W: Write, E: Write>(
         IsWritten (W.contents out.old) (W.contents out.new) line bytes) }
     // On success the input has been read to its end.
     ensures end { result ≡ 0 → IsAtEnd (R.remaining input.new) }
+    // On success nothing is written on standard error.
+    ensures quiet { result ≡ 0 → err.new ≡ err.old }
+    // Otherwise the status is 1 or 2.
+    ensures status { result ≤ 2 }
     // If the input represents no table, or the command fails on it, the status is 1, and nothing is written on standard
     // output.
     ensures refused { (line : Line) (bytes : List ℕ) (f : Refusal) → Asks words.now line
@@ -134,11 +153,6 @@ pub fn run<R: Read, W: Write, E: Write>(
         let _ = writeln!(err, "{USAGE}");
         return 2;
     };
-    match carry_out(alloc, line, input, out) {
-        Ok(()) => 0,
-        Err(fault) => {
-            let _ = writeln!(err, "{fault}");
-            1
-        }
-    }
+    let outcome = carry_out(alloc, line, input, out);
+    status_of(outcome, err)
 }

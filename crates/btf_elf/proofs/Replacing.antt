@@ -219,6 +219,7 @@ module _ (bytes : List ℕ) (index : ℕ) (s : SectionHeader) (given new : List 
     symbols = symbols_kept;
     symbol_names = symbol_names_kept;
     file_len = written.length-new bytes index s given new w;
+    gap = written.gap_is bytes index s given new w;
     bytes = written.keeps bytes index s given new w;
   }
 

@@ -1,9 +1,10 @@
 -- The bytes of an object in which the bytes of a section were replaced: what does not change, and their headers.
-use Rattle.std.proofs.Common.{◌≡◌, ◌≢◌, ◌∙◌, ◌⊎◌, ℕ, ◌+◌, ◌*◌, ◌^◌, ◌<◌, ◌≤◌, true, false, List, [], ◌++◌, length, get_or, None, sym, ap, arith, inl, inr, ⊎_elim}
+use Rattle.std.proofs.Common.{◌≡◌, ◌≢◌, ◌∙◌, ◌⊎◌, ℕ, ◌+◌, ◌-◌, ◌*◌, ◌^◌, ◌<◌, ◌≤◌, true, false, List, [], ◌++◌, length, take, get_or, None, sym, ap, arith, inl, inr, ⊎_elim}
 use Rattle.std.specs.Prelude.{nat_lt, ◌==◌, ◌&&◌, not, max, replicate, slice_set, if◌then◌else◌}
 use Rattle.std.specs.Int.{w64}
 use Rattle.std.proofs.lemmas.Bool.{and_parts, cases_Bool, cond-true, cond-false, cond_both, cases_lt, cases_eq, not-true, ltb-true}
-use Rattle.std.proofs.lemmas.List.{ext_get_or, length-set, get_or-set_other, get_or-set_same, length-append, length-replicate, take_all}
+use Rattle.std.proofs.lemmas.List.{ext_get_or, length-set, get_or-set_other, get_or-set_same, length-append, length-replicate, take-replicate, take_all}
+use Rattle.std.proofs.Math.Seq.{drop-append_seam}
 use Rattle.btf_model.specs.Word.{bytes_of, number_of, word_of}
 use Rattle.btf_model.specs.Blob.{slice, word_at}
 use Rattle.btf_elf_model.specs.Header.{header_len, front, file_header, header_in, order_of, xword_at}
@@ -125,6 +126,16 @@ module _ (bytes : List ℕ) (index : ℕ) (s : SectionHeader) (given new : List 
       ∙ slice-put a l (entry + 24) words base (λ some _. ⊎_elim (λ le. inl le) (λ le. inr (omega (arith, le, length-words))) (header some (omega arith))) (omega (arith, length-words, length-base, entry_within, table.within))
       ∙ slice-put a l at given (bytes ++ replicate w.spare 0) apart (omega (arith, length-spare, w.room))
       ∙ slice-append a l bytes (replicate w.spare 0) within
+
+  -- the bytes between the end of the old file and the appended bytes are zeros
+  pub gap_is : slice (length bytes) (at - length bytes) new ≡ replicate (at - length bytes) 0
+  gap_is =
+      let n : ℕ = at - length bytes in
+      ap (slice (length bytes) n) w.new_is
+      ∙ slice-put (length bytes) n (entry + 24) words base (λ _ _. inr (omega (arith, length-words, entry_within, table.within))) (omega (arith, length-words, length-base, entry_within, table.within))
+      ∙ slice-put (length bytes) n at given (bytes ++ replicate w.spare 0) (λ some _. inl (omega (arith, some))) (omega (arith, length-spare, w.room))
+      ∙ ap (take n) (drop-append_seam bytes (replicate w.spare 0))
+      ∙ take-replicate n w.spare 0 (omega (arith, w.room))
 
   -- a place in the table of section headers is not in the bytes of the section
   table_apart : (a l : ℕ) → h.section_headers ≤ a → a + l ≤ table_end h bytes → Apart a l at (length given)

@@ -1,7 +1,7 @@
 -- An object with other bytes in one section: what changes, and what does not.
 -- Source: a choice of this project. The ELF gABI requires that sections don't overlap, and requires nothing of file
 -- offsets.
-use Rattle.std.specs.Prelude.{◌≡◌, ◌≢◌, ◌⊎◌, ℕ, ◌+◌, ◌-◌, ◌*◌, ◌%◌, ◌<◌, ◌≤◌, ◌==◌, ◌&&◌, not, nat_lt, nat_le, max, min, Bool, List, length, remove, slice_get, slice_set, if◌then◌else◌, Some}
+use Rattle.std.specs.Prelude.{◌≡◌, ◌≢◌, ◌⊎◌, ℕ, ◌+◌, ◌-◌, ◌*◌, ◌%◌, ◌<◌, ◌≤◌, ◌==◌, ◌&&◌, not, nat_lt, nat_le, max, min, Bool, List, length, remove, replicate, slice_get, slice_set, if◌then◌else◌, Some}
 use Rattle.std.specs.List.{list_any}
 use Rattle.btf_model.specs.Blob.{slice}
 use Rattle.btf_elf_model.specs.Header.{header_len}
@@ -39,6 +39,10 @@ unfoldable pub place : Object → ℕ → SectionHeader → ℕ → ℕ
 place o index s len =
     if fits o.sections index s len then s.offset else aligned (length o.bytes) (alignment_of s)
 
+-- the number of bytes between the end of the file and len bytes of a section, if these are appended; 0 otherwise
+abbrev pub gap_len : Object → ℕ → SectionHeader → ℕ → ℕ
+gap_len o index s len = place o index s len - length o.bytes
+
 -- the header of a section that is at another offset, with another size
 abbrev pub moved : ℕ → ℕ → SectionHeader → SectionHeader
 moved offset size s = record s { offset = offset; size = size }
@@ -62,5 +66,7 @@ pub record ReplacesSection (old : Object) (index : ℕ) (s : SectionHeader) (giv
   pub symbols : symbols new ≡ symbols old
   pub symbol_names : symbol_names new ≡ symbol_names old
   pub file_len : length new.bytes ≡ max (length old.bytes) (place old index s (length given) + length given)
+  pub gap : slice (length old.bytes) (gap_len old index s (length given)) new.bytes
+      ≡ replicate (gap_len old index s (length given)) 0
   pub bytes : (at len : ℕ) → at + len ≤ length old.bytes → Apart at len (place_in_header old index) 16
       → Apart at len (place old index s (length given)) (length given) → slice at len new.bytes ≡ slice at len old.bytes

@@ -1,11 +1,11 @@
 -- Maps of names, name by name.
 use Rattle.std.proofs.Common.{◌≡◌, ℕ, suc, ◌+◌, ◌<◌, Bool, true, false, List, [], ◌∷◌, ◌++◌, length, take, map, cond, get_or, Option, None, Some, refl, sym, ap, ◌∙◌, arith, inl, inr}
 use Rattle.std.specs.Prelude.{if◌then◌else◌, option_map, slice_get}
-use Rattle.std.specs.List.{filter, last_or}
+use Rattle.std.specs.List.{filter, last_or, enumerate_from}
 use Rattle.std.specs.Str.{bytes_eq}
 use Rattle.std.proofs.Math.Path.{fun_ext}
 use Rattle.std.proofs.Math.Seq.{take-suc}
-use Rattle.std.proofs.lemmas.List.{append-nil}
+use Rattle.std.proofs.lemmas.List.{append-nil, length-take-le}
 use Rattle.std.proofs.lemmas.List.Elements.{filter-append}
 use Rattle.std.proofs.lemmas.Slice.Eq.{bytes_eq-Decides}
 use Rattle.std.proofs.lemmas.Option.{slice_get_within, slice_get-get_or, get_or_from_slice_get}
@@ -107,6 +107,51 @@ section_pass o i name lt out =
     let s : SectionHeader = get_or o.sections i no_section in
     let here : slice_get o.sections i ≡ Some s = slice_get-get_or o.sections i no_section lt in
     ap (λ ts. last_named (section_name o) (λ (t : SectionHeader). t.size) ts name) (section_next o.sections i s here) ∙ named_pass (section_name o) (λ (t : SectionHeader). t.size) (take i o.sections) s name (out s here)
+
+-- ---- the indices of sections
+
+enumerate-push : {A : Type 0} (n : ℕ) (xs : List A) (y : A) → enumerate_from n (xs ++ y ∷ []) ≡ enumerate_from n xs ++ (n + length xs, y) ∷ []
+enumerate-push n [] y = let none : n ≡ n + 0 = omega arith in ap (λ (k : ℕ). (k, y) ∷ []) none
+enumerate-push n (x ∷ xs) y =
+    let more : (n + 1) + length xs ≡ n + suc (length xs) = omega arith in
+    ap (λ ps. (n, x) ∷ ps) (enumerate-push (n + 1) xs y ∙ ap (λ (k : ℕ). enumerate_from (n + 1) xs ++ (k, y) ∷ []) more)
+
+-- the sections below an index, with their indices
+abbrev pub indexed : Object → ℕ → List (ℕ × SectionHeader)
+indexed o i = enumerate_from 0 (take i o.sections)
+
+indexed_next : (o : Object) (i : ℕ) (s : SectionHeader) → slice_get o.sections i ≡ Some s → indexed o (i + 1) ≡ indexed o i ++ (i, s) ∷ []
+indexed_next o i s here =
+    let lt : i < length o.sections = slice_get_within o.sections i s here in
+    let at : 0 + length (take i o.sections) ≡ i = omega (arith, length-take-le i o.sections (omega (arith, lt))) in
+    ap (enumerate_from 0) (section_next o.sections i s here) ∙ enumerate-push 0 (take i o.sections) s ∙ ap (λ (k : ℕ). indexed o i ++ (k, s) ∷ []) at
+
+-- the index of the last of these sections that has a name
+abbrev pub last_indexed : Object → List (ℕ × SectionHeader) → List ℕ → Option ℕ
+last_indexed o ps name = last_named (λ (p : ℕ × SectionHeader). section_name o p.1) (λ (p : ℕ × SectionHeader). p.0) ps name
+
+-- a section whose index is read
+pub index_push : (o : Object) (i : ℕ) (text : List ℕ) (size : ℕ) (name : List ℕ) → IsReadSection o i text size
+    → last_indexed o (indexed o (i + 1)) name ≡ (if bytes_eq text name then Some i else last_indexed o (indexed o i) name)
+index_push o i text size name r =
+    let p : ℕ × SectionHeader = (i, r.section) in
+    ap (λ ps. last_indexed o ps name) (indexed_next o i r.section r.here)
+    ∙ named_push (λ (q : ℕ × SectionHeader). section_name o q.1) (λ (q : ℕ × SectionHeader). q.0) (indexed o i) p name (ap is_askable (sym r.named) ∙ r.askable)
+    ∙ ap (λ (t : List ℕ). if bytes_eq t name then Some i else last_indexed o (indexed o i) name) (sym r.named)
+
+-- a section that is left out
+pub index_pass : (o : Object) (i : ℕ) (name : List ℕ) → i < length o.sections → IsSectionLeftOut o i → last_indexed o (indexed o (i + 1)) name ≡ last_indexed o (indexed o i) name
+index_pass o i name lt out =
+    let s : SectionHeader = get_or o.sections i no_section in
+    let here : slice_get o.sections i ≡ Some s = slice_get-get_or o.sections i no_section lt in
+    let p : ℕ × SectionHeader = (i, s) in
+    ap (λ ps. last_indexed o ps name) (indexed_next o i s here)
+    ∙ named_pass (λ (q : ℕ × SectionHeader). section_name o q.1) (λ (q : ℕ × SectionHeader). q.0) (indexed o i) p name (out s here)
+
+pub index_kept : (b : Bool) (section : SectionIndex × ℕ) (old : Option (SectionIndex × ℕ)) (rest : Option ℕ) → option_map (λ (s : SectionIndex × ℕ). s.0.0) old ≡ rest
+    → option_map (λ (s : SectionIndex × ℕ). s.0.0) (cond b (Some section) old) ≡ (if b then Some section.0.0 else rest)
+index_kept true section old rest is = refl
+index_kept false section old rest is = is
 
 -- ---- symbols
 

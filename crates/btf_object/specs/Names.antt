@@ -1,11 +1,17 @@
 -- What is read from a section and from a symbol, and the section of the table.
-use Rattle.std.specs.Prelude.{◌≡◌, ◌⊎◌, ℕ, ◌==◌, List, [], true, false, if◌then◌else◌, slice_get, Option, Some, None}
+use Rattle.std.specs.Prelude.{◌≡◌, ◌⊎◌, ℕ, ◌==◌, List, [], true, false, if◌then◌else◌, slice_get, option_map, Option, Some, None, String}
 use Rattle.std.specs.Option.{option_map_or}
+use Rattle.std.specs.HashMap.{HashMap, get_by_text}
 use Rattle.btf_elf_model.specs.Object.{Object, section_name, section_bytes, symbols, symbol_name}
 use Rattle.btf_elf_model.specs.declared.section_header.SectionHeader.{SectionHeader}
 use Rattle.btf_elf_model.specs.declared.symbol.Symbol.{Symbol}
 use Rattle.btf_object_model.specs.Layout.{is_askable, is_read}
 use Rattle.btf_object_model.specs.Sanitized.{index_of, table_name}
+use Rattle.btf_words.specs.declared.section_index.SectionIndex.{SectionIndex}
+
+-- the index that a map has for the section of a name
+abbrev pub indices_of : {Y S : Type 0} → HashMap (String Y) (SectionIndex × ℕ) S → List ℕ → Option ℕ
+indices_of sections name = option_map (λ (s : SectionIndex × ℕ). s.0.0) (get_by_text sections name)
 
 -- The section of an index has this name, and a rewrite may ask for the name; and it has this size.
 pub record IsReadSection (o : Object) (index : ℕ) (name : List ℕ) (size : ℕ) : Type 0 where

@@ -4,7 +4,7 @@ ghost use Rattle.std.specs.Prelude.{◌≡◌, List, [], ℕ, unwrap_or, IfOk, I
 ghost use Rattle.btf_elf_model.specs.Object as elf;
 ghost use Rattle.btf_rules.specs.Layout.{layout_of, sizes_of, offsets_of};
 ghost use Rattle.btf_object_model.specs.Layout as model;
-ghost use Rattle.btf_object.specs.Names.{IsReadSection, IsSectionLeftOut, IsReadSymbol, IsSymbolLeftOut};
+ghost use Rattle.btf_object.specs.Names.{indices_of, IsReadSection, IsSectionLeftOut, IsReadSymbol, IsSymbolLeftOut};
 
 use crate::names::{askable, section_names, symbol_names};
 use btf_elf::{Object, Symbol};
@@ -41,7 +41,10 @@ impl<H: BuildHasher> ObjectLayout<H> {
     ) -> Result<ObjectLayout<H>, AllocError>
     where
         H: Clone + Drop,
-        ensures { IfOk result (λ l. layout_of l.sections l.symbols ≡ model.layout_of object.now) }
+        ensures layout { IfOk result (λ l.
+            layout_of l.sections l.symbols ≡ model.layout_of object.now) }
+        ensures indices { IfOk result (λ l. (name : List ℕ)
+            → indices_of l.sections name ≡ model.last_index_of object.now name) }
     {
         let sections = read_sections(alloc, object, hash_builder.clone()?)?;
         let symbols = read_symbols(alloc, object, hash_builder)?;
@@ -94,8 +97,10 @@ fn read_sections<H: BuildHasher + Drop>(
     object: &Object<'_>,
     hash_builder: H,
 ) -> Result<HashMap<String, (SectionIndex, u64), H>, AllocError>
-    ensures { IfOk result (λ map. (name : List ℕ)
+    ensures sizes { IfOk result (λ map. (name : List ℕ)
         → sizes_of map name ≡ model.size_of object.now name) }
+    ensures indices { IfOk result (λ map. (name : List ℕ)
+        → indices_of map name ≡ model.last_index_of object.now name) }
 {
     let names = section_names(object);
     let mut map = HashMap::with_hasher(alloc, hash_builder);

@@ -5,7 +5,7 @@
 -- type STT_OBJECT that are global or weak, and lays out `.kconfig` itself (`find_elf_var_offset`,
 -- `bpf_object__init_kconfig_map`).
 use Rattle.std.specs.Prelude.{ℕ, ◌==◌, ◌||◌, ◌&&◌, not, nat_lt, Bool, if◌then◌else◌, List, length, map, Option, None}
-use Rattle.std.specs.List.{filter, last_or}
+use Rattle.std.specs.List.{filter, last_or, enumerate_from}
 use Rattle.std.specs.Str.{bytes_eq, is_utf8}
 use Rattle.btf_elf_model.specs.Object.{Object, section_name, symbols, symbol_name}
 use Rattle.btf_elf_model.specs.declared.section_header.SectionHeader.{SectionHeader}
@@ -31,6 +31,12 @@ last_named name_of number all name =
 -- the size of the last section of a name
 abbrev pub size_of : Object → List ℕ → Option ℕ
 size_of o name = last_named (section_name o) (λ (s : SectionHeader). s.size) o.sections name
+
+-- the index of the last section of a name
+abbrev pub last_index_of : Object → List ℕ → Option ℕ
+last_index_of o name =
+    last_named (λ (p : ℕ × SectionHeader). section_name o p.1) (λ (p : ℕ × SectionHeader). p.0)
+    (enumerate_from 0 o.sections) name
 
 -- STB_LOCAL: the binding of a symbol that no other object sees
 abbrev pub stb_local : ℕ

@@ -1,11 +1,11 @@
 -- The invariant of a `Btf`, and that the bytes determine the result of parsing.
-use Rattle.std.proofs.Common.{◌≡◌, ℕ, ◌+◌, ◌*◌, ◌^◌, ◌<◌, ◌≤◌, List, [], ◌∷◌, ◌++◌, length, drop, Some, Result, Ok, Err, refl, sym, ap, subst, ◌∙◌, arith, Vec, Global}
-use Rattle.std.specs.Prelude.{map}
+use Rattle.std.proofs.Common.{◌≡◌, ℕ, ◌+◌, ◌*◌, ◌^◌, ◌<◌, ◌≤◌, Bool, true, false, List, [], ◌∷◌, ◌++◌, length, drop, Option, None, Some, Result, Ok, Err, refl, sym, ap, subst, ◌∙◌, arith, Vec, Global}
+use Rattle.std.specs.Prelude.{map, nat_le, if◌then◌else◌}
 use Rattle.std.specs.List.{flat_map, AllByRecursion}
-use Rattle.std.proofs.lemmas.Bool.{le-leb, lt-leb}
+use Rattle.std.proofs.lemmas.Bool.{le-leb, leb-true}
 use Rattle.std.proofs.lemmas.List.{append-nil, map-append, length-append, length-map, length-take, length-drop, drop-map}
 use Rattle.std.proofs.lemmas.List.Concat.{flat_map-append}
-use Rattle.std.proofs.lemmas.Option.{IfSome_then}
+use Rattle.std.proofs.lemmas.Option.{IfSome_then, none-some}
 use Rattle.btf_model.specs.declared.endianness.Endianness.{Endianness}
 use Rattle.btf_model.specs.Record.{Record, Kind, kind_of, unknown}
 use Rattle.btf_model.specs.Refusal.{Refusal, InvalidTypeInfo}
@@ -18,6 +18,9 @@ use Rattle.btf_model.proofs.Records.{length-spell, length-records, records_are_l
 use Rattle.btf_model.proofs.Blobs.{same_table, same_refusal, table_not_refused}
 use Rattle.btf_words.specs.declared.error.BtfError.{BtfError}
 use Rattle.btf_words.specs.Error.{MeetsOrNoMemory, IsOrNoMemory, refusal_of}
+use Rattle.btf_rewrite_model.specs.Checks.{fits}
+use Rattle.btf_rules.specs.Checked.{checked}
+use Rattle.btf_rules.proofs.Checks.{checked_ok}
 use Rattle.btf_records.specs.BtfType.{record_of, fallback_of}
 use Rattle.btf_records.specs.declared.btf_type.BtfType.{BtfType}
 use Rattle.btf_table.specs.declared.table.Btf.{Btf}
@@ -118,8 +121,21 @@ length-slice at len bytes le = omega (arith, length-take len (drop at bytes), le
 
 -- ---- whether a type fits
 
-pub no_room : (t : Table) (r : Record) (size : ℕ) → size ≡ 12 + 4 * length r.tail → section_limit < length (type_bytes t) + size → Err InvalidTypeInfo ≡ type_place r t
-no_room t r size is lt = rw (lt-leb (length (type_bytes t) + length (spell t.order r)) section_limit (omega (arith, length-spell t.order r))) refl
+-- the test whether a record of this length fits decides the place of a type
+pub place_checked : (t : Table) (r : Record) (size : ℕ) → size ≡ 12 + 4 * length r.tail → type_place r t ≡ checked (fits (length (type_bytes t)) size) (length t.records)
+place_checked t r size is =
+    let used : ℕ = length (type_bytes t) in
+    let len : length (spell t.order r) ≡ size = length-spell t.order r ∙ sym is in
+    ap (λ (n : ℕ). if nat_le (used + n) section_limit then Ok (length t.records) else Err InvalidTypeInfo) len
+    ∙ elim (nat_le (used + size) section_limit) as (λ (b : Bool). (if b then Ok (length t.records) else Err InvalidTypeInfo) ≡ checked (if b then None else Some InvalidTypeInfo) (length t.records)) [ true ↦ refl | false ↦ refl ]
+
+-- if the test passes, the record fits
+pub fitting : (used bytes : ℕ) → ◌≡◌ {A = Result (Unit {0}) Refusal} (Ok tt) (checked (fits used bytes) tt) → used + bytes ≤ section_limit
+fitting used bytes is =
+    leb-true (used + bytes) section_limit
+    (elim (nat_le (used + bytes) section_limit) as (λ (b : Bool). ◌≡◌ {A = Option Refusal} (if b then None else Some InvalidTypeInfo) None → b ≡ true)
+    [ true ↦ λ none. refl | false ↦ λ none. absurd (none-some InvalidTypeInfo (sym none)) ]
+    (checked_ok {X = Unit {0}} (fits used bytes) tt tt is).0)
 
 pub has_room : (t : Table) (r : Record) (size id : ℕ) → size ≡ 12 + 4 * length r.tail → length (type_bytes t) + size ≤ section_limit → id ≡ length t.records → Ok id ≡ type_place r t
 has_room t r size id is le id-is = rw (le-leb (length (type_bytes t) + length (spell t.order r)) section_limit (omega (arith, length-spell t.order r)), id-is) refl

@@ -107,9 +107,7 @@ impl Btf {
         ensures err { OnErr result (self.new ≡ self.old) }
     {
         let offset = self.strings.len();
-        if text.len() >= SECTION_LIMIT - offset {
-            return Err(BtfError::InvalidStringOffset { offset });
-        }
+        text_fits(offset, text)?;
         self.strings.reserve(text.len() + 1)?;
         self.strings.extend_from_slice(text.as_bytes())?;
         self.strings.push(0)?;
@@ -128,9 +126,7 @@ impl Btf {
     {
         let size = btf_type.type_info_size();
         let type_len = self.type_len as usize;
-        if size > SECTION_LIMIT - type_len {
-            return Err(BtfError::InvalidTypeInfo);
-        }
+        record_fits(type_len, size)?;
         let id = self.types.len() as u32;
         self.types.push(btf_type)?;
         self.type_len = (type_len + size) as u32;

@@ -1,5 +1,12 @@
 -- The answers that a rewrite gets are the bits of a kernel.
-use Rattle.std.proofs.Common.{◌≡◌, ℕ, List, [], ◌∷◌, Bool, Option, None, Some, Result, Ok, Err, IfOk, sym, subst}
+use Rattle.std.proofs.Common.{◌≡◌, ℕ, ◌<◌, ◌≤◌, ◌||◌, eqb, eqb-true, List, [], ◌∷◌, length, Bool, true, false, Option, None, Some, Result, Ok, Err, IfOk, refl, sym, subst, arith}
+use Rattle.std.specs.List.{list_any}
+use Rattle.std.proofs.lemmas.Bool.{false≢true}
+use Rattle.std.proofs.lemmas.List.{length-map}
+use Rattle.std.proofs.lemmas.Map.Steps.{length-le_from_distinct_below}
+use Rattle.btf_rewrite_model.specs.Feature.{number}
+use Rattle.btf_rewrite_model.specs.declared.feature.BtfFeature.TheVariants as features
+use Rattle.btf_rules.specs.Features.{numbers, AreDistinct}
 use Rattle.std.specs.Prelude.{IfSome, OnOk}
 use Rattle.arrayvec.specs.declared.array_vec.ArrayVec.{ArrayVec}
 use Rattle.btf_model.specs.Refusal.{Refusal}
@@ -26,6 +33,30 @@ all_of step features Is each before (a ∷ answers) after is called =
 some_map : {P Q : Refusal → Type 0} (o : Option Refusal) → ((r : Refusal) → P r → Q r) → IfSome o P → IfSome o Q
 some_map None f p = p
 some_map (Some r) f p = f r p
+
+number_lt : (f : BtfFeature) → number f < 8
+number_lt features.Func = omega arith
+number_lt features.FuncGlobal = omega arith
+number_lt features.DataSec = omega arith
+number_lt features.DataSecZero = omega arith
+number_lt features.Float = omega arith
+number_lt features.DeclTag = omega arith
+number_lt features.TypeTag = omega arith
+number_lt features.Enum64 = omega arith
+
+numbers_lt : (answers : List FeatureAnswer) (q : ℕ) → list_any (eqb q) (numbers answers) ≡ true → q < 8
+numbers_lt [] q is = absurd (false≢true is)
+numbers_lt (a ∷ answers) q is =
+    elim (eqb q (number a.feature)) as (λ (b : Bool). eqb q (number a.feature) ≡ b → (b || list_any (eqb q) (numbers answers)) ≡ true → q < 8) [
+      | true ↦ λ same _. subst (λ (n : ℕ). n < 8) (sym (eqb-true q (number a.feature) same)) (number_lt a.feature)
+      | false ↦ λ _ among. numbers_lt answers q among
+    ] refl is
+
+-- there are at most eight answers to distinct features
+pub few_answers : (answers : List FeatureAnswer) → AreDistinct answers → length answers ≤ 8
+few_answers answers distinct =
+    let most : length (numbers answers) ≤ 8 = length-le_from_distinct_below (numbers answers) 8 distinct (numbers_lt answers) in
+    omega (arith, most, length-map answers (λ (a : FeatureAnswer). number a.feature))
 
 -- a rewrite with these answers is one for the kernel
 pub for_kernel : (features : ℕ) (policy : FillPolicy) (old : Table) (ids : Option KsymsIds) (layout : Layout) (new : Table) (asked : List FeatureAnswer) (r : Result (ArrayVec FeatureAnswer 8 (Unit {0})) BtfError)

@@ -5,7 +5,9 @@ ghost use Rattle.btf_rewrite_model.specs.declared.feature.FeatureAnswer.{Feature
 ghost use Rattle.btf_types.specs.Layout.{layout_of};
 ghost use Rattle.btf_table.specs.Rewrites.{NeedsAreGranted, KeepsSizes, KeepsResolutions, KeepsValues, AppendsAtMost};
 ghost use Rattle.btf_words.specs.Error.{MeetsOrNoMemory};
-ghost use Rattle.vbtf.specs.Kernel.{has_bit, policy_chosen, ids_chosen, ListsAnswers, RewritesFor, EndsRewriting};
+ghost use Rattle.btf_rewrite_model.specs.Rewritten.{pass_of};
+ghost use Rattle.btf_table.specs.PassStep.{BeginsAsked};
+ghost use Rattle.vbtf.specs.Kernel.{AreOf, has_bit, policy_chosen, ids_chosen, ListsAnswers, RewritesFor, EndsRewriting};
 ghost use Rattle.vbtf.specs.Program.{layout_named, AreReadable};
 ghost use Rattle.vbtf.specs.Status.{no_memory};
 
@@ -24,7 +26,8 @@ use std::alloc::Global;
 /// the names are hashed.
 ///
 /// Status 2, 6, 9, 10, 13, 14 or 15 with the first error, 20 if an allocation fails, 101 if the
-/// handle's state is not 1, and 102 if a name is not in its buffer, or is not UTF-8; the table is then unchanged.
+/// handle's state is not 1, and 102 if a name is not in its buffer, or is not UTF-8; the table is then unchanged, and
+/// `asked` has the first features that the rewrite asks about.
 #[unsafe(no_mangle)]
 pub extern "C" fn vbtf_raw_rewrite(
     alloc: Global,
@@ -46,6 +49,13 @@ pub extern "C" fn vbtf_raw_rewrite(
     ensures unreadable { table.old.state ≡ 1 → (AreReadable section_names.now sections.now
         × AreReadable symbol_names.now symbols.now → ⊥)
         → ((result ≡ INVALID_ARGUMENT) ⊎ (result ≡ no_memory)) × (table.new ≡ table.old) }
+    // Whether the rewrite succeeds or fails, the reported features are the first ones that it asks for, each with
+    // whether the kernel has it; there are none if the call fails before the rewrite begins.
+    ensures asked { (listed : List FeatureAnswer) × ListsAnswers asked.new listed
+        × AreOf kernel.now.features listed
+        × BeginsAsked (pass_of (policy_chosen kernel.now) table.old.opened.btf
+        (ids_chosen kernel.now) (layout_named section_names.now sections.now symbol_names.now
+        symbols.now) listed) }
     // The kernel has each feature that it needs for the new table.
     ensures granted { result ≡ 0 → (listed : List FeatureAnswer) × ListsAnswers asked.new listed
         × NeedsAreGranted (policy_chosen kernel.now) table.old.opened.btf
@@ -59,6 +69,7 @@ pub extern "C" fn vbtf_raw_rewrite(
     // No type is removed, and at most four are appended.
     ensures appended { result ≡ 0 → AppendsAtMost 4 table.old.opened.btf table.new.opened.btf }
 {
+    asked.list(&[]);
     if table.seen() != OWNED {
         return CLOSED;
     }
@@ -71,27 +82,31 @@ pub extern "C" fn vbtf_raw_rewrite(
     let Some(mut whole) = taken(alloc, table) else {
         return CLOSED;
     };
-    let answer = rewritten(&mut whole.btf, &program, kernel);
+    let answer = rewritten(&mut whole.btf, &program, kernel, asked);
     *table = owner(whole);
     match answer {
-        Ok(answers) => {
-            asked.list(&answers);
-            0
-        }
+        Ok(_) => 0,
         Err(error) => report(error, fault),
     }
 }
 
-/// Rewrites a table for a kernel, and returns the answers that it got. An error leaves the table unchanged.
+/// Rewrites a table for a kernel. Returns the answers that it got, and reports them, also after an error. An error
+/// leaves the table unchanged.
 fn rewritten(
     btf: &mut Btf,
     program: &Program,
     kernel: &Kernel,
+    asked: &mut Asked,
 ) -> Result<ArrayVec<FeatureAnswer, 8>, BtfError>
     ensures rewrites { MeetsOrNoMemory (λ a. a.items) result
         (RewritesFor kernel.now.features (policy_chosen kernel.now) btf.old
         (ids_chosen kernel.now) (layout_of program.now.sections program.now.symbols) btf.new) }
     ensures err { OnErr result (btf.new ≡ btf.old) }
+    ensures listed { IfOk result (λ a. ListsAnswers asked.new a.items) }
+    ensures asked { (listed : List FeatureAnswer) × ListsAnswers asked.new listed
+        × AreOf kernel.now.features listed
+        × BeginsAsked (pass_of (policy_chosen kernel.now) btf.old (ids_chosen kernel.now)
+        (layout_of program.now.sections program.now.symbols) listed) }
     ensures granted { IfOk result (λ a. NeedsAreGranted (policy_chosen kernel.now) btf.old
         (ids_chosen kernel.now) a.items btf.new) }
     ensures sizes { OnOk result (KeepsSizes btf.old btf.new) }
@@ -105,5 +120,8 @@ fn rewritten(
     let mut resolver = BtfFeatureResolver::new(is_granted);
     let Program { sections, symbols } = program;
     let ids = kernel.ksyms_ids();
-    btf.fixup_and_sanitize_with(sections, symbols, ids, kernel.policy(), &mut resolver)
+    let policy = kernel.policy();
+    let answers = btf.fixup_and_sanitize_with(sections, symbols, ids, policy, &mut resolver);
+    asked.list(resolver.answers());
+    answers
 }

@@ -9,6 +9,7 @@ use crate::table::SECTION_LIMIT;
 use btf_plain::BtfError;
 
 /// Fails with `InvalidStringOffset` of the length of the strings if a text and its zero byte do not fit after them.
+#[inline(always)]
 pub fn text_fits(offset: usize, text: &str) -> Result<(), BtfError>
     requires { offset ≤ SECTION_LIMIT }
     ensures { Meets (λ u. u) result (λ answer. answer ≡ checked (has_room offset text.now) tt) }
@@ -20,6 +21,7 @@ pub fn text_fits(offset: usize, text: &str) -> Result<(), BtfError>
 }
 
 /// Fails with `InvalidTypeInfo` if a record of this length does not fit after the records.
+#[inline(always)]
 pub fn record_fits(used: usize, bytes: usize) -> Result<(), BtfError>
     requires { used ≤ SECTION_LIMIT }
     ensures { Meets (λ u. u) result (λ answer. answer ≡ checked (fits used bytes) tt) }

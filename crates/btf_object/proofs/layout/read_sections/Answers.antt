@@ -8,7 +8,8 @@ use Rattle.btf_elf_model.specs.declared.section_header.SectionHeader.{SectionHea
 use Rattle.btf_object_model.specs.Layout.{last_named}
 use Rattle.btf_rules.specs.Layout.{sizes_of}
 use Rattle.btf_words.specs.declared.section_index.SectionIndex.{SectionIndex}
-use Rattle.btf_object.proofs.Named.{section_push, section_pass, section_kept}
+use Rattle.btf_object.specs.Names.{indices_of}
+use Rattle.btf_object.proofs.Named.{section_push, section_pass, section_kept, indexed, last_indexed, index_push, index_pass, index_kept}
 use Rattle.btf_object.proofs.layout.read_sections.Goals as goal
 use Rattle.btf_object.proofs.layout.read_sections.Goals.{in-Some+in_ok-to_string+in_ok-insert, in_default}
 
@@ -17,16 +18,24 @@ loop-index-preserved g c = λ name.
     let i : ℕ = c.loop-index.index in
     let o = c.args.object.now in
     let rest : Option ℕ = last_named (section_name o) (λ (t : SectionHeader). t.size) (take i o.sections) name in
+    let above : Option ℕ = last_indexed o (indexed o i) name in
     elim c.match-read_section.branch [
       | in-Some+in_ok-to_string+in_ok-insert w ↦
           let key : List ℕ = string_bytes w.in_ok-to_string.field-0 in
           let section : SectionIndex × ℕ = (record { 0 = i }, w.in-Some.size) in
-          let updated = hash_map_updates_text key c.loop-index.map w.insert.new.self (Some section) w.in_ok-insert.ensures.updates name in
-          ap (λ m. sizes_of m name) w.map-is ∙ ap (λ (o : Option (SectionIndex × ℕ)). option_map (λ (t : SectionIndex × ℕ). t.1) o) updated
-          ∙ section_kept (bytes_eq key name) section (get_by_text c.loop-index.map name) rest (c.loop-index.invariant name)
-          ∙ ap (λ (k : List ℕ). if bytes_eq k name then Some w.in-Some.size else rest) w.in_ok-to_string.ensures.ok
-          ∙ sym (section_push o i w.in-Some.name.now w.in-Some.size name w.in-Some.ensures.some)
+          let updated = hash_map_updates_text key c.loop-index.map w.insert.new.self (Some section) w.in_ok-insert.ensures.updates name in (
+            ap (λ m. sizes_of m name) w.map-is ∙ ap (λ (o : Option (SectionIndex × ℕ)). option_map (λ (t : SectionIndex × ℕ). t.1) o) updated
+                ∙ section_kept (bytes_eq key name) section (get_by_text c.loop-index.map name) rest (c.loop-index.invariant name).0
+                ∙ ap (λ (k : List ℕ). if bytes_eq k name then Some w.in-Some.size else rest) w.in_ok-to_string.ensures.ok
+                ∙ sym (section_push o i w.in-Some.name.now w.in-Some.size name w.in-Some.ensures.some),
+            ap (λ m. indices_of m name) w.map-is ∙ ap (λ (o : Option (SectionIndex × ℕ)). option_map (λ (t : SectionIndex × ℕ). t.0.0) o) updated
+                ∙ index_kept (bytes_eq key name) section (get_by_text c.loop-index.map name) above (c.loop-index.invariant name).1
+                ∙ ap (λ (k : List ℕ). if bytes_eq k name then Some i else above) w.in_ok-to_string.ensures.ok
+                ∙ sym (index_push o i w.in-Some.name.now w.in-Some.size name w.in-Some.ensures.some),
+          )
       | in_default w ↦
-          let lt : i < length o.sections = omega (arith, c.loop-index-test.true, ap (λ (ss : List SectionHeader). length ss) c.sections-index-end.ensures) in
-          ap (λ m. sizes_of m name) w.map-is ∙ c.loop-index.invariant name ∙ sym (section_pass o i name lt w.in_default.ensures.none)
+          let lt : i < length o.sections = omega (arith, c.loop-index-test.true, ap (λ (ss : List SectionHeader). length ss) c.sections-index-end.ensures) in (
+            ap (λ m. sizes_of m name) w.map-is ∙ (c.loop-index.invariant name).0 ∙ sym (section_pass o i name lt w.in_default.ensures.none),
+            ap (λ m. indices_of m name) w.map-is ∙ (c.loop-index.invariant name).1 ∙ sym (index_pass o i name lt w.in_default.ensures.none),
+          )
     ]

@@ -34,7 +34,7 @@ pub returns-in_err-answers-clause-refused : goal.returns-in_err-answers-clause-r
 returns-in_err-answers-clause-refused g c =
     let at = goal.at.returns-in_err-answers-clause-refused g c in
     passed_on _ _ c.in_err-answers.field-0.0 c.from_residual-in_err-answers.result
-    (refuses_so c.args.object.now c.args.table.now _ c.in_ok-btf.btf c.in_ok-ids.ids (layout_of c.in_ok-layout.layout.sections c.in_ok-layout.layout.symbols) c.fixup_and_sanitize_with.new.resolver.1 c.in_ok-layout.ensures
+    (refuses_so c.args.object.now c.args.table.now _ c.in_ok-btf.btf c.in_ok-ids.ids (layout_of c.in_ok-layout.layout.sections c.in_ok-layout.layout.symbols) c.fixup_and_sanitize_with.new.resolver.1 c.in_ok-layout.ensures.layout
     (of_kernel g at.After-fixup_and_sanitize_with) (parsed g at.In_ok-btf) c.in_ok-ids.ensures)
     c.in_err-answers.ensures.rewrites c.from_residual-in_err-answers.ensures.1
 
@@ -51,7 +51,7 @@ returns-clause-made g c =
       c.in_ok-btf.btf,
       new,
       rw c.in_ok-answers.ensures.answers
-          (rewrites_so c.args.object.now c.args.table.now _ c.in_ok-btf.btf c.in_ok-ids.ids layout answers c.in_ok-layout.ensures (of_kernel g at.After-fixup_and_sanitize_with) (parsed g at.In_ok-btf) c.in_ok-ids.ensures new
+          (rewrites_so c.args.object.now c.args.table.now _ c.in_ok-btf.btf c.in_ok-ids.ids layout answers c.in_ok-layout.ensures.layout (of_kernel g at.After-fixup_and_sanitize_with) (parsed g at.In_ok-btf) c.in_ok-ids.ensures new
           c.in_ok-answers.ensures.rewrites.0 c.in_ok-answers.ensures.rewrites.1 written),
       bytes_are,
     )

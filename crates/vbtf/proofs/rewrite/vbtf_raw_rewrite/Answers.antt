@@ -4,7 +4,11 @@ use Rattle.btf_rewrite_model.specs.declared.feature.FeatureAnswer.{FeatureAnswer
 use Rattle.btf_table.specs.Rewrites.{NeedsAreGranted, KeepsSizes, KeepsResolutions, KeepsValues}
 use Rattle.btf_types.specs.Layout.{layout_of}
 use Rattle.btf_words.specs.Error.{refusal_of}
-use Rattle.vbtf.specs.Kernel.{RewritesFor, ListsAnswers, policy_chosen, ids_chosen}
+use Rattle.btf_model.specs.Table.{Table}
+use Rattle.btf_rewrite_model.specs.Pass.{Layout}
+use Rattle.btf_rewrite_model.specs.Rewritten.{pass_of}
+use Rattle.btf_table.specs.PassStep.{BeginsAsked}
+use Rattle.vbtf.specs.Kernel.{AreOf, RewritesFor, ListsAnswers, policy_chosen, ids_chosen}
 use Rattle.vbtf.specs.Program.{layout_named, AreReadable}
 use Rattle.vbtf.proofs.Ending.{refused}
 use Rattle.vbtf.proofs.Kernels.{carried, for_handle}
@@ -53,23 +57,42 @@ pub returns-in-Ok-clause-granted : goal.returns-in-Ok-clause-granted
 returns-in-Ok-clause-granted c = λ zero.
     let w = (goal.at.returns-in-Ok-clause-granted c).After-owner in
     let kernel = c.args.kernel.now in
-    let listed : List FeatureAnswer = c.in-Ok.answers.items in (
+    let listed : List FeatureAnswer = c.in-Ok.field-0.items in (
       listed,
-      subst (λ xs. ListsAnswers c.list.new.self xs) c.deref.ensures.0 c.list.ensures,
+      c.in-Ok.ensures.listed,
       carried (λ old new. NeedsAreGranted (policy_chosen kernel) old (ids_chosen kernel) listed new) _ _ _ _ (same_old w) (same_new w) c.in-Ok.ensures.granted,
     )
+
+-- the answers that were reported are to the first features that the rewrite of the handle's table asks for
+reported : (c : After-owner) → (listed : List FeatureAnswer) × ListsAnswers c.rewritten-answer.new.asked listed × AreOf c.args.kernel.now.features listed
+    × BeginsAsked (pass_of (policy_chosen c.args.kernel.now) c.args.table.now.opened.btf (ids_chosen c.args.kernel.now) (layout_named c.args.section_names.now c.args.sections.now c.args.symbol_names.now c.args.symbols.now) listed)
+reported c =
+    let kernel = c.args.kernel.now in
+    let asked = c.rewritten-answer.ensures.asked in (
+      asked.0,
+      asked.1,
+      asked.2,
+      subst (λ (l : Layout). BeginsAsked (pass_of (policy_chosen kernel) c.args.table.now.opened.btf (ids_chosen kernel) l asked.0)) (same_layout c)
+          (subst (λ (t : Table). BeginsAsked (pass_of (policy_chosen kernel) t (ids_chosen kernel) (layout_of c.in-Ok-Some.program.sections c.in-Ok-Some.program.symbols) asked.0)) (same_old c) asked.3),
+    )
+
+pub returns-in-Ok-clause-asked : goal.returns-in-Ok-clause-asked
+returns-in-Ok-clause-asked c = reported (goal.at.returns-in-Ok-clause-asked c).After-owner
+
+pub returns-clause-asked : goal.returns-clause-asked
+returns-clause-asked c = reported (goal.at.returns-clause-asked c).After-owner
 
 pub returns-in-Ok-clause-rewritten : goal.returns-in-Ok-clause-rewritten
 returns-in-Ok-clause-rewritten c = λ owned sections symbols.
     let w = (goal.at.returns-in-Ok-clause-rewritten c).After-owner in
     let kernel = c.args.kernel.now in
-    let listed : List FeatureAnswer = c.in-Ok.answers.items in (
+    let listed : List FeatureAnswer = c.in-Ok.field-0.items in (
       c.owner.ensures.0,
       same_ext w,
       inl (
         refl,
         listed,
-        subst (λ xs. ListsAnswers c.list.new.self xs) c.deref.ensures.0 c.list.ensures,
+        c.in-Ok.ensures.listed,
         for_handle kernel.features (policy_chosen kernel) (ids_chosen kernel) c.deref_mut.result.now.btf c.args.table.now.opened.btf _ (layout_named c.args.section_names.now c.args.sections.now c.args.symbol_names.now c.args.symbols.now) c.rewritten-answer.new.btf c.owner.result.opened.btf (Ok listed) (same_old w) (same_layout w) (same_new w) c.in-Ok.ensures.rewrites,
       ),
     )
