@@ -162,6 +162,15 @@ fn add_left(line: &mut String, steps: &[Step<'_>]) -> Result<(), TextError> {
     Ok(())
 }
 
+/// Whether a list of parameters is written as `(void)`: an empty one, and one of `...` alone, which C does not have.
+fn is_void(params: &[BtfParam]) -> bool {
+    match params {
+        [] => true,
+        [only] => only.btf_type == 0,
+        _ => false,
+    }
+}
+
 /// Adds the parameters of a function, in parentheses. Parameters that would make the line too long are left out.
 #[cycle(type_text)]
 fn add_params(
@@ -174,8 +183,7 @@ fn add_params(
         line.push_str("(...)")?;
         return Ok(());
     };
-    // In C, `(...)` needs a parameter before it.
-    if let [] | [BtfParam { btf_type: 0, .. }] = params {
+    if is_void(params) {
         line.push_str("(void)")?;
         return Ok(());
     }
