@@ -1,1 +1,3 @@
 mod Reports
+mod Changed
+mod Compared

@@ -34,6 +34,11 @@ abbrev pub IsTable : Endianness → List ℕ → Blob → Type 0
 IsTable order bytes (Object object) = ⊥
 IsTable order bytes (Table own own_order) = (own.now ≡ bytes) × (own_order ≡ order)
 
+-- The bytes are this file: an object, or a table alone.
+abbrev pub IsBlob : List ℕ → Blob → Type 0
+IsBlob bytes (Object object) = elf.IsObject bytes object
+IsBlob bytes (Table own order) = (own.now ≡ bytes) × BeginsTable order bytes
+
 -- the byte order of the words: of an object, the order in its header
 abbrev pub order_of : Blob → Endianness
 order_of (Object object) = object.header.order

@@ -1,2 +1,5 @@
 pub mod Blob
 pub mod Fault
+pub mod Rewrite
+pub mod Changes
+pub mod Compat

@@ -28,7 +28,7 @@ pub enum Blob<'a> {
 impl<'a> Blob<'a> {
     ghost use Rattle.std.specs.Prelude.{◌≡◌, true, Err, IfOk, IfErr, IsOkAnd, MatchResult};
     ghost use Rattle.btf_model.specs.declared.endianness.Endianness.TheVariants.{Little, Big};
-    ghost use Rattle.btfobj_cli.specs.Blob.{BeginsObject, BeginsTable, HasExt, HasMagic, HasTable, IsTable, is_object, order_of};
+    ghost use Rattle.btfobj_cli.specs.Blob.{BeginsObject, BeginsTable, HasExt, HasMagic, HasTable, IsBlob, IsTable, is_object, order_of};
     ghost use Rattle.btfobj_cli.specs.Fault.{ReportsObject, ReportsTable, ReportsExt};
     ghost use Rattle.btfobj_cli.specs.declared.fault.Fault.TheVariants as faults;
 
@@ -38,6 +38,7 @@ impl<'a> Blob<'a> {
     /// The error is `UnknownFormat` if they begin otherwise, `Object` with the error of `Object::parse`, or
     /// `OutOfMemory`.
     pub fn read(alloc: Global, bytes: &'a [u8]) -> Result<Blob<'a>, Fault>
+        ensures read { IfOk result (IsBlob bytes.now) }
         ensures object { IfOk result (λ blob. BeginsObject bytes.now → is_object blob ≡ true) }
         ensures little { BeginsTable Little bytes.now
             → IsOkAnd result (IsTable Little bytes.now) }

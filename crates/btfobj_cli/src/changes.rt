@@ -1,5 +1,9 @@
 //! The changes that a rewrite would make.
 
+ghost use Rattle.std.specs.Prelude.{◌≡◌, IfOk};
+ghost use Rattle.btfobj_cli.specs.Changes.{Checks, has_changed};
+ghost use Rattle.btfobj_cli.specs.Rewrite.{chosen_target};
+
 use crate::blob::Blob;
 use crate::fault::Fault;
 use crate::rewrite::{Rewrite, sanitize};
@@ -21,7 +25,9 @@ pub fn check<W: io::Write, H: BuildHasher + Clone + Drop>(
     rewrite: &Rewrite<'_>,
     hash_builder: H,
     out: &mut W,
-) -> Result<bool, Fault> {
+) -> Result<bool, Fault>
+    ensures { IfOk result (Checks bytes.now (chosen_target rewrite.now)) }
+{
     let old = Blob::read(alloc, bytes)?.table(alloc)?;
     let (written, answers) = sanitize(alloc, bytes, rewrite, hash_builder)?;
     let new = Blob::read(alloc, &written)?.table(alloc)?;
@@ -65,23 +71,36 @@ fn write_changes<W: fmt::Write>(
     old: &Btf,
     new: &Btf,
     out: &mut W,
-) -> Result<bool, Fault> {
+) -> Result<bool, Fault>
+    ensures { IfOk result (λ changes. changes ≡ has_changed old.now.records new.now.records) }
+{
     let mut spelled = Spelled::new(alloc);
     let mut changes = false;
-    let mut types = old.types();
-    for (id, new_type) in new.types().enumerate() {
-        let old_type = types.next();
-        if spelled.are_equal(old_type, new_type)? {
-            continue;
+    let old_types = old.types().as_slice();
+    let new_types = new.types().as_slice();
+    for id in 0..new_types.len() {
+        let new_type = &new_types[id];
+        let is_changed = spelled.is_changed(old_types, id, new_type)?;
+        if is_changed {
+            write!(out, "[{id}] ")?;
+            write_changed(alloc, (old, old_types.get(id)), (new, new_type), out)?;
         }
-        write!(out, "[{id}] ")?;
-        match old_type {
-            Some(old_type) => write_change(alloc, (old, old_type), (new, new_type), out)?,
-            None => write_addition(new, new_type, out)?,
-        }
-        changes = true;
+        changes = changes || is_changed;
     }
     Ok(changes)
+}
+
+/// Writes a change or an addition of a type.
+fn write_changed<W: fmt::Write>(
+    alloc: Global,
+    old: (&Btf, Option<&BtfType>),
+    new: (&Btf, &BtfType),
+    out: &mut W,
+) -> Result<(), Fault> {
+    match old.1 {
+        Some(old_type) => write_change(alloc, (old.0, old_type), new, out),
+        None => write_addition(new.0, new.1, out),
+    }
 }
 
 /// Writes a change of a type.
@@ -118,6 +137,10 @@ struct Spelled {
 }
 
 impl Spelled {
+    ghost use Rattle.std.specs.Prelude.{◌≡◌, map, slice_get, IfOk};
+    ghost use Rattle.btf_records.specs.BtfType.{record_of};
+    ghost use Rattle.btfobj_cli.specs.Changes.{is_changed};
+
     /// Empty buffers.
     fn new(alloc: Global) -> Spelled {
         Spelled {
@@ -126,15 +149,18 @@ impl Spelled {
         }
     }
 
-    /// Whether there is an old type, and the new one has the same words.
-    fn are_equal(&mut self, old: Option<&BtfType>, new: &BtfType) -> Result<bool, Fault> {
-        let Some(old) = old else {
-            return Ok(false);
+    /// Whether a type differs from the old type of its id, or there is no such type.
+    fn is_changed(&mut self, old: &[BtfType], id: usize, new: &BtfType) -> Result<bool, Fault>
+        ensures { IfOk result (λ changed. changed
+            ≡ is_changed (slice_get (map record_of old.now) id) (record_of new.now)) }
+    {
+        let Some(old) = old.get(id) else {
+            return Ok(true);
         };
         self.old.clear();
         self.new.clear();
         old.append_to(&mut self.old, Endianness::Little)?;
         new.append_to(&mut self.new, Endianness::Little)?;
-        Ok(self.old.as_slice() == self.new.as_slice())
+        Ok(self.old.as_slice() != self.new.as_slice())
     }
 }

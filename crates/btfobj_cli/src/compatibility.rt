@@ -1,5 +1,9 @@
 //! The comparison of the types of a name in two tables.
 
+ghost use Rattle.std.specs.Prelude.{◌≡◌, ℕ, List, map, IfOk};
+ghost use Rattle.btfobj_cli.specs.Compat.{FindsOrNone, FindsFirst, Finds, AreFindings, like_kinds, finding_text, is_compatible, are_compatible};
+ghost use Rattle.btfobj_cli.specs.declared.compatibility.Finding.{Finding};
+
 use crate::fault::Fault;
 use btf_compare::types_are_compatible;
 use btf_table::Btf;
@@ -22,7 +26,7 @@ const KINDS: [BtfKind; 9] = [
 ];
 
 /// The outcome of the comparison for a name.
-#[derive(Clone, Copy, Debug, PartialEq, Eq)]
+#[derive(Clone, Copy, Debug)]
 enum Finding {
     /// The types are compatible.
     Compatible,
@@ -48,33 +52,55 @@ pub fn compat<W: io::Write>(
     target: &Btf,
     names: &[&str],
     out: &mut W,
-) -> Result<bool, Fault> {
+) -> Result<bool, Fault>
+    // The answer is whether the finding for each name is that its types are compatible.
+    ensures { IfOk result (λ all. (found : List (List ℕ × Finding))
+        × AreFindings local.now target.now (map (λ name. name.now) names.now) found
+        × (all ≡ are_compatible found)) }
+{
     let mut text = TextBuffer::new(out);
     let mut all = true;
     for name in names {
         let finding = compare(local, target, name)?;
-        let outcome = match finding {
-            Finding::Compatible => "compatible",
-            Finding::Incompatible => "not compatible",
-            Finding::NoLocal => "not in the first file",
-            Finding::NoTarget => "not in the second file",
-        };
-        writeln!(text, "{name}: {outcome}")?;
-        all = all && finding == Finding::Compatible;
+        writeln!(text, "{name}: {}", finding.text())?;
+        all = all && finding.is_compatible();
     }
     text.flush()?;
     Ok(all)
 }
 
+impl Finding {
+    /// The text that reports the finding.
+    fn text(self) -> &'static str
+        ensures { result.now ≡ finding_text self }
+    {
+        match self {
+            Finding::Compatible => "compatible",
+            Finding::Incompatible => "not compatible",
+            Finding::NoLocal => "not in the first file",
+            Finding::NoTarget => "not in the second file",
+        }
+    }
+
+    /// Whether the types are compatible.
+    fn is_compatible(self) -> bool
+        ensures { result ≡ is_compatible self }
+    {
+        matches!(self, Finding::Compatible)
+    }
+}
+
 /// Compares the types of a name.
-fn compare(local: &Btf, target: &Btf, name: &str) -> Result<Finding, Fault> {
-    let Some((kind, local_id)) = find_any(local, name)? else {
+fn compare(local: &Btf, target: &Btf, name: &str) -> Result<Finding, Fault>
+    ensures { IfOk result (Finds local.now target.now name.now) }
+{
+    let Some(found) = find_first(local, name, &KINDS)? else {
         return Ok(Finding::NoLocal);
     };
-    let Some(target_id) = find_like(target, name, kind)? else {
+    let Some(like) = find_like(target, name, found.0)? else {
         return Ok(Finding::NoTarget);
     };
-    if types_are_compatible(local, local_id, target, target_id)? {
+    if types_are_compatible(local, found.1, target, like.1)? {
         Ok(Finding::Compatible)
     } else {
         Ok(Finding::Incompatible)
@@ -82,7 +108,9 @@ fn compare(local: &Btf, target: &Btf, name: &str) -> Result<Finding, Fault> {
 }
 
 /// The first type of a name and of this kind.
-fn find(table: &Btf, name: &str, kind: BtfKind) -> Result<Option<u32>, BtfError> {
+fn find(table: &Btf, name: &str, kind: BtfKind) -> Result<Option<u32>, BtfError>
+    ensures { IfOk result (FindsOrNone table.now kind name.now) }
+{
     match table.id_by_type_name_kind(name, kind) {
         Ok(id) => Ok(Some(id)),
         Err(BtfError::UnknownBtfTypeName { type_name: _name }) => Ok(None),
@@ -90,22 +118,29 @@ fn find(table: &Btf, name: &str, kind: BtfKind) -> Result<Option<u32>, BtfError>
     }
 }
 
-/// The type of a name, and its kind.
-fn find_any(table: &Btf, name: &str) -> Result<Option<(BtfKind, u32)>, BtfError> {
-    for kind in KINDS {
-        if let Some(id) = find(table, name, kind)? {
-            return Ok(Some((kind, id)));
+/// The first of these kinds that has a type of a name, and its first type of the name.
+fn find_first(
+    table: &Btf,
+    name: &str,
+    kinds: &[BtfKind],
+) -> Result<Option<(BtfKind, u32)>, BtfError>
+    ensures { IfOk result (FindsFirst table.now name.now kinds.now) }
+{
+    for kind in kinds {
+        if let Some(id) = find(table, name, *kind)? {
+            return Ok(Some((*kind, id)));
         }
     }
     Ok(None)
 }
 
 /// The first type of a name with this kind, or with the other kind of enumeration.
-fn find_like(table: &Btf, name: &str, kind: BtfKind) -> Result<Option<u32>, BtfError> {
-    let found = find(table, name, kind)?;
+fn find_like(table: &Btf, name: &str, kind: BtfKind) -> Result<Option<(BtfKind, u32)>, BtfError>
+    ensures { IfOk result (FindsFirst table.now name.now (like_kinds kind)) }
+{
     match kind {
-        BtfKind::Enum if found.is_none() => find(table, name, BtfKind::Enum64),
-        BtfKind::Enum64 if found.is_none() => find(table, name, BtfKind::Enum),
-        _ => Ok(found),
+        BtfKind::Enum => find_first(table, name, &[kind, BtfKind::Enum64]),
+        BtfKind::Enum64 => find_first(table, name, &[kind, BtfKind::Enum]),
+        _ => find_first(table, name, &[kind]),
     }
 }

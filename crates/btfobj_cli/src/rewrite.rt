@@ -1,10 +1,9 @@
 //! The rewrite of files for a kernel.
 
-ghost use Rattle.std.specs.Prelude.{IfOk};
-ghost use Rattle.std.specs.Option.{option_map};
-ghost use Rattle.btf_object_model.specs.Sanitized.{IsSanitized};
-ghost use Rattle.btf_object.specs.Errors.{target_of};
-ghost use Rattle.btfobj_cli.specs.Blob.{BeginsObject};
+ghost use Rattle.std.specs.Prelude.{◌≡◌, ℕ, List, None, IfOk};
+ghost use Rattle.btf_object.specs.Kernel.{has};
+ghost use Rattle.btf_rules.specs.Layout.{sizes_of, offsets_of};
+ghost use Rattle.btfobj_cli.specs.Rewrite.{chosen_target, RewritesAlone, IsRewritten};
 
 use crate::blob::Blob;
 use crate::fault::Fault;
@@ -13,7 +12,8 @@ use btf_model::Endianness;
 use btf_object::{Kernel, ksyms_of, sanitize_object_with};
 use btf_rewrite_model::{BtfFeature, FeatureAnswer, FillPolicy};
 use btf_rules::BtfFeatureResolver;
-use btf_table::{Btf, rewrite_bytes_with};
+use btf_table::Btf;
+use btf_words::SectionIndex;
 use std::alloc::Global;
 use std::collections::HashMap;
 use std::hash::BuildHasher;
@@ -34,17 +34,16 @@ pub struct Rewrite<'a> {
 /// no sections and no symbols.
 ///
 /// The errors are `UnknownFormat`, `Rewrite` with the error of `sanitize_object_with`, `Table` with the error of
-/// `ksyms_of` or of `rewrite_bytes_with`, and `OutOfMemory`.
+/// `Btf::parse`, of `ksyms_of` or of `Btf::fixup_and_sanitize_with`, and `OutOfMemory`.
 pub fn sanitize<H: BuildHasher + Clone + Drop>(
     alloc: Global,
     bytes: &[u8],
     rewrite: &Rewrite<'_>,
     hash_builder: H,
 ) -> Result<(Vec<u8>, ArrayVec<FeatureAnswer, 8>), Fault>
-    // The new file of an object is the old one with the written form of the rewritten table in its section `.BTF`.
-    ensures { IfOk result (λ r. BeginsObject bytes.now → IsSanitized bytes.now
-        (target_of rewrite.now.kernel rewrite.now.policy
-        (option_map (λ name. name.now) rewrite.now.placeholder)) r.0.items r.1.items) }
+    // The new file of an object is the old one with the written form of the rewritten table in its section `.BTF`. The
+    // new file of a table alone is the written form of the rewritten table.
+    ensures { IfOk result (λ r. IsRewritten bytes.now (chosen_target rewrite.now) r.0.items r.1.items) }
 {
     match Blob::read(alloc, bytes)? {
         Blob::Object(_object) => Ok(sanitize_object_with(
@@ -59,25 +58,45 @@ pub fn sanitize<H: BuildHasher + Clone + Drop>(
     }
 }
 
+/// The sizes of the sections of a table alone: none.
+fn no_sections(alloc: Global) -> HashMap<String, (SectionIndex, u64)>
+    ensures { (name : List ℕ) → sizes_of result name ≡ None }
+{
+    HashMap::new(alloc)
+}
+
+/// The offsets of the symbols of a table alone: none.
+fn no_symbols(alloc: Global) -> HashMap<String, u64>
+    ensures { (name : List ℕ) → offsets_of result name ≡ None }
+{
+    HashMap::new(alloc)
+}
+
 /// Rewrites a table alone. Returns its bytes, and the answers for the features that the rewrite asked about.
 fn sanitize_table(
     alloc: Global,
     bytes: &[u8],
     endianness: Endianness,
     rewrite: &Rewrite<'_>,
-) -> Result<(Vec<u8>, ArrayVec<FeatureAnswer, 8>), Fault> {
-    let table = Btf::parse(alloc, bytes, endianness)?;
-    let ksyms = ksyms_of(&table, rewrite.placeholder)?;
-    let kernel = rewrite.kernel;
-    let mut resolver = BtfFeatureResolver::new(|feature: BtfFeature| kernel.has(feature));
-    Ok(rewrite_bytes_with(
-        alloc,
-        bytes,
-        endianness,
-        &HashMap::new(alloc),
-        &HashMap::new(alloc),
-        ksyms,
+) -> Result<(Vec<u8>, ArrayVec<FeatureAnswer, 8>), Fault>
+    ensures { IfOk result (λ r.
+        RewritesAlone endianness bytes.now (chosen_target rewrite.now) r.0.items r.1.items) }
+{
+    let mut table = Btf::parse(alloc, bytes, endianness)?;
+    let ids = ksyms_of(&table, rewrite.placeholder)?;
+    let sections = no_sections(alloc);
+    let symbols = no_symbols(alloc);
+    let kernel = &rewrite.kernel;
+    let has = |feature: BtfFeature| -> bool
+        ensures { result ≡ has kernel.entry.now feature }
+    { kernel.has(feature) };
+    let mut resolver = BtfFeatureResolver::new(has);
+    let answers = table.fixup_and_sanitize_with(
+        &sections,
+        &symbols,
+        ids,
         rewrite.policy,
         &mut resolver,
-    )?)
+    )?;
+    Ok((table.to_bytes()?, answers))
 }

@@ -1,0 +1,17 @@
+use Rattle.std.proofs.Common.{ℕ, List, subst}
+use Rattle.btfobj_cli.specs.Blob.{IsBlob}
+use Rattle.btfobj_cli.proofs.changes.check.Goals as goal
+
+pub returns : goal.returns
+returns g c = (
+  c.in_ok-written.written.items,
+  c.in_ok-written.answers.items,
+  c.in_ok-written.ensures,
+  (
+    c.in_ok-old.old,
+    c.in_ok-new.new,
+    (c.in_ok-read.field-0, c.in_ok-read.ensures.read, c.in_ok-old.ensures),
+    (c.in_ok-read-2.field-0, subst (λ (bs : List ℕ). IsBlob bs c.in_ok-read-2.field-0) c.deref.ensures.value c.in_ok-read-2.ensures.read, c.in_ok-new.ensures),
+    c.in_ok-changes.ensures,
+  ),
+)

@@ -1,0 +1,34 @@
+-- The types that a rewrite changes or adds.
+use Rattle.std.specs.Prelude.{◌≡◌, ℕ, not, Bool, true, List, slice_get, Option, Some, None}
+use Rattle.std.specs.List.{list_any, enumerate_from}
+use Rattle.std.specs.Str.{bytes_eq}
+use Rattle.btf_model.specs.Record.{Record}
+use Rattle.btf_model.specs.Spelling.{spell}
+use Rattle.btf_model.specs.Table as tables
+use Rattle.btf_model.specs.declared.endianness.Endianness.TheVariants.{Little}
+use Rattle.btf_rewrite_model.specs.declared.feature.FeatureAnswer.{FeatureAnswer}
+use Rattle.btf_object_model.specs.Sanitized.{Target}
+use Rattle.btfobj_cli.specs.Blob.{IsBlob, HasTable}
+use Rattle.btfobj_cli.specs.Rewrite.{IsRewritten}
+use Rattle.btfobj_cli.specs.declared.blob.Blob.{Blob}
+
+-- whether a type differs from the old type of its id: it has other words, or there is no such type
+abbrev pub is_changed : Option Record → Record → Bool
+is_changed None new = true
+is_changed (Some old) new = not (bytes_eq (spell Little old) (spell Little new))
+
+-- whether one of these types differs from the old type of its id
+abbrev pub has_changed : List Record → List Record → Bool
+has_changed old new =
+    list_any (λ (p : ℕ × Record). is_changed (slice_get old p.0) p.1) (enumerate_from 0 new)
+
+-- The file of these bytes has this table.
+abbrev pub FileHasTable : List ℕ → tables.Table → Type 0
+FileHasTable bytes t = (blob : Blob) × IsBlob bytes blob × HasTable blob t
+
+-- The rewrite of a file for the target changes or adds a type; or it does not.
+abbrev pub Checks : List ℕ → Target → Bool → Type 0
+Checks bytes target changes =
+    (file : List ℕ) × (answers : List FeatureAnswer) × IsRewritten bytes target file answers
+    × ((old new : tables.Table) × FileHasTable bytes old × FileHasTable file new
+    × (changes ≡ has_changed old.records new.records))

@@ -1,0 +1,42 @@
+-- A file that is rewritten for a kernel.
+use Rattle.std.specs.Prelude.{◌≡◌, ℕ, List, None, Ok, Option}
+use Rattle.std.specs.Option.{option_map}
+use Rattle.btf_model.specs.Blob.{IsTable, canon}
+use Rattle.btf_model.specs.Table.{Table, strip}
+use Rattle.btf_model.specs.declared.endianness.Endianness.{Endianness}
+use Rattle.btf_rewrite_model.specs.Pass.{Layout, Asked}
+use Rattle.btf_rewrite_model.specs.Rewritten.{Rewritten, pass_of}
+use Rattle.btf_rewrite_model.specs.declared.feature.FeatureAnswer.{FeatureAnswer}
+use Rattle.btf_rewrite_model.specs.declared.ksyms_ids.KsymsIds.{KsymsIds}
+use Rattle.btf_object_model.specs.Kernel.{answers_of}
+use Rattle.btf_object_model.specs.Ksyms.{FindsKsyms}
+use Rattle.btf_object_model.specs.Sanitized.{Target, AreAnswers, IsSanitized}
+use Rattle.btf_object.specs.Errors.{target_of}
+use Rattle.btfobj_cli.specs.Blob.{BeginsObject, BeginsTable}
+use Rattle.btfobj_cli.specs.declared.rewrite.Rewrite.{Rewrite}
+
+-- the target that the settings give
+abbrev pub chosen_target : Rewrite → Target
+chosen_target rewrite = target_of rewrite.kernel rewrite.policy (option_map (λ name. name.now) rewrite.placeholder)
+
+-- the layout of a table alone: no section has a size, and no symbol has an offset
+abbrev pub no_layout : Layout
+no_layout = record { sections = λ name. None; symbols = λ name. None }
+
+-- The bytes represent a table. The file is the written form of its rewrite for the target, and parses back to that.
+pub record RewritesAlone (order : Endianness) (bytes : List ℕ) (target : Target) (file : List ℕ)
+    (answers : List FeatureAnswer) : Type 0 where
+  pub old : Table
+  pub new : Table
+  pub ids : Option KsymsIds
+  pub table : IsTable order bytes old
+  pub ksyms : FindsKsyms old target.placeholder (Ok ids)
+  pub rewritten : Rewritten target.policy old ids no_layout (answers_of target.has) new
+  pub answers_are : AreAnswers target (Asked (pass_of target.policy old ids no_layout answers)) answers
+  pub written : file ≡ canon new
+  pub parses_back : IsTable order file (strip new)
+
+-- The new file is the old one, rewritten for the target: an object with its table rewritten, or a table alone.
+pub record IsRewritten (bytes : List ℕ) (target : Target) (file : List ℕ) (answers : List FeatureAnswer) : Type 0 where
+  pub object : BeginsObject bytes → IsSanitized bytes target file answers
+  pub table : (order : Endianness) → BeginsTable order bytes → RewritesAlone order bytes target file answers
