@@ -3,8 +3,10 @@
 use crate::files::{STREAM, read_file};
 use crate::new_file::write_file;
 use crate::output::Output;
+use btf_rewrite_model::{BtfFeature, FeatureAnswer};
 use btf_table::Btf;
 use btfobj_cli::{Blob, Fault, Request, Rewrite, check, compat, dump, ext, layout, sanitize};
+use std::alloc::Global;
 use std::hash::RandomState;
 use std::io::{ErrorKind, Write};
 use std::process::ExitCode;
@@ -12,6 +14,11 @@ use std::{fmt, io};
 
 /// The status of a program that SIGPIPE ends, in a shell.
 const CLOSED_PIPE: u8 = 141;
+
+/// What a loader of an object misses if the kernel has no DATASECs.
+const NO_SECTIONS: &str =
+    "the new table has no DATASEC, from which a loader such as libbpf reads maps and externs; \
+     --table-only writes the table for the kernel, and leaves the object to the loader";
 
 /// The error of a request: the file, and its error.
 #[derive(Drop)]
@@ -90,14 +97,18 @@ fn answer<'a>(
         Request::Check { file, rewrite } => {
             let bytes = read(rt, file)?;
             let keys = hasher(rt, file)?;
-            let changes = check(rt.alloc(), &bytes, rewrite, keys, out);
-            return Ok(!blame(file, changes)?);
+            let checked = check(rt.alloc(), &bytes, rewrite, keys, out);
+            return Ok(!blame(file, checked)?.lacks);
         }
         Request::Sanitize {
             file,
             output,
             rewrite,
-        } => write_sanitized(rt, file, output, rewrite, out)?,
+            is_table_only,
+        } => {
+            let written = sanitized(rt, file, rewrite, *is_table_only)?;
+            write(rt, output, &written, out)?;
+        }
         Request::Compat {
             local,
             target,
@@ -140,26 +151,58 @@ fn blame<'a, T>(file: &'a str, outcome: Result<T, Fault>) -> Result<T, Failure<'
     }
 }
 
-/// Rewrites a file.
-fn write_sanitized<'a>(
+/// The bytes of a rewritten file, or of its table alone.
+fn sanitized<'a>(
     rt: &HostRuntime,
     file: &'a str,
-    output: &'a str,
     rewrite: &Rewrite<'_>,
-    out: &mut Output<'_>,
-) -> Result<(), Failure<'a>> {
+    is_table_only: bool,
+) -> Result<Vec<u8>, Failure<'a>> {
     let bytes = read(rt, file)?;
     let keys = hasher(rt, file)?;
-    let (written, _) = blame(file, sanitize(rt.alloc(), &bytes, rewrite, keys))?;
-    let done = if output == STREAM {
-        out.write_all(&written)
+    let (written, answers) = blame(file, sanitize(rt.alloc(), &bytes, rewrite, keys))?;
+    if is_table_only {
+        return blame(file, table_alone(rt.alloc(), &written));
+    }
+    if bytes.starts_with(b"\x7fELF") && lacks_sections(&answers) {
+        // An error of standard error cannot be reported.
+        let _ = eprintln!(rt; "btfobj: {file}: {NO_SECTIONS}");
+    }
+    Ok(written)
+}
+
+/// The bytes of the table of a file.
+fn table_alone(alloc: Global, file: &[u8]) -> Result<Vec<u8>, Fault> {
+    let blob = Blob::read(alloc, file)?;
+    Ok(Vec::from_slice(alloc, blob.table_bytes()?)?)
+}
+
+/// Whether a rewrite took the DATASECs out of a table.
+fn lacks_sections(answers: &[FeatureAnswer]) -> bool {
+    for answer in answers {
+        if answer.feature == BtfFeature::DataSec && !answer.granted {
+            return true;
+        }
+    }
+    false
+}
+
+/// Writes bytes to a file, or to standard output for `-`.
+fn write<'a>(
+    rt: &HostRuntime,
+    file: &'a str,
+    bytes: &[u8],
+    out: &mut Output<'_>,
+) -> Result<(), Failure<'a>> {
+    let done = if file == STREAM {
+        out.write_all(bytes)
     } else {
-        write_file(rt, output, &written)
+        write_file(rt, file, bytes)
     };
     match done {
         Ok(()) => Ok(()),
         Err(e) => Err(Failure {
-            file: output,
+            file,
             cause: Cause::Io(e),
         }),
     }

@@ -11,6 +11,7 @@ use Rattle.btf_object_model.specs.Sanitized.{Target}
 use Rattle.btfobj_cli.specs.Blob.{IsBlob, HasTable}
 use Rattle.btfobj_cli.specs.Rewrite.{IsRewritten}
 use Rattle.btfobj_cli.specs.declared.blob.Blob.{Blob}
+use Rattle.btfobj_cli.specs.declared.changes.Checked.{Checked}
 
 -- whether a type differs from the old type of its id: it has other words, or there is no such type
 abbrev pub is_changed : Option Record → Record → Bool
@@ -26,9 +27,15 @@ has_changed old new =
 abbrev pub FileHasTable : List ℕ → tables.Table → Type 0
 FileHasTable bytes t = (blob : Blob) × IsBlob bytes blob × HasTable blob t
 
--- The rewrite of a file for the target changes or adds a type; or it does not.
-abbrev pub Checks : List ℕ → Target → Bool → Type 0
-Checks bytes target changes =
+-- whether one of these answers is that the kernel lacks the feature
+abbrev pub lacks_any : List FeatureAnswer → Bool
+lacks_any answers = list_any (λ (a : FeatureAnswer). not a.granted) answers
+
+-- The rewrite of a file for the target asks for a feature that the kernel lacks, or for none; it changes or adds a type,
+-- or it does not.
+abbrev pub Checks : List ℕ → Target → Checked → Type 0
+Checks bytes target checked =
     (file : List ℕ) × (answers : List FeatureAnswer) × IsRewritten bytes target file answers
+    × (checked.lacks ≡ lacks_any answers)
     × ((old new : tables.Table) × FileHasTable bytes old × FileHasTable file new
-    × (changes ≡ has_changed old.records new.records))
+    × (checked.changes ≡ has_changed old.records new.records))

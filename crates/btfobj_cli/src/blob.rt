@@ -28,7 +28,7 @@ pub enum Blob<'a> {
 impl<'a> Blob<'a> {
     ghost use Rattle.std.specs.Prelude.{◌≡◌, true, Err, IfOk, IfErr, IsOkAnd, MatchResult};
     ghost use Rattle.btf_model.specs.declared.endianness.Endianness.TheVariants.{Little, Big};
-    ghost use Rattle.btfobj_cli.specs.Blob.{BeginsObject, BeginsTable, HasExt, HasMagic, HasTable, IsBlob, IsTable, is_object, order_of};
+    ghost use Rattle.btfobj_cli.specs.Blob.{BeginsObject, BeginsTable, HasExt, HasMagic, HasTable, HasTableBytes, IsBlob, IsTable, is_object, order_of};
     ghost use Rattle.btfobj_cli.specs.Fault.{ReportsObject, ReportsTable, ReportsExt};
     ghost use Rattle.btfobj_cli.specs.declared.fault.Fault.TheVariants as faults;
 
@@ -65,15 +65,23 @@ impl<'a> Blob<'a> {
         }
     }
 
+    /// The bytes of the table. The error is `NoSection` if an object has none.
+    pub fn table_bytes(&self) -> Result<&'a [u8], Fault>
+        ensures { MatchResult result (λ bytes. HasTableBytes self.now bytes.now)
+            (ReportsTable self.now) }
+    {
+        match self {
+            Blob::Object(object) => section(object, TABLE_SECTION),
+            Blob::Table(bytes, _) => Ok(*bytes),
+        }
+    }
+
     /// The table. The error is `NoSection` if an object has none, `Table` with the error of `Btf::parse`, or
     /// `OutOfMemory`.
     pub fn table(&self, alloc: Global) -> Result<Btf, Fault>
         ensures { MatchResult result (HasTable self.now) (ReportsTable self.now) }
     {
-        let bytes = match self {
-            Blob::Object(object) => section(object, TABLE_SECTION)?,
-            Blob::Table(bytes, _) => *bytes,
-        };
+        let bytes = self.table_bytes()?;
         Ok(Btf::parse(alloc, bytes, self.endianness())?)
     }
 

@@ -1,7 +1,7 @@
 //! The changes that a rewrite would make.
 
 ghost use Rattle.std.specs.Prelude.{◌≡◌, IfOk};
-ghost use Rattle.btfobj_cli.specs.Changes.{Checks, has_changed};
+ghost use Rattle.btfobj_cli.specs.Changes.{Checks, has_changed, lacks_any};
 ghost use Rattle.btfobj_cli.specs.Rewrite.{chosen_target};
 
 use crate::blob::Blob;
@@ -16,16 +16,26 @@ use std::alloc::Global;
 use std::hash::BuildHasher;
 use std::{fmt, io};
 
+/// The result of a check.
+#[derive(Clone, Copy, Debug, PartialEq, Eq)]
+pub struct Checked {
+    /// Whether the table needs a feature that the kernel lacks.
+    pub lacks: bool,
+    /// Whether a rewrite changes or adds a type. The sizes and offsets of a DATASEC change for every kernel that has
+    /// DATASECs, so this does not mean that the kernel lacks something.
+    pub changes: bool,
+}
+
 /// Writes a line for each feature that a file's table needs, with whether the kernel has the feature, and a line for
-/// each type that a rewrite for the kernel changes or adds. Returns whether there is such a type. The errors are those
-/// of `sanitize` and of `Blob::table`, and `Write`.
+/// each type that a rewrite for the kernel changes or adds. Returns whether there is a feature that the kernel lacks, and
+/// whether there is such a type. The errors are those of `sanitize` and of `Blob::table`, and `Write`.
 pub fn check<W: io::Write, H: BuildHasher + Clone + Drop>(
     alloc: Global,
     bytes: &[u8],
     rewrite: &Rewrite<'_>,
     hash_builder: H,
     out: &mut W,
-) -> Result<bool, Fault>
+) -> Result<Checked, Fault>
     ensures { IfOk result (Checks bytes.now (chosen_target rewrite.now)) }
 {
     let old = Blob::read(alloc, bytes)?.table(alloc)?;
@@ -35,7 +45,15 @@ pub fn check<W: io::Write, H: BuildHasher + Clone + Drop>(
     write_features(answers.as_slice(), &mut text)?;
     let changes = write_changes(alloc, &old, &new, &mut text)?;
     text.flush()?;
-    Ok(changes)
+    let lacks = lacks_any(answers.as_slice());
+    Ok(Checked { lacks, changes })
+}
+
+/// Whether one of these features is not granted.
+fn lacks_any(answers: &[FeatureAnswer]) -> bool
+    ensures { result ≡ lacks_any answers.now }
+{
+    answers.iter().any(|answer| !answer.granted)
 }
 
 /// Writes a line for each feature.

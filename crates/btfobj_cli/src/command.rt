@@ -126,7 +126,7 @@ fn check<'a>(alloc: Global) -> Result<Command<'a>, AllocError> {
         )
         .after_help(
             "Example: btfobj check prog.o --kernel 5.4\n\
-             Exit status: 0 where a rewrite changes no type, else 1.",
+             Exit status: 0 where the kernel has what the table needs, else 1.",
         )
         .arg(file(alloc, "file", "FILE", "The object or table"))?;
     with_kernel(alloc, command)
@@ -140,6 +140,10 @@ fn sanitize<'a>(alloc: Global) -> Result<Command<'a>, AllocError> {
         .value_name("OUT")
         .required(true)
         .help("The new file; - is standard output");
+    let table_only = Arg::new(alloc, "table-only")
+        .long("table-only")
+        .action(ArgAction::SetTrue)
+        .help("Write the rewritten table alone, which a loader gives to the kernel");
     let command = Command::new(alloc, "sanitize")
         .about("Rewrites the table for a kernel, as aya does when it loads the object")
         .after_help(
@@ -147,7 +151,8 @@ fn sanitize<'a>(alloc: Global) -> Result<Command<'a>, AllocError> {
              btfobj sanitize prog.o -o prog.old.o --has Func,DataSec --fill-sized",
         )
         .arg(file(alloc, "file", "FILE", "The object or table"))?
-        .arg(output)?;
+        .arg(output)?
+        .arg(table_only)?;
     with_kernel(alloc, command)
 }
 

@@ -11,7 +11,7 @@ mod request;
 mod rewrite;
 
 pub use blob::Blob;
-pub use changes::check;
+pub use changes::{Checked, check};
 pub use compatibility::compat;
 pub use fault::Fault;
 pub use report::{dump, ext, layout};

@@ -32,11 +32,12 @@ pub enum Request<'a> {
         file: &'a str,
         rewrite: Rewrite<'a>,
     },
-    /// Rewrites a file, and writes the new file.
+    /// Rewrites a file, and writes the new file, or its table alone.
     Sanitize {
         file: &'a str,
         output: &'a str,
         rewrite: Rewrite<'a>,
+        is_table_only: bool,
     },
     /// Compares the types of these names in two tables.
     Compat {
@@ -74,6 +75,7 @@ pub fn read_request<'a>(alloc: Global, words: &'a [&'a str]) -> Result<Request<'
             file,
             output: text(matches, "output"),
             rewrite: read_rewrite(alloc, &mut command, matches)?,
+            is_table_only: matches.get_flag("table-only"),
         }),
         _ => Ok(Request::Compat {
             local: text(matches, "local"),

@@ -4,7 +4,7 @@ use btfobj_cli::{Request, read_request};
 
 /// Words of a command line, and their request: a command, `text` for help or the version on standard output, or `usage`
 /// for an error.
-static ROWS: [(&[&str], &str); 31] = [
+static ROWS: [(&[&str], &str); 32] = [
     (&["btfobj", "dump", "a.o"], "dump"),
     (&["btfobj", "dump", "-", "--ids", "3..9"], "dump"),
     (
@@ -72,6 +72,19 @@ static ROWS: [(&[&str], &str); 31] = [
         "sanitize",
     ),
     (&["btfobj", "sanitize", "a.o", "--kernel", "6.0"], "usage"),
+    (
+        &[
+            "btfobj",
+            "sanitize",
+            "a.o",
+            "-o",
+            "a.btf",
+            "--kernel",
+            "4.18",
+            "--table-only",
+        ],
+        "sanitize",
+    ),
     (
         &["btfobj", "sanitize", "a.o", "-o", "b.o", "--has", "Bpf"],
         "usage",

@@ -1,5 +1,6 @@
-use Rattle.std.proofs.Common.{ℕ, List, subst}
+use Rattle.std.proofs.Common.{◌∙◌, ap, ℕ, List, subst}
 use Rattle.btfobj_cli.specs.Blob.{IsBlob}
+use Rattle.btfobj_cli.specs.Changes.{lacks_any}
 use Rattle.btfobj_cli.proofs.changes.check.Goals as goal
 
 pub returns : goal.returns
@@ -7,6 +8,7 @@ returns g c = (
   c.in_ok-written.written.items,
   c.in_ok-written.answers.items,
   c.in_ok-written.ensures,
+  c.lacks_any-lacks.ensures ∙ ap lacks_any c.as_slice-2.ensures.value,
   (
     c.in_ok-old.old,
     c.in_ok-new.new,
