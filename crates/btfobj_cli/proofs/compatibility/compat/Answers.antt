@@ -1,4 +1,4 @@
-use Rattle.std.proofs.Common.{◌≡◌, ◌∙◌, ℕ, Bool, sym, ap}
+use Rattle.std.proofs.Common.{◌≡◌, ◌∙◌, Bool, sym, ap}
 use Rattle.std.specs.Prelude.{◌&&◌}
 use Rattle.btfobj_cli.specs.Compat.{is_compatible}
 use Rattle.btfobj_cli.proofs.Compared.{one_more}

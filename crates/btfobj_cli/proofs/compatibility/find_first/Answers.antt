@@ -1,4 +1,4 @@
-use Rattle.std.proofs.Common.{◌≡◌, ◌∙◌, ℕ, List, [], drop, get_or, Option, None, Some, subst, arith, refl}
+use Rattle.std.proofs.Common.{ℕ, List, get_or, Option, None, Some, subst}
 use Rattle.std.proofs.Math.ListN.{drop_of_length-le}
 use Rattle.btf_words.specs.declared.kind.BtfKind.{BtfKind}
 use Rattle.btf_words.specs.declared.kind.BtfKind.TheVariants.{Unknown}

@@ -1,7 +1,7 @@
-use Rattle.std.proofs.Common.{◌≡◌, ℕ, List, Option, None, refl, sym, ap, subst, rules, ◌∙◌}
-use Rattle.btf_model.specs.Blob.{IsTable, canon}
+use Rattle.std.proofs.Common.{◌≡◌, ℕ, List, ap, subst, rules}
+use Rattle.btf_model.specs.Blob.{canon}
 use Rattle.btf_model.specs.Refusal.{Refusal}
-use Rattle.btf_model.specs.Table.{Table, strip}
+use Rattle.btf_model.specs.Table.{Table}
 use Rattle.btf_model.proofs.Comparisons.{same_ok}
 use Rattle.btf_rewrite_model.specs.Pass.{Layout, Asked}
 use Rattle.btf_rewrite_model.specs.Rewritten.{Rewritten, pass_of}
@@ -12,7 +12,6 @@ use Rattle.btf_table.specs.Rewrites.{features_asked}
 use Rattle.btf_table.proofs.Rewriting.{written_again}
 use Rattle.btf_object_model.specs.Kernel.{answers_of}
 use Rattle.btf_object_model.specs.Sanitized.{Target}
-use Rattle.btf_object.specs.Kernel.{has}
 use Rattle.btf_object.proofs.Kernels.{AreOfKernel, all_of_kernel, kernel_agrees}
 use Rattle.btf_object.proofs.Named.{layouts_alike}
 use Rattle.btfobj_cli.specs.Rewrite.{chosen_target, no_layout}
