@@ -5,6 +5,7 @@ use crate::new_file::write_file;
 use crate::output::Output;
 use btf_rewrite_model::{BtfFeature, FeatureAnswer};
 use btf_table::Btf;
+use btf_text::Selection;
 use btfobj_cli::{Blob, Fault, Request, Rewrite, check, compat, dump, ext, layout, sanitize};
 use std::alloc::Global;
 use std::hash::RandomState;
@@ -79,36 +80,16 @@ fn answer<'a>(
     out: &mut Output<'_>,
 ) -> Result<bool, Failure<'a>> {
     match request {
-        Request::Dump { file, selection } => {
-            let bytes = read(rt, file)?;
-            let done = dump(rt.alloc(), &bytes, selection, out);
-            blame(file, done)?;
-        }
-        Request::Layout { file, name } => {
-            let bytes = read(rt, file)?;
-            let done = layout(rt.alloc(), &bytes, name, out);
-            blame(file, done)?;
-        }
-        Request::Ext { file } => {
-            let bytes = read(rt, file)?;
-            let done = ext(rt.alloc(), &bytes, out);
-            blame(file, done)?;
-        }
-        Request::Check { file, rewrite } => {
-            let bytes = read(rt, file)?;
-            let keys = hasher(rt, file)?;
-            let checked = check(rt.alloc(), &bytes, rewrite, keys, out);
-            return Ok(!blame(file, checked)?.lacks);
-        }
+        Request::Dump { file, selection } => write_types(rt, file, selection, out)?,
+        Request::Layout { file, name } => write_members(rt, file, name, out)?,
+        Request::Ext { file } => write_records(rt, file, out)?,
+        Request::Check { file, rewrite } => return has_all(rt, file, rewrite, out),
         Request::Sanitize {
             file,
             output,
             rewrite,
             is_table_only,
-        } => {
-            let written = sanitized(rt, file, rewrite, *is_table_only)?;
-            write(rt, output, &written, out)?;
-        }
+        } => write_sanitized(rt, file, output, rewrite, *is_table_only, out)?,
         Request::Compat {
             local,
             target,
@@ -116,6 +97,51 @@ fn answer<'a>(
         } => return are_compatible(rt, local, target, names, out),
     }
     Ok(true)
+}
+
+/// Writes the selected types of a file.
+fn write_types<'a>(
+    rt: &HostRuntime,
+    file: &'a str,
+    selection: &Selection<'_>,
+    out: &mut Output<'_>,
+) -> Result<(), Failure<'a>> {
+    let bytes = read(rt, file)?;
+    blame(file, dump(rt.alloc(), &bytes, selection, out))
+}
+
+/// Writes the layout of a structure or a union of a file.
+fn write_members<'a>(
+    rt: &HostRuntime,
+    file: &'a str,
+    name: &str,
+    out: &mut Output<'_>,
+) -> Result<(), Failure<'a>> {
+    let bytes = read(rt, file)?;
+    blame(file, layout(rt.alloc(), &bytes, name, out))
+}
+
+/// Writes the contents of the `.BTF.ext` of a file.
+fn write_records<'a>(
+    rt: &HostRuntime,
+    file: &'a str,
+    out: &mut Output<'_>,
+) -> Result<(), Failure<'a>> {
+    let bytes = read(rt, file)?;
+    blame(file, ext(rt.alloc(), &bytes, out))
+}
+
+/// Writes what a rewrite of a file would change. Returns whether the kernel has all features that the table needs.
+fn has_all<'a>(
+    rt: &HostRuntime,
+    file: &'a str,
+    rewrite: &Rewrite<'_>,
+    out: &mut Output<'_>,
+) -> Result<bool, Failure<'a>> {
+    let bytes = read(rt, file)?;
+    let keys = hasher(rt, file)?;
+    let checked = blame(file, check(rt.alloc(), &bytes, rewrite, keys, out))?;
+    Ok(!checked.lacks)
 }
 
 /// The bytes of a file.
@@ -185,6 +211,19 @@ fn lacks_sections(answers: &[FeatureAnswer]) -> bool {
         }
     }
     false
+}
+
+/// Writes a rewritten file, or its table alone.
+fn write_sanitized<'a>(
+    rt: &HostRuntime,
+    file: &'a str,
+    output: &'a str,
+    rewrite: &Rewrite<'_>,
+    is_table_only: bool,
+    out: &mut Output<'_>,
+) -> Result<(), Failure<'a>> {
+    let written = sanitized(rt, file, rewrite, is_table_only)?;
+    write(rt, output, &written, out)
 }
 
 /// Writes bytes to a file, or to standard output for `-`.
