@@ -1,6 +1,6 @@
 //! Texts that are pure ASCII, as most names are. The search for their end checks 16 bytes at a time.
 
-ghost use Rattle.std.specs.Prelude.{◌≡◌, ℕ, ◌+◌, ◌-◌, ◌<◌, ◌≤◌, not, leb, length, take, drop, IfOk, IfErr, IsTrue};
+ghost use Rattle.std.specs.Prelude.{◌≡◌, ℕ, ◌+◌, ◌-◌, ◌<◌, ◌≤◌, not, leb, length, take, drop, IfOk, IfErr, IfSome, IsTrue};
 ghost use Rattle.std.specs.List.{prefix_len};
 ghost use Rattle.btf_model.specs.Text.{is_zero};
 ghost use Rattle.btf_table.specs.Ascii.{lowest_bit, IsAsciiEnd, IsAsciiText, BeginsAscii};
@@ -137,6 +137,47 @@ fn last_ascii_len(bytes: &[u8], at: usize) -> Result<usize, usize>
     Err(at)
 }
 
+/// The place of the first zero byte in the 16 bytes at a place, if all bytes before it are ASCII.
+#[inline(always)]
+fn end_in(bytes: &[u8], at: usize) -> Option<usize>
+    requires room { at + LANES ≤ length bytes.now }
+    requires begins { BeginsAscii bytes.now at }
+    ensures { IfSome result (IsAsciiEnd bytes.now) }
+{
+    let (zero, other) = runs_at(bytes, at);
+    if zero < LANES && zero <= other {
+        return Some(at + zero);
+    }
+    None
+}
+
+/// The same as `ascii_len` for a text that ends in the first 32 bytes, as most names do. It is found without a call.
+#[inline(always)]
+fn short_ascii_len(bytes: &[u8]) -> Option<usize>
+    ensures { IfSome result (IsAsciiEnd bytes.now) }
+{
+    if bytes.len() < 32 {
+        return None;
+    }
+    if is_plain(bytes, 0) {
+        end_in(bytes, 16)
+    } else {
+        end_in(bytes, 0)
+    }
+}
+
+/// The same as `ascii_len`.
+#[inline(always)]
+fn ascii_end(bytes: &[u8]) -> Result<usize, usize>
+    ensures found { IfOk result (IsAsciiEnd bytes.now) }
+    ensures ascii { IfErr result (BeginsAscii bytes.now) }
+{
+    match short_ascii_len(bytes) {
+        Some(len) => Ok(len),
+        None => ascii_len(bytes),
+    }
+}
+
 /// The text at the front of bytes, up to the first zero byte, if `ascii_len` finds its end. Otherwise the number of
 /// bytes at the front that are known to be ASCII and not zero.
 #[inline(always)]
@@ -144,7 +185,7 @@ pub fn ascii_text(bytes: &[u8]) -> Result<&str, usize>
     ensures text { IfOk result (λ text. IsAsciiText bytes.now text.now) }
     ensures ascii { IfErr result (BeginsAscii bytes.now) }
 {
-    let text = &bytes[..ascii_len(bytes)?];
+    let text = &bytes[..ascii_end(bytes)?];
     // SAFETY: these bytes are proved to be ASCII, which is UTF-8, as the call requires.
     Ok(unsafe { str::from_utf8_unchecked(text) })
 }

@@ -1,6 +1,6 @@
 //! Texts of the string section, and the type of a name.
 
-ghost use Rattle.std.specs.Prelude.{◌≡◌, ◌↔◌, ◌<◌, ◌^◌, length, drop, map, Some, IfSome, IsTrue, MatchOption};
+ghost use Rattle.std.specs.Prelude.{◌≡◌, ◌≢◌, ◌↔◌, ◌<◌, ◌^◌, ◌++◌, ℕ, List, length, drop, map, Some, IfSome, IsTrue, MatchOption};
 ghost use Rattle.std.specs.Option.{option_map};
 ghost use Rattle.std.specs.Str.{IsUtf8};
 ghost use Rattle.btf_model.specs.Record.{kind_of};
@@ -154,12 +154,27 @@ fn comparable_end(strings: &[u8], name: &str) -> Option<usize>
     }
 }
 
+/// Whether the first bytes of both differ. Most names that a lookup passes do, and then it compares no more of them.
+#[inline(always)]
+fn begins_otherwise(bytes: &[u8], name: &[u8]) -> bool
+    ensures { IsTrue result → (rest : List ℕ) → bytes.now ≢ name.now ++ rest }
+{
+    match (bytes.first(), name.first()) {
+        (Some(byte), Some(first)) => *byte != *first,
+        _ => false,
+    }
+}
+
 /// Whether this name and a zero byte are at an offset. No more bytes than these are read.
 fn has_name_at(strings: &[u8], offset: u32, name: &str) -> bool
     ensures { IsTrue result ↔ HasNameAt strings.now offset name.now }
 {
     let rest = strings_from(strings, offset);
-    let Some(after) = rest.strip_prefix(name.as_bytes()) else {
+    let name = name.as_bytes();
+    if begins_otherwise(rest, name) {
+        return false;
+    }
+    let Some(after) = rest.strip_prefix(name) else {
         return false;
     };
     match after.first() {
