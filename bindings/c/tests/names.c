@@ -1,6 +1,6 @@
 /*
  * How the time of each call that takes names grows with the number of names that an attacker chose. Each time is the
- * least of five calls, and four times the names may take at most six times the time.
+ * least of five calls, and four times the names may take at most eight times the time.
  *
  * A hash without a key puts the names of the first three rows into few places, and 80,000 of them take 15 seconds; with
  * the caller's seed the time grows in proportion to their number. In the other rows all names share one long text.
@@ -247,7 +247,7 @@ int main(void)
 		unsigned long one = least(i, most / 4), two = least(i, most / 2), four = least(i, most);
 		fprintf(stderr, "%s, %zu, %zu and %zu names: %lu, %lu and %lu us\n", rows[i].name, most / 4, most / 2, most,
 		        one, two, four);
-		check(four <= 6 * one);
+		check(four <= 8 * one);
 	}
 	return counted("names");
 }
