@@ -1,6 +1,6 @@
 /*
  * How the time of each call that takes names grows with the number of names that an attacker chose. Each time is the
- * least of five calls, and four times the names may take at most eight times the time.
+ * least of five calls or more, and four times the names may take at most eight times the time.
  *
  * A hash without a key puts the names of the first three rows into few places, and 80,000 of them take 15 seconds; with
  * the caller's seed the time grows in proportion to their number. In the other rows all names share one long text.
@@ -227,15 +227,11 @@ static const struct {
 	{ "vbtf_value", valued, 64000 },            { "vbtf_ext_relocations", related, MOST },
 };
 
-/* The least time of five calls, in microseconds. */
-static unsigned long least(size_t row, size_t count)
+/* Makes a call of a row, and keeps the least time of such calls, in microseconds. */
+static void keep_least(unsigned long *best, size_t row, size_t count)
 {
-	unsigned long best = ~0ul;
-	for (int i = 0; i < 5; i++) {
-		unsigned long spent = (unsigned long)(rows[row].call(count) * 1000000.0 / CLOCKS_PER_SEC);
-		best = spent < best ? spent : best;
-	}
-	return best;
+	unsigned long spent = (unsigned long)(rows[row].call(count) * 1000000.0 / CLOCKS_PER_SEC);
+	*best = spent < *best ? spent : *best;
 }
 
 int main(void)
@@ -244,7 +240,13 @@ int main(void)
 	make_shared();
 	for (size_t i = 0; i < sizeof rows / sizeof *rows; i++) {
 		const size_t most = rows[i].most;
-		unsigned long one = least(i, most / 4), two = least(i, most / 2), four = least(i, most);
+		unsigned long one = ~0ul, two = ~0ul, four = ~0ul;
+		/* Other processes can slow any call down, so times that look too long are taken again. */
+		for (int round = 0; round < 5 || (round < 20 && four > 8 * one); round++) {
+			keep_least(&one, i, most / 4);
+			keep_least(&two, i, most / 2);
+			keep_least(&four, i, most);
+		}
 		fprintf(stderr, "%s, %zu, %zu and %zu names: %lu, %lu and %lu us\n", rows[i].name, most / 4, most / 2, most,
 		        one, two, four);
 		check(four <= 8 * one);
