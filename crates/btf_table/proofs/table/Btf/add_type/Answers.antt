@@ -22,13 +22,13 @@ pub returns-in_err-record_fits-clause-answer : goal.returns-in_err-record_fits-c
 returns-in_err-record_fits-clause-answer c =
     let t = c.args.self.now in
     let r = record_of c.args.btf_type in
-    let told = c.in_err-record_fits.ensures in
+    let refused = c.in_err-record_fits.ensures in
     let used : c.self.inside.type_len ≡ length (type_bytes t) = c.self.invariant.types ∙ ap (λ (u : Table). length (type_bytes u)) c.self.view_is in
     handed_on (λ id. id) c.in_err-record_fits.field-0.0 c.from_residual.result (λ a. a ≡ type_place r t) c.from_residual.ensures.1
-    (known_refusal c.in_err-record_fits.field-0.0 told.0 (λ refusal. ◌≡◌ {A = Result ℕ Refusal} (Err refusal) (type_place r t)) told.1
+    (known_refusal c.in_err-record_fits.field-0.0 refused.0 (λ refusal. ◌≡◌ {A = Result ℕ Refusal} (Err refusal) (type_place r t)) refused.1
     (sym (place_checked t r c.type_info_size-size.result c.type_info_size-size.ensures.len
     ∙ ap (λ (n : ℕ). checked (fits n c.type_info_size-size.result) (length t.records)) (sym used)
-    ∙ ap (λ (o : Option Refusal). checked o (length t.records)) (checked_err _ _ told.0 told.2))))
+    ∙ ap (λ (o : Option Refusal). checked o (length t.records)) (checked_err _ _ refused.0 refused.2))))
 
 pub returns-clause-answer : goal.returns-clause-answer
 returns-clause-answer c =
