@@ -3,7 +3,8 @@
  * least of five calls or more, and four times the names may take at most eight times the time.
  *
  * A hash without a key puts the names of the first three rows into few places, and 80,000 of them take 15 seconds; with
- * the caller's seed the time grows in proportion to their number. In the other rows all names share one long text.
+ * the caller's seed the time grows in proportion to their number. In the other rows all names share one text, which has
+ * as many bytes as there are names, and which no call may read to its end for each of them.
  */
 #include "table.h"
 
@@ -36,12 +37,17 @@ static void make_names(void)
 	}
 }
 
-/* A string section with one text, at offset 1, which all names share. */
-static char shared[1 + 4096 + 1];
+/* The text that all names share, and a zero byte. The last `count` + 2 bytes are a string section with it at offset 1. */
+static char shared[1 + 4 * MOST + 1];
 
 static void make_shared(void)
 {
-	memset(shared + 1, 'a', sizeof shared - 2);
+	memset(shared, 'a', sizeof shared - 1);
+}
+
+static const char *shared_of(size_t count)
+{
+	return shared + sizeof shared - (count + 2);
 }
 
 static struct vbtf_table opened_of(const uint32_t *records, size_t type_len, const char *texts, size_t len)
@@ -168,9 +174,9 @@ static clock_t found(size_t count)
 		records[3 * i] = 1;
 		records[3 * i + 1] = 0x0c000000;
 	}
-	struct vbtf_table table = opened_of(records, 12 * count, shared, sizeof shared);
+	struct vbtf_table table = opened_of(records, 12 * count, shared_of(count), count + 2);
 	clock_t begun = clock();
-	check(vbtf_find(&table, shared + 1, 64, VBTF_KIND_FUNC, &id, &error) == VBTF_UNKNOWN_TYPE_NAME);
+	check(vbtf_find(&table, shared, 64, VBTF_KIND_FUNC, &id, &error) == VBTF_UNKNOWN_TYPE_NAME);
 	clock_t spent = clock() - begun;
 	vbtf_close(&table);
 	free(records);
@@ -186,9 +192,9 @@ static clock_t valued(size_t count)
 	records[2] = 4;
 	for (size_t i = 0; i < count; i++)
 		records[3 + 2 * i] = 1;
-	struct vbtf_table table = opened_of(records, 12 + 8 * count, shared, sizeof shared);
+	struct vbtf_table table = opened_of(records, 12 + 8 * count, shared_of(count), count + 2);
 	clock_t begun = clock();
-	check(vbtf_value(&table, 1, shared + 1, 64, &value, &error) == VBTF_NO_ITEM);
+	check(vbtf_value(&table, 1, shared, 64, &value, &error) == VBTF_NO_ITEM);
 	clock_t spent = clock() - begun;
 	vbtf_close(&table);
 	free(records);
@@ -204,13 +210,13 @@ static uint32_t shared_at(size_t i)
 /* `count` sections of relocations; another name is sought. */
 static clock_t related(size_t count)
 {
-	struct vbtf_table table = opened_of(NULL, 0, shared, sizeof shared);
+	struct vbtf_table table = opened_of(NULL, 0, shared_of(count), count + 2);
 	uint64_t needed = 1;
 	size_t len;
 	uint8_t *ext = an_ext(count, 4, shared_at, &len);
 	check(vbtf_open_ext(&table, ext, len, VBTF_LITTLE, 0x5eed, &error) == VBTF_OK);
 	clock_t begun = clock();
-	check(vbtf_ext_relocations(&table, shared + 1, 64, NULL, 0, &needed, &error) == VBTF_OK && needed == 0);
+	check(vbtf_ext_relocations(&table, shared, 64, NULL, 0, &needed, &error) == VBTF_OK && needed == 0);
 	clock_t spent = clock() - begun;
 	vbtf_close(&table);
 	free(ext);

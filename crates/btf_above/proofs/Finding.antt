@@ -20,13 +20,8 @@ use Rattle.btf_model.specs.Value.{HaveOtherNames, IsAfterOthers, FindsVariant}
 use Rattle.btf_model.proofs.Values.{one_words}
 use Rattle.btf_words.specs.Error.{MeetsOrNoMemory, IsOrNoMemory, Meets, refusal_of}
 use Rattle.btf_words.specs.declared.error.BtfError.{BtfError}
-use Rattle.btf_above.specs.Named.{IsNamed}
+use Rattle.btf_table.specs.BtfStr.{HasName}
 use Rattle.btf_above.specs.Variants.{HaveUtf8Names}
-
--- a text that was compared with a name
-pub named : (strings : List ℕ) (offset : ℕ) (name text : List ℕ) (same : Bool) → Ok text ≡ text_at strings offset → same ≡ bytes_eq text name → IsNamed strings offset name (Ok same)
-named strings offset name text true is same = sym is ∙ ap (λ (x : List ℕ). Ok x) ((bytes_eq-Decides text name).0 (sym same))
-named strings offset name text false is same = (text, sym is, λ e. true≢false (sym ((bytes_eq-Decides text name).1 e) ∙ sym same))
 
 -- the error that a `?` returns
 pub handed : {X : Type 0} (r : Result X BtfError) (e : BtfError) → IsErrAnd r (λ y. y ≡ e) → r ≡ Err e
@@ -66,17 +61,17 @@ pub after_others : (strings name : List ℕ) (vs : List Variant) (i : ℕ) (v : 
 after_others strings name vs i v at others = (take i vs, drop (suc i) vs, split_at vs i v at, others)
 
 -- the outcome at this variant, by the text of its name: its value,
-pub found_here : (strings name : List ℕ) (vs : List Variant) (i offset value : ℕ) (v : Variant) (same : Bool) → slice_get vs i ≡ Some v → HaveOtherNames strings name (take i vs) → offset ≡ v.name → value ≡ v.value → same ≡ true → IsNamed strings offset name (Ok same)
+pub found_here : (strings name : List ℕ) (vs : List Variant) (i offset value : ℕ) (v : Variant) (same : Bool) → slice_get vs i ≡ Some v → HaveOtherNames strings name (take i vs) → offset ≡ v.name → value ≡ v.value → same ≡ true → HasName strings offset name (Ok same)
     → FindsVariant strings name vs (Ok (Some value))
 found_here strings name vs i offset value v same at others offset_is value_is is_same is =
-    (v, after_others strings name vs i v at others, subst (λ (o : ℕ). text_at strings o ≡ Ok name) offset_is (subst (λ (b : Bool). IsNamed strings offset name (Ok b)) is_same is), sym value_is)
+    (v, after_others strings name vs i v at others, subst (λ (o : ℕ). text_at strings o ≡ Ok name) offset_is (subst (λ (b : Bool). HasName strings offset name (Ok b)) is_same is), sym value_is)
 
 -- another name,
-pub passed_here : (strings name : List ℕ) (vs : List Variant) (i offset : ℕ) (v : Variant) (same : Bool) → slice_get vs i ≡ Some v → HaveOtherNames strings name (take i vs) → offset ≡ v.name → same ≡ false → IsNamed strings offset name (Ok same)
+pub passed_here : (strings name : List ℕ) (vs : List Variant) (i offset : ℕ) (v : Variant) (same : Bool) → slice_get vs i ≡ Some v → HaveOtherNames strings name (take i vs) → offset ≡ v.name → same ≡ false → HasName strings offset name (Ok same)
     → HaveOtherNames strings name (take (i + 1) vs)
 passed_here strings name vs i offset v same at others offset_is is_other is =
     all_more (λ (w : Variant). (other : List ℕ) × (text_at strings w.name ≡ Ok other) × (other ≢ name)) vs i v at others
-    (subst (λ (o : ℕ). (other : List ℕ) × (text_at strings o ≡ Ok other) × (other ≢ name)) offset_is (subst (λ (b : Bool). IsNamed strings offset name (Ok b)) is_other is))
+    (subst (λ (o : ℕ). (other : List ℕ) × (text_at strings o ≡ Ok other) × (other ≢ name)) offset_is (subst (λ (b : Bool). HasName strings offset name (Ok b)) is_other is))
 
 -- or a refusal
 refused_here : (strings name : List ℕ) (vs : List Variant) (i offset : ℕ) (v : Variant) (refusal : Refusal) → slice_get vs i ≡ Some v → HaveOtherNames strings name (take i vs) → offset ≡ v.name → text_at strings offset ≡ Err refusal → FindsVariant strings name vs (Err refusal)
@@ -112,12 +107,12 @@ section_error {X} view strings name ss i s e r returned at names is =
     subst (λ (x : Result X BtfError). MeetsOrNoMemory view x (Words strings ss name)) (sym returned) (IfSome_then (refusal_of e) is (λ refusal unread. unread_here strings name ss i s refusal at names unread))
 
 -- the text of a name that was read
-text_read : (strings : List ℕ) (offset : ℕ) (name : List ℕ) (same : Bool) → IsNamed strings offset name (Ok same) → (text : List ℕ) × (text_at strings offset ≡ Ok text)
+text_read : (strings : List ℕ) (offset : ℕ) (name : List ℕ) (same : Bool) → HasName strings offset name (Ok same) → (text : List ℕ) × (text_at strings offset ≡ Ok text)
 text_read strings offset name true is = (name, is)
 text_read strings offset name false is = (is.0, is.1)
 
 -- whether it is the name
-name_read : (strings : List ℕ) (offset : ℕ) (name : List ℕ) (same : Bool) → IsNamed strings offset name (Ok same) → is_name name (text_at strings offset) ≡ same
+name_read : (strings : List ℕ) (offset : ℕ) (name : List ℕ) (same : Bool) → HasName strings offset name (Ok same) → is_name name (text_at strings offset) ≡ same
 name_read strings offset name true is = ap (is_name name) is ∙ (bytes_eq-Decides name name).1 refl
 name_read strings offset name false is = ap (is_name name) is.1 ∙ differs (bytes_eq name is.0) refl
   where
@@ -126,7 +121,7 @@ name_read strings offset name false is = ap (is_name name) is.1 ∙ differs (byt
     differs false same = refl
 
 -- one more section: its name is read,
-pub names_more : (strings name : List ℕ) (ss : List RelocationSection) (i : ℕ) (s : RelocationSection) (same : Bool) → slice_get ss i ≡ Some s → HaveNames strings (take i ss) → IsNamed strings s.0 name (Ok same) → HaveNames strings (take (i + 1) ss)
+pub names_more : (strings name : List ℕ) (ss : List RelocationSection) (i : ℕ) (s : RelocationSection) (same : Bool) → slice_get ss i ≡ Some s → HaveNames strings (take i ss) → HasName strings s.0 name (Ok same) → HaveNames strings (take (i + 1) ss)
 names_more strings name ss i s same at names is = all_more (λ (q : RelocationSection). (text : List ℕ) × (text_at strings q.0 ≡ Ok text)) ss i s at names (text_read strings s.0 name same is)
 
 -- and its records are appended if that is the name
@@ -138,7 +133,7 @@ unfolding words_or
 one_section strings name s true is = ap (λ (b : Bool). flat_map (λ (q : RelocationSection). q.1) (if b then s ∷ [] else [])) is ∙ append-nil s.1
 one_section strings name s false is = ap (λ (b : Bool). flat_map (λ (q : RelocationSection). q.1) (if b then s ∷ [] else [])) is
 
-words_more : (strings name : List ℕ) (ss : List RelocationSection) (i : ℕ) (s : RelocationSection) (same : Bool) → slice_get ss i ≡ Some s → IsNamed strings s.0 name (Ok same)
+words_more : (strings name : List ℕ) (ss : List RelocationSection) (i : ℕ) (s : RelocationSection) (same : Bool) → slice_get ss i ≡ Some s → HasName strings s.0 name (Ok same)
     → words_named strings name (take (i + 1) ss) ≡ words_named strings name (take i ss) ++ words_or same s.1
 words_more strings name ss i s same at is =
     let test : RelocationSection → Bool = λ q. is_name name (text_at strings q.0) in
@@ -147,12 +142,12 @@ words_more strings name ss i s same at is =
     ∙ flat_map-append (λ (q : RelocationSection). q.1) (filter test (take i ss)) (filter test (s ∷ []))
     ∙ ap (λ ws. words_named strings name (take i ss) ++ ws) (one_section strings name s same (name_read strings s.0 name same is))
 
-pub words_joined : (strings name : List ℕ) (ss : List RelocationSection) (i : ℕ) (s : RelocationSection) (same : Bool) → slice_get ss i ≡ Some s → IsNamed strings s.0 name (Ok same) → same ≡ true
+pub words_joined : (strings name : List ℕ) (ss : List RelocationSection) (i : ℕ) (s : RelocationSection) (same : Bool) → slice_get ss i ≡ Some s → HasName strings s.0 name (Ok same) → same ≡ true
     → words_named strings name (take i ss) ++ s.1 ≡ words_named strings name (take (i + 1) ss)
 unfolding words_or
 words_joined strings name ss i s same at is named = sym (words_more strings name ss i s same at is ∙ ap (λ (b : Bool). words_named strings name (take i ss) ++ words_or b s.1) named)
 
-pub words_passed : (strings name : List ℕ) (ss : List RelocationSection) (i : ℕ) (s : RelocationSection) (same : Bool) → slice_get ss i ≡ Some s → IsNamed strings s.0 name (Ok same) → same ≡ false
+pub words_passed : (strings name : List ℕ) (ss : List RelocationSection) (i : ℕ) (s : RelocationSection) (same : Bool) → slice_get ss i ≡ Some s → HasName strings s.0 name (Ok same) → same ≡ false
     → words_named strings name (take i ss) ≡ words_named strings name (take (i + 1) ss)
 unfolding words_or
 words_passed strings name ss i s same at is other =

@@ -1,4 +1,3 @@
-pub mod Named
 pub mod Variants
 pub use Rattle.btf_model.specs.Value
 pub use Rattle.btf_model.specs.RelocationWords

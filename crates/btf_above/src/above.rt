@@ -1,6 +1,5 @@
 //! Look-ups by name in a table and in `.BTF.ext`.
 
-mod name;
 mod relocations;
 mod value;
 mod variant;

@@ -23,6 +23,10 @@ member_words m = m.name_offset ∷ m.btf_type ∷ m.offset ∷ []
 abbrev pub param_words : BtfParam → List ℕ
 param_words p = p.name_offset ∷ p.btf_type ∷ []
 
+-- a parameter as a variant of an ENUM: its type is the value
+abbrev pub variant_of_param : BtfParam → BtfEnum
+variant_of_param p = record { name_offset = p.name_offset; value = p.btf_type }
+
 -- the words of an entry
 abbrev pub entry_words : DataSecEntry → List ℕ
 entry_words e = e.btf_type ∷ e.offset ∷ e.size ∷ []

@@ -1,12 +1,14 @@
 //! The list of a record. A few items are stored in the record itself.
 
-ghost use Rattle.std.specs.Prelude.{◌≡◌, ◌<◌, ◌≤◌, length, take, slice_set, IfOk};
+ghost use Rattle.std.specs.Prelude.{◌≡◌, ◌<◌, ◌≤◌, length, map, take, slice_set, IfOk};
 ghost use Rattle.std.specs.List.{flat_map};
 ghost use Rattle.btf_words.specs.Error.{MeetsOrNoMemory};
 ghost use Rattle.btf_items.specs.ReadItems.{ReadsItems};
 ghost use Rattle.btf_items.specs.ItemList.{items_of};
+ghost use Rattle.btf_items.specs.Items.{variant_of_param};
 
 use crate::blank::Blank;
+use crate::items::{BtfEnum, BtfParam};
 use crate::list::{Item, clone_items, read_items};
 use btf_words::{BtfError, Endianness};
 use std::alloc::{AllocError, Global};
@@ -102,6 +104,41 @@ impl<T: Item, const N: usize> ItemList<T, N> {
             ItemList::Many(items) => items[index] = item,
         }
     }
+}
+
+/// The parameters of a prototype as variants of an ENUM. A few are copied without an allocation.
+pub fn as_variants<const N: usize>(
+    params: &ItemList<BtfParam, N>,
+) -> Result<ItemList<BtfEnum, N>, AllocError>
+    ensures { IfOk result (λ v. items_of v ≡ map variant_of_param (items_of params.now)) }
+{
+    match params {
+        ItemList::Few(count, params) => Ok(ItemList::Few(*count, few_variants(params))),
+        ItemList::Many(params) => Ok(ItemList::Many(many_variants(params)?)),
+    }
+}
+
+/// A variant for each parameter of an array. A loop with a constant number of rounds is compiled to one copy of the
+/// whole array.
+fn few_variants<const N: usize>(params: &[BtfParam; N]) -> [BtfEnum; N]
+    ensures { result ≡ map variant_of_param params.now }
+{
+    let mut variants: [BtfEnum; N] = array::from_fn(|_| BtfEnum::blank());
+    for index in 0..N {
+        variants[index] = BtfEnum::of_param(&params.as_slice()[index]);
+    }
+    variants
+}
+
+/// A variant for each parameter of a vector.
+fn many_variants(params: &Vec<BtfParam>) -> Result<Vec<BtfEnum>, AllocError>
+    ensures { IfOk result (λ v. v.items ≡ map variant_of_param params.now.items) }
+{
+    let mut variants = Vec::with_capacity(*params.allocator(), params.len())?;
+    for param in params {
+        variants.push(BtfEnum::of_param(param))?;
+    }
+    Ok(variants)
 }
 
 /// A copy of the items. A loop with a constant number of rounds is compiled to one copy of the whole array.

@@ -1,7 +1,7 @@
 //! The items of the records that have a list.
 
 ghost use Rattle.std.specs.Prelude.{◌≡◌, ◌/◌, ◌%◌, ◌^◌, [], ◌∷◌};
-ghost use Rattle.btf_items.specs.Items.{enum_words, enum64_words, member_words, param_words, entry_words};
+ghost use Rattle.btf_items.specs.Items.{enum_words, enum64_words, member_words, param_words, entry_words, variant_of_param};
 
 use crate::list::Item;
 use crate::words::{push_array, split_word};
@@ -23,6 +23,16 @@ impl BtfEnum {
         ensures { result ≡ record { name_offset = name_offset; value = value } }
     {
         Self { name_offset, value }
+    }
+
+    /// A variant with the name of a parameter, whose value is the parameter's type.
+    pub(crate) fn of_param(param: &BtfParam) -> Self
+        ensures { result ≡ variant_of_param param.now }
+    {
+        Self {
+            name_offset: param.name_offset,
+            value: param.btf_type,
+        }
     }
 }
 

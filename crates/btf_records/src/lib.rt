@@ -10,4 +10,4 @@ pub use btf_items::{
     BtfEnum, BtfEnum64, BtfMember, BtfParam, DataSecEntry, Enum64Fallback, Enum64VariantFallback,
 };
 pub use btf_type::BtfType;
-pub use records::{DataSec, Enum, Enum64, FuncProto, Struct, Union};
+pub use records::{DataSec, Enum, Enum64, FuncProto, Struct, Union, as_enum};

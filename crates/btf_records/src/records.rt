@@ -12,7 +12,7 @@ mod with_list;
 pub use data_sec::DataSec;
 pub use enumeration::Enum;
 pub use enumeration64::Enum64;
-pub use func_proto::FuncProto;
+pub use func_proto::{FuncProto, as_enum};
 pub use structure::Struct;
 pub use union::Union;
 pub use with_list::{WithList, append_with_list};

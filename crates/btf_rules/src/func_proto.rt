@@ -1,16 +1,13 @@
-//! A FUNC_PROTO whose parameters get names, or that becomes an ENUM.
+//! A FUNC_PROTO whose parameters get names.
 
-ghost use Rattle.std.specs.Prelude.{◌≡◌, if◌then◌else◌, length, string_bytes, IfOk, Ok};
-ghost use Rattle.std.specs.List.{flat_map};
-ghost use Rattle.btf_model.specs.Record.{vlen};
+ghost use Rattle.std.specs.Prelude.{◌≡◌, if◌then◌else◌, string_bytes, IfOk, Ok};
 ghost use Rattle.btf_rewrite_model.specs.Ksyms.{named};
-ghost use Rattle.btf_rewrite_model.specs.Made.{enum, wants_name};
+ghost use Rattle.btf_rewrite_model.specs.Made.{wants_name};
 ghost use Rattle.btf_rewrite_model.specs.Pass as model;
 ghost use Rattle.btf_words.specs.Error.{IsOrNoMemory};
-ghost use Rattle.btf_items.specs.Items.{enum_words, param_words};
 
 use btf_plain::BtfError;
-use btf_records::{BtfEnum, BtfParam, Enum, FuncProto};
+use btf_records::{BtfParam, FuncProto};
 use std::alloc::{AllocError, Global};
 
 /// The name of the parameter at an index.
@@ -18,29 +15,6 @@ pub fn param_text(alloc: Global, index: usize) -> Result<String, AllocError>
     ensures { IfOk result (λ text. string_bytes text ≡ model.param_text index) }
 {
     format!(in alloc; "param{index}")
-}
-
-/// A variant for each parameter: it has the parameter's name, and its value is the parameter's type.
-fn param_variants(alloc: Global, params: &[BtfParam]) -> Result<Vec<BtfEnum>, AllocError>
-    ensures words { IfOk result (λ v. flat_map enum_words v.items
-        ≡ flat_map param_words params.now) }
-    ensures count { IfOk result (λ v. length v.items ≡ length params.now) }
-{
-    let mut variants = Vec::with_capacity(alloc, params.len())?;
-    for param in params {
-        variants.push(BtfEnum::new(param.name_offset, param.btf_type))?;
-    }
-    Ok(variants)
-}
-
-/// The prototype as an unsigned ENUM: each parameter becomes a variant with the parameter's name, whose value is the
-/// parameter's type.
-pub fn as_enum(alloc: Global, proto: &FuncProto) -> Result<Enum, BtfError>
-    ensures { IsOrNoMemory (λ r. r) result
-        (Ok (enum proto.now.name (vlen proto.now.info) proto.now.tail)) }
-{
-    let variants = param_variants(alloc, proto.params())?;
-    Ok(Enum::new(proto.name_offset(), false, variants))
 }
 
 /// The string offset of a parameter's new name: this offset if it has a type and no name, else its old name.

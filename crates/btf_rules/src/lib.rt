@@ -15,7 +15,7 @@ pub use data_sec::{known_offset, renamed, section_name, section_size};
 pub use enumeration64::as_union;
 pub use features::{BtfFeatureResolver, copied_answers};
 pub use func::{global, is_builtin, made_static};
-pub use func_proto::{as_enum, param_text, with_names};
+pub use func_proto::{param_text, with_names};
 pub use int::int_of_4;
 pub use single::{changes_in_place, denied_name_offset, deny, sole_feature};
 pub use var::global_of;

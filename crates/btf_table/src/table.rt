@@ -22,11 +22,11 @@ ghost use Rattle.btf_words.specs.Error.{MeetsOrNoMemory, IsOrNoMemory, Meets};
 ghost use Rattle.btf_words.specs.Kind as kinds;
 ghost use Rattle.btf_records.specs.BtfType.{record_of, fallback_of, type_kind};
 ghost use Rattle.btf_table.specs.Btf.{IsType};
-ghost use Rattle.btf_table.specs.BtfStr.{text_bytes};
+ghost use Rattle.btf_table.specs.BtfStr.{text_bytes, HasName};
 ghost use Rattle.btf_model.specs.Text.{text_at};
 ghost use Rattle.btf_rewrite_model.specs.Checks.{is_read};
 ghost use Rattle.btf_rules.specs.Checked.{checked};
-ghost use Rattle.btf_table.specs.Readable.{IsReadableEnd};
+ghost use Rattle.btf_table.specs.Readable.{IsReadableEnd, IsComparable};
 ghost use Rattle.std.specs.Prelude.{IfSome, string_bytes};
 ghost use Rattle.std.specs.Option.{option_map};
 ghost use Rattle.std.specs.Result.{result_ok};
@@ -36,7 +36,7 @@ pub(crate) use crate::table::changes::Changes;
 use crate::table::header::{HEADER_LEN, Header, section};
 pub(crate) use crate::table::limits::{record_fits, text_fits};
 pub use crate::table::text::BtfStr;
-use crate::table::text::{bytes_at, find_named, readable_end, strings_from, text_at};
+use crate::table::text::{bytes_at, find_named, has_name, readable_end, strings_from, text_at};
 use crate::table::types::{append_types, clone_types, read_types};
 pub use crate::table::walk::WALK_LIMIT;
 use crate::table::walk::{resolve, size};
@@ -402,6 +402,32 @@ pub fn name_bytes<'a>(table: &'a Btf, btf_type: &BtfType) -> Option<&'a [u8]>
         ≡ model.bytes_at table.now.strings (record_of btf_type.now).name }
 {
     bytes_at(&table.strings, btf_type.name_offset(), 0)
+}
+
+/// The end of the offsets at which a text of the table can be read, for `is_named`, if a name can be compared with bytes;
+/// else None. A search for a name asks for it once.
+pub fn comparable_end(table: &Btf, name: &str) -> Option<usize>
+    ensures { IfSome result (λ end. IsReadableEnd table.now.strings end × IsComparable name.now) }
+{
+    text::comparable_end(&table.strings, name)
+}
+
+/// Whether the text at a string offset is this name, or `InvalidStringOffset` if there is no text. If the name can be
+/// compared with bytes, no text is read to its end, however long it is.
+pub fn is_named(
+    table: &Btf,
+    offset: u32,
+    name: &str,
+    readable_end: Option<usize>,
+) -> Result<bool, BtfError>
+    requires { IfSome readable_end
+        (λ end. IsReadableEnd table.now.strings end × IsComparable name.now) }
+    ensures named { MeetsOrNoMemory (λ b. b) result (HasName table.now.strings offset name.now) }
+    // Only bytes that are not UTF-8 need an allocation.
+    ensures no_memory { IfSome (model.bytes_at table.now.strings offset) IsUtf8
+        → Meets (λ b. b) result (HasName table.now.strings offset name.now) }
+{
+    has_name(*table.strings.allocator(), &table.strings, offset, name, readable_end)
 }
 
 /// The table that a blob represents, or the first reason to refuse the blob.

@@ -77,7 +77,8 @@ fn find_typedef(table: &Btf, name: &str) -> Result<u32, BtfError>
 
 /// Writes the members of the STRUCT or UNION of an id, with offsets and sizes in bytes, bit-fields with the position of
 /// their first bit, holes, and for a STRUCT sums at the end. Structures, unions and enumerations without a name are
-/// written at their member, with offsets that count from the beginning of the outermost type.
+/// written at their member, with offsets that count from the beginning of the outermost type. If the type has no name,
+/// it is written as the TYPEDEF of this name, unless that is empty.
 ///
 /// The text equals the text of pahole 1.24, except for pahole's guesses and mistakes: this function guesses no
 /// attributes and no unnamed bit-fields, writes a qualifier once, and writes arrays of arrays, arrays of function
@@ -95,6 +96,7 @@ pub fn write_layout<W: Write>(
     alloc: Global,
     table: &Btf,
     type_id: u32,
+    typedef: &str,
     out: &mut W,
 ) -> Result<(), TextError> {
     let btf_type = table.type_by_id(type_id)?;
@@ -102,7 +104,7 @@ pub fn write_layout<W: Write>(
         return Err(TextError::Table(BtfError::UnexpectedBtfType { type_id }));
     };
     let mut page = Page::new(alloc, table, out);
-    write_head(&mut page, btf_type)?;
+    let is_typedef = write_head(&mut page, btf_type, typedef)?;
     let level = Level::outermost(group);
     if group.is_union {
         write_union(&mut page, &level)?;
@@ -110,19 +112,33 @@ pub fn write_layout<W: Write>(
         let progress = write_struct(&mut page, &level)?;
         write_stats(&mut page, &group, &progress)?;
     }
-    page.out.write_str("};\n")?;
+    if is_typedef {
+        writeln!(page.out, "}} {typedef};")?;
+    } else {
+        page.out.write_str("};\n")?;
+    }
     Ok(())
 }
 
-/// Writes the first line: the keyword of the kind, and the name.
-fn write_head<W: Write>(page: &mut Page<'_, W>, btf_type: &BtfType) -> Result<(), TextError> {
+/// Writes the first line: the keyword of the kind, and the name. Returns whether it begins a TYPEDEF of this name.
+fn write_head<W: Write>(
+    page: &mut Page<'_, W>,
+    btf_type: &BtfType,
+    typedef: &str,
+) -> Result<bool, TextError> {
+    let text = text_at(page.table, btf_type.name_offset())?;
+    let name = match &text {
+        Some(text) => text.as_str(),
+        None => "",
+    };
+    let is_typedef = name.is_empty() && !typedef.is_empty();
+    if is_typedef {
+        page.out.write_str("typedef ")?;
+    }
     page.out.write_str(keyword(btf_type))?;
-    if let Some(name) = text_at(page.table, btf_type.name_offset())? {
-        let name = name.as_str();
-        if !name.is_empty() {
-            write!(page.out, " {name}")?;
-        }
+    if !name.is_empty() {
+        write!(page.out, " {name}")?;
     }
     page.out.write_str(" {\n")?;
-    Ok(())
+    Ok(is_typedef)
 }

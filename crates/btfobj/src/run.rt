@@ -251,7 +251,7 @@ fn write<'a>(
 fn read_table<'a>(rt: &HostRuntime, file: &'a str) -> Result<Btf, Failure<'a>> {
     let bytes = read(rt, file)?;
     let blob = blame(file, Blob::read(rt.alloc(), &bytes))?;
-    blame(file, blob.table(rt.alloc()))
+    blame(file, blob.whole_table(rt.alloc()))
 }
 
 /// Whether the types of these names are compatible in the tables of two files.

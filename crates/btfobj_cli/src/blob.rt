@@ -5,6 +5,7 @@ ghost use Rattle.btfobj_cli.specs.Blob.{IsSection};
 ghost use Rattle.btfobj_cli.specs.Fault.{LacksSection};
 
 use crate::fault::Fault;
+use crate::split::continues_base;
 use btf_elf::Object;
 use btf_model::Endianness;
 use btf_table::Btf;
@@ -83,6 +84,17 @@ impl<'a> Blob<'a> {
     {
         let bytes = self.table_bytes()?;
         Ok(Btf::parse(alloc, bytes, self.endianness())?)
+    }
+
+    /// The table, as `table` returns it, with its errors. The error is `Split` if names or ids of its types are not in it.
+    pub fn whole_table(&self, alloc: Global) -> Result<Btf, Fault>
+        ensures { IfOk result (HasTable self.now) }
+    {
+        let table = self.table(alloc)?;
+        if continues_base(&table) {
+            return Err(Fault::Split);
+        }
+        Ok(table)
     }
 
     /// The bytes of `.BTF.ext`. The error is `NoSection` if an object has none, and `NoExt` for a table alone.

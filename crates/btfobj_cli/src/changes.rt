@@ -38,7 +38,7 @@ pub fn check<W: io::Write, H: BuildHasher + Clone + Drop>(
 ) -> Result<Checked, Fault>
     ensures { IfOk result (Checks bytes.now (chosen_target rewrite.now)) }
 {
-    let old = Blob::read(alloc, bytes)?.table(alloc)?;
+    let old = Blob::read(alloc, bytes)?.whole_table(alloc)?;
     let (written, answers) = sanitize(alloc, bytes, rewrite, hash_builder)?;
     let new = Blob::read(alloc, &written)?.table(alloc)?;
     let mut text = TextBuffer::new(out);

@@ -31,6 +31,10 @@ pub enum Fault {
     #[error("{0}")]
     Table(BtfError),
 
+    /// The names or ids of types are not in the table.
+    #[error("names or ids are not in the table, as in split BTF, which continues a base table")]
+    Split,
+
     /// The object cannot be rewritten.
     #[error("{0}")]
     Rewrite(SanitizeError),

@@ -9,6 +9,7 @@ mod fault;
 mod report;
 mod request;
 mod rewrite;
+mod split;
 
 pub use blob::Blob;
 pub use changes::{Checked, check};

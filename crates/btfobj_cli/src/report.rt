@@ -2,6 +2,7 @@
 
 use crate::blob::Blob;
 use crate::fault::Fault;
+use crate::split::continues_base;
 use btf_table::Btf;
 use btf_text::{
     Selection, TextBuffer, find_layout, kind_name, write_dump, write_ext, write_layout,
@@ -23,7 +24,8 @@ const OTHERS: [BtfKind; 8] = [
 ];
 
 /// Writes the selected types of a file's table, as `write_dump` does. The table is parsed before anything is written.
-/// The error is `NoType` if a name is selected, and no type has it and meets the other conditions.
+/// The error is `Split`, after the types are written, if names or ids of types are not in the table; and `NoType` if a
+/// name is selected, and no type has it and meets the other conditions.
 pub fn dump<W: Write>(
     alloc: Global,
     bytes: &[u8],
@@ -34,6 +36,9 @@ pub fn dump<W: Write>(
     let mut text = TextBuffer::new(out);
     let is_any = write_dump(&table, selection, &mut text)?;
     text.flush()?;
+    if continues_base(&table) {
+        return Err(Fault::Split);
+    }
     if selection.name.is_some() && !is_any {
         return Err(Fault::NoType);
     }
@@ -43,13 +48,13 @@ pub fn dump<W: Write>(
 /// Writes the layout of the structure or union of a name, as `find_layout` finds it and `write_layout` writes it. The
 /// error is `NoLayout` if the name is that of a type of another kind.
 pub fn layout<W: Write>(alloc: Global, bytes: &[u8], name: &str, out: &mut W) -> Result<(), Fault> {
-    let table = Blob::read(alloc, bytes)?.table(alloc)?;
+    let table = Blob::read(alloc, bytes)?.whole_table(alloc)?;
     let type_id = match find_layout(&table, name) {
         Ok(type_id) => type_id,
         Err(e) => return Err(no_layout(&table, name, e)),
     };
     let mut text = TextBuffer::new(out);
-    write_layout(alloc, &table, type_id, &mut text)?;
+    write_layout(alloc, &table, type_id, name, &mut text)?;
     text.flush()?;
     Ok(())
 }
@@ -88,7 +93,7 @@ fn kind_of_name(table: &Btf, name: &str) -> Option<BtfKind> {
 /// Writes the functions, lines and relocations of an object's `.BTF.ext`, as `write_ext` does.
 pub fn ext<W: Write>(alloc: Global, bytes: &[u8], out: &mut W) -> Result<(), Fault> {
     let blob = Blob::read(alloc, bytes)?;
-    let table = blob.table(alloc)?;
+    let table = blob.whole_table(alloc)?;
     let section = blob.ext()?;
     let mut text = TextBuffer::new(out);
     write_ext(alloc, &table, section, blob.endianness(), &mut text)?;

@@ -6,10 +6,9 @@ ghost use Rattle.btf_model.specs.RelocationWords.{Words};
 ghost use Rattle.btf_words.specs.Error.{MeetsOrNoMemory, IsOrNoMemory};
 ghost use Rattle.btf_ext.specs.BtfExt.{ext as said};
 
-use crate::above::name::is_named;
 use btf_ext::BtfExt;
 use btf_plain::BtfError;
-use btf_table::Btf;
+use btf_table::{Btf, comparable_end, is_named};
 use std::alloc::Global;
 use std::hash::BuildHasher;
 
@@ -41,9 +40,10 @@ pub fn relocations_of<H: BuildHasher>(
         → Words btf.now.strings (said ext.now).relocations name.now answer
         → IsOrNoMemory (λ v. v.items) result answer }
 {
+    let readable_end = comparable_end(btf, name);
     let mut found = Vec::new(alloc);
     for (offset, records) in ext.relocations() {
-        if is_named(btf, *offset, name)? {
+        if is_named(btf, *offset, name, readable_end)? {
             found.extend_from_slice(records)?;
         }
     }

@@ -7,10 +7,9 @@ ghost use Rattle.btf_words.specs.Error.{MeetsOrNoMemory, Meets};
 ghost use Rattle.btf_items.specs.Fallback.{variant_of};
 ghost use Rattle.btf_above.specs.Variants.{enum_variant, enum64_variant, HaveUtf8Names};
 
-use crate::above::name::is_named;
 use btf_plain::BtfError;
 use btf_records::{BtfEnum, BtfEnum64, Enum64VariantFallback};
-use btf_table::Btf;
+use btf_table::{Btf, comparable_end, is_named};
 
 /// A variant of an enumeration.
 pub trait Variant {
@@ -75,8 +74,9 @@ pub fn find_value<V: Variant>(
         → Meets (λ v. v) result
         (FindsVariant btf.now.strings name.now (map V.variant variants.now)) }
 {
+    let readable_end = comparable_end(btf, name);
     for variant in variants {
-        if is_named(btf, variant.name_offset(), name)? {
+        if is_named(btf, variant.name_offset(), name, readable_end)? {
             return Ok(Some(variant.value()));
         }
     }

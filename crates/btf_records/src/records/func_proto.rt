@@ -8,8 +8,9 @@ ghost use Rattle.btf_words.specs.Error.{IsOrNoMemory};
 ghost use Rattle.btf_items.specs.Items.{param_words};
 
 use crate::btf_type::BtfType;
+use crate::records::enumeration::Enum;
 use crate::records::with_list::WithList;
-use btf_items::{BtfParam, ItemList};
+use btf_items::{BtfParam, ItemList, as_variants};
 use btf_plain::{BtfError, BtfKind, Endianness, MAX_VLEN};
 use std::alloc::Global;
 use std::marker::Model;
@@ -137,6 +138,22 @@ impl FuncProto {
             params: self.params.try_clone()?,
         })
     }
+}
+
+/// The prototype as an unsigned ENUM of 4 bytes: each parameter becomes a variant with the parameter's name, whose value
+/// is the parameter's type. A few are converted without an allocation.
+pub fn as_enum(proto: &FuncProto) -> Result<Enum, BtfError>
+    ensures { IsOrNoMemory (λ r. r) result (Ok (record {
+      name = proto.now.name;
+      info = 6 * 2 ^ 24 + vlen proto.now.info;
+      third = 4;
+      tail = proto.now.tail;
+    })) }
+{
+    let count = proto.items().len() as u32;
+    let info = (BtfKind::Enum as u32) << 24 | count;
+    let variants = as_variants(&proto.params)?;
+    Ok(Enum::from_parts(proto.name_offset, info, 4, variants))
 }
 
 impl WithList for FuncProto {

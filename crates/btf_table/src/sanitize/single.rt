@@ -15,8 +15,8 @@ use crate::sanitize::made::Made;
 use crate::sanitize::outcome::{Outcome, placed};
 use crate::table::Btf;
 use btf_plain::BtfError;
-use btf_records::{BtfType, Enum64, FuncProto};
-use btf_rules::{as_enum, as_union, changes_in_place};
+use btf_records::{BtfType, Enum64, FuncProto, as_enum};
+use btf_rules::{as_union, changes_in_place};
 
 /// The rule of a FUNC_PROTO: its parameters get names, or it becomes an ENUM; None if it is unchanged. Fails with
 /// `InvalidStringOffset` if the names do not fit in the strings.
@@ -33,7 +33,7 @@ fn rewrite_proto(
         (λ new. unwrap_or new (BtfType.FuncProto proto.now)) result }
 {
     if !granted {
-        return Ok(Some(BtfType::Enum(as_enum(btf.allocator(), proto)?)));
+        return Ok(Some(BtfType::Enum(as_enum(proto)?)));
     }
     if !has_unnamed(proto) {
         return Ok(None);

@@ -10,7 +10,7 @@ ghost use Rattle.btf_words.specs.Error.{MeetsOrNoMemory, IsOrNoMemory, Meets};
 ghost use Rattle.btf_words.specs.Kind as kinds;
 ghost use Rattle.btf_records.specs.BtfType.{record_of};
 ghost use Rattle.btf_table.specs.Ascii.{BeginsAscii};
-ghost use Rattle.btf_table.specs.BtfStr.{text_bytes, IsNamed};
+ghost use Rattle.btf_table.specs.BtfStr.{text_bytes, HasName, IsNamed};
 ghost use Rattle.btf_table.specs.Readable.{IsReadableEnd, IsComparable, HasNameAt};
 
 use crate::table::ascii::ascii_text;
@@ -144,7 +144,7 @@ fn is_comparable(name: &str) -> bool
 }
 
 /// The readable end of the strings if a name can be compared with bytes, else None.
-fn comparable_end(strings: &[u8], name: &str) -> Option<usize>
+pub fn comparable_end(strings: &[u8], name: &str) -> Option<usize>
     ensures { IfSome result (λ end. IsReadableEnd strings.now end × IsComparable name.now) }
 {
     if is_comparable(name) {
@@ -183,6 +183,33 @@ fn has_name_at(strings: &[u8], offset: u32, name: &str) -> bool
     }
 }
 
+/// Whether the text at an offset is this name, or `InvalidStringOffset` if there is no text. With a readable end the bytes
+/// are compared, and no text is read to its end. Otherwise the text is read, and bytes that are not UTF-8 need an
+/// allocation.
+pub fn has_name(
+    alloc: Global,
+    strings: &[u8],
+    offset: u32,
+    name: &str,
+    readable_end: Option<usize>,
+) -> Result<bool, BtfError>
+    requires { IfSome readable_end (λ end. IsReadableEnd strings.now end × IsComparable name.now) }
+    ensures named { MeetsOrNoMemory (λ b. b) result (HasName strings.now offset name.now) }
+    ensures no_memory { IfSome (model.bytes_at strings.now offset) IsUtf8
+        → Meets (λ b. b) result (HasName strings.now offset name.now) }
+{
+    let Some(end) = readable_end else {
+        let text = text_at(alloc, strings, offset)?;
+        return Ok(text.as_str() == name);
+    };
+    if offset as usize >= end {
+        return Err(BtfError::InvalidStringOffset {
+            offset: offset as usize,
+        });
+    }
+    Ok(has_name_at(strings, offset, name))
+}
+
 /// Whether a type has this kind and this name, or why the name of a type of this kind can't be read. With a readable
 /// end the bytes are compared, and otherwise the text that they are read as.
 fn has_kind_and_name(
@@ -200,17 +227,7 @@ fn has_kind_and_name(
     if !has_kind(btf_type, kind) {
         return Ok(false);
     }
-    let offset = btf_type.name_offset();
-    let Some(end) = readable_end else {
-        let text = text_at(alloc, strings, offset)?;
-        return Ok(text.as_str() == name);
-    };
-    if offset as usize >= end {
-        return Err(BtfError::InvalidStringOffset {
-            offset: offset as usize,
-        });
-    }
-    Ok(has_name_at(strings, offset, name))
+    has_name(alloc, strings, btf_type.name_offset(), name, readable_end)
 }
 
 /// The id of the first type of this kind and name. The number of types fits in 32 bits. Names of the table are not read
