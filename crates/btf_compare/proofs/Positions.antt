@@ -1,15 +1,17 @@
 -- Positions of the comparison of types.
-use Rattle.std.proofs.Common.{◌≡◌, ℕ, zero, suc, ◌<◌, ◌≤◌, ◌^◌, arith, nat_lt, slice_get, slice_index_or, None, List, [], ◌∷◌, length, refl, sym, ap, subst, ◌∙◌, inl, inr, Bool, true, false, Some, Ok, Err, Result}
+use Rattle.std.proofs.Common.{◌≡◌, ℕ, zero, suc, ◌<◌, ◌≤◌, ◌^◌, arith, nat_lt, lit<, slice_get, slice_index_or, Option, None, List, [], ◌∷◌, length, refl, sym, ap, subst, ◌∙◌, inl, inr, Bool, true, false, Some, Ok, Err, Result}
 use Rattle.std.specs.List.{flat_map}
 use Rattle.std.specs.Option.{option_map}
-use Rattle.std.proofs.lemmas.Bool.{eq-eqb, ne_eqb, ltb-true, ltb-false}
+use Rattle.std.specs.Option.{is_some}
+use Rattle.std.proofs.lemmas.Bool.{eq-eqb, ne_eqb, ltb-true, ltb-false, false≢true}
 use Rattle.std.proofs.lemmas.Option.{same_Some, slice_get-map, slice_get_past, slice_get_read, slice_get_within}
 use Rattle.std.proofs.lemmas.List.{length-map}
 use Rattle.std.proofs.Math.Nat.{mod-lt}
 use Rattle.btf_model.specs.Record.{Record, Kind, vlen}
 use Rattle.btf_model.specs.Refusal.{Refusal}
 use Rattle.btf_model.specs.Table.{Table}
-use Rattle.btf_model.specs.Fields.{Pair}
+use Rattle.btf_model.specs.Fields.{Pair, IsAt}
+use Rattle.btf_model.specs.Walk.{modified_type, unmodified_in, after_modifier}
 use Rattle.btf_model.specs.Compat as model
 use Rattle.btf_model.specs.Compat.{Decided, On, Pending, Finds, PositionFound, parameter_types, pairs, prototypes, ResolvesPair}
 use Rattle.btf_model.proofs.Comparisons.{same_pair}
@@ -100,3 +102,13 @@ no_parameter params others index lt = sym (slice_get_past _ index (omega (arith,
 
 pub no_other_parameter : (params others : List BtfParam) (index : ℕ) → false ≡ nat_lt index (length others) → None ≡ slice_get (pairs (types_of params) (types_of others)) index
 no_other_parameter params others index lt = sym (slice_get_past _ index (omega (arith, (length-pairs (types_of params) (types_of others)).1, count_of others, ltb-false index (length others) (sym lt))))
+
+-- ---- types that are no modifiers
+
+pub none_from : (o : Option ℕ) → is_some o ≡ false → o ≡ None
+none_from None is = refl
+none_from (Some x) is = absurd (false≢true (sym is))
+
+-- the id of a type that is no modifier resolves to itself
+pub resolved_itself : (t : Table) (id : ℕ) (k : Kind) (r : Record) → IsAt t id k r → modified_type r ≡ None → IsResolved t id (Ok (id, k, r))
+resolved_itself t id k r at none = (inl (0, id, lit< tt, refl, ap (unmodified_in id) at.0 ∙ ap (after_modifier id) none), at)

@@ -1,5 +1,5 @@
 -- Steps of the walk of an open pair.
-use Rattle.std.proofs.Common.{◌≡◌, ℕ, suc, ◌+◌, ◌-◌, ◌<◌, ◌≤◌, List, length, refl, ap, ◌∙◌, arith, inl, inr, Bool, Some, None, Ok, Err, Result, slice_get, get_or}
+use Rattle.std.proofs.Common.{◌≡◌, ℕ, suc, ◌+◌, ◌-◌, ◌<◌, ◌≤◌, List, length, refl, ap, subst, ◌∙◌, arith, inl, inr, Bool, true, Option, Some, None, Ok, Err, Result, slice_get, get_or}
 use Rattle.std.proofs.lemmas.Bool.{cases_lt}
 use Rattle.std.proofs.lemmas.Option.{slice_get-get_or, none-some}
 use Rattle.btf_model.specs.Refusal.{Refusal, MaximumTypeDepthReached}
@@ -12,8 +12,11 @@ use Rattle.btf_model.specs.Run.{IsNext}
 use Rattle.btf_words.specs.Error.{Meets, refusal_of}
 use Rattle.btf_words.specs.declared.error.BtfError.{BtfError}
 use Rattle.btf_compare.specs.declared.frame.Frame.{Frame}
+use Rattle.btf_compare.specs.declared.frame.Place.{Place}
 use Rattle.btf_compare.specs.declared.position.ProtoPair.{ProtoPair}
-use Rattle.btf_compare.specs.Compared.{AreAt, GoesPast, frame_of, pending_of}
+use Rattle.btf_compare.specs.declared.position.Position.{Position}
+use Rattle.btf_compare.specs.declared.position.Position.TheVariants as positions
+use Rattle.btf_compare.specs.Compared.{AreAt, GoesPast, WalksTo, IsFound, StepsTo, AfterStep, AfterSteps, frame_of, pending_of}
 use Rattle.btf_compare.specs.Pairs.{pair_of}
 
 pub one_more : (taken : ℕ) → taken < walk_limit → walk_limit - taken ≡ suc (walk_limit - (taken + 1))
@@ -67,3 +70,42 @@ module _ (local target : Table) (f : Frame) where
     waits g at ids is here_at resolves =
         let one : f.parameter + 1 ≡ suc f.parameter = omega arith in
         (walk_limit - (f.taken + 1), pending_of found, pair_of found.returns, one_more f.taken here.within, (here.finds, (at, here_at, resolves)), ap frame_of is ∙ ap (λ (j : ℕ). record { pair = pair_of f.pair; at = pair_of f.at; left = walk_limit - f.taken; parameter = j }) one)
+
+-- ---- walks
+
+module _ (local target : Table) (passed : Pair → Bool) where
+  -- a walk that takes one step more
+  pub walks_more : (f g h : runs.Frame) → WalksTo local target passed f g → StepsTo local target passed g h → WalksTo local target passed f h
+  walks_more f g h walk (inl next) = WalksTo.on g h walk next
+  walks_more f g h walk (inr behind) = WalksTo.past g h behind.0 walk behind.1 behind.2 behind.3
+
+  -- a walk that goes on with another one
+  pub walks_on : (f g h : runs.Frame) → WalksTo local target passed f g → WalksTo local target passed g h → WalksTo local target passed f h
+  walks_on f g h first WalksTo.here = first
+  walks_on f g h first (WalksTo.on k l walk next) = WalksTo.on k l (walks_on f g k first walk) next
+  walks_on f g h first (WalksTo.past k l ids walk goes is none) = WalksTo.past k l ids (walks_on f g k first walk) goes is none
+
+-- ---- what is at a position
+
+module _ (local target : Table) (f : Frame) where
+  -- the position of f, by an equation
+  pub found_as : (x y : Position) → x ≡ y → IsFound local target x f → IsFound local target y f
+  found_as x y is found = subst (λ (z : Position). IsFound local target z f) is found
+
+  -- the walk of f goes on to another position,
+  pub steps_on : (passed : Pair → Bool) (g : Frame) (to : ℕ × ℕ) → f.taken < walk_limit → GoesTo local target f g to → IsFound local target (positions.On to) f → StepsTo local target passed (frame_of f) (frame_of g) × (g.taken ≡ f.taken + 1)
+  steps_on passed g to lt is found = (inl (on local target f g to lt is found.position_is), ap (λ (h : Frame). h.taken) is)
+
+  -- f is at two prototypes,
+  pub at_prototypes : (found : ProtoPair) → f.taken < walk_limit → IsFound local target (positions.Prototypes found) f → AreAt local target f found
+  at_prototypes found lt h = record { finds = h.position_is; resolves = h.ids; within = lt; few = h.few }
+
+  -- or past them
+  pub steps_past : (passed : Pair → Bool) (g : Frame) (found : ProtoPair) → f.taken < walk_limit → GoesTo local target f g found.returns → IsFound local target (positions.Prototypes found) f → passed (pair_of found.ids) ≡ true → f.parameter ≡ 0
+      → StepsTo local target passed (frame_of f) (frame_of g) × (g.taken ≡ f.taken + 1)
+  steps_past passed g found lt is h known none = (inr (pair_of found.ids, goes_past local target f found (at_prototypes found lt h) g is, known, none), ap (λ (k : Frame). k.taken) is)
+
+-- one step is a walk
+pub after_steps : (local target : Table) (passed : Pair → Bool) (f g : Frame) (end : Option (Result Place BtfError)) → AfterStep local target passed f g end → AfterSteps local target passed f g end
+after_steps local target passed f g None step = walks_more local target passed (frame_of f) (frame_of f) (frame_of g) WalksTo.here step.0
+after_steps local target passed f g (Some end) step = step

@@ -5,7 +5,7 @@
 -- known to be compatible, so that a walk that meets them again continues with their return types.
 use Rattle.std.specs.BTreeSet as ordered
 use Rattle.std.specs.BTreeSet.{BTreeSet}
-use Rattle.std.specs.Prelude.{◌≡◌, ◌≢◌, ◌⊎◌, ◌<◌, ◌≤◌, ℕ, suc, ◌-◌, ◌*◌, ◌^◌, length, All, Bool, true, false, cond, ltb, List, ◌++◌, map, slice_get, Option, Some, None, Result, Ok, Err}
+use Rattle.std.specs.Prelude.{◌≡◌, ◌≢◌, ◌⊎◌, ◌<◌, ◌≤◌, ℕ, suc, ◌+◌, ◌-◌, ◌*◌, ◌^◌, length, All, Bool, true, false, cond, ltb, List, ◌++◌, map, slice_get, Option, Some, None, Result, Ok, Err}
 use Rattle.std.specs.List.{IsDistinct}
 use Rattle.btf_model.specs.Record.{Record, Kind, compared_kind}
 use Rattle.btf_model.specs.Refusal.{Refusal}
@@ -103,6 +103,29 @@ abbrev pub ComesTo : Table → Table → Frame → Result Place BtfError → Typ
 ComesTo local target f (Ok (places.Pending found)) = AreAt local target f found
 ComesTo local target f (Ok (places.Ends answer)) = IsNext local target (frame_of f) (runs.Ends (Ok answer))
 ComesTo local target f (Err e) = Meets (λ b. b) (Err e) (λ a. IsNext local target (frame_of f) (runs.Ends a))
+
+-- This is at the position of the open pair f.
+pub record IsFound (local target : Table) (position : Position) (f : Frame) : Type 0 where
+  pub position_is : PositionIs position (Finds local target (pair_of f.at))
+  pub ids : IfPrototypes position (λ ids. ResolvesPair local target (pair_of f.at) (Ok ids))
+  pub few : HasFew position
+
+-- The walk of the open pair f takes one step to g: to the next position, or past prototypes that are passed.
+abbrev pub StepsTo : Table → Table → (Pair → Bool) → runs.Frame → runs.Frame → Type 0
+StepsTo local target passed f g =
+    IsNext local target f (runs.GoesOn g)
+    ⊎ ((ids : Pair) × GoesPast local target f g ids × (passed ids ≡ true) × (f.parameter ≡ 0))
+
+-- After one step of the walk of the open pair f, it is at g and goes on, or it stops with this end.
+abbrev pub AfterStep : Table → Table → (Pair → Bool) → Frame → Frame → Option (Result Place BtfError) → Type 0
+AfterStep local target passed f g None =
+    StepsTo local target passed (frame_of f) (frame_of g) × (g.taken ≡ f.taken + 1)
+AfterStep local target passed f g (Some end) = (g ≡ f) × ComesTo local target g end
+
+-- The same after one step or none.
+abbrev pub AfterSteps : Table → Table → (Pair → Bool) → Frame → Frame → Option (Result Place BtfError) → Type 0
+AfterSteps local target passed f g None = WalksTo local target passed (frame_of f) (frame_of g)
+AfterSteps local target passed f g (Some end) = (g ≡ f) × ComesTo local target g end
 
 -- The next parameter of the open pair f at these prototypes: the pending pair `ids`, after which the open pair is g; or
 -- none after the last parameter; or an error.

@@ -4,13 +4,18 @@
 
 ghost use Rattle.std.specs.Prelude.{◌≡◌, ◌+◌, ◌<◌, Ok, IsTrue, false};
 ghost use Rattle.btf_model.specs.Compat.{ResolvesPair};
+ghost use Rattle.btf_model.specs.Fields.{IsAt};
 ghost use Rattle.btf_model.specs.Run.{new_frame};
+ghost use Rattle.btf_model.specs.Table.{Table};
 ghost use Rattle.btf_words.specs.Error.{Meets};
-ghost use Rattle.btf_compare.specs.Compared.{AreAt, WalksTo, ComesTo, NextParameterIs, frame_of, passed_in};
+ghost use Rattle.btf_records.specs.BtfType.{record_of, type_kind};
+ghost use Rattle.btf_compare.specs.Compared.{AreAt, WalksTo, ComesTo, IsFound, AfterStep, AfterSteps, NextParameterIs, frame_of, passed_in};
 ghost use Rattle.btf_compare.specs.Pairs.{pair_of};
 
-use crate::position::{Position, ProtoPair, found_at};
+use crate::position::{Position, ProtoPair, found_at, types_at};
+use crate::resolved::is_modifier;
 use btf_plain::BtfError;
+use btf_records::BtfType;
 use btf_table::{Btf, WALK_LIMIT};
 use std::collections::BTreeSet;
 
@@ -61,15 +66,22 @@ impl Frame {
         }
     }
 
-    /// Starts the walk of a pair. If the kinds of its types differ, the answer is false, without a step.
+    /// Starts the walk of a pair of these types. If their kinds are not alike, the answer is false, without a step.
     #[inline(always)]
     pub fn begin<'a>(
         &mut self,
         alike: bool,
+        local_type: &'a BtfType,
+        target_type: &'a BtfType,
         local: &'a Btf,
         target: &'a Btf,
         passed: &BTreeSet<(u32, u32)>,
     ) -> Result<Place<'a>, BtfError>
+        requires local { IsAt local.now self.old.at.0 (type_kind local_type.now)
+            (record_of local_type.now) }
+        requires target { IsAt target.now self.old.at.1 (type_kind target_type.now)
+            (record_of target_type.now) }
+        requires unmoved { self.old.taken < WALK_LIMIT }
         ensures differs { alike ≡ false → result ≡ Ok (Place.Ends false) }
         ensures walks { IsTrue alike → WalksTo local.now target.now (passed_in passed.now)
             (frame_of self.old) (frame_of self.new) }
@@ -79,11 +91,65 @@ impl Frame {
         if !alike {
             return Ok(Place::Ends(false));
         }
-        self.walk(local, target, passed)
+        match self.first_step(local_type, target_type, passed) {
+            Some(end) => end,
+            None => self.walk(local, target, passed),
+        }
     }
 
-    /// Continues the walk to two prototypes or to its end. At each position it resolves the modifiers of both ids. The
-    /// `passed` prototypes are known to have compatible parameters, so the walk continues with their return types.
+    /// The first step of the walk of a pair of these types, if both are no modifiers. Returns the end of the walk, or
+    /// None if the walk goes on. The types are at hand, so this looks no id up.
+    #[inline(always)]
+    fn first_step<'a>(
+        &mut self,
+        local_type: &'a BtfType,
+        target_type: &'a BtfType,
+        passed: &BTreeSet<(u32, u32)>,
+    ) -> Option<Result<Place<'a>, BtfError>>
+        requires { self.old.taken < WALK_LIMIT }
+        ensures steps { (local target : Table)
+            → IsAt local self.old.at.0 (type_kind local_type.now) (record_of local_type.now)
+            → IsAt target self.old.at.1 (type_kind target_type.now) (record_of target_type.now)
+            → AfterSteps local target (passed_in passed.now) self.old self.new result }
+        ensures pair { self.new.pair ≡ self.old.pair }
+    {
+        if is_modifier(local_type) || is_modifier(target_type) {
+            return None;
+        }
+        self.step(types_at(self.at, local_type, target_type), passed)
+    }
+
+    /// Takes the step that follows from what is at the position. Returns the end of the walk, or None if the walk goes on.
+    /// The `passed` prototypes are known to have compatible parameters, so the walk continues with their return types.
+    #[inline(always)]
+    fn step<'a>(
+        &mut self,
+        position: Position<'a>,
+        passed: &BTreeSet<(u32, u32)>,
+    ) -> Option<Result<Place<'a>, BtfError>>
+        requires { self.old.taken < WALK_LIMIT }
+        ensures steps { (local target : Table) → IsFound local target position.entry self.old
+            → AfterStep local target (passed_in passed.now) self.old self.new result }
+        ensures pair { self.new.pair ≡ self.old.pair }
+    {
+        match position {
+            Position::Decided(Ok(answer)) => Some(Ok(Place::Ends(answer))),
+            Position::Decided(Err(e)) => Some(Err(e)),
+            Position::On(next) => {
+                self.go_on(next);
+                None
+            }
+            Position::Prototypes(found) => {
+                if self.parameter > 0 || !found.are_long() || !passed.contains(&found.ids) {
+                    return Some(Ok(Place::Pending(found)));
+                }
+                self.go_on(found.returns);
+                None
+            }
+        }
+    }
+
+    /// Continues the walk to two prototypes or to its end. At each position it resolves the modifiers of both ids.
     pub fn walk<'a>(
         &mut self,
         local: &'a Btf,
@@ -96,21 +162,15 @@ impl Frame {
         ensures pair { self.new.pair ≡ self.old.pair }
     {
         'positions: while self.taken < POSITIONS {
-            match found_at(local, target, self.at) {
-                Position::Decided(answer) => return Ok(Place::Ends(answer?)),
-                Position::On(next) => self.go_on(next),
-                Position::Prototypes(found) => {
-                    if self.parameter > 0 || !found.are_long() || !passed.contains(&found.ids) {
-                        return Ok(Place::Pending(found));
-                    }
-                    self.go_on(found.returns);
-                }
+            if let Some(end) = self.step(found_at(local, target, self.at), passed) {
+                return end;
             }
         }
         Err(BtfError::MaximumTypeDepthReached { type_id: self.at.0 })
     }
 
     /// The next pending parameter pair, as the ids that its types resolve to. Returns `None` after the last parameter.
+    #[inline(always)]
     pub fn next_parameter(
         &mut self,
         local: &Btf,

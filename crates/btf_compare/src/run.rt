@@ -55,6 +55,7 @@ impl Run {
     }
 
     /// Whether a pair is known to be compatible. A pair that is still open is an error.
+    #[inline(always)]
     fn is_known_compatible(&self, pair: (u32, u32)) -> Result<bool, BtfError>
         ensures { result ≡ compatible_by pair.0 (known self.now.seen pair) }
     {
@@ -66,6 +67,7 @@ impl Run {
     }
 
     /// Records prototypes whose parameters are all known to be compatible, if they have many parameters.
+    #[inline(always)]
     fn pass(&mut self, found: &ProtoPair<'_>) -> Result<(), AllocError>
         ensures passes { OnOk result (Passes self.old.passed self.new.passed found.now) }
         ensures passed { OnOk result
@@ -80,6 +82,7 @@ impl Run {
     }
 
     /// Records that an open pair is compatible, and returns the open pair below it, whose walk continues.
+    #[inline(always)]
     fn mark_compatible(&mut self, pair: (u32, u32)) -> Option<Frame>
         requires { IsSome (known self.old.seen pair) }
         ensures next { MatchOption result (self.old.below.items ≡ [])
@@ -132,7 +135,7 @@ fn start<'a, L: Listed, S: Starts>(
     let target_type = target.type_by_id(pair.1)?;
     let alike = local_type.is_compatible(target_type);
     *frame = Frame::new(pair);
-    let end = frame.begin(alike, local, target, passed);
+    let end = frame.begin(alike, local_type, target_type, local, target, passed);
     listed.remember(pair, progress_of(&end))?;
     starts.add(pair)?;
     end

@@ -427,7 +427,13 @@ pub fn is_named(
     ensures no_memory { IfSome (model.bytes_at table.now.strings offset) IsUtf8
         → Meets (λ b. b) result (HasName table.now.strings offset name.now) }
 {
-    has_name(*table.strings.allocator(), &table.strings, offset, name, readable_end)
+    has_name(
+        *table.strings.allocator(),
+        &table.strings,
+        offset,
+        name,
+        readable_end,
+    )
 }
 
 /// The table that a blob represents, or the first reason to refuse the blob.
