@@ -202,6 +202,7 @@ impl Frame {
 }
 
 /// The ids that two ids resolve to, the local one first.
+#[inline(always)]
 fn resolved_ids(local: &Btf, target: &Btf, at: (u32, u32)) -> Result<(u32, u32), BtfError>
     ensures { Meets pair_of result (ResolvesPair local.now target.now (pair_of at)) }
 {

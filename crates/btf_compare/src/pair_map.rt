@@ -33,6 +33,7 @@ impl PairMap {
     }
 
     /// The progress of a pair.
+    #[inline(always)]
     pub fn get(&self, pair: (u32, u32)) -> Option<Progress>
         ensures { result ≡ known self.now pair }
     {

@@ -57,6 +57,7 @@ pub fn found_at<'a>(local: &'a Btf, target: &'a Btf, at: (u32, u32)) -> Position
 }
 
 /// Compares two types that are no modifiers, and have these ids.
+#[inline(always)]
 pub fn types_at<'a>(ids: (u32, u32), local_type: &'a BtfType, target_type: &'a BtfType) -> Position<'a>
     ensures position { PositionIs result
         (PositionFound ids.0 (type_kind local_type.now) (type_kind target_type.now)
@@ -133,6 +134,7 @@ fn arrays<'a>(local: &Array, target_type: &BtfType) -> Position<'a>
 
 /// Compares a prototype with another type; `ids` are the ids of both. If the numbers of parameters are equal, the
 /// parameters are next, and then the return types.
+#[inline(always)]
 fn prototypes<'a>(ids: (u32, u32), local: &'a FuncProto, target_type: &'a BtfType) -> Position<'a>
     ensures position { type_kind target_type.now ≡ model.FuncProto
         → PositionIs result (λ found. found ≡ position_by 0 model.FuncProto local.now
