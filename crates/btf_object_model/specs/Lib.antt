@@ -6,3 +6,4 @@ pub mod Finalized
 pub mod SanitizedFinalized
 pub mod Laws
 pub mod Examples
+pub mod FinalizedExamples

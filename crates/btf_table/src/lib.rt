@@ -6,4 +6,4 @@ mod table;
 
 pub use btf_rewrite_model::KsymsIds;
 pub use sanitize::{rewrite_bytes, rewrite_bytes_with};
-pub use table::{Btf, BtfStr, WALK_LIMIT, allocator_of, name_bytes};
+pub use table::{Btf, BtfStr, WALK_LIMIT, allocator_of, name_bytes, set_type, type_count};
