@@ -1,6 +1,7 @@
 //! A table that is finalized from its object, as a loader does before it rewrites the table for a kernel.
 
 mod known;
+mod placeholder;
 mod section;
 mod sized;
 
@@ -19,6 +20,7 @@ use btf_words::BtfError;
 use std::alloc::Global;
 use std::hash::BuildHasher;
 
+pub use crate::finalize::placeholder::add_placeholder;
 pub use crate::finalize::sized::{data_sec_sizes, set_sizes};
 
 /// Finalizes the type of an id, if it is a DATASEC. `OutOfMemory` is the only error.

@@ -100,14 +100,16 @@ pub fn sanitize_object_with<H: BuildHasher + Clone + Drop>(
 /// The object with its table finalized as by libbpf, and then rewritten for a kernel; and the features that the rewrite
 /// asked for, each with whether the kernel has it. The first section named `.BTF` has the bytes of the new table, and no
 /// other section changes. Before the rewrite, DATASECs get the sizes of their sections, and their entries get the
-/// offsets of their variables and are sorted by them. After it, a STRUCT that was a DATASEC has the DATASEC's size.
+/// offsets of their variables and are sorted by them; and if functions are in `.ksyms`, a variable `dummy_ksym` is added,
+/// which replaces them. After it, a STRUCT that was a DATASEC has the DATASEC's size.
 ///
 /// `hash_builder` hashes the names of the object's sections and symbols. The default has a fixed seed, so an attacker
 /// can choose names that collide, and n of them take time in proportion to n squared. For an untrusted object, pass a
 /// hasher with random keys, as `RandomState`.
 ///
-/// Reports the first error, in this order: `Object`, `NoTable`, `Table` with the errors of `Btf::parse`, of `ksyms_of`
-/// and of `Btf::fixup_and_sanitize_with`, and `Section`. An allocation failure is reported as `OutOfMemory`.
+/// Reports the first error, in this order: `Object`, `NoTable`, `Table` with the errors of `Btf::parse`, of `ksyms_of`,
+/// of `Btf::add_string` and `Btf::add_type` for the variable, and of `Btf::fixup_and_sanitize_with`, and `Section`. An
+/// allocation failure is reported as `OutOfMemory`.
 pub fn sanitize_finalized<H: BuildHasher + Clone + Drop>(
     alloc: Global,
     bytes: &[u8],

@@ -16,7 +16,7 @@ ghost use Rattle.btf_words.specs.Error.{refusal_of};
 ghost use Rattle.btf_object.specs.Errors.{target_of};
 ghost use Rattle.btf_object.specs.Kernel.{has};
 
-use crate::finalize::{data_sec_sizes, finalize, set_sizes};
+use crate::finalize::{add_placeholder, data_sec_sizes, finalize, set_sizes};
 use crate::kernel::Kernel;
 use crate::ksyms::ksyms_of;
 use crate::layout::ObjectLayout;
@@ -115,6 +115,7 @@ pub fn finalized<H: BuildHasher + Clone + Drop>(
     finalize(alloc, &mut btf, &layout)?;
     let sizes = data_sec_sizes(alloc, &btf)?;
     let ids = ksyms_of(&btf, None)?;
+    let ids = add_placeholder(&mut btf, ids)?;
     let answers = rewrite_for(&mut btf, &layout, kernel, ids)?;
     set_sizes(alloc, &mut btf, &sizes)?;
     Ok((btf.to_bytes()?, answers))

@@ -1,11 +1,11 @@
 -- A rewritten object retains the contents of `.BTF.ext`.
-use Rattle.std.proofs.Common.{◌≡◌, ◌≢◌, ℕ, ◌<◌, List, [], length, Bool, true, Option, None, Some, Ok, refl, sym, ap, subst, ◌∙◌, arith}
+use Rattle.std.proofs.Common.{◌≡◌, ◌≢◌, ℕ, ◌<◌, List, [], ◌∷◌, ◌++◌, length, append_assoc, Bool, true, Option, None, Some, Ok, refl, sym, ap, subst, ◌∙◌, arith}
 use Rattle.std.specs.Prelude.{position, slice_get, slice_set, unwrap_or, nat_lt, if◌then◌else◌}
 use Rattle.std.specs.List.{position_or_len}
 use Rattle.std.proofs.lemmas.List.Folds.{position_or_len-set}
 use Rattle.std.specs.Str.{bytes_eq}
 use Rattle.std.proofs.lemmas.Bool.{false≢true}
-use Rattle.std.proofs.lemmas.List.{get_or-set_other, get_or-set_same, length-set}
+use Rattle.std.proofs.lemmas.List.{append-nil, get_or-set_other, get_or-set_same, length-set}
 use Rattle.std.proofs.lemmas.List.Quantifiers.{position-Some}
 use Rattle.std.proofs.lemmas.Option.{same_Some, slice_get_within, slice_get-get_or, get_or_from_slice_get}
 use Rattle.std.proofs.lemmas.Slice.Eq.{bytes_eq-Decides}
@@ -14,10 +14,15 @@ use Rattle.btf_model.specs.Table.{Table, strip}
 use Rattle.btf_model.specs.Blob.{IsTable, canon}
 use Rattle.btf_model.specs.Text.{text_at}
 use Rattle.btf_model.proofs.Blobs.{same_table}
+use Rattle.btf_model.proofs.Texts.{text_stays}
+use Rattle.btf_model.specs.Table.{with_string, with_type}
 use Rattle.btf_elf_model.specs.Section.{name_at}
 use Rattle.btf_elf_model.specs.Object.{Object, IsObject, section_bytes, section_name}
 use Rattle.btf_elf_model.specs.Replaced.{ReplacesSection, moved, place}
 use Rattle.btf_elf_model.specs.declared.section_header.SectionHeader.{SectionHeader}
+use Rattle.btf_rewrite_model.specs.Ksyms.{appends_int, int_of_4, int_text}
+use Rattle.btf_rewrite_model.specs.Made.{c_int}
+use Rattle.btf_rewrite_model.proofs.Kept.{by_table}
 use Rattle.btf_rewrite_model.specs.Pass.{Layout}
 use Rattle.btf_rewrite_model.specs.Rewritten.{Rewritten}
 use Rattle.btf_rewrite_model.specs.declared.feature.FeatureAnswer.{FeatureAnswer}
@@ -27,7 +32,7 @@ use Rattle.btf_rewrite_model.specs.declared.feature.FillPolicy.TheVariants.{Keep
 use Rattle.btf_rewrite_model.specs.declared.ksyms_ids.KsymsIds.{KsymsIds}
 use Rattle.btf_object_model.specs.Kernel.{answers_of}
 use Rattle.btf_object_model.specs.Layout.{layout_of}
-use Rattle.btf_object_model.specs.Finalized.{sized}
+use Rattle.btf_object_model.specs.Finalized.{placeholder_text, with_int, with_variable, has_functions, with_placeholder, with_placeholder_id, sized}
 use Rattle.btf_object_model.specs.SanitizedFinalized.{RewritesFinalized, IsSanitizedFinalized}
 use Rattle.btf_object_model.specs.Laws.{HasSameContents, KeepsExt}
 use Rattle.btf_object_model.specs.Sanitized.{Target, HasSection, IsSanitized, index_of, table_name, ext_name}
@@ -191,12 +196,29 @@ keeps_ext bytes file target answers z = rewritten_keeps_ext bytes file (record {
   replaced = z.replaced;
 })
 
--- the strings of a table that is finalized are those of the old table
+-- a placeholder only appends strings
+placeholder_strings : (t : Table) (ids : Option KsymsIds) → (more : List ℕ) × ((with_placeholder t ids).strings ≡ t.strings ++ more)
+placeholder_strings t ids =
+    let added : (int : Table) → (more : List ℕ) × (int.strings ≡ t.strings ++ more) → (all : List ℕ) × ((with_variable (int_of_4 t) int).strings ≡ t.strings ++ all) =
+    λ int is. (
+      is.0 ++ (placeholder_text ++ 0 ∷ []),
+      ap (λ xs. xs ++ placeholder_text ++ 0 ∷ []) is.1 ∙ append_assoc (t.strings ++ is.0) placeholder_text (0 ∷ []) ∙ append_assoc t.strings is.0 (placeholder_text ++ 0 ∷ []),
+    ) in
+    by_table (λ u. (more : List ℕ) × (u.strings ≡ t.strings ++ more)) (has_functions t ids) (with_variable (int_of_4 t) (with_int t)) t
+    (added (with_int t)
+    (by_table (λ u. (more : List ℕ) × (u.strings ≡ t.strings ++ more)) (appends_int t None) (with_type (c_int (length t.strings)) None (with_string int_text t)) t
+    (int_text ++ 0 ∷ [], append_assoc t.strings int_text (0 ∷ []))
+    ([], sym (append-nil t.strings))))
+    ([], sym (append-nil t.strings))
+
+-- the strings of a table that is finalized are those of the old table, and more
 final_texts_stay : (has : BtfFeature → Bool) (o : Object) (bytes : List ℕ) (given base new : Table) (answers : List FeatureAnswer) → RewritesFinalized o bytes has given base new answers
     → (offset : ℕ) (text : List ℕ) → text_at given.strings offset ≡ Ok text → text_at (sized base new).strings offset ≡ Ok text
 final_texts_stay has o bytes given base new answers r offset text reads =
-    texts_stay KeepSized base new r.ids (layout_of o) (answers_of has) r.rewritten offset text
-    (ap (λ (t : Table). text_at t.strings offset) r.finalized.others ∙ reads)
+    let more = placeholder_strings base r.ids in
+    let same : base.strings ≡ given.strings = ap (λ (t : Table). t.strings) r.finalized.others in
+    texts_stay KeepSized (with_placeholder base r.ids) new (with_placeholder_id base r.ids) (layout_of o) (answers_of has) r.rewritten offset text
+    (ap (λ (xs : List ℕ). text_at xs offset) more.1 ∙ text_stays base.strings more.0 offset text (ap (λ (xs : List ℕ). text_at xs offset) same ∙ reads))
 
 pub finalized_keeps_ext : (bytes file : List ℕ) (has : BtfFeature → Bool) (answers : List FeatureAnswer) → IsSanitizedFinalized bytes has file answers → (o : Object) (index : ℕ) (s : SectionHeader) → HasSection bytes ext_name o index s
     → (new : Object) × KeepsExt bytes file o new index s

@@ -1,21 +1,24 @@
 -- A table as a loader finalizes it from its object, before it rewrites the table for a kernel: the sizes of DATASECs,
--- and the offsets and the order of their entries. After the rewrite, the sizes of the STRUCTs that DATASECs became.
+-- and the offsets and the order of their entries; then a placeholder for functions of the kernel. After the rewrite, the
+-- sizes of the STRUCTs that DATASECs became.
 -- Source: libbpf's `btf_fixup_datasec`. Compilers leave these sizes and offsets 0, because they do not know the sections
 -- of the object. libbpf's order of entries with the same offset is not determined; here they retain their order.
-use Rattle.std.specs.Prelude.{◌≡◌, ℕ, ◌<◌, ◌==◌, ◌&&◌, ◌||◌, Bool, true, false, if◌then◌else◌, List, length, map, codes, Option, Some, None, Result, Ok, Err}
-use Rattle.std.specs.List.{list_all}
+use Rattle.std.specs.Prelude.{◌≡◌, ℕ, ◌<◌, ◌*◌, ◌^◌, ◌==◌, ◌&&◌, ◌||◌, Bool, true, false, if◌then◌else◌, List, [], ◌∷◌, ◌++◌, length, map, codes, Option, Some, None, Result, Ok, Err}
+use Rattle.std.specs.List.{list_all, list_any}
 use Rattle.std.specs.List.Sorted.{IsSortedByKey, IsStableByKey}
-use Rattle.std.specs.Option.{is_some, unwrap_or}
+use Rattle.std.specs.Option.{is_some, option_map, unwrap_or}
 use Rattle.std.specs.Ordering.{nat_cmp}
 use Rattle.std.specs.Str.{bytes_eq}
 use Rattle.btf_model.specs.Record as kinds
 use Rattle.btf_model.specs.Record.{Kind, Record, kind_of, vlen}
 use Rattle.btf_model.specs.Refusal.{Refusal}
-use Rattle.btf_model.specs.Table.{Table}
+use Rattle.btf_model.specs.Table.{Table, type_bytes, with_string, with_type}
 use Rattle.btf_model.specs.Text.{text_at}
-use Rattle.btf_rewrite_model.specs.Checks.{in_a_word}
-use Rattle.btf_rewrite_model.specs.Made.{Entry, entries, record_at, kind_at, table_ids, is_static, struct, data_sec}
+use Rattle.btf_rewrite_model.specs.Checks.{in_a_word, first_fault, has_room, fits, record_len}
+use Rattle.btf_rewrite_model.specs.Ksyms.{appends_int, int_of_4, int_text, is_func, symbols, placeholder_checks}
+use Rattle.btf_rewrite_model.specs.Made.{Entry, entries, record_at, kind_at, table_ids, is_static, c_int, struct, data_sec}
 use Rattle.btf_rewrite_model.specs.Pass.{Layout}
+use Rattle.btf_rewrite_model.specs.declared.ksyms_ids.KsymsIds.{KsymsIds}
 use Rattle.btf_object_model.specs.Ksyms.{ksyms_name}
 
 -- ---- what is known from the object
@@ -97,6 +100,50 @@ pub record IsFinalized (layout : Layout) (old new : Table) : Type 0 where
   pub count : length new.records ≡ length old.records
   pub each : (id : ℕ) → id < length old.records
       → IsFinal layout old (kind_at old id) (record_at old id) (record_at new id)
+
+-- ---- the placeholder for functions of the kernel
+-- Source: libbpf's `add_dummy_ksym_var`, which appends a variable that replaces functions in `.ksyms`, because a DATASEC
+-- has only variables; and `find_int_btf_id`. libbpf takes the first INT of 32 bits.
+
+-- the name of the placeholder
+abbrev pub placeholder_text : List ℕ
+placeholder_text = codes "dummy_ksym"
+
+-- the placeholder: a Global VAR
+abbrev pub placeholder : ℕ → ℕ → Record
+placeholder name type = record { name = name; info = 14 * 2 ^ 24; third = type; tail = 1 ∷ [] }
+
+-- the table with an INT of 4 bytes, which is appended if there is none
+abbrev pub with_int : Table → Table
+with_int t =
+    if appends_int t None then with_type (c_int (length t.strings)) None (with_string int_text t) else t
+
+-- the table with a placeholder of this type
+abbrev pub with_variable : ℕ → Table → Table
+with_variable type t = with_type (placeholder (length t.strings) type) None (with_string placeholder_text t)
+
+-- A function is among the entries of `.ksyms`, if the table has this DATASEC.
+abbrev pub has_functions : Table → Option KsymsIds → Bool
+has_functions t (Some ids) = list_any (λ e. is_func (kind_at t e.type)) (symbols t ids)
+has_functions t None = false
+
+-- the table with the placeholder, if it is needed; its type is the first INT of 4 bytes, or the INT that is appended
+abbrev pub with_placeholder : Table → Option KsymsIds → Table
+with_placeholder t ids = if has_functions t ids then with_variable (int_of_4 t) (with_int t) else t
+
+-- the ids of `.ksyms` with the id of the placeholder, if it is needed
+abbrev pub with_placeholder_id : Table → Option KsymsIds → Option KsymsIds
+with_placeholder_id t ids =
+    if has_functions t ids
+    then option_map (λ (i : KsymsIds). record i { placeholder_id = Some (length (with_int t).records) }) ids else ids
+
+-- Why the placeholder does not fit, if it is needed: first the INT, and then the VAR, each with its name before it.
+abbrev pub placeholder_fault : Table → Option KsymsIds → Option Refusal
+placeholder_fault t ids =
+    if has_functions t ids
+    then first_fault (placeholder_checks t None ++ has_room (length (with_int t).strings) placeholder_text
+    ∷ fits (length (type_bytes (with_int t))) (record_len (placeholder 0 0)) ∷ [])
+    else None
 
 -- ---- STRUCTs that were DATASECs
 
