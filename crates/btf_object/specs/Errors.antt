@@ -45,7 +45,8 @@ target_of kernel policy placeholder = record { has = has kernel; policy = policy
 
 -- The bytes represent no object; or the object has no section `.BTF`; or the table of this section is refused; or it is
 -- rewritten, and the section cannot be replaced. An allocation may fail in each step.
-abbrev pub IsCauseBy : (elf.Object → List ℕ → Refusal → Type 0) → (elf.Object → List ℕ → Type 0) → List ℕ → SanitizeError → Type 0
+abbrev pub IsCauseBy : (elf.Object → List ℕ → Refusal → Type 0) → (elf.Object → List ℕ → Type 0) → List ℕ → SanitizeError
+    → Type 0
 IsCauseBy Refuses Rewrites bytes (Object e) = (p : ParseError) × (e ≡ object.Parse p) × elf.IsRefused bytes p
 IsCauseBy Refuses Rewrites bytes NoTable =
     (o : elf.Object) × elf.IsObject bytes o × (index_of o table_name ≡ None)
@@ -57,15 +58,26 @@ IsCauseBy Refuses Rewrites bytes (Section e) =
     × (Rewrites o (elf.section_bytes o s) × (replace_error o index ≡ Some e))
 IsCauseBy Refuses Rewrites bytes OutOfMemory = ⊤
 
+-- The table of a section is refused for a target, or is rewritten for it.
+abbrev pub RefusesFor : Target → elf.Object → List ℕ → Refusal → Type 0
+RefusesFor target o table refusal = RefusesTable o table target refusal
+
+abbrev pub RewritesFor : Target → elf.Object → List ℕ → Type 0
+RewritesFor target o table =
+    (old new : Table) × (answers : List FeatureAnswer) × RewritesTable o table target old new answers
+
 -- why an object is not rewritten for a target
 abbrev pub IsCause : List ℕ → Target → SanitizeError → Type 0
-IsCause bytes target =
-    IsCauseBy (λ o table refusal. RefusesTable o table target refusal)
-    (λ o table. (old new : Table) × (answers : List FeatureAnswer) × RewritesTable o table target old new answers) bytes
+IsCause bytes target e = IsCauseBy (RefusesFor target) (RewritesFor target) bytes e
+
+-- The table of a section is refused for a kernel with these features, or is finalized and rewritten for it.
+abbrev pub RefusesFinalizedFor : (BtfFeature → Bool) → elf.Object → List ℕ → Refusal → Type 0
+RefusesFinalizedFor has o table refusal = RefusesFinalized o table has refusal
+
+abbrev pub RewritesFinalizedFor : (BtfFeature → Bool) → elf.Object → List ℕ → Type 0
+RewritesFinalizedFor has o table =
+    (old base new : Table) × (answers : List FeatureAnswer) × RewritesFinalized o table has old base new answers
 
 -- why an object is not finalized and rewritten for a kernel with these features
 abbrev pub IsFinalizedCause : List ℕ → (BtfFeature → Bool) → SanitizeError → Type 0
-IsFinalizedCause bytes has =
-    IsCauseBy (λ o table refusal. RefusesFinalized o table has refusal)
-    (λ o table. (old base new : Table) × (answers : List FeatureAnswer)
-    × RewritesFinalized o table has old base new answers) bytes
+IsFinalizedCause bytes has e = IsCauseBy (RefusesFinalizedFor has) (RewritesFinalizedFor has) bytes e

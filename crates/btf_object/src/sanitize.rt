@@ -131,6 +131,5 @@ pub fn sanitize_finalized<H: BuildHasher + Clone + Drop>(
         return Err(SanitizeError::NoTable);
     };
     let (written, answers) = finalized(alloc, &object, table, kernel, hash_builder)?;
-    let file = object.with_section(alloc, index, &written)?;
-    Ok((file, answers))
+    Ok((object.with_section(alloc, index, &written)?, answers))
 }

@@ -1,9 +1,8 @@
 //! The rewrite of an object's table.
 
-ghost use Rattle.std.specs.Prelude.{◌≡◌, IfOk, IfErr, IfSome};
+ghost use Rattle.std.specs.Prelude.{◌≡◌, None, IfOk, IfErr, IfSome};
 ghost use Rattle.std.specs.Option.{option_map};
 ghost use Rattle.btf_model.specs.Table.{Table};
-ghost use Rattle.btf_rewrite_model.specs.declared.feature.FillPolicy.TheVariants.{KeepSized};
 ghost use Rattle.btf_model.specs.Blob.{canon};
 ghost use Rattle.btf_rewrite_model.specs.Pass.{Asked};
 ghost use Rattle.btf_rewrite_model.specs.Rewritten.{pass_of, Rewritten, IsRefused};
@@ -11,7 +10,7 @@ ghost use Rattle.btf_rules.specs.Layout.{layout_of};
 ghost use Rattle.btf_object_model.specs.Finalized.{sized};
 ghost use Rattle.btf_object_model.specs.Kernel.{answers_of};
 ghost use Rattle.btf_object_model.specs.Sanitized.{RewritesTable, RefusesTable, AreAnswers};
-ghost use Rattle.btf_object_model.specs.SanitizedFinalized.{kernel_target, RewritesFinalized, RefusesFinalized};
+ghost use Rattle.btf_object_model.specs.SanitizedFinalized.{RewritesFinalized, RefusesFinalized};
 ghost use Rattle.btf_words.specs.Error.{refusal_of};
 ghost use Rattle.btf_object.specs.Errors.{target_of};
 ghost use Rattle.btf_object.specs.Kernel.{has};
@@ -28,6 +27,37 @@ use btf_table::Btf;
 use btf_words::BtfError;
 use std::alloc::Global;
 use std::hash::BuildHasher;
+
+/// Rewrites a table for a kernel, with the sizes and the offsets of this layout. Returns the features that the rewrite
+/// asked for, with the answers.
+fn rewrite_for<H: BuildHasher>(
+    btf: &mut Btf,
+    layout: &ObjectLayout<H>,
+    kernel: &Kernel,
+    policy: FillPolicy,
+    ids: Option<KsymsIds>,
+) -> Result<ArrayVec<FeatureAnswer, 8>, BtfError>
+    ensures rewritten { IfOk result (λ answers. Rewritten policy btf.old ids
+        (layout_of layout.now.sections layout.now.symbols) (answers_of (has kernel.now)) btf.new) }
+    ensures answers { IfOk result (λ answers. AreAnswers (target_of kernel.now policy None)
+        (Asked (pass_of policy btf.old ids
+        (layout_of layout.now.sections layout.now.symbols) answers.items)) answers.items) }
+    ensures order { IfOk result (λ answers. btf.new.order ≡ btf.old.order) }
+    ensures refused { IfErr result (λ e. IfSome (refusal_of e) (IsRefused policy btf.old ids
+        (layout_of layout.now.sections layout.now.symbols) (answers_of (has kernel.now)))) }
+{
+    let has = |feature: BtfFeature| -> bool
+        ensures { result ≡ has kernel.entry.now feature }
+    { kernel.has(feature) };
+    let mut resolver = BtfFeatureResolver::new(has);
+    btf.fixup_and_sanitize_with(
+        &layout.sections,
+        &layout.symbols,
+        ids,
+        policy,
+        &mut resolver,
+    )
+}
 
 /// Parses the bytes of a section of an object as a table, in the object's byte order, and rewrites the table for a
 /// kernel. Returns the bytes of the new table, and the features that the rewrite asked for, with the answers.
@@ -50,48 +80,8 @@ pub fn rewritten<H: BuildHasher + Clone + Drop>(
     let layout = ObjectLayout::read(alloc, object, hash_builder)?;
     let mut btf = Btf::parse(alloc, table, object.header().order)?;
     let ids = ksyms_of(&btf, placeholder)?;
-    let has = |feature: BtfFeature| -> bool
-        ensures { result ≡ has kernel.entry.now feature }
-    { kernel.has(feature) };
-    let mut resolver = BtfFeatureResolver::new(has);
-    let answers = btf.fixup_and_sanitize_with(
-        &layout.sections,
-        &layout.symbols,
-        ids,
-        policy,
-        &mut resolver,
-    )?;
+    let answers = rewrite_for(&mut btf, &layout, kernel, policy, ids)?;
     Ok((btf.to_bytes()?, answers))
-}
-
-/// Rewrites a table for a kernel, with the sizes and the offsets of this layout. Returns the features that the rewrite
-/// asked for, with the answers.
-fn rewrite_for<H: BuildHasher>(
-    btf: &mut Btf,
-    layout: &ObjectLayout<H>,
-    kernel: &Kernel,
-    ids: Option<KsymsIds>,
-) -> Result<ArrayVec<FeatureAnswer, 8>, BtfError>
-    ensures rewritten { IfOk result (λ answers. Rewritten KeepSized btf.old ids
-        (layout_of layout.now.sections layout.now.symbols) (answers_of (has kernel.now)) btf.new) }
-    ensures answers { IfOk result (λ answers. AreAnswers (kernel_target (has kernel.now))
-        (Asked (pass_of KeepSized btf.old ids
-        (layout_of layout.now.sections layout.now.symbols) answers.items)) answers.items) }
-    ensures order { IfOk result (λ answers. btf.new.order ≡ btf.old.order) }
-    ensures refused { IfErr result (λ e. IfSome (refusal_of e) (IsRefused KeepSized btf.old ids
-        (layout_of layout.now.sections layout.now.symbols) (answers_of (has kernel.now)))) }
-{
-    let has = |feature: BtfFeature| -> bool
-        ensures { result ≡ has kernel.entry.now feature }
-    { kernel.has(feature) };
-    let mut resolver = BtfFeatureResolver::new(has);
-    btf.fixup_and_sanitize_with(
-        &layout.sections,
-        &layout.symbols,
-        ids,
-        FillPolicy::KeepSized,
-        &mut resolver,
-    )
 }
 
 /// Parses the bytes of a section of an object as a table, in the object's byte order, finalizes the table from the
@@ -116,7 +106,7 @@ pub fn finalized<H: BuildHasher + Clone + Drop>(
     let sizes = data_sec_sizes(alloc, &btf)?;
     let ids = ksyms_of(&btf, None)?;
     let ids = add_placeholder(&mut btf, ids)?;
-    let answers = rewrite_for(&mut btf, &layout, kernel, ids)?;
+    let answers = rewrite_for(&mut btf, &layout, kernel, FillPolicy::KeepSized, ids)?;
     set_sizes(alloc, &mut btf, &sizes)?;
     Ok((btf.to_bytes()?, answers))
 }

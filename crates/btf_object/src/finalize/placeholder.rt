@@ -51,9 +51,9 @@ fn add_int(btf: &mut Btf) -> Result<u32, BtfError>
         (checked (first_fault (placeholder_checks btf.old None)) (int_of_4 btf.old)) }
     ensures table { OnOk result (btf.new ≡ with_int btf.old) }
 {
-    let id = int_of_4(btf.types().as_slice()) as u32;
-    if id < type_count(btf) {
-        return Ok(id);
+    let id = int_of_4(btf.types().as_slice());
+    if id < type_count(btf) as usize {
+        return Ok(id as u32);
     }
     let name_offset = btf.add_string("int")?;
     let int = Int::new(name_offset, 4, IntEncoding::Signed, 0);

@@ -9,15 +9,15 @@ ghost use Rattle.btf_object.specs.Finalize.{data_sec_size, ResizesAt};
 use btf_items::BtfMember;
 use btf_records::{BtfType, Struct};
 use btf_table::{Btf, set_type, type_count};
-use btf_words::BtfError;
+use btf_words::{BtfError, BtfKind};
 use std::alloc::{AllocError, Global};
 
 /// The size of a DATASEC; None for another type.
 fn data_sec_size(btf_type: &BtfType) -> Option<u32>
     ensures { result ≡ data_sec_size (record_of btf_type.now) }
 {
-    match btf_type {
-        BtfType::DataSec(data_sec) => Some(data_sec.size()),
+    match btf_type.kind() {
+        BtfKind::DataSec => btf_type.size(),
         _ => None,
     }
 }
