@@ -125,6 +125,24 @@ module _ (layout : Layout) (t : Table) where
       elim (is_completed layout t r) as (λ (b : Bool). (if b then Some made else None) ≡ None → ◌≡◌ {A = ℕ × List Entry} (if b then made.0 else r.third, if b then made.1 else entries r.tail) own)
       [ true ↦ λ some. absurd (none-some made (sym some)) | false ↦ λ none. refl ] is
 
+-- the own size and entries of a DATASEC that is not completed
+pub own_parts : (layout : Layout) (t : Table) (r : Record) (size : ℕ) (es copies : List DataSecEntry) → completed_parts layout t r ≡ None → size ≡ r.third → r.tail ≡ flat_map entry_words es → copies ≡ es
+    → ◌≡◌ {A = ℕ × List Entry} (size, map entry copies) (final_parts layout t r)
+own_parts layout t r size es copies none size_is words copies_are =
+    let Own : ℕ → List Entry → ℕ × List Entry = λ n xs. (n, xs) in
+    ap (λ (n : ℕ). Own n (map entry copies)) size_is ∙ ap (λ (xs : List DataSecEntry). Own r.third (map entry xs)) copies_are
+    ∙ ap (Own r.third) (sym (all_entries r.tail es words)) ∙ sym (uncompleted_is layout t r none)
+
+-- a value that is not there
+pub none_there : {X : Type 0} (o : Option X) → ((x : X) → o ≡ Some x → ⊥) → o ≡ None
+none_there None not = refl
+none_there (Some x) not = absurd (not x refl)
+
+-- the length of the words
+pub entries_len : (es : List DataSecEntry) → length (flat_map entry_words es) ≡ 3 * length es
+entries_len [] = refl
+entries_len (e ∷ es) = let rest : length (flat_map entry_words es) ≡ 3 * length es = entries_len es in omega (arith, rest, length-append (entry_words e) (flat_map entry_words es))
+
 -- ---- sorted entries
 
 filter-map : {X Y : Type 0} (p : Y → Bool) (f : X → Y) (xs : List X) → filter p (map f xs) ≡ map f (filter (λ x. p (f x)) xs)

@@ -50,13 +50,14 @@ fn rewrite_for<H: BuildHasher>(
         ensures { result ≡ has kernel.entry.now feature }
     { kernel.has(feature) };
     let mut resolver = BtfFeatureResolver::new(has);
-    btf.fixup_and_sanitize_with(
+    let answers = btf.fixup_and_sanitize_with(
         &layout.sections,
         &layout.symbols,
         ids,
         policy,
         &mut resolver,
-    )
+    )?;
+    Ok(answers)
 }
 
 /// Parses the bytes of a section of an object as a table, in the object's byte order, and rewrites the table for a

@@ -33,13 +33,13 @@ fn has_functions(btf: &Btf, ids: Option<KsymsIds>) -> bool
     let Some(ids) = ids else {
         return false;
     };
-    match btf.type_by_id(ids.datasec_id) {
-        Ok(BtfType::DataSec(data_sec)) => data_sec
-            .entries()
-            .iter()
-            .any(|entry| is_function(btf, entry.btf_type)),
-        _ => false,
-    }
+    let Ok(BtfType::DataSec(data_sec)) = btf.type_by_id(ids.datasec_id) else {
+        return false;
+    };
+    data_sec
+        .entries()
+        .iter()
+        .any(|entry| is_function(btf, entry.btf_type))
 }
 
 /// The id of the first INT of 4 bytes, which is appended if there is none.

@@ -167,6 +167,8 @@ pub fn final_section<H: BuildHasher>(
         (AreRead btf.now.strings (layout_of layout.now.sections layout.now.symbols) names.new) }
     ensures memory { IfErr result (λ e. e ≡ BtfError.OutOfMemory) }
 {
+    // The contract is about the length of the record, which this shows.
+    let _ = data_sec.info();
     let (size, mut entries) = size_and_entries(alloc, btf, layout, names, data_sec)?;
     entries.sort_by_key(|entry| entry.offset)?;
     Ok(DataSec::new(data_sec.name_offset(), entries, size))
