@@ -1,7 +1,7 @@
 -- The entries of a DATASEC that is finalized.
-use Rattle.std.proofs.Common.{◌≡◌, ℕ, ◌+◌, ◌*◌, ◌^◌, ◌<◌, ◌≤◌, Bool, true, false, ◌&&◌, cond, List, [], ◌∷◌, ◌++◌, length, get_or, take, filter, map, Option, None, Some, refl, sym, ap, subst, ◌∙◌, arith, nat_cmp, is_lt}
-use Rattle.std.specs.Prelude.{◌==◌, if◌then◌else◌}
-use Rattle.std.specs.List.{flat_map, list_all}
+use Rattle.std.proofs.Common.{◌≡◌, ℕ, ◌+◌, ◌*◌, ◌^◌, ◌<◌, ◌≤◌, Bool, true, false, ◌&&◌, ◌||◌, cond, List, [], ◌∷◌, ◌++◌, length, get_or, take, filter, map, Option, None, Some, refl, sym, ap, subst, ◌∙◌, arith, nat_cmp, is_lt}
+use Rattle.std.specs.Prelude.{◌==◌, if◌then◌else◌, slice_get}
+use Rattle.std.specs.List.{flat_map, list_all, list_any}
 use Rattle.std.specs.List.Sorted.{ties, IsSortedByKey, IsStableByKey}
 use Rattle.std.specs.Option.{unwrap_or, option_map, is_some}
 use Rattle.std.proofs.lemmas.Option.{same_Some, none-some}
@@ -9,18 +9,23 @@ use Rattle.std.proofs.lemmas.Bool.{both_ways}
 use Rattle.std.proofs.lemmas.List.{map-append, length-append, length-map, get_or-map, take_all, take_more}
 use Rattle.std.proofs.lemmas.List.Folds.{list_all-append, list_all-map, list_all_at}
 use Rattle.btf_model.specs.Record as kinds
-use Rattle.btf_model.specs.Record.{Record, kind_of, vlen}
+use Rattle.btf_model.specs.Record.{Record, unknown, kind_of, vlen}
 use Rattle.btf_model.specs.Table.{Table}
 use Rattle.btf_model.specs.Text.{text_at}
-use Rattle.btf_rewrite_model.specs.Made.{Entry, entries, data_sec}
+use Rattle.btf_rewrite_model.specs.Made.{Entry, entries, record_at, kind_at, data_sec}
 use Rattle.btf_rewrite_model.specs.Made as made
 use Rattle.btf_rewrite_model.specs.Pass.{Layout}
 use Rattle.btf_rewrite_model.proofs.Granted.{kind_made, vlen_small}
+use Rattle.btf_rewrite_model.specs.Ksyms.{is_func}
+use Rattle.btf_rewrite_model.specs.declared.ksyms_ids.KsymsIds.{KsymsIds}
+use Rattle.btf_records.specs.BtfType.{record_of}
+use Rattle.btf_records.specs.declared.btf_type.BtfType.{BtfType}
+use Rattle.btf_records.specs.declared.btf_type.BtfType.TheVariants.{DataSec as DataSecType}
 use Rattle.btf_items.specs.Items.{entry_words}
 use Rattle.btf_items.specs.declared.items.DataSecEntry.{DataSecEntry}
 use Rattle.btf_table.specs.KsymsStep.{entry}
 use Rattle.btf_table.proofs.KsymsEntries.{at, zero_entry, entries_of_words}
-use Rattle.btf_object_model.specs.Finalized.{section_size, entry_offset, placed, AreInOrder, is_completed, final_size, final_entries, IsFinal}
+use Rattle.btf_object_model.specs.Finalized.{section_size, entry_offset, placed, AreInOrder, is_completed, final_size, final_entries, IsFinal, has_functions}
 use Rattle.btf_object.specs.Finalize.{completed_parts, final_parts}
 
 -- the entries before a place, and the entry at it
@@ -190,3 +195,17 @@ final_is layout t r new size count es sorted parts count_is rising stable is =
       ),
       ap (λ (x : Record). kind_of x.info) made_is ∙ kind_made 15 (vlen r.info) kinds.DataSec (omega arith) (vlen_small r.info) refl,
     )
+
+-- ---- functions of `.ksyms`
+
+list_any-map : {X Y : Type 0} (p : Y → Bool) (f : X → Y) (xs : List X) → list_any (λ x. p (f x)) xs ≡ list_any p (map f xs)
+list_any-map p f [] = refl
+list_any-map p f (x ∷ xs) = ap (λ (b : Bool). p (f x) || b) (list_any-map p f xs)
+
+-- a function is among the entries of the DATASEC
+pub functions_are : (t : Table) (ids : KsymsIds) (b : BtfType) (r : Record) (es : List DataSecEntry) → b ≡ DataSecType r → slice_get t.records ids.datasec_id ≡ Some (record_of b) → r.tail ≡ flat_map entry_words es
+    → list_any (λ (e : DataSecEntry). is_func (kind_at t e.btf_type)) es ≡ has_functions t (Some ids)
+functions_are t ids b r es is here words =
+    let record_is : record_at t ids.datasec_id ≡ r = ap (λ (o : Option Record). unwrap_or o unknown) here ∙ ap record_of is in
+    list_any-map (λ (e : Entry). is_func (kind_at t e.type)) entry es
+    ∙ ap (list_any (λ (e : Entry). is_func (kind_at t e.type))) (sym (ap (λ (x : Record). entries x.tail) record_is ∙ all_entries r.tail es words))
