@@ -5,7 +5,6 @@ use Rattle.std.specs.List.{flat_map, list_all, list_any}
 use Rattle.std.specs.List.Sorted.{ties, IsSortedByKey, IsStableByKey}
 use Rattle.std.specs.Option.{unwrap_or, option_map, is_some}
 use Rattle.std.proofs.lemmas.Option.{same_Some, none-some}
-use Rattle.std.proofs.lemmas.Bool.{both_ways}
 use Rattle.std.proofs.lemmas.List.{map-append, length-append, length-map, get_or-map, take_all, take_more}
 use Rattle.std.proofs.lemmas.List.Folds.{list_all-append, list_all-map, list_all_at}
 use Rattle.btf_model.specs.Record as kinds
@@ -25,7 +24,7 @@ use Rattle.btf_items.specs.Items.{entry_words}
 use Rattle.btf_items.specs.declared.items.DataSecEntry.{DataSecEntry}
 use Rattle.btf_table.specs.KsymsStep.{entry}
 use Rattle.btf_table.proofs.KsymsEntries.{at, zero_entry, entries_of_words}
-use Rattle.btf_object_model.specs.Finalized.{section_size, entry_offset, placed, AreInOrder, is_completed, final_size, final_entries, IsFinal, has_functions}
+use Rattle.btf_object_model.specs.Finalized.{section_size, entry_offset, placed, AreInOrder, is_completed, final_size, IsFinal, has_functions}
 use Rattle.btf_object.specs.Finalize.{completed_parts, final_parts}
 
 -- the entries before a place, and the entry at it

@@ -1,10 +1,10 @@
 -- A table that is finalized, one id after another, and STRUCTs that get their sizes.
-use Rattle.std.proofs.Common.{◌≡◌, ◌≢◌, ◌⊎◌, ℕ, ◌+◌, ◌*◌, ◌<◌, ◌≤◌, Bool, true, false, ◌&&◌, List, [], ◌∷◌, length, get_or, set, map, Option, None, Some, refl, sym, ap, subst, ◌∙◌, inl, inr, ⊎_elim, arith}
+use Rattle.std.proofs.Common.{◌≡◌, ◌≢◌, ℕ, ◌+◌, ◌<◌, ◌≤◌, Bool, true, false, ◌&&◌, List, length, get_or, set, map, Option, None, Some, refl, sym, ap, subst, ◌∙◌, ⊎_elim, arith}
 use Rattle.std.specs.Prelude.{slice_get, ◌==◌, if◌then◌else◌}
-use Rattle.std.specs.List.{list_all, range_with_len}
+use Rattle.std.specs.List.{list_all}
 use Rattle.std.specs.Option.{unwrap_or, option_map, is_some}
 use Rattle.std.proofs.lemmas.Bool.{cases_lt, cases_eq}
-use Rattle.std.proofs.lemmas.List.{length-set, length-map, get_or-map, get_or-set_same, get_or-set_other, get_or_past, set-get_or, ext_get_or}
+use Rattle.std.proofs.lemmas.List.{length-set, length-map, get_or-map, get_or-set_same, get_or-set_other, set-get_or, ext_get_or}
 use Rattle.std.proofs.lemmas.List.FromFn.{length-range_with_len, get_or-range_with_len}
 use Rattle.std.proofs.lemmas.Option.{get_or_from_slice_get, unwrap_or-slice_get, slice_get-map, same_Some, none-some}
 use Rattle.btf_model.specs.Record as kinds
@@ -16,7 +16,7 @@ use Rattle.btf_rewrite_model.specs.Pass.{Layout}
 use Rattle.btf_records.specs.BtfType.{record_of, fallback_of, type_kind}
 use Rattle.btf_records.specs.declared.btf_type.BtfType.{BtfType}
 use Rattle.btf_records.specs.declared.btf_type.BtfType.TheVariants as BtfTypes
-use Rattle.btf_object_model.specs.Finalized.{section_size, variable_offset, offset_by, entry_offset, AreInOrder, final_size, final_entries, IsFinal, IsFinalized, is_data_sec, is_struct, sized_record, sized}
+use Rattle.btf_object_model.specs.Finalized.{section_size, variable_offset, offset_by, entry_offset, AreInOrder, IsFinal, IsFinalized, is_data_sec, is_struct, sized_record, sized}
 use Rattle.btf_object.specs.Finalize.{FinalizesAt, ResizesAt, data_sec_size, resized}
 
 -- ---- one record is replaced

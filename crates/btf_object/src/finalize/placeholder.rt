@@ -36,10 +36,12 @@ fn has_functions(btf: &Btf, ids: Option<KsymsIds>) -> bool
     let Ok(BtfType::DataSec(data_sec)) = btf.type_by_id(ids.datasec_id) else {
         return false;
     };
-    data_sec
-        .entries()
-        .iter()
-        .any(|entry| is_function(btf, entry.btf_type))
+    for entry in data_sec.entries() {
+        if is_function(btf, entry.btf_type) {
+            return true;
+        }
+    }
+    false
 }
 
 /// The id of the first INT of 4 bytes, which is appended if there is none.

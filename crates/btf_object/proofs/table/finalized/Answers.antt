@@ -1,4 +1,4 @@
-use Rattle.std.proofs.Common.{◌≡◌, List, ℕ, subst}
+use Rattle.std.proofs.Common.{◌≡◌, subst, ◌∙◌}
 use Rattle.btf_model.specs.Blob.{IsTable, canon}
 use Rattle.btf_model.specs.Refusal.{Refusal}
 use Rattle.btf_model.specs.Table.{Table}
@@ -6,7 +6,6 @@ use Rattle.btf_model.proofs.Comparisons.{same_ok}
 use Rattle.btf_elf_model.specs.declared.file_header.FileHeader.{FileHeader}
 use Rattle.btf_rules.specs.Layout.{layout_of}
 use Rattle.btf_object_model.specs.Finalized.{sized}
-use Rattle.btf_object.specs.Finalize.{data_sec_size}
 use Rattle.btf_object.specs.Kernel.{has}
 use Rattle.btf_object.proofs.Rewrites.{refuses_ksyms, refuses_placeholder, refuses_rewrite, rewrites_finalized, passed_on}
 use Rattle.btf_object.proofs.table.finalized.Given.{Over}
@@ -47,13 +46,10 @@ returns-clause-made g c =
     let base : Table = c.finalize.new.btf in
     let new : Table = c.rewrite_for.new.btf in
     let made : Table = c.set_sizes.new.btf in
-    let made_is : made ≡ sized base new = c.in_ok-set_sizes.ensures.made base ? in
+    let made_is : made ≡ sized base new = c.in_ok-set_sizes.ensures.made base (c.deref.ensures.value ∙ c.in_ok-sizes.ensures) in
     let bytes_are : c.in_ok-to_bytes.field-0.items ≡ canon made = same_ok {E = Refusal} c.in_ok-to_bytes.field-0.items (canon made) c.in_ok-to_bytes.ensures.written in
-    (
-      c.in_ok-btf.btf,
-      base,
-      new,
-      rewrites_finalized c.args.object.now c.args.table.now (has c.args.kernel.now) c.in_ok-btf.btf base (layout_of c.in_ok-layout.layout.sections c.in_ok-layout.layout.symbols) c.in_ok-layout.ensures.layout (parsed g at.In_ok-btf)
-          c.in_ok-finalize.ensures.made c.in_ok-ids.ids c.in_ok-ids.ensures c.add_placeholder.new.btf c.in_ok-ids-2.ids c.in_ok-ids-2.ensures.table c.in_ok-ids-2.ensures.answer new made c.in_ok-answers.answers.items
-          c.in_ok-to_bytes.field-0.items c.in_ok-answers.ensures.rewritten c.in_ok-answers.ensures.answers c.in_ok-answers.ensures.order made_is bytes_are c.in_ok-to_bytes.ensures.parses_back,
-    )
+    let all =
+    rewrites_finalized c.args.object.now c.args.table.now (has c.args.kernel.now) c.in_ok-btf.btf base (layout_of c.in_ok-layout.layout.sections c.in_ok-layout.layout.symbols) c.in_ok-layout.ensures.layout (parsed g at.In_ok-btf) c.in_ok-finalize.ensures.made
+    c.in_ok-ids.ids c.in_ok-ids.ensures c.add_placeholder.new.btf c.in_ok-ids-2.ids c.in_ok-ids-2.ensures.table c.in_ok-ids-2.ensures.answer new made c.in_ok-answers.answers.items c.in_ok-to_bytes.field-0.items c.in_ok-answers.ensures.rewritten
+    c.in_ok-answers.ensures.answers c.in_ok-answers.ensures.order made_is bytes_are c.in_ok-to_bytes.ensures.parses_back in
+    (c.in_ok-btf.btf, base, new, all.0, all.1)

@@ -1,6 +1,6 @@
 use Rattle.std.proofs.Common.{◌≡◌, List, ℕ, length, sym, ap, ◌∙◌}
 use Rattle.std.specs.List.{flat_map}
-use Rattle.btf_model.specs.Record.{Record, vlen}
+use Rattle.btf_model.specs.Record.{Record}
 use Rattle.btf_rewrite_model.specs.Made.{struct}
 use Rattle.btf_items.specs.Items.{member_words}
 use Rattle.btf_items.specs.declared.items.BtfMember.{BtfMember}
