@@ -185,8 +185,7 @@ final_is layout t r new size count es sorted parts count_is rising stable is =
     let made_is : new ≡ data_sec r.name (final_size layout t r) (vlen r.info) (map entry sorted) =
     is ∙ ap (λ (n : ℕ). record { name = r.name; info = 15 * 2 ^ 24 + n; third = size; tail = flat_map entry_words sorted }) count_is
     ∙ ap (λ (n : ℕ). record { name = r.name; info = 15 * 2 ^ 24 + vlen r.info; third = n; tail = flat_map entry_words sorted }) (ap (λ (p : ℕ × List Entry). p.0) parts)
-    ∙ ap (λ (ws : List ℕ). record { name = r.name; info = 15 * 2 ^ 24 + vlen r.info; third = final_size layout t r; tail = ws }) words in
-    (
+    ∙ ap (λ (ws : List ℕ). record { name = r.name; info = 15 * 2 ^ 24 + vlen r.info; third = final_size layout t r; tail = ws }) words in (
       (
         map entry sorted,
         subst (λ (xs : List Entry). AreInOrder xs (map entry sorted)) (ap (λ (p : ℕ × List Entry). p.1) parts) (in_order es sorted rising stable),

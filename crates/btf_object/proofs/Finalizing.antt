@@ -211,9 +211,9 @@ all_sized base old new id end p =
     let ids_len : length ids ≡ length old.records = length-range_with_len 0 (length old.records) in
     let same : (k : ℕ) → k < length new.records → get_or new.records k unknown ≡ get_or (map f ids) k unknown =
     λ k lt.
-        let within : k < length ids = omega (arith, lt, p.count, ids_len) in
-        let id_is : get_or ids k 0 ≡ k = omega (arith, get_or-range_with_len 0 (length old.records) k 0 (omega (arith, lt, p.count))) in
-        sym (unwrap_or-slice_get new.records k unknown) ∙ p.done k (omega (arith, lt, p.count, end)) ∙ ap f (sym id_is) ∙ sym (get_or-map f ids k 0 unknown within) in
+    let within : k < length ids = omega (arith, lt, p.count, ids_len) in
+    let id_is : get_or ids k 0 ≡ k = omega (arith, get_or-range_with_len 0 (length old.records) k 0 (omega (arith, lt, p.count))) in
+    sym (unwrap_or-slice_get new.records k unknown) ∙ p.done k (omega (arith, lt, p.count, end)) ∙ ap f (sym id_is) ∙ sym (get_or-map f ids k 0 unknown within) in
     p.others ∙ ap (λ (rs : List Record). record old { records = rs }) (ext_get_or unknown new.records (map f ids) (p.count ∙ sym (ids_len) ∙ sym (length-map ids f)) same)
 
 -- ---- one type

@@ -92,8 +92,7 @@ module _ (o : Object) (bytes : List ℕ) (has : BtfFeature → Bool) (old base :
           let bytes_are : given_bytes ≡ canon (sized base new) = written ∙ ap canon made_is in
           let read : IsTable o.header.order (canon (sized base new)) (strip (sized base new)) =
           subst (λ (t : Table). IsTable o.header.order (canon (sized base new)) (strip t)) made_is
-          (subst (λ (b : List ℕ). IsTable o.header.order b (strip made)) bytes_are (subst (λ (e : Endianness). IsTable e given_bytes (strip made)) order_is again)) in
-          (
+          (subst (λ (b : List ℕ). IsTable o.header.order b (strip made)) bytes_are (subst (λ (e : Endianness). IsTable e given_bytes (strip made)) order_is again)) in (
             record {
               ids = ids;
               table = table;

@@ -45,8 +45,8 @@ target_of kernel policy placeholder = record { has = has kernel; policy = policy
 
 -- The bytes represent no object; or the object has no section `.BTF`; or the table of this section is refused; or it is
 -- rewritten, and the section cannot be replaced. An allocation may fail in each step.
-abbrev pub IsCauseBy : (elf.Object → List ℕ → Refusal → Type 0) → (elf.Object → List ℕ → Type 0) → List ℕ → SanitizeError
-    → Type 0
+abbrev pub IsCauseBy : (elf.Object → List ℕ → Refusal → Type 0) → (elf.Object → List ℕ → Type 0) → List ℕ
+    → SanitizeError → Type 0
 IsCauseBy Refuses Rewrites bytes (Object e) = (p : ParseError) × (e ≡ object.Parse p) × elf.IsRefused bytes p
 IsCauseBy Refuses Rewrites bytes NoTable =
     (o : elf.Object) × elf.IsObject bytes o × (index_of o table_name ≡ None)

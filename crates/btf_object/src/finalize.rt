@@ -12,16 +12,15 @@ ghost use Rattle.btf_object_model.specs.Finalized.{IsFinal, IsFinalized};
 ghost use Rattle.btf_object.specs.Finalize.{AreRead, FinalizesAt};
 
 use crate::finalize::known::KnownNames;
+pub use crate::finalize::placeholder::add_placeholder;
 use crate::finalize::section::final_section;
+pub use crate::finalize::sized::{data_sec_sizes, set_sizes};
 use crate::layout::ObjectLayout;
 use btf_records::BtfType;
 use btf_table::{Btf, set_type, type_count};
 use btf_words::BtfError;
 use std::alloc::Global;
 use std::hash::BuildHasher;
-
-pub use crate::finalize::placeholder::add_placeholder;
-pub use crate::finalize::sized::{data_sec_sizes, set_sizes};
 
 /// Finalizes the type of an id, if it is a DATASEC. `OutOfMemory` is the only error.
 fn finalize_type<H: BuildHasher>(
@@ -32,7 +31,8 @@ fn finalize_type<H: BuildHasher>(
     type_id: u32,
 ) -> Result<(), BtfError>
     requires known { type_id < length btf.old.records }
-    requires read { AreRead btf.old.strings (layout_of layout.now.sections layout.now.symbols) names.old }
+    requires read { AreRead btf.old.strings
+        (layout_of layout.now.sections layout.now.symbols) names.old }
     ensures made { OnOk result (FinalizesAt (layout_of layout.now.sections layout.now.symbols)
         type_id btf.old btf.new) }
     ensures read { OnOk result

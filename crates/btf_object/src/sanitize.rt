@@ -99,9 +99,11 @@ pub fn sanitize_object_with<H: BuildHasher + Clone + Drop>(
 
 /// The object with its table finalized as by libbpf, and then rewritten for a kernel; and the features that the rewrite
 /// asked for, each with whether the kernel has it. The first section named `.BTF` has the bytes of the new table, and no
-/// other section changes. Before the rewrite, DATASECs get the sizes of their sections, and their entries get the
-/// offsets of their variables and are sorted by them; and if functions are in `.ksyms`, a variable `dummy_ksym` is added,
-/// which replaces them. After it, a STRUCT that was a DATASEC has the DATASEC's size.
+/// other section changes.
+///
+/// Before the rewrite, DATASECs get the sizes of their sections, and their entries get the offsets of their variables
+/// and are sorted by them. If functions are in `.ksyms`, a variable `dummy_ksym` is added, which replaces them. After
+/// the rewrite, a STRUCT that was a DATASEC has the DATASEC's size.
 ///
 /// `hash_builder` hashes the names of the object's sections and symbols. The default has a fixed seed, so an attacker
 /// can choose names that collide, and n of them take time in proportion to n squared. For an untrusted object, pass a

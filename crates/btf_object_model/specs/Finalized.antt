@@ -1,8 +1,8 @@
 -- A table as a loader finalizes it from its object, before it rewrites the table for a kernel: the sizes of DATASECs,
--- and the offsets and the order of their entries; then a placeholder for functions of the kernel. After the rewrite, the
--- sizes of the STRUCTs that DATASECs became.
--- Source: libbpf's `btf_fixup_datasec`. Compilers leave these sizes and offsets 0, because they do not know the sections
--- of the object. libbpf's order of entries with the same offset is not determined; here they retain their order.
+-- and the offsets and the order of their entries; then a placeholder for functions of the kernel. After the rewrite,
+-- the sizes of the STRUCTs that DATASECs became.
+-- Source: libbpf's `btf_fixup_datasec`. Compilers leave these sizes and offsets 0, because they do not know the
+-- sections of the object. libbpf does not determine the order of entries with the same offset; here it stays.
 use Rattle.std.specs.Prelude.{◌≡◌, ℕ, ◌<◌, ◌*◌, ◌^◌, ◌==◌, ◌&&◌, ◌||◌, Bool, true, false, if◌then◌else◌, List, [], ◌∷◌, ◌++◌, length, map, codes, Option, Some, None, Result, Ok, Err}
 use Rattle.std.specs.List.{list_all, list_any}
 use Rattle.std.specs.List.Sorted.{IsSortedByKey, IsStableByKey}
@@ -86,7 +86,8 @@ pub record AreInOrder (es sorted : List Entry) : Type 0 where
   pub rising : IsSortedByKey (λ (e : Entry). e.offset) nat_cmp sorted
   pub stable : IsStableByKey (λ (e : Entry). e.offset) nat_cmp es sorted
 
--- What a record becomes, by its kind: a DATASEC gets its size and its entries in order, and other records are unchanged.
+-- What a record becomes, by its kind: a DATASEC gets its size and its entries in order, and other records are
+-- unchanged.
 abbrev pub IsFinal : Layout → Table → Option Kind → Record → Record → Type 0
 IsFinal layout t (Some kinds.DataSec) r new =
     (es : List Entry) × AreInOrder (final_entries layout t r) es
@@ -102,8 +103,8 @@ pub record IsFinalized (layout : Layout) (old new : Table) : Type 0 where
       → IsFinal layout old (kind_at old id) (record_at old id) (record_at new id)
 
 -- ---- the placeholder for functions of the kernel
--- Source: libbpf's `add_dummy_ksym_var`, which appends a variable that replaces functions in `.ksyms`, because a DATASEC
--- has only variables; and `find_int_btf_id`. libbpf takes the first INT of 32 bits.
+-- Source: libbpf's `add_dummy_ksym_var`, which appends a variable that replaces functions in `.ksyms`, because a
+-- DATASEC has only variables; and `find_int_btf_id`. libbpf takes the first INT of 32 bits.
 
 -- the name of the placeholder
 abbrev pub placeholder_text : List ℕ

@@ -52,8 +52,8 @@ sections_that_stay = (refl, refl, refl)
 with_function : Table
 with_function =
     named_table (codes "lock" ∷ codes ".ksyms" ∷ [])
-    (record { name = 0; info = 13 * 2 ^ 24; third = 0; tail = [] } ∷ record { name = 1; info = 12 * 2 ^ 24 + 2; third = 1; tail = [] }
-    ∷ data_sec 6 0 1 (entry 2 0 0 ∷ []) ∷ [])
+    (record { name = 0; info = 13 * 2 ^ 24; third = 0; tail = [] }
+    ∷ record { name = 1; info = 12 * 2 ^ 24 + 2; third = 1; tail = [] } ∷ data_sec 6 0 1 (entry 2 0 0 ∷ []) ∷ [])
 
 ksyms : KsymsIds
 ksyms = record { datasec_id = 3; placeholder_id = None }

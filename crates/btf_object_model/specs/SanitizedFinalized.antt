@@ -25,8 +25,8 @@ abbrev pub kernel_target : (BtfFeature → Bool) → Target
 kernel_target has = record { has = has; policy = KeepSized; placeholder = None }
 
 -- The bytes of a section represent a table, and `base` is this table finalized. It gets a placeholder for functions of
--- `.ksyms` if it needs one, and `new` is the rewrite of the result. The table that is written is `new` with the sizes of
--- the finalized DATASECs.
+-- `.ksyms` if it needs one, and `new` is the rewrite of the result. The table that is written is `new` with the sizes
+-- of the finalized DATASECs.
 pub record RewritesFinalized (o : Object) (bytes : List ℕ) (has : BtfFeature → Bool) (old base new : Table)
     (answers : List FeatureAnswer) : Type 0 where
   pub ids : Option KsymsIds
@@ -37,11 +37,12 @@ pub record RewritesFinalized (o : Object) (bytes : List ℕ) (has : BtfFeature �
   pub rewritten : Rewritten KeepSized (with_placeholder base ids) (with_placeholder_id base ids) (layout_of o)
       (answers_of has) new
   pub answers_are : AreAnswers (kernel_target has)
-      (Asked (pass_of KeepSized (with_placeholder base ids) (with_placeholder_id base ids) (layout_of o) answers)) answers
+      (Asked (pass_of KeepSized (with_placeholder base ids) (with_placeholder_id base ids) (layout_of o) answers))
+      answers
   pub written : IsTable o.header.order (canon (sized base new)) (strip (sized base new))
 
--- The bytes of a section represent no table, or the search for the ids of `.ksyms` in the finalized table fails, or the
--- placeholder does not fit, or the rewrite is refused.
+-- The bytes of a section represent no table, or the search for the ids of `.ksyms` in the finalized table fails, or
+-- the placeholder does not fit, or the rewrite is refused.
 abbrev pub RefusesFinalized : Object → List ℕ → (BtfFeature → Bool) → Refusal → Type 0
 RefusesFinalized o bytes has refusal =
     IsRefusal o.header.order bytes refusal

@@ -114,7 +114,8 @@ impl KnownNames {
         layout: &ObjectLayout<H>,
         name_offset: u32,
     ) -> Result<Option<u32>, BtfError>
-        requires { AreRead btf.now.strings (layout_of layout.now.sections layout.now.symbols) self.old }
+        requires { AreRead btf.now.strings
+            (layout_of layout.now.sections layout.now.symbols) self.old }
         ensures made { IfOk result (λ size. size
             ≡ section_size (layout_of layout.now.sections layout.now.symbols)
             (text_at btf.now.strings name_offset)) }
@@ -140,7 +141,8 @@ impl KnownNames {
         layout: &ObjectLayout<H>,
         name_offset: u32,
     ) -> Result<Option<Option<u32>>, BtfError>
-        requires { AreRead btf.now.strings (layout_of layout.now.sections layout.now.symbols) self.old }
+        requires { AreRead btf.now.strings
+            (layout_of layout.now.sections layout.now.symbols) self.old }
         ensures made { IfOk result (λ symbol. symbol
             ≡ symbol_of (layout_of layout.now.sections layout.now.symbols)
             (text_at btf.now.strings name_offset)) }

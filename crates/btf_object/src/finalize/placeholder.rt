@@ -64,8 +64,8 @@ fn add_int(btf: &mut Btf) -> Result<u32, BtfError>
 
 /// Appends the placeholder, and returns its id.
 ///
-/// Fails with `InvalidStringOffset` if a name does not fit in the strings, and with `InvalidTypeInfo` if a type does not
-/// fit in the types.
+/// Fails with `InvalidStringOffset` if a name does not fit in the strings, and with `InvalidTypeInfo` if a type does
+/// not fit in the types.
 fn append_placeholder(btf: &mut Btf) -> Result<u32, BtfError>
     ensures answer { IsOrNoMemory (λ id. id) result
         (checked (first_fault (placeholder_checks btf.old None
@@ -81,16 +81,13 @@ fn append_placeholder(btf: &mut Btf) -> Result<u32, BtfError>
     btf.add_type(BtfType::Var(placeholder))
 }
 
-/// Appends a placeholder for functions in `.ksyms` if there are any, as libbpf does: a VAR `dummy_ksym` of the first INT
-/// of 4 bytes, which is appended first if there is none. Takes the ids of `.ksyms`, and returns them with the id of the
-/// placeholder.
+/// Appends a placeholder for functions in `.ksyms` if there are any, as libbpf does: a VAR `dummy_ksym` of the first
+/// INT of 4 bytes, which is appended first if there is none. Takes the ids of `.ksyms`, and returns them with the id of
+/// the placeholder.
 ///
-/// Fails with `InvalidStringOffset` if a name does not fit in the strings, and with `InvalidTypeInfo` if a type does not
-/// fit in the types.
-pub fn add_placeholder(
-    btf: &mut Btf,
-    ids: Option<KsymsIds>,
-) -> Result<Option<KsymsIds>, BtfError>
+/// Fails with `InvalidStringOffset` if a name does not fit in the strings, and with `InvalidTypeInfo` if a type does
+/// not fit in the types.
+pub fn add_placeholder(btf: &mut Btf, ids: Option<KsymsIds>) -> Result<Option<KsymsIds>, BtfError>
     requires { FindsKsyms btf.old None (Ok ids) }
     ensures answer { IsOrNoMemory (λ ids. ids) result
         (checked (placeholder_fault btf.old ids) (with_placeholder_id btf.old ids)) }

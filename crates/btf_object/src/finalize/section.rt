@@ -29,7 +29,8 @@ fn entry_offset<H: BuildHasher>(
     names: &mut KnownNames,
     entry: &DataSecEntry,
 ) -> Result<Option<u32>, BtfError>
-    requires { AreRead btf.now.strings (layout_of layout.now.sections layout.now.symbols) names.old }
+    requires { AreRead btf.now.strings
+        (layout_of layout.now.sections layout.now.symbols) names.old }
     ensures made { IfOk result (λ offset. offset
         ≡ entry_offset (layout_of layout.now.sections layout.now.symbols) btf.now
         (entry_of entry.now)) }
@@ -57,8 +58,10 @@ fn placed_entries<H: BuildHasher>(
     names: &mut KnownNames,
     data_sec: &DataSec,
 ) -> Result<Option<Vec<DataSecEntry>>, BtfError>
-    requires { AreRead btf.now.strings (layout_of layout.now.sections layout.now.symbols) names.old }
-    ensures made { IfOk result (λ placed_entries. option_map (λ v. map entry_of v.items) placed_entries
+    requires { AreRead btf.now.strings
+        (layout_of layout.now.sections layout.now.symbols) names.old }
+    ensures made { IfOk result (λ placed_entries.
+        option_map (λ v. map entry_of v.items) placed_entries
         ≡ if list_all (λ e. is_some (entry_offset
         (layout_of layout.now.sections layout.now.symbols) btf.now e)) (entries data_sec.now.tail)
         then Some (map (placed (layout_of layout.now.sections layout.now.symbols) btf.now)
@@ -106,7 +109,8 @@ fn completed<H: BuildHasher>(
     names: &mut KnownNames,
     data_sec: &DataSec,
 ) -> Result<Option<(u32, Vec<DataSecEntry>)>, BtfError>
-    requires { AreRead btf.now.strings (layout_of layout.now.sections layout.now.symbols) names.old }
+    requires { AreRead btf.now.strings
+        (layout_of layout.now.sections layout.now.symbols) names.old }
     ensures made { IfOk result (λ parts. option_map parts_of parts
         ≡ completed_parts (layout_of layout.now.sections layout.now.symbols) btf.now data_sec.now) }
     ensures count { IfOk result (λ o. IfSome o
@@ -135,7 +139,8 @@ fn size_and_entries<H: BuildHasher>(
     names: &mut KnownNames,
     data_sec: &DataSec,
 ) -> Result<(u32, Vec<DataSecEntry>), BtfError>
-    requires { AreRead btf.now.strings (layout_of layout.now.sections layout.now.symbols) names.old }
+    requires { AreRead btf.now.strings
+        (layout_of layout.now.sections layout.now.symbols) names.old }
     ensures made { IfOk result (λ parts. parts_of parts
         ≡ final_parts (layout_of layout.now.sections layout.now.symbols) btf.now data_sec.now) }
     ensures count { IfOk result (λ parts. length parts.1.items ≡ vlen data_sec.now.info) }
@@ -157,7 +162,8 @@ pub fn final_section<H: BuildHasher>(
     names: &mut KnownNames,
     data_sec: &DataSec,
 ) -> Result<DataSec, BtfError>
-    requires { AreRead btf.now.strings (layout_of layout.now.sections layout.now.symbols) names.old }
+    requires { AreRead btf.now.strings
+        (layout_of layout.now.sections layout.now.symbols) names.old }
     ensures made { IfOk result (λ new.
         IsFinal (layout_of layout.now.sections layout.now.symbols) btf.now (Some model.DataSec)
         data_sec.now new) }
