@@ -14,7 +14,7 @@ use Rattle.btf_rewrite_model.specs.Passing.{features_of}
 use Rattle.btf_rewrite_model.specs.Rewritten.{pass_of, Rewritten, IsRefused}
 use Rattle.btf_rewrite_model.specs.declared.feature.BtfFeature.{BtfFeature}
 use Rattle.btf_rewrite_model.specs.declared.feature.FeatureAnswer.{FeatureAnswer}
-use Rattle.btf_rewrite_model.specs.declared.feature.FillPolicy.TheVariants.{KeepSized}
+use Rattle.btf_rewrite_model.specs.declared.feature.FillPolicy.TheVariants.{FillSized}
 use Rattle.btf_rewrite_model.specs.declared.ksyms_ids.KsymsIds.{KsymsIds}
 use Rattle.btf_rewrite_model.proofs.Kept.{by_table}
 use Rattle.btf_rules.specs.Checked.{checked}
@@ -79,12 +79,12 @@ module _ (o : Object) (bytes : List ℕ) (has : BtfFeature → Bool) (old base :
           (subst (λ (i : Option KsymsIds). P (with_placeholder base ids) i layout) fits.1 (subst (λ (t : Table). P t given layout) begun_is known))
 
       -- the rewrite is refused
-      pub refuses_rewrite : (refusal : Refusal) → IsRefused KeepSized begun given layout (answers_of has) refusal → RefusesFinalized o bytes has refusal
+      pub refuses_rewrite : (refusal : Refusal) → IsRefused FillSized begun given layout (answers_of has) refusal → RefusesFinalized o bytes has refusal
       refuses_rewrite refusal is =
-          inr (old, base, table, finalized_so, inr (ids, ksyms, inr (fits.0, known_so (λ t i l. IsRefused KeepSized t i l (answers_of has) refusal) is)))
+          inr (old, base, table, finalized_so, inr (ids, ksyms, inr (fits.0, known_so (λ t i l. IsRefused FillSized t i l (answers_of has) refusal) is)))
 
       -- the rewrite succeeds, and the sizes are set
-      pub rewrites_finalized : (new made : Table) (answers : List FeatureAnswer) (given_bytes : List ℕ) → Rewritten KeepSized begun given layout (answers_of has) new → AreAnswers (kernel_target has) (Asked (pass_of KeepSized begun given layout answers)) answers
+      pub rewrites_finalized : (new made : Table) (answers : List FeatureAnswer) (given_bytes : List ℕ) → Rewritten FillSized begun given layout (answers_of has) new → AreAnswers (kernel_target has) (Asked (pass_of FillSized begun given layout answers)) answers
           → new.order ≡ begun.order → made ≡ sized base new → given_bytes ≡ canon made → IsTable made.order given_bytes (strip made) → RewritesFinalized o bytes has old base new answers × (given_bytes ≡ canon (sized base new))
       rewrites_finalized new made answers given_bytes is are order made_is written again =
           let order_is : made.order ≡ o.header.order =
@@ -99,8 +99,8 @@ module _ (o : Object) (bytes : List ℕ) (has : BtfFeature → Bool) (old base :
               finalized = finalized_so;
               ksyms = ksyms;
               fits = fits.0;
-              rewritten = known_so (λ t i l. Rewritten KeepSized t i l (answers_of has) new) is;
-              answers_are = known_so (λ t i l. AreAnswers (kernel_target has) (Asked (pass_of KeepSized t i l answers)) answers) are;
+              rewritten = known_so (λ t i l. Rewritten FillSized t i l (answers_of has) new) is;
+              answers_are = known_so (λ t i l. AreAnswers (kernel_target has) (Asked (pass_of FillSized t i l answers)) answers) are;
               written = read;
             },
             bytes_are,

@@ -107,7 +107,7 @@ pub fn finalized<H: BuildHasher + Clone + Drop>(
     let sizes = data_sec_sizes(alloc, &btf)?;
     let ids = ksyms_of(&btf, None)?;
     let ids = add_placeholder(&mut btf, ids)?;
-    let answers = rewrite_for(&mut btf, &layout, kernel, FillPolicy::KeepSized, ids)?;
+    let answers = rewrite_for(&mut btf, &layout, kernel, FillPolicy::FillSized, ids)?;
     set_sizes(alloc, &mut btf, &sizes)?;
     Ok((btf.to_bytes()?, answers))
 }

@@ -28,7 +28,7 @@ use Rattle.btf_rewrite_model.specs.Rewritten.{Rewritten}
 use Rattle.btf_rewrite_model.specs.declared.feature.FeatureAnswer.{FeatureAnswer}
 use Rattle.btf_rewrite_model.specs.declared.feature.BtfFeature.{BtfFeature}
 use Rattle.btf_rewrite_model.specs.declared.feature.FillPolicy.{FillPolicy}
-use Rattle.btf_rewrite_model.specs.declared.feature.FillPolicy.TheVariants.{KeepSized}
+use Rattle.btf_rewrite_model.specs.declared.feature.FillPolicy.TheVariants.{FillSized}
 use Rattle.btf_rewrite_model.specs.declared.ksyms_ids.KsymsIds.{KsymsIds}
 use Rattle.btf_object_model.specs.Kernel.{answers_of}
 use Rattle.btf_object_model.specs.Layout.{layout_of}
@@ -217,7 +217,7 @@ final_texts_stay : (has : BtfFeature → Bool) (o : Object) (bytes : List ℕ) (
 final_texts_stay has o bytes given base new answers r offset text reads =
     let more = placeholder_strings base r.ids in
     let same : base.strings ≡ given.strings = ap (λ (t : Table). t.strings) r.finalized.others in
-    texts_stay KeepSized (with_placeholder base r.ids) new (with_placeholder_id base r.ids) (layout_of o) (answers_of has) r.rewritten offset text
+    texts_stay FillSized (with_placeholder base r.ids) new (with_placeholder_id base r.ids) (layout_of o) (answers_of has) r.rewritten offset text
     (ap (λ (xs : List ℕ). text_at xs offset) more.1 ∙ text_stays base.strings more.0 offset text (ap (λ (xs : List ℕ). text_at xs offset) same ∙ reads))
 
 pub finalized_keeps_ext : (bytes file : List ℕ) (has : BtfFeature → Bool) (answers : List FeatureAnswer) → IsSanitizedFinalized bytes has file answers → (o : Object) (index : ℕ) (s : SectionHeader) → HasSection bytes ext_name o index s

@@ -12,7 +12,7 @@ use Rattle.btf_rewrite_model.specs.Pass.{Asked}
 use Rattle.btf_rewrite_model.specs.Rewritten.{pass_of, Rewritten, IsRefused}
 use Rattle.btf_rewrite_model.specs.declared.feature.BtfFeature.{BtfFeature}
 use Rattle.btf_rewrite_model.specs.declared.feature.FeatureAnswer.{FeatureAnswer}
-use Rattle.btf_rewrite_model.specs.declared.feature.FillPolicy.TheVariants.{KeepSized}
+use Rattle.btf_rewrite_model.specs.declared.feature.FillPolicy.TheVariants.{FillSized}
 use Rattle.btf_rewrite_model.specs.declared.ksyms_ids.KsymsIds.{KsymsIds}
 use Rattle.btf_object_model.specs.Finalized.{IsFinalized, placeholder_fault, with_placeholder, with_placeholder_id, sized}
 use Rattle.btf_object_model.specs.Kernel.{answers_of}
@@ -22,7 +22,7 @@ use Rattle.btf_object_model.specs.Sanitized.{Target, HasSection, AreAnswers, tab
 
 -- the target of a rewrite for a kernel with these features, without a placeholder
 abbrev pub kernel_target : (BtfFeature → Bool) → Target
-kernel_target has = record { has = has; policy = KeepSized; placeholder = None }
+kernel_target has = record { has = has; policy = FillSized; placeholder = None }
 
 -- The bytes of a section represent a table, and `base` is this table finalized. It gets a placeholder for functions of
 -- `.ksyms` if it needs one, and `new` is the rewrite of the result. The table that is written is `new` with the sizes
@@ -34,10 +34,10 @@ pub record RewritesFinalized (o : Object) (bytes : List ℕ) (has : BtfFeature �
   pub finalized : IsFinalized (layout_of o) old base
   pub ksyms : FindsKsyms base None (Ok ids)
   pub fits : placeholder_fault base ids ≡ None
-  pub rewritten : Rewritten KeepSized (with_placeholder base ids) (with_placeholder_id base ids) (layout_of o)
+  pub rewritten : Rewritten FillSized (with_placeholder base ids) (with_placeholder_id base ids) (layout_of o)
       (answers_of has) new
   pub answers_are : AreAnswers (kernel_target has)
-      (Asked (pass_of KeepSized (with_placeholder base ids) (with_placeholder_id base ids) (layout_of o) answers))
+      (Asked (pass_of FillSized (with_placeholder base ids) (with_placeholder_id base ids) (layout_of o) answers))
       answers
   pub written : IsTable o.header.order (canon (sized base new)) (strip (sized base new))
 
@@ -49,7 +49,7 @@ RefusesFinalized o bytes has refusal =
     ⊎ ((old base : Table) × IsTable o.header.order bytes old × IsFinalized (layout_of o) old base
     × (FindsKsyms base None (Err refusal) ⊎ ((ids : Option KsymsIds) × FindsKsyms base None (Ok ids)
     × ((placeholder_fault base ids ≡ Some refusal) ⊎ ((placeholder_fault base ids ≡ None)
-    × IsRefused KeepSized (with_placeholder base ids) (with_placeholder_id base ids) (layout_of o) (answers_of has)
+    × IsRefused FillSized (with_placeholder base ids) (with_placeholder_id base ids) (layout_of o) (answers_of has)
     refusal)))))
 
 -- The file is the object with its table finalized and rewritten for a kernel with these features: the written form of
