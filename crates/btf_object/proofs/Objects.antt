@@ -1,5 +1,5 @@
 -- An object that is rewritten, or why it is not.
-use Rattle.std.proofs.Common.{◌≡◌, ◌⊎◌, ℕ, List, Some, Result, Err, refl, sym, ap, subst, ◌∙◌, inl, inr}
+use Rattle.std.proofs.Common.{◌≡◌, ◌⊎◌, ℕ, Bool, List, Some, Result, Err, refl, sym, ap, subst, ◌∙◌, inl, inr}
 use Rattle.std.specs.Prelude.{IfErr, IfSome, IsErrAnd}
 use Rattle.std.proofs.lemmas.Option.{same_Some}
 use Rattle.std.proofs.lemmas.Result.{err_from_is_err_and}
@@ -12,11 +12,15 @@ use Rattle.btf_elf_model.specs.Object.{Object, IsObject, section_bytes}
 use Rattle.btf_elf_model.specs.Replaced.{ReplacesSection}
 use Rattle.btf_elf_model.specs.declared.section_header.SectionHeader.{SectionHeader}
 use Rattle.btf_rewrite_model.specs.declared.feature.FeatureAnswer.{FeatureAnswer}
-use Rattle.btf_object_model.specs.Sanitized.{Target, HasSection, RewritesTable, RefusesTable, IsSanitized, table_name}
+use Rattle.btf_model.specs.Refusal.{Refusal}
+use Rattle.btf_rewrite_model.specs.declared.feature.BtfFeature.{BtfFeature}
+use Rattle.btf_object_model.specs.Finalized.{sized}
+use Rattle.btf_object_model.specs.Sanitized.{Target, HasSection, RewritesTable, IsSanitized, table_name}
+use Rattle.btf_object_model.specs.SanitizedFinalized.{RewritesFinalized, IsSanitizedFinalized}
 use Rattle.btf_words.specs.Error.{refusal_of}
 use Rattle.btf_words.specs.declared.error.BtfError.{BtfError}
 use Rattle.btf_words.specs.declared.error.BtfError.TheVariants as table
-use Rattle.btf_object.specs.Errors.{of_table, of_section, IsCause}
+use Rattle.btf_object.specs.Errors.{of_table, of_section, IsCauseBy}
 use Rattle.btf_object.specs.Names.{IsTableSection}
 use Rattle.btf_object.specs.declared.error.SanitizeError.{SanitizeError}
 
@@ -26,40 +30,59 @@ becomes {T} P e r known err =
     let q = err_from_is_err_and r err in
     subst (λ (x : Result T SanitizeError). IfErr x P) (sym (q.1 ∙ ap (λ (x : SanitizeError). Err x) q.2)) known
 
-module _ (bytes : List ℕ) (target : Target) (o : Object) (index : ℕ) (t : List ℕ) (object : IsObject bytes o) (f : IsTableSection o index t) where
+module _ (bytes : List ℕ) (o : Object) (index : ℕ) (t : List ℕ) (object : IsObject bytes o) (f : IsTableSection o index t) where
   has_section : HasSection bytes table_name o index f.section
   has_section = record { object = object; first = f.first; header = f.here }
 
   -- the table of the section is refused
-  pub table_cause : (e : BtfError) → IfSome (refusal_of e) (RefusesTable o t target) → IsCause bytes target (of_table e)
-  table_cause e refused =
-      let here : IfSome (refusal_of e) (RefusesTable o (section_bytes o f.section) target) = subst (λ (b : List ℕ). IfSome (refusal_of e) (RefusesTable o b target)) f.bytes_are refused in
-      elim e as (λ (x : BtfError). IfSome (refusal_of x) (RefusesTable o (section_bytes o f.section) target) → IsCause bytes target (of_table x))
+  pub table_cause : (Refuses : Object → List ℕ → Refusal → Type 0) (Rewrites : Object → List ℕ → Type 0) (e : BtfError) → IfSome (refusal_of e) (Refuses o t) → IsCauseBy Refuses Rewrites bytes (of_table e)
+  table_cause Refuses Rewrites e refused =
+      let here : IfSome (refusal_of e) (Refuses o (section_bytes o f.section)) = subst (λ (b : List ℕ). IfSome (refusal_of e) (Refuses o b)) f.bytes_are refused in
+      elim e as (λ (x : BtfError). IfSome (refusal_of x) (Refuses o (section_bytes o f.section)) → IsCauseBy Refuses Rewrites bytes (of_table x))
       [ table.OutOfMemory ↦ λ _. tt | _ ↦ λ is. (o, index, f.section, has_section, (_, refl, is)) ] here
 
   -- the section cannot be replaced
-  pub section_cause : (old new : Table) (answers : List FeatureAnswer) (e : ReplaceError) → RewritesTable o t target old new answers → (replace_error o index ≡ Some e) ⊎ (e ≡ replace.OutOfMemory) → IsCause bytes target (of_section e)
-  section_cause old new answers e rewrites (inr is) = subst (λ (x : ReplaceError). IsCause bytes target (of_section x)) (sym is) tt
-  section_cause old new answers e rewrites (inl is) =
-      let here : RewritesTable o (section_bytes o f.section) target old new answers = subst (λ (b : List ℕ). RewritesTable o b target old new answers) f.bytes_are rewrites in
-      elim e as (λ (x : ReplaceError). replace_error o index ≡ Some x → IsCause bytes target (of_section x))
-      [ replace.OutOfMemory ↦ λ _. tt | _ ↦ λ same. (o, index, f.section, has_section, (old, new, answers, here, same)) ] is
+  pub section_cause : (Refuses : Object → List ℕ → Refusal → Type 0) (Rewrites : Object → List ℕ → Type 0) (e : ReplaceError) → Rewrites o t → (replace_error o index ≡ Some e) ⊎ (e ≡ replace.OutOfMemory) → IsCauseBy Refuses Rewrites bytes (of_section e)
+  section_cause Refuses Rewrites e rewrites (inr is) = subst (λ (x : ReplaceError). IsCauseBy Refuses Rewrites bytes (of_section x)) (sym is) tt
+  section_cause Refuses Rewrites e rewrites (inl is) =
+      let here : Rewrites o (section_bytes o f.section) = subst (Rewrites o) f.bytes_are rewrites in
+      elim e as (λ (x : ReplaceError). replace_error o index ≡ Some x → IsCauseBy Refuses Rewrites bytes (of_section x))
+      [ replace.OutOfMemory ↦ λ _. tt | _ ↦ λ same. (o, index, f.section, has_section, (here, same)) ] is
+
+  -- the new bytes are in the section
+  in_place : (given new file : List ℕ) → given ≡ new → HasReplaced o index given file → (new_object : Object) × IsObject file new_object × ReplacesSection o index f.section new new_object
+  in_place given new file is replaced =
+      let same : replaced.0 ≡ f.section = same_Some replaced.0 f.section (sym replaced.1 ∙ f.here) in
+      let new_object : Object = replaced.2.0 in (
+        new_object,
+        replaced.2.1,
+        subst (λ (s : SectionHeader). ReplacesSection o index s new new_object) same (subst (λ (b : List ℕ). ReplacesSection o index replaced.0 b new_object) is replaced.2.2),
+      )
 
   -- the rewritten table is in its section
-  pub sanitized : (given file : List ℕ) (answers : List FeatureAnswer) → (old new : Table) × RewritesTable o t target old new answers × (given ≡ canon new) → HasReplaced o index given file → IsSanitized bytes target file answers
-  sanitized given file answers m replaced =
-      let here : RewritesTable o (section_bytes o f.section) target m.0 m.1 answers = subst (λ (b : List ℕ). RewritesTable o b target m.0 m.1 answers) f.bytes_are m.2 in
-      let same : replaced.0 ≡ f.section = same_Some replaced.0 f.section (sym replaced.1 ∙ f.here) in
-      let new_object : Object = replaced.2.0 in
-      let in_place : ReplacesSection o index f.section (canon m.1) new_object =
-      subst (λ (s : SectionHeader). ReplacesSection o index s (canon m.1) new_object) same (subst (λ (b : List ℕ). ReplacesSection o index replaced.0 b new_object) m.3 replaced.2.2) in
-      record {
-        object = o;
-        index = index;
-        header = f.section;
-        section = has_section;
-        old = m.0;
-        new = m.1;
-        table = here;
-        replaced = (new_object, replaced.2.1, in_place);
-      }
+  pub sanitized : (target : Target) (given file : List ℕ) (answers : List FeatureAnswer) → (old new : Table) × RewritesTable o t target old new answers × (given ≡ canon new) → HasReplaced o index given file → IsSanitized bytes target file answers
+  sanitized target given file answers m replaced = record {
+    object = o;
+    index = index;
+    header = f.section;
+    section = has_section;
+    old = m.0;
+    new = m.1;
+    table = subst (λ (b : List ℕ). RewritesTable o b target m.0 m.1 answers) f.bytes_are m.2;
+    replaced = in_place given (canon m.1) file m.3 replaced;
+  }
+
+  -- so is the table that was finalized before
+  pub sanitized_finalized : (has : BtfFeature → Bool) (given file : List ℕ) (answers : List FeatureAnswer) → (old base new : Table) × RewritesFinalized o t has old base new answers × (given ≡ canon (sized base new)) → HasReplaced o index given file
+      → IsSanitizedFinalized bytes has file answers
+  sanitized_finalized has given file answers m replaced = record {
+    object = o;
+    index = index;
+    header = f.section;
+    section = has_section;
+    old = m.0;
+    base = m.1;
+    new = m.2;
+    table = subst (λ (b : List ℕ). RewritesFinalized o b has m.0 m.1 m.2 answers) f.bytes_are m.3;
+    replaced = in_place given (canon (sized m.1 m.2)) file m.4 replaced;
+  }

@@ -1,5 +1,5 @@
 -- Why an object is not rewritten, as the code reports it.
-use Rattle.std.specs.Prelude.{◌≡◌, ℕ, ⊤, List, Option, Some, None}
+use Rattle.std.specs.Prelude.{◌≡◌, ℕ, ⊤, Bool, List, Option, Some, None}
 use Rattle.btf_model.specs.Refusal.{Refusal}
 use Rattle.btf_model.specs.Table.{Table}
 use Rattle.btf_elf.specs.Writing.{replace_error}
@@ -10,9 +10,11 @@ use Rattle.btf_elf.specs.declared.error.ReplaceError.TheVariants as replace
 use Rattle.btf_elf_model.specs.Object as elf
 use Rattle.btf_elf_model.specs.declared.error.ParseError.{ParseError}
 use Rattle.btf_elf_model.specs.declared.section_header.SectionHeader.{SectionHeader}
+use Rattle.btf_rewrite_model.specs.declared.feature.BtfFeature.{BtfFeature}
 use Rattle.btf_rewrite_model.specs.declared.feature.FeatureAnswer.{FeatureAnswer}
 use Rattle.btf_rewrite_model.specs.declared.feature.FillPolicy.{FillPolicy}
 use Rattle.btf_object_model.specs.Sanitized.{Target, HasSection, RewritesTable, RefusesTable, index_of, table_name}
+use Rattle.btf_object_model.specs.SanitizedFinalized.{RewritesFinalized, RefusesFinalized}
 use Rattle.btf_words.specs.Error.{refusal_of}
 use Rattle.btf_words.specs.declared.error.BtfError.{BtfError}
 use Rattle.btf_words.specs.declared.error.BtfError.TheVariants as table
@@ -41,17 +43,41 @@ of_section e = Section e
 abbrev pub target_of : Kernel → FillPolicy → Option (List ℕ) → Target
 target_of kernel policy placeholder = record { has = has kernel; policy = policy; placeholder = placeholder }
 
--- The bytes represent no object; or the object has no section `.BTF`; or this section represents no table, or the
--- rewrite is refused; or the section cannot be replaced. An allocation may fail in each step.
+-- The bytes represent no object; or the object has no section `.BTF`; or the table of this section is refused; or it is
+-- rewritten, and the section cannot be replaced. An allocation may fail in each step.
+abbrev pub IsCauseBy : (elf.Object → List ℕ → Refusal → Type 0) → (elf.Object → List ℕ → Type 0) → List ℕ
+    → SanitizeError → Type 0
+IsCauseBy Refuses Rewrites bytes (Object e) = (p : ParseError) × (e ≡ object.Parse p) × elf.IsRefused bytes p
+IsCauseBy Refuses Rewrites bytes NoTable =
+    (o : elf.Object) × elf.IsObject bytes o × (index_of o table_name ≡ None)
+IsCauseBy Refuses Rewrites bytes (TableError e) =
+    (o : elf.Object) × (index : ℕ) × (s : SectionHeader) × HasSection bytes table_name o index s
+    × ((refusal : Refusal) × (refusal_of e ≡ Some refusal) × Refuses o (elf.section_bytes o s) refusal)
+IsCauseBy Refuses Rewrites bytes (Section e) =
+    (o : elf.Object) × (index : ℕ) × (s : SectionHeader) × HasSection bytes table_name o index s
+    × (Rewrites o (elf.section_bytes o s) × (replace_error o index ≡ Some e))
+IsCauseBy Refuses Rewrites bytes OutOfMemory = ⊤
+
+-- The table of a section is refused for a target, or is rewritten for it.
+abbrev pub RefusesFor : Target → elf.Object → List ℕ → Refusal → Type 0
+RefusesFor target o table refusal = RefusesTable o table target refusal
+
+abbrev pub RewritesFor : Target → elf.Object → List ℕ → Type 0
+RewritesFor target o table =
+    (old new : Table) × (answers : List FeatureAnswer) × RewritesTable o table target old new answers
+
+-- why an object is not rewritten for a target
 abbrev pub IsCause : List ℕ → Target → SanitizeError → Type 0
-IsCause bytes target (Object e) = (p : ParseError) × (e ≡ object.Parse p) × elf.IsRefused bytes p
-IsCause bytes target NoTable = (o : elf.Object) × elf.IsObject bytes o × (index_of o table_name ≡ None)
-IsCause bytes target (TableError e) =
-    (o : elf.Object) × (index : ℕ) × (s : SectionHeader) × HasSection bytes table_name o index s
-    × ((refusal : Refusal) × (refusal_of e ≡ Some refusal)
-    × RefusesTable o (elf.section_bytes o s) target refusal)
-IsCause bytes target (Section e) =
-    (o : elf.Object) × (index : ℕ) × (s : SectionHeader) × HasSection bytes table_name o index s
-    × ((old new : Table) × (answers : List FeatureAnswer)
-    × RewritesTable o (elf.section_bytes o s) target old new answers × (replace_error o index ≡ Some e))
-IsCause bytes target OutOfMemory = ⊤
+IsCause bytes target e = IsCauseBy (RefusesFor target) (RewritesFor target) bytes e
+
+-- The table of a section is refused for a kernel with these features, or is finalized and rewritten for it.
+abbrev pub RefusesFinalizedFor : (BtfFeature → Bool) → elf.Object → List ℕ → Refusal → Type 0
+RefusesFinalizedFor has o table refusal = RefusesFinalized o table has refusal
+
+abbrev pub RewritesFinalizedFor : (BtfFeature → Bool) → elf.Object → List ℕ → Type 0
+RewritesFinalizedFor has o table =
+    (old base new : Table) × (answers : List FeatureAnswer) × RewritesFinalized o table has old base new answers
+
+-- why an object is not finalized and rewritten for a kernel with these features
+abbrev pub IsFinalizedCause : List ℕ → (BtfFeature → Bool) → SanitizeError → Type 0
+IsFinalizedCause bytes has e = IsCauseBy (RefusesFinalizedFor has) (RewritesFinalizedFor has) bytes e

@@ -1,4 +1,5 @@
 pub mod Kernel
 pub mod Names
 pub mod Ksyms
+pub mod Finalize
 pub mod Errors

@@ -5,6 +5,7 @@
 #![tactic(auto)]
 
 mod error;
+mod finalize;
 mod kernel;
 mod ksyms;
 mod layout;
@@ -18,4 +19,4 @@ pub use error::SanitizeError;
 pub use kernel::Kernel;
 pub use ksyms::ksyms_of;
 pub use layout::ObjectLayout;
-pub use sanitize::{sanitize_object, sanitize_object_with};
+pub use sanitize::{sanitize_finalized, sanitize_object, sanitize_object_with};

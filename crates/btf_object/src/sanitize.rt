@@ -7,11 +7,13 @@ ghost use Rattle.btf_elf_model.specs.declared.section_header.SectionHeader.{Sect
 ghost use Rattle.btf_object_model.specs.Laws.{KeepsExt};
 ghost use Rattle.btf_object_model.specs.Sanitized.{HasSection, IsSanitized, index_of, table_name, ext_name};
 ghost use Rattle.btf_object.specs.Names.{IsTableSection};
-ghost use Rattle.btf_object.specs.Errors.{target_of, IsCause};
+ghost use Rattle.btf_object_model.specs.SanitizedFinalized.{IsSanitizedFinalized};
+ghost use Rattle.btf_object.specs.Errors.{target_of, IsCause, IsFinalizedCause};
+ghost use Rattle.btf_object.specs.Kernel.{has};
 
 use crate::error::SanitizeError;
 use crate::kernel::Kernel;
-use crate::table::rewritten;
+use crate::table::{finalized, rewritten};
 use arrayvec::ArrayVec;
 use btf_elf::Object;
 use btf_rewrite_model::{FeatureAnswer, FillPolicy};
@@ -93,4 +95,43 @@ pub fn sanitize_object_with<H: BuildHasher + Clone + Drop>(
     )?;
     let file = object.with_section(alloc, index, &written)?;
     Ok((file, answers))
+}
+
+/// The object with its table finalized as by libbpf, and then rewritten for a kernel; and the features that the rewrite
+/// asked for, each with whether the kernel has it. The first section named `.BTF` has the bytes of the new table, and no
+/// other section changes.
+///
+/// Before the rewrite, DATASECs get the sizes of their sections, and their entries get the offsets of their variables
+/// and are sorted by them. If functions are in `.ksyms`, a variable `dummy_ksym` is added, which replaces them. After
+/// the rewrite, a STRUCT that was a DATASEC has the DATASEC's size.
+///
+/// `hash_builder` hashes the names of the object's sections and symbols. The default has a fixed seed, so an attacker
+/// can choose names that collide, and n of them take time in proportion to n squared. For an untrusted object, pass a
+/// hasher with random keys, as `RandomState`.
+///
+/// Reports the first error, in this order: `Object`, `NoTable`, `Table` with the errors of `Btf::parse`, of `ksyms_of`,
+/// of `Btf::add_string` and `Btf::add_type` for the variable, and of `Btf::fixup_and_sanitize_with`, and `Section`. An
+/// allocation failure is reported as `OutOfMemory`.
+pub fn sanitize_finalized<H: BuildHasher + Clone + Drop>(
+    alloc: Global,
+    bytes: &[u8],
+    kernel: &Kernel,
+    hash_builder: H,
+) -> Result<(Vec<u8>, ArrayVec<FeatureAnswer, 8>), SanitizeError>
+    // The new file is the old object with the written form of the new table in its section `.BTF`.
+    ensures sanitized { IfOk result
+        (λ r. IsSanitizedFinalized bytes.now (has kernel.now) r.0.items r.1.items) }
+    // With the new table its section `.BTF.ext` has the same contents as with the old table.
+    ensures ext { IfOk result (λ r. (o : elf.Object) (index : ℕ) (s : SectionHeader)
+        → HasSection bytes.now ext_name o index s
+        → (new : elf.Object) × KeepsExt bytes.now r.0.items o new index s) }
+    // An error is the first one in the stated order.
+    ensures refused { IfErr result (IsFinalizedCause bytes.now (has kernel.now)) }
+{
+    let object = Object::parse(alloc, bytes)?;
+    let Some((index, table)) = table_section(&object) else {
+        return Err(SanitizeError::NoTable);
+    };
+    let (written, answers) = finalized(alloc, &object, table, kernel, hash_builder)?;
+    Ok((object.with_section(alloc, index, &written)?, answers))
 }

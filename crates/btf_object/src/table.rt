@@ -1,25 +1,64 @@
 //! The rewrite of an object's table.
 
-ghost use Rattle.std.specs.Prelude.{◌≡◌, IfOk, IfErr, IfSome};
+ghost use Rattle.std.specs.Prelude.{◌≡◌, None, IfOk, IfErr, IfSome};
 ghost use Rattle.std.specs.Option.{option_map};
 ghost use Rattle.btf_model.specs.Table.{Table};
 ghost use Rattle.btf_model.specs.Blob.{canon};
-ghost use Rattle.btf_object_model.specs.Sanitized.{RewritesTable, RefusesTable};
+ghost use Rattle.btf_rewrite_model.specs.Pass.{Asked};
+ghost use Rattle.btf_rewrite_model.specs.Rewritten.{pass_of, Rewritten, IsRefused};
+ghost use Rattle.btf_rules.specs.Layout.{layout_of};
+ghost use Rattle.btf_object_model.specs.Finalized.{sized};
+ghost use Rattle.btf_object_model.specs.Kernel.{answers_of};
+ghost use Rattle.btf_object_model.specs.Sanitized.{RewritesTable, RefusesTable, AreAnswers};
+ghost use Rattle.btf_object_model.specs.SanitizedFinalized.{RewritesFinalized, RefusesFinalized};
 ghost use Rattle.btf_words.specs.Error.{refusal_of};
 ghost use Rattle.btf_object.specs.Errors.{target_of};
 ghost use Rattle.btf_object.specs.Kernel.{has};
 
+use crate::finalize::{add_placeholder, data_sec_sizes, finalize, set_sizes};
 use crate::kernel::Kernel;
 use crate::ksyms::ksyms_of;
 use crate::layout::ObjectLayout;
 use arrayvec::ArrayVec;
 use btf_elf::Object;
-use btf_rewrite_model::{BtfFeature, FeatureAnswer, FillPolicy};
+use btf_rewrite_model::{BtfFeature, FeatureAnswer, FillPolicy, KsymsIds};
 use btf_rules::BtfFeatureResolver;
 use btf_table::Btf;
 use btf_words::BtfError;
 use std::alloc::Global;
 use std::hash::BuildHasher;
+
+/// Rewrites a table for a kernel, with the sizes and the offsets of this layout. Returns the features that the rewrite
+/// asked for, with the answers.
+fn rewrite_for<H: BuildHasher>(
+    btf: &mut Btf,
+    layout: &ObjectLayout<H>,
+    kernel: &Kernel,
+    policy: FillPolicy,
+    ids: Option<KsymsIds>,
+) -> Result<ArrayVec<FeatureAnswer, 8>, BtfError>
+    ensures rewritten { IfOk result (λ answers. Rewritten policy btf.old ids
+        (layout_of layout.now.sections layout.now.symbols) (answers_of (has kernel.now)) btf.new) }
+    ensures answers { IfOk result (λ answers. AreAnswers (target_of kernel.now policy None)
+        (Asked (pass_of policy btf.old ids
+        (layout_of layout.now.sections layout.now.symbols) answers.items)) answers.items) }
+    ensures order { IfOk result (λ answers. btf.new.order ≡ btf.old.order) }
+    ensures refused { IfErr result (λ e. IfSome (refusal_of e) (IsRefused policy btf.old ids
+        (layout_of layout.now.sections layout.now.symbols) (answers_of (has kernel.now)))) }
+{
+    let has = |feature: BtfFeature| -> bool
+        ensures { result ≡ has kernel.entry.now feature }
+    { kernel.has(feature) };
+    let mut resolver = BtfFeatureResolver::new(has);
+    let answers = btf.fixup_and_sanitize_with(
+        &layout.sections,
+        &layout.symbols,
+        ids,
+        policy,
+        &mut resolver,
+    )?;
+    Ok(answers)
+}
 
 /// Parses the bytes of a section of an object as a table, in the object's byte order, and rewrites the table for a
 /// kernel. Returns the bytes of the new table, and the features that the rewrite asked for, with the answers.
@@ -42,16 +81,33 @@ pub fn rewritten<H: BuildHasher + Clone + Drop>(
     let layout = ObjectLayout::read(alloc, object, hash_builder)?;
     let mut btf = Btf::parse(alloc, table, object.header().order)?;
     let ids = ksyms_of(&btf, placeholder)?;
-    let has = |feature: BtfFeature| -> bool
-        ensures { result ≡ has kernel.entry.now feature }
-    { kernel.has(feature) };
-    let mut resolver = BtfFeatureResolver::new(has);
-    let answers = btf.fixup_and_sanitize_with(
-        &layout.sections,
-        &layout.symbols,
-        ids,
-        policy,
-        &mut resolver,
-    )?;
+    let answers = rewrite_for(&mut btf, &layout, kernel, policy, ids)?;
+    Ok((btf.to_bytes()?, answers))
+}
+
+/// Parses the bytes of a section of an object as a table, in the object's byte order, finalizes the table from the
+/// object, and rewrites it for a kernel. Returns the bytes of the new table, and the features that the rewrite asked
+/// for, with the answers. `hash_builder` hashes the names of the object.
+pub fn finalized<H: BuildHasher + Clone + Drop>(
+    alloc: Global,
+    object: &Object<'_>,
+    table: &[u8],
+    kernel: &Kernel,
+    hash_builder: H,
+) -> Result<(Vec<u8>, ArrayVec<FeatureAnswer, 8>), BtfError>
+    ensures made { IfOk result (λ r. (old base new : Table)
+        × RewritesFinalized object.now table.now (has kernel.now) old base new r.1.items
+        × (r.0.items ≡ canon (sized base new))) }
+    ensures refused { IfErr result (λ e. IfSome (refusal_of e)
+        (RefusesFinalized object.now table.now (has kernel.now))) }
+{
+    let layout = ObjectLayout::read(alloc, object, hash_builder)?;
+    let mut btf = Btf::parse(alloc, table, object.header().order)?;
+    finalize(alloc, &mut btf, &layout)?;
+    let sizes = data_sec_sizes(alloc, &btf)?;
+    let ids = ksyms_of(&btf, None)?;
+    let ids = add_placeholder(&mut btf, ids)?;
+    let answers = rewrite_for(&mut btf, &layout, kernel, FillPolicy::FillSized, ids)?;
+    set_sizes(alloc, &mut btf, &sizes)?;
     Ok((btf.to_bytes()?, answers))
 }

@@ -1,42 +1,54 @@
 -- A rewritten object retains the contents of `.BTF.ext`.
-use Rattle.std.proofs.Common.{◌≡◌, ◌≢◌, ℕ, ◌<◌, List, [], length, Bool, true, Option, None, Some, refl, sym, ap, subst, ◌∙◌, arith}
+use Rattle.std.proofs.Common.{◌≡◌, ◌≢◌, ℕ, ◌<◌, List, [], ◌∷◌, ◌++◌, length, append_assoc, Bool, true, Option, None, Some, Ok, refl, sym, ap, subst, ◌∙◌, arith}
 use Rattle.std.specs.Prelude.{position, slice_get, slice_set, unwrap_or, nat_lt, if◌then◌else◌}
 use Rattle.std.specs.List.{position_or_len}
 use Rattle.std.proofs.lemmas.List.Folds.{position_or_len-set}
 use Rattle.std.specs.Str.{bytes_eq}
 use Rattle.std.proofs.lemmas.Bool.{false≢true}
-use Rattle.std.proofs.lemmas.List.{get_or-set_other, get_or-set_same, length-set}
+use Rattle.std.proofs.lemmas.List.{append-nil, get_or-set_other, get_or-set_same, length-set}
 use Rattle.std.proofs.lemmas.List.Quantifiers.{position-Some}
 use Rattle.std.proofs.lemmas.Option.{same_Some, slice_get_within, slice_get-get_or, get_or_from_slice_get}
 use Rattle.std.proofs.lemmas.Slice.Eq.{bytes_eq-Decides}
 use Rattle.btf_model.specs.declared.endianness.Endianness.{Endianness}
 use Rattle.btf_model.specs.Table.{Table, strip}
 use Rattle.btf_model.specs.Blob.{IsTable, canon}
+use Rattle.btf_model.specs.Text.{text_at}
 use Rattle.btf_model.proofs.Blobs.{same_table}
+use Rattle.btf_model.proofs.Texts.{text_stays}
+use Rattle.btf_model.specs.Table.{with_string, with_type}
 use Rattle.btf_elf_model.specs.Section.{name_at}
 use Rattle.btf_elf_model.specs.Object.{Object, IsObject, section_bytes, section_name}
 use Rattle.btf_elf_model.specs.Replaced.{ReplacesSection, moved, place}
 use Rattle.btf_elf_model.specs.declared.section_header.SectionHeader.{SectionHeader}
+use Rattle.btf_rewrite_model.specs.Ksyms.{appends_int, int_of_4, int_text}
+use Rattle.btf_rewrite_model.specs.Made.{c_int}
+use Rattle.btf_rewrite_model.proofs.Kept.{by_table}
 use Rattle.btf_rewrite_model.specs.Pass.{Layout}
 use Rattle.btf_rewrite_model.specs.Rewritten.{Rewritten}
 use Rattle.btf_rewrite_model.specs.declared.feature.FeatureAnswer.{FeatureAnswer}
+use Rattle.btf_rewrite_model.specs.declared.feature.BtfFeature.{BtfFeature}
 use Rattle.btf_rewrite_model.specs.declared.feature.FillPolicy.{FillPolicy}
+use Rattle.btf_rewrite_model.specs.declared.feature.FillPolicy.TheVariants.{FillSized}
 use Rattle.btf_rewrite_model.specs.declared.ksyms_ids.KsymsIds.{KsymsIds}
 use Rattle.btf_object_model.specs.Kernel.{answers_of}
 use Rattle.btf_object_model.specs.Layout.{layout_of}
+use Rattle.btf_object_model.specs.Finalized.{placeholder_text, with_int, with_variable, has_functions, with_placeholder, with_placeholder_id, sized}
+use Rattle.btf_object_model.specs.SanitizedFinalized.{RewritesFinalized, IsSanitizedFinalized}
 use Rattle.btf_object_model.specs.Laws.{HasSameContents, KeepsExt}
 use Rattle.btf_object_model.specs.Sanitized.{Target, HasSection, IsSanitized, index_of, table_name, ext_name}
 use Rattle.btf_object_model.proofs.Appended.{texts_stay}
 use Rattle.btf_object_model.proofs.Exts.{contents_ok, contents_err}
 
+-- the contents do not change if no readable text changes
+contents_stay : (old new : Table) → ((offset : ℕ) (text : List ℕ) → text_at old.strings offset ≡ Ok text → text_at new.strings offset ≡ Ok text) → (order : Endianness) (bytes : List ℕ) → HasSameContents order bytes old new
+contents_stay old new stays order bytes = record {
+  ok = contents_ok old.strings new.strings stays order bytes;
+  err = contents_err old.strings new.strings stays order bytes;
+}
+
 pub ext_stays : (policy : FillPolicy) (old new : Table) (ids : Option KsymsIds) (layout : Layout) (answers : List FeatureAnswer) → Rewritten policy old ids layout answers new
     → (order : Endianness) (bytes : List ℕ) → HasSameContents order bytes old new
-ext_stays policy old new ids layout answers is order bytes =
-    let stays = texts_stay policy old new ids layout answers is in
-    record {
-      ok = contents_ok old.strings new.strings stays order bytes;
-      err = contents_err old.strings new.strings stays order bytes;
-    }
+ext_stays policy old new ids layout answers is = contents_stay old new (texts_stay policy old new ids layout answers is)
 
 -- ---- names
 
@@ -70,7 +82,21 @@ same_section bytes name o p i j s t h k =
     let header : slice_get o.sections i ≡ Some t = ap (λ (q : Object). slice_get q.sections i) objects ∙ ap (slice_get p.sections) places ∙ k.header in
     (objects, places, same_Some s t (sym h.header ∙ header))
 
-module _ (bytes file : List ℕ) (target : Target) (answers : List FeatureAnswer) (z : IsSanitized bytes target file answers) where
+-- The file is the object with the written form of another table in its section `.BTF`. A text that can be read in the
+-- old table is read at the same offset in the new one.
+record IsRewritten (bytes file : List ℕ) : Type 0 where
+  object : Object
+  index : ℕ
+  header : SectionHeader
+  section : HasSection bytes table_name object index header
+  old : Table
+  new : Table
+  table : IsTable object.header.order (section_bytes object header) old
+  written : IsTable object.header.order (canon new) (strip new)
+  stays : (offset : ℕ) (text : List ℕ) → text_at old.strings offset ≡ Ok text → text_at new.strings offset ≡ Ok text
+  replaced : (new_object : Object) × IsObject file new_object × ReplacesSection object index header (canon new) new_object
+
+module _ (bytes file : List ℕ) (z : IsRewritten bytes file) where
   abbrev old : Object
   old = z.object
 
@@ -120,12 +146,11 @@ module _ (bytes file : List ℕ) (target : Target) (answers : List FeatureAnswer
       let there' = same_section file table_name new new at' z.index t' changed has' new_section in
       let order : Endianness = old.header.order in
       let old_is : old_table ≡ z.old =
-      same_table order (section_bytes old z.header) old_table z.old (subst (λ (h : SectionHeader). IsTable order (section_bytes old h) old_table) there.2 is) z.table.table in
+      same_table order (section_bytes old z.header) old_table z.old (subst (λ (h : SectionHeader). IsTable order (section_bytes old h) old_table) there.2 is) z.table in
       let new_is : new_table ≡ strip z.new =
       same_table order (canon z.new) new_table (strip z.new)
-      (subst (λ (b : List ℕ). IsTable order b new_table) written.replaced (subst (λ (h : SectionHeader). IsTable order (section_bytes new h) new_table) there'.2 is')) z.table.written in
-      let same : HasSameContents order (section_bytes old s) z.old z.new =
-      ext_stays target.policy z.old z.new z.table.ids (layout_of old) (answers_of target.has) z.table.rewritten order (section_bytes old s) in
+      (subst (λ (b : List ℕ). IsTable order b new_table) written.replaced (subst (λ (h : SectionHeader). IsTable order (section_bytes new h) new_table) there'.2 is')) z.written in
+      let same : HasSameContents order (section_bytes old s) z.old z.new = contents_stay z.old z.new z.stays order (section_bytes old s) in
       let stripped : HasSameContents order (section_bytes old s) z.old (strip z.new) = record { ok = same.ok; err = same.err } in
       subst (λ (u : Table). HasSameContents order (section_bytes old s) u new_table) (sym old_is)
       (subst (λ (u : Table). HasSameContents order (section_bytes old s) z.old u) (sym new_is) stripped)
@@ -148,10 +173,64 @@ module _ (bytes file : List ℕ) (target : Target) (answers : List FeatureAnswer
         says = says index s;
       }
 
-pub keeps_ext : (bytes file : List ℕ) (target : Target) (answers : List FeatureAnswer) → IsSanitized bytes target file answers → (o : Object) (index : ℕ) (s : SectionHeader) → HasSection bytes ext_name o index s
+rewritten_keeps_ext : (bytes file : List ℕ) → IsRewritten bytes file → (o : Object) (index : ℕ) (s : SectionHeader) → HasSection bytes ext_name o index s
     → (new : Object) × KeepsExt bytes file o new index s
-keeps_ext bytes file target answers z o index s has =
+rewritten_keeps_ext bytes file z o index s has =
     let one : o ≡ z.object = same_object bytes o z.object has.object z.section.object in
     let kept : (p : Object) → p ≡ z.object → HasSection bytes ext_name p index s → KeepsExt bytes file p z.replaced.0 index s =
-    λ p is here. subst (λ (q : Object). HasSection bytes ext_name q index s → KeepsExt bytes file q z.replaced.0 index s) (sym is) (ext_kept bytes file target answers z index s) here in
+    λ p is here. subst (λ (q : Object). HasSection bytes ext_name q index s → KeepsExt bytes file q z.replaced.0 index s) (sym is) (ext_kept bytes file z index s) here in
     (z.replaced.0, kept o one has)
+
+pub keeps_ext : (bytes file : List ℕ) (target : Target) (answers : List FeatureAnswer) → IsSanitized bytes target file answers → (o : Object) (index : ℕ) (s : SectionHeader) → HasSection bytes ext_name o index s
+    → (new : Object) × KeepsExt bytes file o new index s
+keeps_ext bytes file target answers z = rewritten_keeps_ext bytes file (record {
+  object = z.object;
+  index = z.index;
+  header = z.header;
+  section = z.section;
+  old = z.old;
+  new = z.new;
+  table = z.table.table;
+  written = z.table.written;
+  stays = texts_stay target.policy z.old z.new z.table.ids (layout_of z.object) (answers_of target.has) z.table.rewritten;
+  replaced = z.replaced;
+})
+
+-- a placeholder only appends strings
+placeholder_strings : (t : Table) (ids : Option KsymsIds) → (more : List ℕ) × ((with_placeholder t ids).strings ≡ t.strings ++ more)
+placeholder_strings t ids =
+    let added : (int : Table) → (more : List ℕ) × (int.strings ≡ t.strings ++ more) → (all : List ℕ) × ((with_variable (int_of_4 t) int).strings ≡ t.strings ++ all) =
+    λ int is. (
+      is.0 ++ (placeholder_text ++ 0 ∷ []),
+      ap (λ xs. xs ++ placeholder_text ++ 0 ∷ []) is.1 ∙ append_assoc (t.strings ++ is.0) placeholder_text (0 ∷ []) ∙ append_assoc t.strings is.0 (placeholder_text ++ 0 ∷ []),
+    ) in
+    by_table (λ u. (more : List ℕ) × (u.strings ≡ t.strings ++ more)) (has_functions t ids) (with_variable (int_of_4 t) (with_int t)) t
+    (added (with_int t)
+    (by_table (λ u. (more : List ℕ) × (u.strings ≡ t.strings ++ more)) (appends_int t None) (with_type (c_int (length t.strings)) None (with_string int_text t)) t
+    (int_text ++ 0 ∷ [], append_assoc t.strings int_text (0 ∷ []))
+    ([], sym (append-nil t.strings))))
+    ([], sym (append-nil t.strings))
+
+-- the strings of a table that is finalized are those of the old table, and more
+final_texts_stay : (has : BtfFeature → Bool) (o : Object) (bytes : List ℕ) (given base new : Table) (answers : List FeatureAnswer) → RewritesFinalized o bytes has given base new answers
+    → (offset : ℕ) (text : List ℕ) → text_at given.strings offset ≡ Ok text → text_at (sized base new).strings offset ≡ Ok text
+final_texts_stay has o bytes given base new answers r offset text reads =
+    let more = placeholder_strings base r.ids in
+    let same : base.strings ≡ given.strings = ap (λ (t : Table). t.strings) r.finalized.others in
+    texts_stay FillSized (with_placeholder base r.ids) new (with_placeholder_id base r.ids) (layout_of o) (answers_of has) r.rewritten offset text
+    (ap (λ (xs : List ℕ). text_at xs offset) more.1 ∙ text_stays base.strings more.0 offset text (ap (λ (xs : List ℕ). text_at xs offset) same ∙ reads))
+
+pub finalized_keeps_ext : (bytes file : List ℕ) (has : BtfFeature → Bool) (answers : List FeatureAnswer) → IsSanitizedFinalized bytes has file answers → (o : Object) (index : ℕ) (s : SectionHeader) → HasSection bytes ext_name o index s
+    → (new : Object) × KeepsExt bytes file o new index s
+finalized_keeps_ext bytes file has answers z = rewritten_keeps_ext bytes file (record {
+  object = z.object;
+  index = z.index;
+  header = z.header;
+  section = z.section;
+  old = z.old;
+  new = sized z.base z.new;
+  table = z.table.table;
+  written = z.table.written;
+  stays = final_texts_stay has z.object (section_bytes z.object z.header) z.old z.base z.new answers z.table;
+  replaced = z.replaced;
+})

@@ -1,5 +1,5 @@
 -- The laws of the definitions. Each is the contract of a public function of this crate.
-use Rattle.std.specs.Prelude.{◌≡◌, ◌≢◌, ℕ, List, Option, Ok, Err}
+use Rattle.std.specs.Prelude.{◌≡◌, ◌≢◌, ℕ, Bool, List, Option, Ok, Err}
 use Rattle.btf_model.specs.declared.endianness.Endianness.{Endianness}
 use Rattle.btf_model.specs.Ext.{Ext, IsExt}
 use Rattle.btf_model.specs.Refusal.{Refusal, InvalidStringOffset}
@@ -10,9 +10,11 @@ use Rattle.btf_elf_model.specs.Object.{Object, section_bytes}
 use Rattle.btf_elf_model.specs.declared.section_header.SectionHeader.{SectionHeader}
 use Rattle.btf_rewrite_model.specs.Pass.{Layout}
 use Rattle.btf_rewrite_model.specs.Rewritten.{Rewritten}
+use Rattle.btf_rewrite_model.specs.declared.feature.BtfFeature.{BtfFeature}
 use Rattle.btf_rewrite_model.specs.declared.feature.FeatureAnswer.{FeatureAnswer}
 use Rattle.btf_rewrite_model.specs.declared.feature.FillPolicy.{FillPolicy}
 use Rattle.btf_rewrite_model.specs.declared.ksyms_ids.KsymsIds.{KsymsIds}
+use Rattle.btf_object_model.specs.SanitizedFinalized.{IsSanitizedFinalized}
 use Rattle.btf_object_model.specs.Sanitized.{Target, HasSection, IsSanitized, table_name, ext_name}
 
 -- A text that can be read at an offset of a table's strings is read at the same offset of the rewritten table.
@@ -50,5 +52,13 @@ pub record KeepsExt (bytes file : List ℕ) (o new : Object) (index : ℕ) (s : 
 abbrev pub SanitizedKeepsExt : Type 0
 SanitizedKeepsExt =
     (bytes file : List ℕ) (target : Target) (answers : List FeatureAnswer) → IsSanitized bytes target file answers
+    → (o : Object) (index : ℕ) (s : SectionHeader) → HasSection bytes ext_name o index s
+    → (new : Object) × KeepsExt bytes file o new index s
+
+-- The same for an object whose table is finalized and then rewritten.
+abbrev pub FinalizedKeepsExt : Type 0
+FinalizedKeepsExt =
+    (bytes file : List ℕ) (has : BtfFeature → Bool) (answers : List FeatureAnswer)
+    → IsSanitizedFinalized bytes has file answers
     → (o : Object) (index : ℕ) (s : SectionHeader) → HasSection bytes ext_name o index s
     → (new : Object) × KeepsExt bytes file o new index s

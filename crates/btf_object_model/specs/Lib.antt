@@ -2,5 +2,8 @@ pub mod Layout
 pub mod Ksyms
 pub mod Kernel
 pub mod Sanitized
+pub mod Finalized
+pub mod SanitizedFinalized
 pub mod Laws
 pub mod Examples
+pub mod FinalizedExamples

@@ -4,7 +4,7 @@
 //! The definitions are in `specs/`. Each law is the contract of a function here that does nothing.
 #![tactic(auto)]
 
-ghost use Rattle.btf_object_model.specs.Laws.{TextsStay, ExtStays, SanitizedKeepsExt};
+ghost use Rattle.btf_object_model.specs.Laws.{TextsStay, ExtStays, SanitizedKeepsExt, FinalizedKeepsExt};
 
 mod version;
 
@@ -25,4 +25,9 @@ pub fn ext_stays()
 /// function, line and relocation records as with the old table.
 pub fn sanitized_keeps_ext()
     ensures { SanitizedKeepsExt }
+{}
+
+/// The same for an object whose table is finalized before it is rewritten.
+pub fn finalized_keeps_ext()
+    ensures { FinalizedKeepsExt }
 {}

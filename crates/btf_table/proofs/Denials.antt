@@ -68,7 +68,7 @@ id_at count (id ∷ ids) (suc k) d inside lt = id_at count ids k d inside.1 (ome
 
 -- ---- one type more is denied
 
-kinds_set : (rs : List Record) (i : ℕ) (x : Record) (k : Kind) → AllHaveKinds rs → kind_of x.info ≡ Some k → AllHaveKinds (set rs i x)
+pub kinds_set : (rs : List Record) (i : ℕ) (x : Record) (k : Kind) → AllHaveKinds rs → kind_of x.info ≡ Some k → AllHaveKinds (set rs i x)
 kinds_set [] i x k have is j y at = have j y at
 kinds_set (r ∷ rs) zero x k have is zero y at = (k, ap (λ (z : Record). kind_of z.info) (sym (same_Some x y at)) ∙ is)
 kinds_set (r ∷ rs) zero x k have is (suc j) y at = have (suc j) y at

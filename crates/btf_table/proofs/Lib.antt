@@ -1,4 +1,5 @@
 pub mod SectionRules
+pub mod Replaced
 pub mod Rewriting
 pub mod PassOne
 pub mod PassStates

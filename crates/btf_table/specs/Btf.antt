@@ -38,3 +38,10 @@ pub record IsType (t : Table) (id : ℕ) (b : BtfType) : Type 0 where
   pub fallback_is : slice_get t.fallbacks id ≡ Some (fallback_of b)
   pub kind_is : kind_of (record_of b).info ≡ Some (type_kind b)
   pub tail_is : length (record_of b).tail ≡ tail_words (type_kind b) (vlen (record_of b).info)
+
+-- The table has a type of this id, whose record has the kind and the length of the given record.
+pub record HasShapeOf (t : Table) (id : ℕ) (new : Record) : Type 0 where
+  pub old : Record
+  pub here : slice_get t.records id ≡ Some old
+  pub kind : kind_of new.info ≡ kind_of old.info
+  pub len : length new.tail ≡ length old.tail

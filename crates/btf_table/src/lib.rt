@@ -6,4 +6,7 @@ mod table;
 
 pub use btf_rewrite_model::KsymsIds;
 pub use sanitize::{rewrite_bytes, rewrite_bytes_with};
-pub use table::{Btf, BtfStr, WALK_LIMIT, allocator_of, comparable_end, is_named, name_bytes};
+pub use table::{
+    Btf, BtfStr, WALK_LIMIT, allocator_of, comparable_end, is_named, name_bytes, set_type,
+    type_count,
+};

@@ -8,7 +8,7 @@ mod text;
 mod types;
 mod walk;
 
-ghost use Rattle.std.specs.Prelude.{◌≡◌, List, ◌+◌, ◌*◌, ◌≤◌, ◌↔◌, [], ◌∷◌, map, IsTrue, IfOk, OnOk, OnErr, MatchResult, Ok, Err, Some, slice_get, length, drop, ◌<◌, ◌^◌};
+ghost use Rattle.std.specs.Prelude.{◌≡◌, List, ◌+◌, ◌*◌, ◌≤◌, ◌↔◌, [], ◌∷◌, map, IsTrue, IfOk, OnOk, OnErr, MatchResult, Ok, Err, Some, slice_get, set, length, drop, ◌<◌, ◌^◌};
 ghost use Rattle.std.specs.Slice.Iter.{iter_rest};
 ghost use Rattle.btf_model.specs.Record.{Record, unknown, kind_of};
 ghost use Rattle.btf_model.specs.Refusal.{Refusal};
@@ -21,7 +21,7 @@ ghost use Rattle.btf_model.specs.Walk.{Resolves, HasSize};
 ghost use Rattle.btf_words.specs.Error.{MeetsOrNoMemory, IsOrNoMemory, Meets};
 ghost use Rattle.btf_words.specs.Kind as kinds;
 ghost use Rattle.btf_records.specs.BtfType.{record_of, fallback_of, type_kind};
-ghost use Rattle.btf_table.specs.Btf.{IsType};
+ghost use Rattle.btf_table.specs.Btf.{IsType, HasShapeOf};
 ghost use Rattle.btf_table.specs.BtfStr.{text_bytes, HasName};
 ghost use Rattle.btf_model.specs.Text.{text_at};
 ghost use Rattle.btf_rewrite_model.specs.Checks.{is_read};
@@ -393,6 +393,27 @@ pub fn allocator_of(table: &Btf) -> Global
     ensures { HaveKinds table.now }
 {
     table.allocator()
+}
+
+/// The number of types of a table, with the type of id 0, for the crates that use this one.
+pub fn type_count(table: &Btf) -> u32
+    ensures { result ≡ length table.now.records }
+{
+    table.as_slice().len() as u32
+}
+
+/// Replaces the type of an id by a type of the same kind and length, for the crates that use this one. Allocates no
+/// memory.
+pub fn set_type(table: &mut Btf, type_id: u32, btf_type: BtfType)
+    requires { HasShapeOf table.old type_id (record_of btf_type) }
+    ensures { table.new ≡ record table.old {
+      records = set table.old.records type_id (record_of btf_type);
+      fallbacks = set table.old.fallbacks type_id (fallback_of btf_type);
+    } }
+{
+    // The contract is about the kind in the info word, which this shows.
+    let _ = btf_type.kind();
+    table.types[type_id as usize] = btf_type;
 }
 
 /// The bytes of a type's name, from its offset up to the first zero byte; they need not be UTF-8. None if there is no

@@ -7,11 +7,11 @@ use Rattle.btf_model.specs.Spelling.{spell}
 use Rattle.btf_model.specs.Table as tables
 use Rattle.btf_model.specs.declared.endianness.Endianness.TheVariants.{Little}
 use Rattle.btf_rewrite_model.specs.declared.feature.FeatureAnswer.{FeatureAnswer}
-use Rattle.btf_object_model.specs.Sanitized.{Target}
 use Rattle.btfobj_cli.specs.Blob.{IsBlob, HasTable}
 use Rattle.btfobj_cli.specs.Rewrite.{IsRewritten}
 use Rattle.btfobj_cli.specs.declared.blob.Blob.{Blob}
 use Rattle.btfobj_cli.specs.declared.changes.Checked.{Checked}
+use Rattle.btfobj_cli.specs.declared.rewrite.Rewrite.{Rewrite}
 
 -- whether a type differs from the old type of its id: it has other words, or there is no such type
 abbrev pub is_changed : Option Record → Record → Bool
@@ -31,11 +31,11 @@ FileHasTable bytes t = (blob : Blob) × IsBlob bytes blob × HasTable blob t
 abbrev pub lacks_any : List FeatureAnswer → Bool
 lacks_any answers = list_any (λ (a : FeatureAnswer). not a.granted) answers
 
--- The rewrite of a file for the target asks for a feature that the kernel lacks, or for none; it changes or adds a type,
+-- The rewrite of a file by these settings asks for a feature that the kernel lacks, or for none; it changes or adds a type,
 -- or it does not.
-abbrev pub Checks : List ℕ → Target → Checked → Type 0
-Checks bytes target checked =
-    (file : List ℕ) × (answers : List FeatureAnswer) × IsRewritten bytes target file answers
+abbrev pub Checks : List ℕ → Rewrite → Checked → Type 0
+Checks bytes rewrite checked =
+    (file : List ℕ) × (answers : List FeatureAnswer) × IsRewritten bytes rewrite file answers
     × (checked.lacks ≡ lacks_any answers)
     × ((old new : tables.Table) × FileHasTable bytes old × FileHasTable file new
     × (checked.changes ≡ has_changed old.records new.records))

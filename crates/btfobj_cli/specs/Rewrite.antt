@@ -1,5 +1,5 @@
 -- A file that is rewritten for a kernel.
-use Rattle.std.specs.Prelude.{◌≡◌, ℕ, List, None, Ok, Option}
+use Rattle.std.specs.Prelude.{◌≡◌, ℕ, List, None, Ok, Option, MatchBool}
 use Rattle.std.specs.Option.{option_map}
 use Rattle.btf_model.specs.Blob.{IsTable, canon}
 use Rattle.btf_model.specs.Table.{Table, strip}
@@ -11,7 +11,9 @@ use Rattle.btf_rewrite_model.specs.declared.ksyms_ids.KsymsIds.{KsymsIds}
 use Rattle.btf_object_model.specs.Kernel.{answers_of}
 use Rattle.btf_object_model.specs.Ksyms.{FindsKsyms}
 use Rattle.btf_object_model.specs.Sanitized.{Target, AreAnswers, IsSanitized}
+use Rattle.btf_object_model.specs.SanitizedFinalized.{IsSanitizedFinalized}
 use Rattle.btf_object.specs.Errors.{target_of}
+use Rattle.btf_object.specs.Kernel.{has}
 use Rattle.btfobj_cli.specs.Blob.{BeginsObject, BeginsTable}
 use Rattle.btfobj_cli.specs.declared.rewrite.Rewrite.{Rewrite}
 
@@ -36,7 +38,14 @@ pub record RewritesAlone (order : Endianness) (bytes : List ℕ) (target : Targe
   pub written : file ≡ canon new
   pub parses_back : IsTable order file (strip new)
 
--- The new file is the old one, rewritten for the target: an object with its table rewritten, or a table alone.
-pub record IsRewritten (bytes : List ℕ) (target : Target) (file : List ℕ) (answers : List FeatureAnswer) : Type 0 where
-  pub object : BeginsObject bytes → IsSanitized bytes target file answers
-  pub table : (order : Endianness) → BeginsTable order bytes → RewritesAlone order bytes target file answers
+-- The file is the object with its table rewritten: after it is finalized, or as it is.
+abbrev pub RewritesObject : List ℕ → Rewrite → List ℕ → List FeatureAnswer → Type 0
+RewritesObject bytes rewrite file answers =
+    MatchBool rewrite.is_finalized (IsSanitizedFinalized bytes (has rewrite.kernel) file answers)
+    (IsSanitized bytes (chosen_target rewrite) file answers)
+
+-- The new file is the old one, rewritten by these settings: an object with its table rewritten, or a table alone.
+pub record IsRewritten (bytes : List ℕ) (rewrite : Rewrite) (file : List ℕ) (answers : List FeatureAnswer) : Type 0 where
+  pub object : BeginsObject bytes → RewritesObject bytes rewrite file answers
+  pub table : (order : Endianness) → BeginsTable order bytes
+      → RewritesAlone order bytes (chosen_target rewrite) file answers

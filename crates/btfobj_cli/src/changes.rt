@@ -2,7 +2,6 @@
 
 ghost use Rattle.std.specs.Prelude.{◌≡◌, IfOk};
 ghost use Rattle.btfobj_cli.specs.Changes.{Checks, has_changed, lacks_any};
-ghost use Rattle.btfobj_cli.specs.Rewrite.{chosen_target};
 
 use crate::blob::Blob;
 use crate::fault::Fault;
@@ -28,7 +27,7 @@ pub struct Checked {
 
 /// Writes a line for each feature that a file's table needs, with whether the kernel has the feature, and a line for
 /// each type that a rewrite for the kernel changes or adds. Returns whether there is a feature that the kernel lacks, and
-/// whether there is such a type. The errors are those of `sanitize` and of `Blob::table`, and `Write`.
+/// whether there is such a type. The errors are those of `sanitize` and of `Blob::whole_table`, and `Write`.
 pub fn check<W: io::Write, H: BuildHasher + Clone + Drop>(
     alloc: Global,
     bytes: &[u8],
@@ -36,7 +35,7 @@ pub fn check<W: io::Write, H: BuildHasher + Clone + Drop>(
     hash_builder: H,
     out: &mut W,
 ) -> Result<Checked, Fault>
-    ensures { IfOk result (Checks bytes.now (chosen_target rewrite.now)) }
+    ensures { IfOk result (Checks bytes.now rewrite.now) }
 {
     let old = Blob::read(alloc, bytes)?.whole_table(alloc)?;
     let (written, answers) = sanitize(alloc, bytes, rewrite, hash_builder)?;

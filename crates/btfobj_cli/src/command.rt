@@ -145,7 +145,7 @@ fn sanitize<'a>(alloc: Global) -> Result<Command<'a>, AllocError> {
         .action(ArgAction::SetTrue)
         .help("Write the rewritten table alone, which a loader gives to the kernel");
     let command = Command::new(alloc, "sanitize")
-        .about("Rewrites the table for a kernel, as aya does when it loads the object")
+        .about("Rewrites the table for a kernel, as a loader does when it loads the object")
         .after_help(
             "Examples: btfobj sanitize prog.o -o prog.5.4.o --kernel 5.4\n          \
              btfobj sanitize prog.o -o prog.old.o --has Func,DataSec --fill-sized",
@@ -179,7 +179,13 @@ fn with_kernel<'a>(alloc: Global, command: Command<'a>) -> Result<Command<'a>, A
     let placeholder = Arg::new(alloc, "placeholder")
         .long("placeholder")
         .value_name("NAME")
-        .help("The variable that takes the place of functions in .ksyms");
+        .help("The variable that takes the place of functions in .ksyms; implies --no-finalize");
+    let no_finalize = Arg::new(alloc, "no-finalize")
+        .long("no-finalize")
+        .action(ArgAction::SetTrue)
+        .help(
+            "Rewrite the table as the compiler wrote it; else it first gets its offsets and sizes, as libbpf sets them",
+        );
     let group = ArgGroup::new(alloc, "features")
         .arg("kernel")?
         .arg("has")?
@@ -189,6 +195,7 @@ fn with_kernel<'a>(alloc: Global, command: Command<'a>) -> Result<Command<'a>, A
         .arg(has)?
         .arg(fill_sized)?
         .arg(placeholder)?
+        .arg(no_finalize)?
         .group(group)
 }
 

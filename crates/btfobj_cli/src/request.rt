@@ -167,10 +167,13 @@ fn read_rewrite<'a>(
         Some(version) => read_kernel(alloc, command, version)?,
         None => kernel_with(matches.get_strs("has").unwrap_or(&[])),
     };
+    let placeholder = matches.get_str("placeholder");
+    let is_finalized = !matches.get_flag("no-finalize") && placeholder.is_none();
     Ok(Rewrite {
         kernel,
         policy,
-        placeholder: matches.get_str("placeholder"),
+        placeholder,
+        is_finalized,
     })
 }
 

@@ -3,13 +3,13 @@
 ghost use Rattle.std.specs.Prelude.{◌≡◌, ℕ, List, None, IfOk};
 ghost use Rattle.btf_object.specs.Kernel.{has};
 ghost use Rattle.btf_rules.specs.Layout.{sizes_of, offsets_of};
-ghost use Rattle.btfobj_cli.specs.Rewrite.{chosen_target, RewritesAlone, IsRewritten};
+ghost use Rattle.btfobj_cli.specs.Rewrite.{chosen_target, RewritesAlone, RewritesObject, IsRewritten};
 
 use crate::blob::Blob;
 use crate::fault::Fault;
 use arrayvec::ArrayVec;
 use btf_model::Endianness;
-use btf_object::{Kernel, ksyms_of, sanitize_object_with};
+use btf_object::{Kernel, ksyms_of, sanitize_finalized, sanitize_object_with};
 use btf_rewrite_model::{BtfFeature, FeatureAnswer, FillPolicy};
 use btf_rules::BtfFeatureResolver;
 use btf_table::Btf;
@@ -27,14 +27,17 @@ pub struct Rewrite<'a> {
     pub policy: FillPolicy,
     /// The name of the variable that replaces functions in `.ksyms`.
     pub placeholder: Option<&'a str>,
+    /// Whether the table of an object is finalized before the rewrite, as `sanitize_finalized` does, whatever the policy
+    /// and the placeholder are.
+    pub is_finalized: bool,
 }
 
 /// Rewrites the table of a file for a kernel. Returns the bytes of the new file, and the answers for the features that
-/// the rewrite asked about. An object is rewritten as by `sanitize_object_with`, with this hasher. A table alone has
-/// no sections and no symbols.
+/// the rewrite asked about. An object is rewritten as by `sanitize_finalized` or `sanitize_object_with`, with this hasher.
+/// A table alone has no sections and no symbols.
 ///
-/// The errors are `UnknownFormat`, `Rewrite` with the error of `sanitize_object_with`, `Table` with the error of
-/// `Btf::parse`, of `ksyms_of` or of `Btf::fixup_and_sanitize_with`, and `OutOfMemory`.
+/// The errors are `UnknownFormat`, `Rewrite` with the error of these calls, `Table` with the error of `Btf::parse`, of
+/// `ksyms_of` or of `Btf::fixup_and_sanitize_with`, and `OutOfMemory`.
 pub fn sanitize<H: BuildHasher + Clone + Drop>(
     alloc: Global,
     bytes: &[u8],
@@ -43,19 +46,39 @@ pub fn sanitize<H: BuildHasher + Clone + Drop>(
 ) -> Result<(Vec<u8>, ArrayVec<FeatureAnswer, 8>), Fault>
     // The new file of an object is the old one with the written form of the rewritten table in its section `.BTF`. The
     // new file of a table alone is the written form of the rewritten table.
-    ensures { IfOk result (λ r. IsRewritten bytes.now (chosen_target rewrite.now) r.0.items r.1.items) }
+    ensures { IfOk result (λ r. IsRewritten bytes.now rewrite.now r.0.items r.1.items) }
 {
     match Blob::read(alloc, bytes)? {
-        Blob::Object(_object) => Ok(sanitize_object_with(
+        Blob::Object(_object) => rewrite_object(alloc, bytes, rewrite, hash_builder),
+        Blob::Table(bytes, endianness) => sanitize_table(alloc, bytes, endianness, rewrite),
+    }
+}
+
+/// Rewrites the table of an object: after it is finalized, or as it is.
+fn rewrite_object<H: BuildHasher + Clone + Drop>(
+    alloc: Global,
+    bytes: &[u8],
+    rewrite: &Rewrite<'_>,
+    hash_builder: H,
+) -> Result<(Vec<u8>, ArrayVec<FeatureAnswer, 8>), Fault>
+    ensures { IfOk result (λ r. RewritesObject bytes.now rewrite.now r.0.items r.1.items) }
+{
+    if rewrite.is_finalized {
+        return Ok(sanitize_finalized(
             alloc,
             bytes,
             &rewrite.kernel,
-            rewrite.policy,
-            rewrite.placeholder,
             hash_builder,
-        )?),
-        Blob::Table(bytes, endianness) => sanitize_table(alloc, bytes, endianness, rewrite),
+        )?);
     }
+    Ok(sanitize_object_with(
+        alloc,
+        bytes,
+        &rewrite.kernel,
+        rewrite.policy,
+        rewrite.placeholder,
+        hash_builder,
+    )?)
 }
 
 /// The sizes of the sections of a table alone: none.

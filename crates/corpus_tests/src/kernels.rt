@@ -9,7 +9,7 @@ use std::hash::RandomState;
 /// The versions for which each object is rewritten. Each has features that the one before it lacks.
 const VERSIONS: [&str; 5] = ["4.18", "5.2", "5.8", "5.13", "6.0"];
 
-/// Rewrites an object for each version, and then the result again. Reports a rewrite that fails, a second rewrite that
+/// Rewrites an object for each version, finalized and as it is, and then the result again. Reports a rewrite that fails, a second rewrite that
 /// changes something, and a change of a section other than `.BTF`.
 pub fn try_kernels(rt: &HostRuntime, sample: &str, object: &[u8]) -> anyhow::Result<()> {
     for version in VERSIONS {
@@ -17,16 +17,32 @@ pub fn try_kernels(rt: &HostRuntime, sample: &str, object: &[u8]) -> anyhow::Res
             println!(rt; "{version} is no version")?;
             continue;
         };
-        let rewrite = Rewrite {
-            kernel,
-            policy: FillPolicy::FillSized,
-            placeholder: None,
-        };
-        match try_rewrite(rt, object, &rewrite) {
-            Ok(None) => {}
-            Ok(Some(what)) => println!(rt; "{sample} for {version}: {what}")?,
-            Err(e) => println!(rt; "{sample} for {version}: {e}")?,
+        for is_finalized in [true, false] {
+            let rewrite = Rewrite {
+                kernel,
+                policy: FillPolicy::FillSized,
+                placeholder: None,
+                is_finalized,
+            };
+            try_kernel(rt, sample, version, object, &rewrite)?;
         }
+    }
+    Ok(())
+}
+
+/// Rewrites an object for a version, and then the result again. Reports what is wrong.
+fn try_kernel(
+    rt: &HostRuntime,
+    sample: &str,
+    version: &str,
+    object: &[u8],
+    rewrite: &Rewrite<'_>,
+) -> anyhow::Result<()> {
+    let form = if rewrite.is_finalized { "finalized" } else { "as it is" };
+    match try_rewrite(rt, object, rewrite) {
+        Ok(None) => {}
+        Ok(Some(what)) => println!(rt; "{sample} for {version}, {form}: {what}")?,
+        Err(e) => println!(rt; "{sample} for {version}, {form}: {e}")?,
     }
     Ok(())
 }

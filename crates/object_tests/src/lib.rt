@@ -5,6 +5,8 @@
 #[cfg(test)]
 mod elf;
 #[cfg(test)]
+mod finalized;
+#[cfg(test)]
 mod kernels;
 #[cfg(test)]
 mod layout;

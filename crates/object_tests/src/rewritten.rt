@@ -104,7 +104,7 @@ fn rewritten(alloc: Global, file: &[u8], version: &str) -> Result<Vec<u8>, Fail>
 }
 
 /// The bytes of an object's table, or none.
-fn table_bytes<'a>(object: &Object<'a>) -> &'a [u8] {
+pub fn table_bytes<'a>(object: &Object<'a>) -> &'a [u8] {
     match object.section_by_name(b".BTF") {
         Some(index) => match object.sections().get(index) {
             Some(section) => object.section_bytes(section),
@@ -161,7 +161,7 @@ fn has_same_sections(old: &Object<'_>, new: &Object<'_>) -> bool {
     old.sections().len() == new.sections().len()
 }
 
-fn are_equal(a: &[u8], b: &[u8]) -> bool {
+pub fn are_equal(a: &[u8], b: &[u8]) -> bool {
     a == b
 }
 
@@ -190,7 +190,7 @@ fn keeps_sections(alloc: Global, old: &[u8], new: &[u8]) -> Result<bool, Fail> {
 }
 
 /// Whether an object is the correct rewrite of another one for the version of an index.
-fn is_rewrite(alloc: Global, old: &[u8], new: &[u8], version: usize) -> Result<bool, Fail> {
+pub fn is_rewrite(alloc: Global, old: &[u8], new: &[u8], version: usize) -> Result<bool, Fail> {
     Ok(has_kinds_of(alloc, new, version)? && keeps_sections(alloc, old, new)?)
 }
 

@@ -3,7 +3,7 @@ use Rattle.std.specs.Option.{option_map}
 use Rattle.btf_elf.specs.Writing.{HasReplaced}
 use Rattle.btf_object_model.specs.Sanitized.{IsSanitized}
 use Rattle.btf_object_model.proofs.Kept.{keeps_ext}
-use Rattle.btf_object.specs.Errors.{target_of, of_table, of_section}
+use Rattle.btf_object.specs.Errors.{target_of, of_table, of_section, RefusesFor, RewritesFor}
 use Rattle.btf_object.proofs.Objects.{becomes, table_cause, section_cause, sanitized}
 use Rattle.btf_object.proofs.sanitize.sanitize_object_with.Given.{Over}
 use Rattle.btf_object.proofs.sanitize.sanitize_object_with.Goals as goal
@@ -12,7 +12,8 @@ use Rattle.btf_object.proofs.sanitize.sanitize_object_with.Goals.{In_ok-file}
 pub returns-in_err-written-clause-refused : goal.returns-in_err-written-clause-refused
 returns-in_err-written-clause-refused g c =
     becomes _ (of_table c.in_err-written.field-0.0) c.from_residual-in_err-written.result
-    (table_cause c.args.bytes.now (target_of c.args.kernel.now c.args.policy (option_map (λ (name : Bor (List ℕ)). name.now) c.args.placeholder)) c.in_ok-object.object c.in-Some.index c.in-Some.table.now c.in_ok-object.ensures c.in-Some.ensures.some
+    (table_cause c.args.bytes.now c.in_ok-object.object c.in-Some.index c.in-Some.table.now c.in_ok-object.ensures c.in-Some.ensures.some
+    (RefusesFor (target_of c.args.kernel.now c.args.policy (option_map (λ (name : Bor (List ℕ)). name.now) c.args.placeholder))) (RewritesFor (target_of c.args.kernel.now c.args.policy (option_map (λ (name : Bor (List ℕ)). name.now) c.args.placeholder)))
     c.in_err-written.field-0.0 c.in_err-written.ensures.refused)
     c.from_residual-in_err-written.ensures.1
 
@@ -20,8 +21,9 @@ pub returns-in_err-file-clause-refused : goal.returns-in_err-file-clause-refused
 returns-in_err-file-clause-refused g c =
     let made = c.in_ok-written.ensures.made in
     becomes _ (of_section c.in_err-file.field-0.0) c.from_residual-in_err-file.result
-    (section_cause c.args.bytes.now (target_of c.args.kernel.now c.args.policy (option_map (λ (name : Bor (List ℕ)). name.now) c.args.placeholder)) c.in_ok-object.object c.in-Some.index c.in-Some.table.now c.in_ok-object.ensures c.in-Some.ensures.some made.0
-    made.1 c.in_ok-written.answers.items c.in_err-file.field-0.0 made.2 c.in_err-file.ensures.only)
+    (section_cause c.args.bytes.now c.in_ok-object.object c.in-Some.index c.in-Some.table.now c.in_ok-object.ensures c.in-Some.ensures.some
+    (RefusesFor (target_of c.args.kernel.now c.args.policy (option_map (λ (name : Bor (List ℕ)). name.now) c.args.placeholder))) (RewritesFor (target_of c.args.kernel.now c.args.policy (option_map (λ (name : Bor (List ℕ)). name.now) c.args.placeholder)))
+    c.in_err-file.field-0.0 (made.0, made.1, c.in_ok-written.answers.items, made.2) c.in_err-file.ensures.only)
     c.from_residual-in_err-file.ensures.1
 
 -- the file is the rewritten object
@@ -29,7 +31,8 @@ made : (g : Over) (c : In_ok-file g) → IsSanitized c.args.bytes.now (target_of
 made g c =
     let replaced : HasReplaced c.in_ok-object.object c.in-Some.index c.in_ok-written.written.items c.in_ok-file.file.items =
     subst (λ (given : List ℕ). HasReplaced c.in_ok-object.object c.in-Some.index given c.in_ok-file.file.items) c.deref.ensures.value c.in_ok-file.ensures.ok in
-    sanitized c.args.bytes.now (target_of c.args.kernel.now c.args.policy (option_map (λ (name : Bor (List ℕ)). name.now) c.args.placeholder)) c.in_ok-object.object c.in-Some.index c.in-Some.table.now c.in_ok-object.ensures c.in-Some.ensures.some
+    sanitized c.args.bytes.now c.in_ok-object.object c.in-Some.index c.in-Some.table.now c.in_ok-object.ensures c.in-Some.ensures.some
+    (target_of c.args.kernel.now c.args.policy (option_map (λ (name : Bor (List ℕ)). name.now) c.args.placeholder))
     c.in_ok-written.written.items c.in_ok-file.file.items c.in_ok-written.answers.items c.in_ok-written.ensures.made replaced
 
 pub returns-clause-sanitized : goal.returns-clause-sanitized

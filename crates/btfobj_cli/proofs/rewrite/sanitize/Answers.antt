@@ -22,7 +22,7 @@ returns-in-Table g c =
       | Little ↦ λ begins. subst (λ (b : Blob). IsTable Little bytes b) c.in-Table.is (c.in_ok-_object.ensures.little begins)
       | Big ↦ λ begins. subst (λ (b : Blob). IsTable Big bytes b) c.in-Table.is (c.in_ok-_object.ensures.big begins)
     ] in
-    elim c.sanitize_table.result as (λ r. IfOk r (λ x. RewritesAlone order own target x.0.items x.1.items) → IfOk r (λ x. IsRewritten bytes target x.0.items x.1.items)) [
+    elim c.sanitize_table.result as (λ r. IfOk r (λ x. RewritesAlone order own target x.0.items x.1.items) → IfOk r (λ x. IsRewritten bytes c.args.rewrite.now x.0.items x.1.items)) [
       | Ok x ↦ λ made. record {
         object = λ begins. absurd (no_object begins);
         table = λ o begins. subst (λ (y : Endianness). RewritesAlone y bytes target x.0.items x.1.items) (alone o begins).1 (subst (λ (bs : List ℕ). RewritesAlone order bs target x.0.items x.1.items) (alone o begins).0 made);

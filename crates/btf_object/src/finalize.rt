@@ -1,0 +1,67 @@
+//! A table that is finalized from its object, as a loader does before it rewrites the table for a kernel.
+
+mod known;
+mod placeholder;
+mod section;
+mod sized;
+
+ghost use Rattle.std.specs.Prelude.{◌≡◌, ◌<◌, length, slice_get, Some, IfOk, IfErr, OnOk};
+ghost use Rattle.btf_model.specs.Record.{DataSec};
+ghost use Rattle.btf_rules.specs.Layout.{layout_of};
+ghost use Rattle.btf_object_model.specs.Finalized.{IsFinal, IsFinalized};
+ghost use Rattle.btf_object.specs.Finalize.{AreRead, FinalizesAt};
+
+use crate::finalize::known::KnownNames;
+pub use crate::finalize::placeholder::add_placeholder;
+use crate::finalize::section::final_section;
+pub use crate::finalize::sized::{data_sec_sizes, set_sizes};
+use crate::layout::ObjectLayout;
+use btf_records::BtfType;
+use btf_table::{Btf, set_type, type_count};
+use btf_words::BtfError;
+use std::alloc::Global;
+use std::hash::BuildHasher;
+
+/// Finalizes the type of an id, if it is a DATASEC. `OutOfMemory` is the only error.
+fn finalize_type<H: BuildHasher>(
+    alloc: Global,
+    btf: &mut Btf,
+    layout: &ObjectLayout<H>,
+    names: &mut KnownNames,
+    type_id: u32,
+) -> Result<(), BtfError>
+    requires known { type_id < length btf.old.records }
+    requires read { AreRead btf.old.strings
+        (layout_of layout.now.sections layout.now.symbols) names.old }
+    ensures made { OnOk result (FinalizesAt (layout_of layout.now.sections layout.now.symbols)
+        type_id btf.old btf.new) }
+    ensures read { OnOk result
+        (AreRead btf.new.strings (layout_of layout.now.sections layout.now.symbols) names.new) }
+    ensures memory { IfErr result (λ e. e ≡ BtfError.OutOfMemory) }
+{
+    let Ok(BtfType::DataSec(data_sec)) = btf.type_by_id(type_id) else {
+        return Ok(());
+    };
+    let section = final_section(alloc, btf, layout, names, data_sec)?;
+    set_type(btf, type_id, BtfType::DataSec(section));
+    Ok(())
+}
+
+/// Finalizes a table from its object, as libbpf does when it opens the object: a DATASEC of size 0 gets the size of its
+/// section, and its entries get the offsets of their variables, if all are known; and the entries of each DATASEC are
+/// sorted by offset. `OutOfMemory` is the only error.
+pub fn finalize<H: BuildHasher>(
+    alloc: Global,
+    btf: &mut Btf,
+    layout: &ObjectLayout<H>,
+) -> Result<(), BtfError>
+    ensures made { OnOk result
+        (IsFinalized (layout_of layout.now.sections layout.now.symbols) btf.old btf.new) }
+    ensures memory { IfErr result (λ e. e ≡ BtfError.OutOfMemory) }
+{
+    let mut names = KnownNames::new(alloc);
+    for type_id in 0..type_count(btf) {
+        finalize_type(alloc, btf, layout, &mut names, type_id)?;
+    }
+    Ok(())
+}
