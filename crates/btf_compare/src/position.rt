@@ -58,7 +58,11 @@ pub fn found_at<'a>(local: &'a Btf, target: &'a Btf, at: (u32, u32)) -> Position
 
 /// Compares two types that are no modifiers, and have these ids.
 #[inline(always)]
-pub fn types_at<'a>(ids: (u32, u32), local_type: &'a BtfType, target_type: &'a BtfType) -> Position<'a>
+pub fn types_at<'a>(
+    ids: (u32, u32),
+    local_type: &'a BtfType,
+    target_type: &'a BtfType,
+) -> Position<'a>
     ensures position { PositionIs result
         (PositionFound ids.0 (type_kind local_type.now) (type_kind target_type.now)
         (record_of local_type.now) (record_of target_type.now)) }

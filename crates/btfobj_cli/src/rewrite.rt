@@ -64,12 +64,7 @@ fn rewrite_object<H: BuildHasher + Clone + Drop>(
     ensures { IfOk result (λ r. RewritesObject bytes.now rewrite.now r.0.items r.1.items) }
 {
     if rewrite.is_finalized {
-        return Ok(sanitize_finalized(
-            alloc,
-            bytes,
-            &rewrite.kernel,
-            hash_builder,
-        )?);
+        return Ok(sanitize_finalized(alloc, bytes, &rewrite.kernel, hash_builder)?);
     }
     Ok(sanitize_object_with(
         alloc,

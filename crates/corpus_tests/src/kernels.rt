@@ -38,7 +38,11 @@ fn try_kernel(
     object: &[u8],
     rewrite: &Rewrite<'_>,
 ) -> anyhow::Result<()> {
-    let form = if rewrite.is_finalized { "finalized" } else { "as it is" };
+    let form = if rewrite.is_finalized {
+        "finalized"
+    } else {
+        "as it is"
+    };
     match try_rewrite(rt, object, rewrite) {
         Ok(None) => {}
         Ok(Some(what)) => println!(rt; "{sample} for {version}, {form}: {what}")?,
