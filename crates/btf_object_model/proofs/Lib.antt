@@ -1,3 +1,4 @@
 pub mod Appended
 pub mod Exts
 pub mod Kept
+pub mod Unique

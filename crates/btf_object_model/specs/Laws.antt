@@ -14,6 +14,7 @@ use Rattle.btf_rewrite_model.specs.declared.feature.BtfFeature.{BtfFeature}
 use Rattle.btf_rewrite_model.specs.declared.feature.FeatureAnswer.{FeatureAnswer}
 use Rattle.btf_rewrite_model.specs.declared.feature.FillPolicy.{FillPolicy}
 use Rattle.btf_rewrite_model.specs.declared.ksyms_ids.KsymsIds.{KsymsIds}
+use Rattle.btf_object_model.specs.Finalized.{IsFinalized}
 use Rattle.btf_object_model.specs.SanitizedFinalized.{IsSanitizedFinalized}
 use Rattle.btf_object_model.specs.Sanitized.{Target, HasSection, IsSanitized, table_name, ext_name}
 
@@ -62,3 +63,8 @@ FinalizedKeepsExt =
     → IsSanitizedFinalized bytes has file answers
     → (o : Object) (index : ℕ) (s : SectionHeader) → HasSection bytes ext_name o index s
     → (new : Object) × KeepsExt bytes file o new index s
+
+-- A table is finalized in one way: an object determines the finalized table.
+abbrev pub IsFinalizedOnce : Type 0
+IsFinalizedOnce =
+    (layout : Layout) (old new other : Table) → IsFinalized layout old new → IsFinalized layout old other → new ≡ other

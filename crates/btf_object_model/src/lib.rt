@@ -4,7 +4,7 @@
 //! The definitions are in `specs/`. Each law is the contract of a function here that does nothing.
 #![tactic(auto)]
 
-ghost use Rattle.btf_object_model.specs.Laws.{TextsStay, ExtStays, SanitizedKeepsExt, FinalizedKeepsExt};
+ghost use Rattle.btf_object_model.specs.Laws.{TextsStay, ExtStays, SanitizedKeepsExt, FinalizedKeepsExt, IsFinalizedOnce};
 
 mod version;
 
@@ -30,4 +30,9 @@ pub fn sanitized_keeps_ext()
 /// The same for an object whose table is finalized before it is rewritten.
 pub fn finalized_keeps_ext()
     ensures { FinalizedKeepsExt }
+{}
+
+/// A table is finalized in one way: an object determines the finalized table.
+pub fn is_finalized_once()
+    ensures { IsFinalizedOnce }
 {}
