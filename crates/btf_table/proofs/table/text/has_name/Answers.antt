@@ -1,6 +1,5 @@
-use Rattle.std.proofs.Common.{refl, ap, subst, ◌∙◌, List, ℕ, Ok, Option, arith}
+use Rattle.std.proofs.Common.{ap, subst, ◌∙◌, List, ℕ, Ok, Option, arith}
 use Rattle.std.specs.Prelude.{IfSome}
-use Rattle.btf_model.specs.Text.{text_at}
 use Rattle.btf_table.specs.Readable.{IsReadableEnd, IsComparable}
 use Rattle.btf_table.proofs.Names.{text_compared, bytes_compared}
 use Rattle.btf_table.proofs.table.text.has_name.Goals as goal
