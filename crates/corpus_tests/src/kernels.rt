@@ -9,8 +9,8 @@ use std::hash::RandomState;
 /// The versions for which each object is rewritten. Each has features that the one before it lacks.
 const VERSIONS: [&str; 5] = ["4.18", "5.2", "5.8", "5.13", "6.0"];
 
-/// Rewrites an object for each version, finalized and as it is, and then the result again. Reports a rewrite that fails, a second rewrite that
-/// changes something, and a change of a section other than `.BTF`.
+/// Rewrites an object for each version, finalized and as it is, and then the result again. Reports a rewrite that
+/// fails, a second rewrite that changes something, and a change of a section other than `.BTF`.
 pub fn try_kernels(rt: &HostRuntime, sample: &str, object: &[u8]) -> anyhow::Result<()> {
     for version in VERSIONS {
         let Some(kernel) = Kernel::of_version(version) else {
