@@ -150,8 +150,10 @@ placeholder_fault t ids =
 -- libbpf's `bpf_object__collect_externs`, which lays out `.ksyms` with the size of an `int` for each entry.
 abbrev pub with_ksyms_size : Table → Option KsymsIds → Table
 with_ksyms_size t (Some ids) =
-    record t { records = set t.records ids.datasec_id
-      (record (record_at t ids.datasec_id) { third = 4 * length (symbols t ids) }) }
+    record t {
+      records = set t.records ids.datasec_id
+          (record (record_at t ids.datasec_id) { third = 4 * length (symbols t ids) });
+    }
 with_ksyms_size t None = t
 
 -- ---- STRUCTs that were DATASECs
