@@ -1,14 +1,14 @@
 -- The entries of a DATASEC that is finalized.
-use Rattle.std.proofs.Common.{◌≡◌, ℕ, ◌+◌, ◌*◌, ◌^◌, ◌<◌, ◌≤◌, Bool, true, false, ◌&&◌, ◌||◌, cond, List, [], ◌∷◌, ◌++◌, length, get_or, take, filter, map, Option, None, Some, refl, sym, ap, subst, ◌∙◌, arith, nat_cmp, is_lt}
+use Rattle.std.proofs.Common.{◌≡◌, ℕ, ◌+◌, ◌*◌, ◌^◌, ◌<◌, ◌≤◌, Bool, true, false, ◌&&◌, ◌||◌, cond, List, [], ◌∷◌, ◌++◌, length, get_or, set, take, filter, map, Option, None, Some, refl, sym, ap, subst, ◌∙◌, arith, nat_cmp, is_lt}
 use Rattle.std.specs.Prelude.{◌==◌, if◌then◌else◌, slice_get}
 use Rattle.std.specs.List.{flat_map, list_all, list_any}
 use Rattle.std.specs.List.Sorted.{ties, IsSortedByKey, IsStableByKey}
 use Rattle.std.specs.Option.{unwrap_or, option_map, is_some}
 use Rattle.std.proofs.lemmas.Option.{same_Some, none-some}
-use Rattle.std.proofs.lemmas.List.{map-append, length-append, length-map, get_or-map, take_all, take_more}
+use Rattle.std.proofs.lemmas.List.{map-append, length-append, length-map, get_or-map, map-set, take_all, take_more}
 use Rattle.std.proofs.lemmas.List.Folds.{list_all-append, list_all-map, list_all_at}
 use Rattle.btf_model.specs.Record as kinds
-use Rattle.btf_model.specs.Record.{Record, unknown, kind_of, vlen}
+use Rattle.btf_model.specs.Record.{Kind, Record, unknown, kind_of, vlen}
 use Rattle.btf_model.specs.Table.{Table}
 use Rattle.btf_model.specs.Text.{text_at}
 use Rattle.btf_rewrite_model.specs.Made.{Entry, entries, record_at, kind_at, data_sec}
@@ -17,15 +17,15 @@ use Rattle.btf_rewrite_model.specs.Pass.{Layout}
 use Rattle.btf_rewrite_model.proofs.Granted.{kind_made, vlen_small}
 use Rattle.btf_rewrite_model.specs.Ksyms.{is_func}
 use Rattle.btf_rewrite_model.specs.declared.ksyms_ids.KsymsIds.{KsymsIds}
-use Rattle.btf_records.specs.BtfType.{record_of}
+use Rattle.btf_records.specs.BtfType.{record_of, type_kind}
 use Rattle.btf_records.specs.declared.btf_type.BtfType.{BtfType}
 use Rattle.btf_records.specs.declared.btf_type.BtfType.TheVariants.{DataSec as DataSecType}
 use Rattle.btf_items.specs.Items.{entry_words}
 use Rattle.btf_items.specs.declared.items.DataSecEntry.{DataSecEntry}
 use Rattle.btf_table.specs.KsymsStep.{entry}
 use Rattle.btf_table.proofs.KsymsEntries.{at, zero_entry, entries_of_words}
-use Rattle.btf_object_model.specs.Finalized.{section_size, entry_offset, placed, AreInOrder, is_completed, final_size, IsFinal, has_functions}
-use Rattle.btf_object.specs.Finalize.{completed_parts, final_parts}
+use Rattle.btf_object_model.specs.Finalized.{section_size, entry_offset, placed, AreInOrder, is_completed, final_size, IsFinal, has_functions, is_data_sec, with_ksyms_size}
+use Rattle.btf_object.specs.Finalize.{completed_parts, final_parts, data_sec_size}
 
 -- the entries before a place, and the entry at it
 entries_up_to : (es : List DataSecEntry) (i : ℕ) → i < length es → map entry (take (i + 1) es) ≡ map entry (take i es) ++ entry (at es i) ∷ []
@@ -207,3 +207,17 @@ functions_are t ids b r es is here words =
     let record_is : record_at t ids.datasec_id ≡ r = ap (λ (o : Option Record). unwrap_or o unknown) here ∙ ap record_of is in
     list_any-map (λ (e : Entry). is_func (kind_at t e.type)) entry es
     ∙ ap (list_any (λ (e : Entry). is_func (kind_at t e.type))) (sym (ap (λ (x : Record). entries x.tail) record_is ∙ all_entries r.tail es words))
+
+-- the recorded size of `.ksyms`
+pub ksyms_sizes : (t : Table) (ids : KsymsIds) (b : BtfType) (r : Record) (es : List DataSecEntry) (sizes : List (Option ℕ)) → b ≡ DataSecType r → slice_get t.records ids.datasec_id ≡ Some (record_of b) → kind_of (record_of b).info ≡ Some (type_kind b)
+    → r.tail ≡ flat_map entry_words es → sizes ≡ map data_sec_size t.records → set sizes ids.datasec_id (Some (4 * length es)) ≡ map data_sec_size (with_ksyms_size t (Some ids)).records
+ksyms_sizes t ids b r es sizes is here kind words are =
+    let id : ℕ = ids.datasec_id in
+    let record_is : record_at t id ≡ record_of b = ap (λ (o : Option Record). unwrap_or o unknown) here in
+    let kind_is : kind_of (record_at t id).info ≡ Some kinds.DataSec = ap (λ (x : Record). kind_of x.info) record_is ∙ kind ∙ ap (λ (x : BtfType). Some (type_kind x)) is in
+    let new : Record = record (record_at t id) { third = 4 * length (entries (record_at t id).tail) } in
+    let entries_are : entries (record_at t id).tail ≡ map entry es = ap (λ (x : Record). entries x.tail) (record_is ∙ ap record_of is) ∙ all_entries r.tail es words in
+    let count : length (entries (record_at t id).tail) ≡ length es = ap (λ (xs : List Entry). length xs) entries_are ∙ length-map es entry in
+    let size_is : data_sec_size new ≡ Some (4 * length es) =
+    ap (λ (k : Option Kind). if is_data_sec k then Some (4 * length (entries (record_at t id).tail)) else None) kind_is ∙ ap (λ (n : ℕ). Some (4 * n)) count in
+    ap (λ (ss : List (Option ℕ)). set ss id (Some (4 * length es))) are ∙ ap (set (map data_sec_size t.records) id) (sym size_is) ∙ sym (map-set data_sec_size t.records id new)

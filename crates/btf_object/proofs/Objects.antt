@@ -14,7 +14,7 @@ use Rattle.btf_elf_model.specs.declared.section_header.SectionHeader.{SectionHea
 use Rattle.btf_rewrite_model.specs.declared.feature.FeatureAnswer.{FeatureAnswer}
 use Rattle.btf_model.specs.Refusal.{Refusal}
 use Rattle.btf_rewrite_model.specs.declared.feature.BtfFeature.{BtfFeature}
-use Rattle.btf_object_model.specs.Finalized.{sized}
+use Rattle.btf_object_model.specs.Finalized.{with_ksyms_size, sized}
 use Rattle.btf_object_model.specs.Sanitized.{Target, HasSection, RewritesTable, IsSanitized, table_name}
 use Rattle.btf_object_model.specs.SanitizedFinalized.{RewritesFinalized, IsSanitizedFinalized}
 use Rattle.btf_words.specs.Error.{refusal_of}
@@ -73,16 +73,19 @@ module _ (bytes : List ℕ) (o : Object) (index : ℕ) (t : List ℕ) (object : 
   }
 
   -- so is the table that was finalized before
-  pub sanitized_finalized : (has : BtfFeature → Bool) (given file : List ℕ) (answers : List FeatureAnswer) → (old base new : Table) × RewritesFinalized o t has old base new answers × (given ≡ canon (sized base new)) → HasReplaced o index given file
+  pub sanitized_finalized : (has : BtfFeature → Bool) (given file : List ℕ) (answers : List FeatureAnswer) → (old base new : Table) × (made : RewritesFinalized o t has old base new answers) × (given ≡ canon (sized (with_ksyms_size base made.ids) new)) → HasReplaced o index given file
       → IsSanitizedFinalized bytes has file answers
-  sanitized_finalized has given file answers m replaced = record {
-    object = o;
-    index = index;
-    header = f.section;
-    section = has_section;
-    old = m.0;
-    base = m.1;
-    new = m.2;
-    table = subst (λ (b : List ℕ). RewritesFinalized o b has m.0 m.1 m.2 answers) f.bytes_are m.3;
-    replaced = in_place given (canon (sized m.1 m.2)) file m.4 replaced;
-  }
+  sanitized_finalized has given file answers m replaced =
+      let Made : List ℕ → Type 0 = λ b. (made : RewritesFinalized o b has m.0 m.1 m.2 answers) × (given ≡ canon (sized (with_ksyms_size m.1 made.ids) m.2)) in
+      let here : Made (section_bytes o f.section) = subst Made f.bytes_are (m.3, m.4) in
+      record {
+        object = o;
+        index = index;
+        header = f.section;
+        section = has_section;
+        old = m.0;
+        base = m.1;
+        new = m.2;
+        table = here.0;
+        replaced = in_place given (canon (sized (with_ksyms_size m.1 here.0.ids) m.2)) file here.1 replaced;
+      }

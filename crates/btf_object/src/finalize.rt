@@ -14,7 +14,7 @@ ghost use Rattle.btf_object.specs.Finalize.{AreRead, FinalizesAt};
 use crate::finalize::known::KnownNames;
 pub use crate::finalize::placeholder::add_placeholder;
 use crate::finalize::section::final_section;
-pub use crate::finalize::sized::{data_sec_sizes, set_sizes};
+pub use crate::finalize::sized::{set_sizes, sizes_of};
 use crate::layout::ObjectLayout;
 use btf_records::BtfType;
 use btf_table::{Btf, set_type, type_count};

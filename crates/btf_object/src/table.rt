@@ -7,7 +7,7 @@ ghost use Rattle.btf_model.specs.Blob.{canon};
 ghost use Rattle.btf_rewrite_model.specs.Pass.{Asked};
 ghost use Rattle.btf_rewrite_model.specs.Rewritten.{pass_of, Rewritten, IsRefused};
 ghost use Rattle.btf_rules.specs.Layout.{layout_of};
-ghost use Rattle.btf_object_model.specs.Finalized.{sized};
+ghost use Rattle.btf_object_model.specs.Finalized.{with_ksyms_size, sized};
 ghost use Rattle.btf_object_model.specs.Kernel.{answers_of};
 ghost use Rattle.btf_object_model.specs.Sanitized.{RewritesTable, RefusesTable, AreAnswers};
 ghost use Rattle.btf_object_model.specs.SanitizedFinalized.{RewritesFinalized, RefusesFinalized};
@@ -15,7 +15,7 @@ ghost use Rattle.btf_words.specs.Error.{refusal_of};
 ghost use Rattle.btf_object.specs.Errors.{target_of};
 ghost use Rattle.btf_object.specs.Kernel.{has};
 
-use crate::finalize::{add_placeholder, data_sec_sizes, finalize, set_sizes};
+use crate::finalize::{add_placeholder, finalize, set_sizes, sizes_of};
 use crate::kernel::Kernel;
 use crate::ksyms::ksyms_of;
 use crate::layout::ObjectLayout;
@@ -96,16 +96,16 @@ pub fn finalized<H: BuildHasher + Clone + Drop>(
     hash_builder: H,
 ) -> Result<(Vec<u8>, ArrayVec<FeatureAnswer, 8>), BtfError>
     ensures made { IfOk result (λ r. (old base new : Table)
-        × RewritesFinalized object.now table.now (has kernel.now) old base new r.1.items
-        × (r.0.items ≡ canon (sized base new))) }
+        × (made : RewritesFinalized object.now table.now (has kernel.now) old base new r.1.items)
+        × (r.0.items ≡ canon (sized (with_ksyms_size base made.ids) new))) }
     ensures refused { IfErr result (λ e. IfSome (refusal_of e)
         (RefusesFinalized object.now table.now (has kernel.now))) }
 {
     let layout = ObjectLayout::read(alloc, object, hash_builder)?;
     let mut btf = Btf::parse(alloc, table, object.header().order)?;
     finalize(alloc, &mut btf, &layout)?;
-    let sizes = data_sec_sizes(alloc, &btf)?;
     let ids = ksyms_of(&btf, None)?;
+    let sizes = sizes_of(alloc, &btf, ids)?;
     let ids = add_placeholder(&mut btf, ids)?;
     let answers = rewrite_for(&mut btf, &layout, kernel, FillPolicy::FillSized, ids)?;
     set_sizes(alloc, &mut btf, &sizes)?;

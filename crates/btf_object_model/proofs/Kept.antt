@@ -32,7 +32,7 @@ use Rattle.btf_rewrite_model.specs.declared.feature.FillPolicy.TheVariants.{Fill
 use Rattle.btf_rewrite_model.specs.declared.ksyms_ids.KsymsIds.{KsymsIds}
 use Rattle.btf_object_model.specs.Kernel.{answers_of}
 use Rattle.btf_object_model.specs.Layout.{layout_of}
-use Rattle.btf_object_model.specs.Finalized.{placeholder_text, with_int, with_variable, has_functions, with_placeholder, with_placeholder_id, sized}
+use Rattle.btf_object_model.specs.Finalized.{placeholder_text, with_int, with_variable, has_functions, with_placeholder, with_placeholder_id, with_ksyms_size, sized}
 use Rattle.btf_object_model.specs.SanitizedFinalized.{RewritesFinalized, IsSanitizedFinalized}
 use Rattle.btf_object_model.specs.Laws.{HasSameContents, KeepsExt}
 use Rattle.btf_object_model.specs.Sanitized.{Target, HasSection, IsSanitized, index_of, table_name, ext_name}
@@ -212,8 +212,8 @@ placeholder_strings t ids =
     ([], sym (append-nil t.strings))
 
 -- the strings of a table that is finalized are those of the old table, and more
-final_texts_stay : (has : BtfFeature → Bool) (o : Object) (bytes : List ℕ) (given base new : Table) (answers : List FeatureAnswer) → RewritesFinalized o bytes has given base new answers
-    → (offset : ℕ) (text : List ℕ) → text_at given.strings offset ≡ Ok text → text_at (sized base new).strings offset ≡ Ok text
+final_texts_stay : (has : BtfFeature → Bool) (o : Object) (bytes : List ℕ) (given base new : Table) (answers : List FeatureAnswer) (r : RewritesFinalized o bytes has given base new answers)
+    → (offset : ℕ) (text : List ℕ) → text_at given.strings offset ≡ Ok text → text_at (sized (with_ksyms_size base r.ids) new).strings offset ≡ Ok text
 final_texts_stay has o bytes given base new answers r offset text reads =
     let more = placeholder_strings base r.ids in
     let same : base.strings ≡ given.strings = ap (λ (t : Table). t.strings) r.finalized.others in
@@ -228,7 +228,7 @@ finalized_keeps_ext bytes file has answers z = rewritten_keeps_ext bytes file (r
   header = z.header;
   section = z.section;
   old = z.old;
-  new = sized z.base z.new;
+  new = sized (with_ksyms_size z.base z.table.ids) z.new;
   table = z.table.table;
   written = z.table.written;
   stays = final_texts_stay has z.object (section_bytes z.object z.header) z.old z.base z.new answers z.table;

@@ -3,7 +3,7 @@
 -- the sizes of the STRUCTs that DATASECs became.
 -- Source: libbpf's `btf_fixup_datasec`. Compilers leave these sizes and offsets 0, because they do not know the
 -- sections of the object. libbpf does not determine the order of entries with the same offset; here it stays.
-use Rattle.std.specs.Prelude.{◌≡◌, ℕ, ◌<◌, ◌*◌, ◌^◌, ◌==◌, ◌&&◌, ◌||◌, Bool, true, false, if◌then◌else◌, List, [], ◌∷◌, ◌++◌, length, map, codes, Option, Some, None, Result, Ok, Err}
+use Rattle.std.specs.Prelude.{◌≡◌, ℕ, ◌<◌, ◌*◌, ◌^◌, ◌==◌, ◌&&◌, ◌||◌, Bool, true, false, if◌then◌else◌, List, [], ◌∷◌, ◌++◌, length, map, set, codes, Option, Some, None, Result, Ok, Err}
 use Rattle.std.specs.List.{list_all, list_any}
 use Rattle.std.specs.List.Sorted.{IsSortedByKey, IsStableByKey}
 use Rattle.std.specs.Option.{is_some, option_map, unwrap_or}
@@ -145,6 +145,16 @@ placeholder_fault t ids =
     then first_fault (placeholder_checks t None ++ has_room (length (with_int t).strings) placeholder_text
     ∷ fits (length (type_bytes (with_int t))) (record_len (placeholder 0 0)) ∷ [])
     else None
+
+-- The table in which `.ksyms`, if the table has it, has 4 bytes for each entry, as after the step of `.ksyms`. Source:
+-- libbpf's `bpf_object__collect_externs`, which lays out `.ksyms` with the size of an `int` for each entry.
+abbrev pub with_ksyms_size : Table → Option KsymsIds → Table
+with_ksyms_size t (Some ids) =
+    record t {
+      records = set t.records ids.datasec_id
+          (record (record_at t ids.datasec_id) { third = 4 * length (symbols t ids) });
+    }
+with_ksyms_size t None = t
 
 -- ---- STRUCTs that were DATASECs
 

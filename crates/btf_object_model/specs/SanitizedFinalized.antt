@@ -14,7 +14,7 @@ use Rattle.btf_rewrite_model.specs.declared.feature.BtfFeature.{BtfFeature}
 use Rattle.btf_rewrite_model.specs.declared.feature.FeatureAnswer.{FeatureAnswer}
 use Rattle.btf_rewrite_model.specs.declared.feature.FillPolicy.TheVariants.{FillSized}
 use Rattle.btf_rewrite_model.specs.declared.ksyms_ids.KsymsIds.{KsymsIds}
-use Rattle.btf_object_model.specs.Finalized.{IsFinalized, placeholder_fault, with_placeholder, with_placeholder_id, sized}
+use Rattle.btf_object_model.specs.Finalized.{IsFinalized, placeholder_fault, with_placeholder, with_placeholder_id, with_ksyms_size, sized}
 use Rattle.btf_object_model.specs.Kernel.{answers_of}
 use Rattle.btf_object_model.specs.Ksyms.{FindsKsyms}
 use Rattle.btf_object_model.specs.Layout.{layout_of}
@@ -26,7 +26,7 @@ kernel_target has = record { has = has; policy = FillSized; placeholder = None }
 
 -- The bytes of a section represent a table, and `base` is this table finalized. It gets a placeholder for functions of
 -- `.ksyms` if it needs one, and `new` is the rewrite of the result. The table that is written is `new` with the sizes
--- of the finalized DATASECs.
+-- of the DATASECs, where `.ksyms` has the size that the rewrite gives it.
 pub record RewritesFinalized (o : Object) (bytes : List ℕ) (has : BtfFeature → Bool) (old base new : Table)
     (answers : List FeatureAnswer) : Type 0 where
   pub ids : Option KsymsIds
@@ -39,7 +39,8 @@ pub record RewritesFinalized (o : Object) (bytes : List ℕ) (has : BtfFeature �
   pub answers_are : AreAnswers (kernel_target has)
       (Asked (pass_of FillSized (with_placeholder base ids) (with_placeholder_id base ids) (layout_of o) answers))
       answers
-  pub written : IsTable o.header.order (canon (sized base new)) (strip (sized base new))
+  pub written : IsTable o.header.order (canon (sized (with_ksyms_size base ids) new))
+      (strip (sized (with_ksyms_size base ids) new))
 
 -- The bytes of a section represent no table, or the search for the ids of `.ksyms` in the finalized table fails, or
 -- the placeholder does not fit, or the rewrite is refused.
@@ -65,4 +66,4 @@ pub record IsSanitizedFinalized (bytes : List ℕ) (has : BtfFeature → Bool) (
   pub new : Table
   pub table : RewritesFinalized object (section_bytes object header) has old base new answers
   pub replaced : (new_object : Object) × IsObject file new_object
-      × ReplacesSection object index header (canon (sized base new)) new_object
+      × ReplacesSection object index header (canon (sized (with_ksyms_size base table.ids) new)) new_object

@@ -1,13 +1,15 @@
 //! The sizes of the STRUCTs that DATASECs became in a rewrite.
 
-ghost use Rattle.std.specs.Prelude.{◌≡◌, ◌<◌, length, map, Some, IfOk, IfErr, OnOk};
+ghost use Rattle.std.specs.Prelude.{◌≡◌, ◌<◌, length, map, None, Some, Ok, IfOk, IfErr, OnOk};
 ghost use Rattle.btf_model.specs.Table.{Table};
 ghost use Rattle.btf_records.specs.BtfType.{record_of};
-ghost use Rattle.btf_object_model.specs.Finalized.{sized};
+ghost use Rattle.btf_object_model.specs.Finalized.{with_ksyms_size, sized};
+ghost use Rattle.btf_object_model.specs.Ksyms.{FindsKsyms};
 ghost use Rattle.btf_object.specs.Finalize.{data_sec_size, ResizesAt};
 
 use btf_items::BtfMember;
 use btf_records::{BtfType, Struct};
+use btf_rewrite_model::KsymsIds;
 use btf_table::{Btf, set_type, type_count};
 use btf_words::{BtfError, BtfKind};
 use std::alloc::{AllocError, Global};
@@ -23,7 +25,7 @@ fn data_sec_size(btf_type: &BtfType) -> Option<u32>
 }
 
 /// The size of each DATASEC by its id; None for other types.
-pub fn data_sec_sizes(alloc: Global, btf: &Btf) -> Result<Vec<Option<u32>>, AllocError>
+fn data_sec_sizes(alloc: Global, btf: &Btf) -> Result<Vec<Option<u32>>, AllocError>
     ensures { IfOk result (λ v. v.items ≡ map data_sec_size btf.now.records) }
 {
     let types = btf.types().as_slice();
@@ -31,6 +33,28 @@ pub fn data_sec_sizes(alloc: Global, btf: &Btf) -> Result<Vec<Option<u32>>, Allo
     for btf_type in types {
         sizes.push(data_sec_size(btf_type))?;
     }
+    Ok(sizes)
+}
+
+/// The size of each DATASEC by its id, where `.ksyms`, whose ids are given if the table has it, has 4 bytes for each
+/// entry; None for other types.
+pub fn sizes_of(
+    alloc: Global,
+    btf: &Btf,
+    ids: Option<KsymsIds>,
+) -> Result<Vec<Option<u32>>, AllocError>
+    requires { FindsKsyms btf.now None (Ok ids) }
+    ensures { IfOk result
+        (λ v. v.items ≡ map data_sec_size (with_ksyms_size btf.now ids).records) }
+{
+    let mut sizes = data_sec_sizes(alloc, btf)?;
+    let Some(ids) = ids else {
+        return Ok(sizes);
+    };
+    let Ok(BtfType::DataSec(data_sec)) = btf.type_by_id(ids.datasec_id) else {
+        return Ok(sizes);
+    };
+    sizes[ids.datasec_id as usize] = Some(4 * data_sec.entries().len() as u32);
     Ok(sizes)
 }
 

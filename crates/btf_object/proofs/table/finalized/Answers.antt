@@ -5,7 +5,7 @@ use Rattle.btf_model.specs.Table.{Table}
 use Rattle.btf_model.proofs.Comparisons.{same_ok}
 use Rattle.btf_elf_model.specs.declared.file_header.FileHeader.{FileHeader}
 use Rattle.btf_rules.specs.Layout.{layout_of}
-use Rattle.btf_object_model.specs.Finalized.{sized}
+use Rattle.btf_object_model.specs.Finalized.{with_ksyms_size, sized}
 use Rattle.btf_object.specs.Kernel.{has}
 use Rattle.btf_object.proofs.Rewrites.{refuses_ksyms, refuses_placeholder, refuses_rewrite, rewrites_finalized, passed_on}
 use Rattle.btf_object.proofs.table.finalized.Given.{Over}
@@ -46,7 +46,8 @@ returns-clause-made g c =
     let base : Table = c.finalize.new.btf in
     let new : Table = c.rewrite_for.new.btf in
     let made : Table = c.set_sizes.new.btf in
-    let made_is : made ≡ sized base new = c.in_ok-set_sizes.ensures.made base (c.deref.ensures.value ∙ c.in_ok-sizes.ensures) in
+    let made_is : made ≡ sized (with_ksyms_size base c.in_ok-ids.ids) new =
+    c.in_ok-set_sizes.ensures.made (with_ksyms_size base c.in_ok-ids.ids) (c.deref.ensures.value ∙ c.in_ok-sizes.ensures) in
     let bytes_are : c.in_ok-to_bytes.field-0.items ≡ canon made = same_ok {E = Refusal} c.in_ok-to_bytes.field-0.items (canon made) c.in_ok-to_bytes.ensures.written in
     let all =
     rewrites_finalized c.args.object.now c.args.table.now (has c.args.kernel.now) c.in_ok-btf.btf base (layout_of c.in_ok-layout.layout.sections c.in_ok-layout.layout.symbols) c.in_ok-layout.ensures.layout (parsed g at.In_ok-btf) c.in_ok-finalize.ensures.made
