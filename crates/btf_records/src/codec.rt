@@ -21,6 +21,9 @@ use btf_plain::{
 };
 use std::alloc::{AllocError, Global};
 
+/// The length in bytes of the words that each record begins with.
+const HEAD_LEN: usize = 12;
+
 /// The three words that each record begins with.
 #[derive(Clone, Copy)]
 struct Head {
@@ -36,6 +39,10 @@ impl Head {
             (λ x. IsHead endianness bytes.now x.0 x.1.now)
             (λ e. (length bytes.now < 12) × (e ≡ BtfError.InvalidTypeInfo)) }
     {
+        // With this check the compiler leaves out those of the three words.
+        if bytes.len() < HEAD_LEN {
+            return Err(BtfError::InvalidTypeInfo);
+        }
         let (name, rest) = split_word(bytes, endianness)?;
         let (info, rest) = split_word(rest, endianness)?;
         let (third, rest) = split_word(rest, endianness)?;

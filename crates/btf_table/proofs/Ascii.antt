@@ -1,17 +1,17 @@
 -- Pure ASCII texts, whose end is found 16 bytes at a time.
-use Rattle.std.proofs.Common.{◌≡◌, ◌≢◌, ℕ, suc, ◌+◌, ◌-◌, ◌<◌, ◌≤◌, zero, leb, not, List, length, take, drop, get_or, Some, None, true, false, Ok, inl, inr, sym, ap, subst, ◌∙◌, arith}
+use Rattle.std.proofs.Common.{◌≡◌, ◌≢◌, ℕ, suc, ◌+◌, ◌-◌, ◌<◌, ◌≤◌, zero, leb, eqb, cond, not, ◌||◌, bit_or, Bool, List, [], ◌∷◌, length, map, replicate, take, drop, get_or, Some, None, true, false, Ok, inl, inr, refl, sym, ap, subst, ◌∙◌, arith}
 use Rattle.std.specs.Str.{IsUtf8, IsCharBoundary}
 use Rattle.std.specs.List.{prefix_len}
 use Rattle.std.proofs.lemmas.Bool.{eqb-false, eqb-true, ne_eqb, leb-false, leb-true, cases_lt}
 use Rattle.std.proofs.lemmas.Simd.{run_in_chunk_fails, run_in_chunk_le, run_in_chunk_stops}
-use Rattle.std.proofs.lemmas.List.{get_or-take, get_or-drop, length-drop, length-take-le, take-append-drop}
+use Rattle.std.proofs.lemmas.List.{get_or-take, get_or-drop, length-map, length-drop, length-take-le, take-append-drop}
 use Rattle.std.proofs.lemmas.Str.{IsUtf8-from_ascii, IsUtf8-append, IsUtf8-drop, IsCharBoundary-after_ascii}
 use Rattle.std.proofs.lemmas.Str.Ascii.{IsAscii-from_reads}
 use Rattle.bstr.proofs.lemmas.EncodeLemmas.{lossy_chars-utf8}
-use lib.Lanes.{chunk}
+use lib.Lanes.{chunk, top, zip2}
 use Rattle.btf_model.specs.Text.{is_zero, bytes_at, text_of, text_at}
 use Rattle.btf_model.proofs.Texts.{bytes_are, no_bytes}
-use Rattle.btf_table.specs.Ascii.{IsAsciiEnd, IsAsciiText, BeginsAscii}
+use Rattle.btf_table.specs.Ascii.{ends_plain, IsAsciiEnd, IsAsciiText, BeginsAscii}
 
 -- no byte below an index is zero, and each is ASCII
 abbrev pub AreAscii : List ℕ → ℕ → Type 0
@@ -70,6 +70,41 @@ module _ (bytes : List ℕ) (at zero other : ℕ) (room : at + 16 ≤ length byt
         | inl early ↦ (before end early).0 h.stops
         | inr late ↦ eqb-false (get_or bytes end 0) 0 (run_in_chunk_fails is_zero bytes at 16 zero 0 room zeros end late (omega (arith, whole, last, h.within))) h.stops
       ]
+
+-- ---- the first byte that ends a text or is not ASCII
+
+-- what the two comparisons of a lane say together
+end_lane : (p q : Bool) → top 7 (bit_or (cond p 255 0) (cond q 255 0)) ≡ (p || q)
+end_lane false false = refl
+end_lane false true = refl
+end_lane true false = refl
+end_lane true true = refl
+
+-- what the comparisons of all lanes say together
+pub end_lanes : (v : List ℕ) (n : ℕ) → length v ≡ n → map (top 7) (zip2 bit_or (zip2 (λ a b. cond (eqb a b) 255 0) v (replicate n 0)) (zip2 (λ a b. cond (leb a b) 255 0) (replicate n 128) v)) ≡ map ends_plain v
+end_lanes [] n is = refl
+end_lanes (x ∷ xs) zero is = cc
+end_lanes (x ∷ xs) (suc n) is = let tail = end_lanes xs n (omega (arith, is)) in let head = end_lane (eqb x 0) (leb 128 x) in λ i. head i ∷ tail i
+
+pub length-ends : (v : List ℕ) → length (map ends_plain v) ≡ length v
+length-ends v = length-map v ends_plain
+
+or_false : (p q : Bool) → (p || q) ≡ false → (p ≡ false) × (q ≡ false)
+or_false false q is = (refl, is)
+or_false true q is = cc
+
+-- if the first such byte is zero, the text ends there
+pub plain_ends : (bytes : List ℕ) (at len : ℕ) → at + 16 ≤ length bytes → len ≡ prefix_len (λ b. not (ends_plain b)) (chunk at 16 bytes) → AreAscii bytes at → len < 16 → get_or bytes (at + len) 0 ≡ 0 → IsAsciiEnd bytes (at + len)
+plain_ends bytes at len room is before lt stops = record {
+  within = omega arith;
+  stops = stops;
+  ascii = λ k below. elim (cases_lt k at) [
+    | inl early ↦ before k early
+    | inr late ↦
+        let neither = or_false (is_zero (get_or bytes k 0)) (leb 128 (get_or bytes k 0)) (run_in_chunk_fails ends_plain bytes at 16 len 0 room is k late (omega arith)) in
+        (eqb-false (get_or bytes k 0) 0 neither.0, leb-false 128 (get_or bytes k 0) neither.1)
+  ];
+}
 
 -- such a text is UTF-8
 pub end_is_utf8 : (bytes : List ℕ) (end : ℕ) → IsAsciiEnd bytes end → IsUtf8 (take end bytes)

@@ -127,17 +127,14 @@ fn write_head<W: Write>(
     typedef: &str,
 ) -> Result<bool, TextError> {
     let text = text_at(page.table, btf_type.name_offset())?;
-    let name = match &text {
-        Some(text) => text.as_str(),
-        None => "",
-    };
-    let is_typedef = name.is_empty() && !typedef.is_empty();
+    let name = text.filter(|text| !text.as_str().is_empty());
+    let is_typedef = name.is_none() && !typedef.is_empty();
     if is_typedef {
         page.out.write_str("typedef ")?;
     }
     page.out.write_str(keyword(btf_type))?;
-    if !name.is_empty() {
-        write!(page.out, " {name}")?;
+    if let Some(name) = &name {
+        write!(page.out, " {}", name.as_str())?;
     }
     page.out.write_str(" {\n")?;
     Ok(is_typedef)

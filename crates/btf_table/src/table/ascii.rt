@@ -3,7 +3,7 @@
 ghost use Rattle.std.specs.Prelude.{◌≡◌, ℕ, ◌+◌, ◌-◌, ◌<◌, ◌≤◌, not, leb, length, take, drop, IfOk, IfErr, IfSome, IsTrue};
 ghost use Rattle.std.specs.List.{prefix_len};
 ghost use Rattle.btf_model.specs.Text.{is_zero};
-ghost use Rattle.btf_table.specs.Ascii.{lowest_bit, IsAsciiEnd, IsAsciiText, BeginsAscii};
+ghost use Rattle.btf_table.specs.Ascii.{lowest_bit, ends_plain, IsAsciiEnd, IsAsciiText, BeginsAscii};
 
 use std::simd::prelude::*;
 
@@ -137,6 +137,18 @@ fn last_ascii_len(bytes: &[u8], at: usize) -> Result<usize, usize>
     Err(at)
 }
 
+/// Of the 16 bytes at a place: the number of bytes before the first one that is zero or not ASCII.
+#[inline(always)]
+fn plain_len(bytes: &[u8], at: usize) -> usize
+    requires { at + LANES ≤ length bytes.now }
+    ensures { result ≡ prefix_len (λ b. not (ends_plain b)) (take LANES (drop at bytes.now)) }
+{
+    let chunk = u8x16::from_slice(&bytes[at..]);
+    let zeros = chunk.simd_eq(u8x16::splat(0));
+    let others = chunk.simd_ge(u8x16::splat(0x80));
+    lowest_bit((zeros | others).to_bitmask())
+}
+
 /// The place of the first zero byte in the 16 bytes at a place, if all bytes before it are ASCII.
 #[inline(always)]
 fn end_in(bytes: &[u8], at: usize) -> Option<usize>
@@ -144,9 +156,9 @@ fn end_in(bytes: &[u8], at: usize) -> Option<usize>
     requires begins { BeginsAscii bytes.now at }
     ensures { IfSome result (IsAsciiEnd bytes.now) }
 {
-    let (zero, other) = runs_at(bytes, at);
-    if zero < LANES && zero <= other {
-        return Some(at + zero);
+    let len = plain_len(bytes, at);
+    if len < LANES && bytes[at + len] == 0 {
+        return Some(at + len);
     }
     None
 }

@@ -1,5 +1,5 @@
-use Rattle.btf_table.proofs.Ascii.{ascii_ends}
+use Rattle.btf_table.proofs.Ascii.{plain_ends}
 use Rattle.btf_table.proofs.table.ascii.end_in.Goals as goal
 
-pub returns-then-zero-other : goal.returns-then-zero-other
-returns-then-zero-other c = ascii_ends c.args.bytes.now c.args.at c.runs_at-zero.result.0 c.runs_at-zero.result.1 c.requires.room c.runs_at-zero.ensures.zero c.runs_at-zero.ensures.other c.requires.begins.each c.if-zero-other.true c.if-zero-lt-LANES.true
+pub returns-then-bytes-at-eq0 : goal.returns-then-bytes-at-eq0
+returns-then-bytes-at-eq0 c = plain_ends c.args.bytes.now c.args.at c.plain_len-len.result c.requires.room c.plain_len-len.ensures c.requires.begins.each c.if-len-lt-LANES.true c.if-bytes-at-eq0.true
