@@ -63,7 +63,7 @@ fn done(work: &str, probe: &Probe, blob: &[u8], report: &mut Report) -> Result<(
         "parse_func_sizes" => ext::least_sizes("func", probe, blob, report),
         "parse_line_sizes" => ext::least_sizes("line", probe, blob, report),
         "parse_core_sizes" => ext::least_sizes("core", probe, blob, report),
-        "parse_object" | "with_section" | "sanitize_object" => {
+        "parse_object" | "with_section" | "sanitize_object" | "sanitize_finalized" => {
             object::done(work, probe, blob, report)
         }
         _ if work.starts_with("rewrite_bytes") => rewrite::bytes(work, probe, blob, report),

@@ -3,10 +3,11 @@
 use crate::probe::Probe;
 use crate::report::Report;
 use btf_elf::{Object, ObjectError, ReplaceError, SectionHeader};
-use btf_object::{FillPolicy, Kernel, SanitizeError, sanitize_object};
+use btf_object::{FillPolicy, Kernel, SanitizeError, sanitize_finalized, sanitize_object};
 use btf_plain::{BtfError, Endianness};
 use btf_samples::spelled::push_words;
 use std::alloc::{AllocError, Global};
+use std::hash::{BuildHasherDefault, FoldHasher};
 use std::test::Fail;
 
 /// The names of the sections and of the symbols, and their length.
@@ -146,13 +147,25 @@ fn replaced(alloc: Global, object: &Object<'_>) -> Result<Vec<u8>, BtfError> {
     }
 }
 
+/// The error of a table in place of one of an object.
+fn refused(e: SanitizeError) -> BtfError {
+    match e {
+        SanitizeError::OutOfMemory => BtfError::OutOfMemory,
+        _ => BtfError::InvalidHeader,
+    }
+}
+
 /// A file that is rewritten for a kernel.
 fn sanitized(alloc: Global, file: &[u8], kernel: &Kernel) -> Result<Vec<u8>, BtfError> {
-    match sanitize_object(alloc, file, kernel, FillPolicy::KeepSized) {
-        Ok((file, _)) => Ok(file),
-        Err(SanitizeError::OutOfMemory) => Err(BtfError::OutOfMemory),
-        Err(_) => Err(BtfError::InvalidHeader),
-    }
+    let (file, _) = sanitize_object(alloc, file, kernel, FillPolicy::KeepSized).map_err(refused)?;
+    Ok(file)
+}
+
+/// A file that is finalized, and then rewritten for a kernel.
+fn finalized(alloc: Global, file: &[u8], kernel: &Kernel) -> Result<Vec<u8>, BtfError> {
+    let hash_builder: BuildHasherDefault<FoldHasher> = BuildHasherDefault::new();
+    let (file, _) = sanitize_finalized(alloc, file, kernel, hash_builder).map_err(refused)?;
+    Ok(file)
 }
 
 /// Replaces the table of a file.
@@ -161,10 +174,9 @@ fn replace(probe: &Probe, file: &Vec<u8>, report: &mut Report) -> Result<(), Fai
     probe.twice(file, report, || replaced(probe.alloc, &object))
 }
 
-/// Rewrites a file for Linux 5.4.
-fn sanitize(probe: &Probe, file: &Vec<u8>, report: &mut Report) -> Result<(), Fail> {
-    let kernel = Kernel::of_version("5.4").unwrap_or(Kernel::new());
-    probe.twice(file, report, || sanitized(probe.alloc, file, &kernel))
+/// Linux 5.4, which has DATASECs.
+fn kernel() -> Kernel {
+    Kernel::of_version("5.4").unwrap_or(Kernel::new())
 }
 
 /// Makes a call on an object that contains the table.
@@ -173,6 +185,9 @@ pub fn done(work: &str, probe: &Probe, blob: &[u8], report: &mut Report) -> Resu
     match work {
         "parse_object" => probe.twice(&file, report, || symbols(probe.alloc, &file)),
         "with_section" => replace(probe, &file, report),
-        _ => sanitize(probe, &file, report),
+        "sanitize_finalized" => {
+            probe.twice(&file, report, || finalized(probe.alloc, &file, &kernel()))
+        }
+        _ => probe.twice(&file, report, || sanitized(probe.alloc, &file, &kernel())),
     }
 }

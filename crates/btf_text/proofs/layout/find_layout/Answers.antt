@@ -1,4 +1,4 @@
-use Rattle.std.proofs.Common.{◌≡◌, ℕ, Some, Result, Err, subst, sym, ap}
+use Rattle.std.proofs.Common.{◌≡◌, ℕ, Result, Err, subst, sym, ap}
 use Rattle.std.specs.Prelude.{IfSome, slice_get}
 use Rattle.std.proofs.lemmas.Option.{slice_get_past}
 use Rattle.btf_model.specs.Refusal.{Refusal}
