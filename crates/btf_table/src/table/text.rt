@@ -72,6 +72,7 @@ fn utf8_text(bytes: &[u8], ascii: usize) -> Option<&str>
 
 /// The text at an offset, or `InvalidStringOffset` of the offset if there is no zero byte at it or after it. Most texts
 /// are pure ASCII.
+#[inline(always)]
 pub fn text_at(alloc: Global, strings: &[u8], offset: u32) -> Result<BtfStr<'_>, BtfError>
     ensures text { IsOrNoMemory text_bytes result (model.text_at strings.now offset) }
     // Memory is allocated only for bytes that are not UTF-8.
