@@ -180,6 +180,7 @@ impl Btf {
     ///
     /// Fails with `InvalidStringOffset` of the offset if there is no zero byte at the offset or after it. Allocates
     /// memory only if the bytes are not UTF-8.
+    #[inline(always)]
     pub fn string_at(&self, offset: u32) -> Result<BtfStr<'_>, BtfError>
         ensures text { IsOrNoMemory text_bytes result (model.text_at self.now.strings offset) }
         ensures no_memory { IfSome (model.bytes_at self.now.strings offset) IsUtf8
