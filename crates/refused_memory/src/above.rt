@@ -12,10 +12,10 @@ use std::test::Fail;
 /// A `.BTF.ext` section of two relocation sections, whose names are at offset 1.
 const RELOCATIONS: &str = "32 0 0 0 0 0 52  16  1 1 1 2 3 4  1 1 5 6 7 8";
 
-/// The value of the variant "B" of the last type.
+/// The value of the variant "\u{fffd}A" of the last type, which is compared with whole texts.
 pub fn value(probe: &Probe, blob: &[u8], report: &mut Report) -> Result<(), Fail> {
     let btf = Btf::parse(probe.alloc, blob, probe.order)?;
-    probe.twice(&btf, report, || variant_value(&btf, 1, "B"))
+    probe.twice(&btf, report, || variant_value(&btf, 1, "\u{fffd}A"))
 }
 
 /// The number of relocations of the sections named "\u{fffd}A".
