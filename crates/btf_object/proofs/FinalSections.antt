@@ -28,7 +28,7 @@ use Rattle.btf_object_model.specs.Finalized.{section_size, entry_offset, placed,
 use Rattle.btf_object.specs.Finalize.{completed_parts, final_parts, data_sec_size}
 
 -- the entries before a place, and the entry at it
-entries_up_to : (es : List DataSecEntry) (i : ℕ) → i < length es → map entry (take (i + 1) es) ≡ map entry (take i es) ++ entry (at es i) ∷ []
+pub entries_up_to : (es : List DataSecEntry) (i : ℕ) → i < length es → map entry (take (i + 1) es) ≡ map entry (take i es) ++ entry (at es i) ∷ []
 entries_up_to es i lt = ap (map entry) (take_more es i zero_entry lt) ∙ map-append entry (take i es) (at es i ∷ [])
 
 -- all entries

@@ -11,12 +11,12 @@ use Rattle.btf_model.specs.Record as kinds
 use Rattle.btf_model.specs.Record.{Kind, Record, unknown, kind_of, vlen}
 use Rattle.btf_model.specs.Table.{Table, Fallback}
 use Rattle.btf_model.specs.Text.{text_at}
-use Rattle.btf_rewrite_model.specs.Made.{Entry, entries, record_at, kind_at, is_static, struct, data_sec, table_ids}
+use Rattle.btf_rewrite_model.specs.Made.{Entry, entries, record_at, kind_at, struct, data_sec, table_ids}
 use Rattle.btf_rewrite_model.specs.Pass.{Layout}
 use Rattle.btf_records.specs.BtfType.{record_of, fallback_of, type_kind}
 use Rattle.btf_records.specs.declared.btf_type.BtfType.{BtfType}
 use Rattle.btf_records.specs.declared.btf_type.BtfType.TheVariants as BtfTypes
-use Rattle.btf_object_model.specs.Finalized.{section_size, variable_offset, offset_by, entry_offset, AreInOrder, IsFinal, IsFinalized, is_data_sec, is_struct, sized_record, sized}
+use Rattle.btf_object_model.specs.Finalized.{section_size, retains_offset, variable_offset, offset_by, entry_offset, AreInOrder, IsFinal, IsFinalized, is_data_sec, is_struct, sized_record, sized}
 use Rattle.btf_object.specs.Finalize.{FinalizesAt, ResizesAt, data_sec_size, resized}
 
 -- ---- one record is replaced
@@ -61,7 +61,7 @@ stays_final layout t k r other =
 offset_read : (layout : Layout) (t u : Table) (k : Option Kind) (r : Record) (old : ℕ) → u.strings ≡ t.strings → offset_by layout u k r old ≡ offset_by layout t k r old
 offset_read layout t u k r old strings =
     elim k as (λ (k : Option Kind). offset_by layout u k r old ≡ offset_by layout t k r old) [
-      | Some kinds.Var ↦ ap (λ (xs : List ℕ). variable_offset layout (is_static r) old (text_at xs r.name)) strings
+      | Some kinds.Var ↦ ap (λ (xs : List ℕ). variable_offset layout (retains_offset r) old (text_at xs r.name)) strings
       | _ ↦ refl
     ]
 
@@ -69,8 +69,8 @@ offset_read layout t u k r old strings =
 offset_same : (layout : Layout) (t u : Table) (k : Option Kind) (r new : Record) (old : ℕ) → u.strings ≡ t.strings → IsFinal layout t k r new → offset_by layout u k new old ≡ offset_by layout t k r old
 offset_same layout t u k r new old strings is =
     elim k as (λ (k : Option Kind). IsFinal layout t k r new → offset_by layout u k new old ≡ offset_by layout t k r old) [
-      | Some kinds.Var ↦ λ same. ap (λ (x : Record). variable_offset layout (is_static x) old (text_at u.strings x.name)) same
-          ∙ ap (λ (xs : List ℕ). variable_offset layout (is_static r) old (text_at xs r.name)) strings
+      | Some kinds.Var ↦ λ same. ap (λ (x : Record). variable_offset layout (retains_offset x) old (text_at u.strings x.name)) same
+          ∙ ap (λ (xs : List ℕ). variable_offset layout (retains_offset r) old (text_at xs r.name)) strings
       | _ ↦ λ same. refl
     ] is
 

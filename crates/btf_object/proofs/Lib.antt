@@ -5,4 +5,6 @@ pub mod Kernels
 pub mod Rewrites
 pub mod Finalizing
 pub mod FinalSections
+pub mod Externs
+pub mod Globals
 pub mod Objects

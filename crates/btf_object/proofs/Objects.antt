@@ -24,6 +24,10 @@ use Rattle.btf_object.specs.Errors.{of_table, of_section, IsCauseBy}
 use Rattle.btf_object.specs.Names.{IsTableSection}
 use Rattle.btf_object.specs.declared.error.SanitizeError.{SanitizeError}
 
+-- an object is that of its bytes
+pub whole : (o : Object) (bytes : List ℕ) → bytes ≡ o.bytes → IsObject bytes o → IsObject o.bytes o
+whole o bytes is object = subst (λ (b : List ℕ). IsObject b o) is object
+
 -- what is known about an error that is converted to another
 pub becomes : {T : Type 0} (P : SanitizeError → Type 0) (e : SanitizeError) (r : Result T SanitizeError) → P e → IsErrAnd r (λ y. y ≡ e) → IfErr r P
 becomes {T} P e r known err =

@@ -19,12 +19,13 @@ use Rattle.btf_rewrite_model.specs.declared.ksyms_ids.KsymsIds.{KsymsIds}
 use Rattle.btf_rewrite_model.proofs.Kept.{by_table}
 use Rattle.btf_rules.specs.Checked.{checked}
 use Rattle.btf_rules.proofs.Checks.{checked_ok, checked_err}
-use Rattle.btf_object_model.specs.Finalized.{IsFinalized, with_int, with_variable, has_functions, with_placeholder, with_placeholder_id, placeholder_fault, with_ksyms_size, sized}
+use Rattle.btf_object_model.specs.Finalized.{with_int, with_variable, has_functions, with_placeholder, with_placeholder_id, placeholder_fault, with_ksyms_size, sized}
 use Rattle.btf_object_model.specs.Kernel.{answers_of}
 use Rattle.btf_object_model.specs.Ksyms.{FindsKsyms}
 use Rattle.btf_object_model.specs.Layout as model
 use Rattle.btf_object_model.specs.Sanitized.{Target, AreAnswers, RewritesTable, RefusesTable}
-use Rattle.btf_object_model.specs.SanitizedFinalized.{kernel_target, RewritesFinalized, RefusesFinalized}
+use Rattle.btf_object_model.specs.SanitizedFinalized.{kernel_target, IsOpened, RewritesFinalized, RefusesFinalized}
+use Rattle.btf_object_model.proofs.Opened.{opened_others}
 use Rattle.btf_words.specs.Error.{refusal_of}
 use Rattle.btf_words.specs.declared.error.BtfError.{BtfError}
 use Rattle.btf_object.proofs.Kernels.{AreOfKernel}
@@ -55,18 +56,18 @@ placeholder_order t ids =
     (by_table (λ (u : Table). u.order ≡ t.order) (appends_int t None) (with_type (c_int (length t.strings)) None (with_string int_text t)) t refl refl)
     refl
 
-module _ (o : Object) (bytes : List ℕ) (has : BtfFeature → Bool) (old base : Table) (layout : Layout) (same : layout ≡ model.layout_of o) (table : IsTable o.header.order bytes old) (final : IsFinalized layout old base) where
-  finalized_so : IsFinalized (model.layout_of o) old base
-  finalized_so = subst (λ (l : Layout). IsFinalized l old base) same final
+module _ (o : Object) (bytes : List ℕ) (has : BtfFeature → Bool) (old base : Table) (layout : Layout) (same : layout ≡ model.layout_of o) (table : IsTable o.header.order bytes old) (opened : IsOpened layout old base) where
+  opened_so : IsOpened (model.layout_of o) old base
+  opened_so = subst (λ (l : Layout). IsOpened l old base) same opened
 
   -- the search for `.ksyms` fails
   pub refuses_ksyms : (refusal : Refusal) → FindsKsyms base None (Err refusal) → RefusesFinalized o bytes has refusal
-  refuses_ksyms refusal finds = inr (old, base, table, finalized_so, inl finds)
+  refuses_ksyms refusal finds = inr (old, base, table, opened_so, inl finds)
 
   module _ (ids : Option KsymsIds) (ksyms : FindsKsyms base None (Ok ids)) where
     -- the placeholder does not fit
     pub refuses_placeholder : (refusal : Refusal) → Err refusal ≡ checked (placeholder_fault base ids) (with_placeholder_id base ids) → RefusesFinalized o bytes has refusal
-    refuses_placeholder refusal is = inr (old, base, table, finalized_so, inr (ids, ksyms, inl (checked_err (placeholder_fault base ids) (with_placeholder_id base ids) refusal is)))
+    refuses_placeholder refusal is = inr (old, base, table, opened_so, inr (ids, ksyms, inl (checked_err (placeholder_fault base ids) (with_placeholder_id base ids) refusal is)))
 
     module _ (begun : Table) (given : Option KsymsIds) (begun_is : begun ≡ with_placeholder base ids) (given_is : Ok given ≡ checked (placeholder_fault base ids) (with_placeholder_id base ids)) where
       fits : (placeholder_fault base ids ≡ None) × (given ≡ with_placeholder_id base ids)
@@ -81,7 +82,7 @@ module _ (o : Object) (bytes : List ℕ) (has : BtfFeature → Bool) (old base :
       -- the rewrite is refused
       pub refuses_rewrite : (refusal : Refusal) → IsRefused FillSized begun given layout (answers_of has) refusal → RefusesFinalized o bytes has refusal
       refuses_rewrite refusal is =
-          inr (old, base, table, finalized_so, inr (ids, ksyms, inr (fits.0, known_so (λ t i l. IsRefused FillSized t i l (answers_of has) refusal) is)))
+          inr (old, base, table, opened_so, inr (ids, ksyms, inr (fits.0, known_so (λ t i l. IsRefused FillSized t i l (answers_of has) refusal) is)))
 
       -- the rewrite succeeds, and the sizes are set
       pub rewrites_finalized : (new made : Table) (answers : List FeatureAnswer) (given_bytes : List ℕ) → Rewritten FillSized begun given layout (answers_of has) new → AreAnswers (kernel_target has) (Asked (pass_of FillSized begun given layout answers)) answers
@@ -89,7 +90,7 @@ module _ (o : Object) (bytes : List ℕ) (has : BtfFeature → Bool) (old base :
           → (all : RewritesFinalized o bytes has old base new answers) × (given_bytes ≡ canon (sized (with_ksyms_size base all.ids) new))
       rewrites_finalized new made answers given_bytes is are order made_is written again =
           let order_is : made.order ≡ o.header.order =
-          ap (λ (t : Table). t.order) made_is ∙ order ∙ ap (λ (t : Table). t.order) begun_is ∙ placeholder_order base ids ∙ ap (λ (t : Table). t.order) final.others ∙ table.same_order in
+          ap (λ (t : Table). t.order) made_is ∙ order ∙ ap (λ (t : Table). t.order) begun_is ∙ placeholder_order base ids ∙ ap (λ (t : Table). t.order) (opened_others layout old base opened) ∙ table.same_order in
           let bytes_are : given_bytes ≡ canon (sized (with_ksyms_size base ids) new) = written ∙ ap canon made_is in
           let read : IsTable o.header.order (canon (sized (with_ksyms_size base ids) new)) (strip (sized (with_ksyms_size base ids) new)) =
           subst (λ (t : Table). IsTable o.header.order (canon (sized (with_ksyms_size base ids) new)) (strip t)) made_is
@@ -97,7 +98,7 @@ module _ (o : Object) (bytes : List ℕ) (has : BtfFeature → Bool) (old base :
             record {
               ids = ids;
               table = table;
-              finalized = finalized_so;
+              opened = opened_so;
               ksyms = ksyms;
               fits = fits.0;
               rewritten = known_so (λ t i l. Rewritten FillSized t i l (answers_of has) new) is;

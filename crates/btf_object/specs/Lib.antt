@@ -2,4 +2,5 @@ pub mod Kernel
 pub mod Names
 pub mod Ksyms
 pub mod Finalize
+pub mod Kconfig
 pub mod Errors

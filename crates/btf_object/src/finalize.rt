@@ -1,5 +1,6 @@
 //! A table that is finalized from its object, as a loader does before it rewrites the table for a kernel.
 
+mod kconfig;
 mod known;
 mod placeholder;
 mod section;
@@ -9,8 +10,10 @@ ghost use Rattle.std.specs.Prelude.{◌≡◌, ◌<◌, length, slice_get, Some,
 ghost use Rattle.btf_model.specs.Record.{DataSec};
 ghost use Rattle.btf_rules.specs.Layout.{layout_of};
 ghost use Rattle.btf_object_model.specs.Finalized.{IsFinal, IsFinalized};
+ghost use Rattle.btf_object_model.specs.SanitizedFinalized.{IsOpened};
 ghost use Rattle.btf_object.specs.Finalize.{AreRead, FinalizesAt};
 
+use crate::finalize::kconfig::configure;
 use crate::finalize::known::KnownNames;
 pub use crate::finalize::placeholder::add_placeholder;
 use crate::finalize::section::final_section;
@@ -47,10 +50,10 @@ fn finalize_type<H: BuildHasher>(
     Ok(())
 }
 
-/// Finalizes a table from its object, as libbpf does when it opens the object: a DATASEC of size 0 gets the size of its
-/// section, and its entries get the offsets of their variables, if all are known; and the entries of each DATASEC are
-/// sorted by offset. `OutOfMemory` is the only error.
-pub fn finalize<H: BuildHasher>(
+/// Finalizes a table from its object: a DATASEC of size 0 gets the size of its section, and its entries get the offsets
+/// of their variables, if all are known; and the entries of each DATASEC are sorted by offset. `OutOfMemory` is the only
+/// error.
+fn finalize<H: BuildHasher>(
     alloc: Global,
     btf: &mut Btf,
     layout: &ObjectLayout<H>,
@@ -64,4 +67,19 @@ pub fn finalize<H: BuildHasher>(
         finalize_type(alloc, btf, layout, &mut names, type_id)?;
     }
     Ok(())
+}
+
+/// Makes of a table what libbpf has of it when it has opened its object: `.kconfig` is laid out, and then the table is
+/// finalized. `OutOfMemory` is the only error.
+pub fn open<H: BuildHasher>(
+    alloc: Global,
+    btf: &mut Btf,
+    layout: &ObjectLayout<H>,
+) -> Result<(), BtfError>
+    ensures made { OnOk result
+        (IsOpened (layout_of layout.now.sections layout.now.symbols) btf.old btf.new) }
+    ensures memory { IfErr result (λ e. e ≡ BtfError.OutOfMemory) }
+{
+    configure(alloc, btf)?;
+    finalize(alloc, btf, layout)
 }

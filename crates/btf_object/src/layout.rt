@@ -18,9 +18,8 @@ use std::hash::{BuildHasher, BuildHasherDefault, FoldHasher};
 ///
 /// A name that is not UTF-8, or has 512 bytes or more, is left out, because no table that a kernel accepts has it. The
 /// symbols are the ones that aya uses: all that are not local, and local ones of type `STT_OBJECT`. Undefined symbols
-/// are included, with the value 0. libbpf uses only symbols of type `STT_OBJECT` that are global or weak. It also gives
-/// `.kconfig` a size, although no section of an object has this name. Here the rewrite of a table with such a DATASEC
-/// fails with `UnknownSectionSize`.
+/// are included, with the value 0. libbpf uses only symbols of type `STT_OBJECT` that are global or weak. No section of
+/// an object is named `.kconfig`; libbpf and `sanitize_finalized` give this DATASEC a size of its own.
 ///
 /// Names are hashed by an `H`. The default has a fixed seed, so an attacker can choose names that collide, and n of them
 /// take time in proportion to n squared. For an untrusted object, pass a hasher with random keys, as `RandomState`.

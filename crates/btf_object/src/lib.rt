@@ -19,4 +19,7 @@ pub use error::SanitizeError;
 pub use kernel::Kernel;
 pub use ksyms::ksyms_of;
 pub use layout::ObjectLayout;
-pub use sanitize::{sanitize_finalized, sanitize_object, sanitize_object_with};
+pub use sanitize::{
+    sanitize_finalized, sanitize_object, sanitize_object_with, sanitize_parsed,
+    sanitize_parsed_finalized,
+};

@@ -12,7 +12,7 @@ use btf_elf::{Object, SectionHeader};
 use std::str;
 
 /// No kernel accepts a name with this number of bytes or more (`KSYM_NAME_LEN`).
-const NAME_LIMIT: usize = 512;
+pub const NAME_LIMIT: usize = 512;
 
 /// `SHN_XINDEX`: the header of section 0 has the index.
 const XINDEX: u16 = 0xffff;

@@ -81,12 +81,42 @@ pub fn sanitize_object_with<H: BuildHasher + Clone + Drop>(
         (target_of kernel.now policy (option_map (λ name. name.now) placeholder.entry))) }
 {
     let object = Object::parse(alloc, bytes)?;
-    let Some((index, table)) = table_section(&object) else {
+    sanitize_parsed(
+        alloc,
+        &object,
+        kernel,
+        policy,
+        placeholder,
+        hash_builder,
+    )
+}
+
+/// `sanitize_object_with` of the bytes of an object that is already parsed, with the same errors.
+pub fn sanitize_parsed<H: BuildHasher + Clone + Drop>(
+    alloc: Global,
+    object: &Object<'_>,
+    kernel: &Kernel,
+    policy: FillPolicy,
+    placeholder: Option<&str>,
+    hash_builder: H,
+) -> Result<(Vec<u8>, ArrayVec<FeatureAnswer, 8>), SanitizeError>
+    ensures sanitized { IfOk result (λ r. IsSanitized object.now.bytes
+        (target_of kernel.now policy (option_map (λ name. name.now) placeholder.entry))
+        r.0.items r.1.items) }
+    ensures ext { IfOk result (λ r. (o : elf.Object) (index : ℕ) (s : SectionHeader)
+        → HasSection object.now.bytes ext_name o index s
+        → (new : elf.Object) × KeepsExt object.now.bytes r.0.items o new index s) }
+    ensures refused { IfErr result (IsCause object.now.bytes
+        (target_of kernel.now policy (option_map (λ name. name.now) placeholder.entry))) }
+{
+    // The contract is about the object of its bytes, which this shows.
+    let _ = object.bytes();
+    let Some((index, table)) = table_section(object) else {
         return Err(SanitizeError::NoTable);
     };
     let (written, answers) = rewritten(
         alloc,
-        &object,
+        object,
         table,
         kernel,
         policy,
@@ -101,8 +131,8 @@ pub fn sanitize_object_with<H: BuildHasher + Clone + Drop>(
 /// asked for, each with whether the kernel has it. The first section named `.BTF` has the bytes of the new table, and no
 /// other section changes.
 ///
-/// Before the rewrite, DATASECs get the sizes of their sections, and their entries get the offsets of their variables
-/// and are sorted by them. If functions are in `.ksyms`, a variable `dummy_ksym` is added, which replaces them. A
+/// Before the rewrite, the variables of `.kconfig` are laid out, DATASECs get the sizes of their sections, and their
+/// entries get the offsets of their variables and are sorted by them. If functions are in `.ksyms`, a variable `dummy_ksym` is added, which replaces them. A
 /// DATASEC that has a size and no entries gets one if the kernel requires it (`FillPolicy::FillSized`). After the
 /// rewrite, a STRUCT that was a DATASEC has the DATASEC's size.
 ///
@@ -130,9 +160,28 @@ pub fn sanitize_finalized<H: BuildHasher + Clone + Drop>(
     ensures refused { IfErr result (IsFinalizedCause bytes.now (has kernel.now)) }
 {
     let object = Object::parse(alloc, bytes)?;
-    let Some((index, table)) = table_section(&object) else {
+    sanitize_parsed_finalized(alloc, &object, kernel, hash_builder)
+}
+
+/// `sanitize_finalized` of the bytes of an object that is already parsed, with the same errors.
+pub fn sanitize_parsed_finalized<H: BuildHasher + Clone + Drop>(
+    alloc: Global,
+    object: &Object<'_>,
+    kernel: &Kernel,
+    hash_builder: H,
+) -> Result<(Vec<u8>, ArrayVec<FeatureAnswer, 8>), SanitizeError>
+    ensures sanitized { IfOk result
+        (λ r. IsSanitizedFinalized object.now.bytes (has kernel.now) r.0.items r.1.items) }
+    ensures ext { IfOk result (λ r. (o : elf.Object) (index : ℕ) (s : SectionHeader)
+        → HasSection object.now.bytes ext_name o index s
+        → (new : elf.Object) × KeepsExt object.now.bytes r.0.items o new index s) }
+    ensures refused { IfErr result (IsFinalizedCause object.now.bytes (has kernel.now)) }
+{
+    // The contract is about the object of its bytes, which this shows.
+    let _ = object.bytes();
+    let Some((index, table)) = table_section(object) else {
         return Err(SanitizeError::NoTable);
     };
-    let (written, answers) = finalized(alloc, &object, table, kernel, hash_builder)?;
+    let (written, answers) = finalized(alloc, object, table, kernel, hash_builder)?;
     Ok((object.with_section(alloc, index, &written)?, answers))
 }

@@ -15,7 +15,7 @@ ghost use Rattle.btf_words.specs.Error.{refusal_of};
 ghost use Rattle.btf_object.specs.Errors.{target_of};
 ghost use Rattle.btf_object.specs.Kernel.{has};
 
-use crate::finalize::{add_placeholder, finalize, set_sizes, sizes_of};
+use crate::finalize::{add_placeholder, open, set_sizes, sizes_of};
 use crate::kernel::Kernel;
 use crate::ksyms::ksyms_of;
 use crate::layout::ObjectLayout;
@@ -85,8 +85,8 @@ pub fn rewritten<H: BuildHasher + Clone + Drop>(
     Ok((btf.to_bytes()?, answers))
 }
 
-/// Parses the bytes of a section of an object as a table, in the object's byte order, finalizes the table from the
-/// object, and rewrites it for a kernel. Returns the bytes of the new table, and the features that the rewrite asked
+/// Parses the bytes of a section of an object as a table, in the object's byte order, makes of it what libbpf has of it
+/// when it has opened the object, and rewrites it for a kernel. Returns the bytes of the new table, and the features that the rewrite asked
 /// for, with the answers. `hash_builder` hashes the names of the object.
 pub fn finalized<H: BuildHasher + Clone + Drop>(
     alloc: Global,
@@ -103,7 +103,7 @@ pub fn finalized<H: BuildHasher + Clone + Drop>(
 {
     let layout = ObjectLayout::read(alloc, object, hash_builder)?;
     let mut btf = Btf::parse(alloc, table, object.header().order)?;
-    finalize(alloc, &mut btf, &layout)?;
+    open(alloc, &mut btf, &layout)?;
     let ids = ksyms_of(&btf, None)?;
     let sizes = sizes_of(alloc, &btf, ids)?;
     let ids = add_placeholder(&mut btf, ids)?;

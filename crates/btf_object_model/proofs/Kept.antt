@@ -38,6 +38,7 @@ use Rattle.btf_object_model.specs.Laws.{HasSameContents, KeepsExt}
 use Rattle.btf_object_model.specs.Sanitized.{Target, HasSection, IsSanitized, index_of, table_name, ext_name}
 use Rattle.btf_object_model.proofs.Appended.{texts_stay}
 use Rattle.btf_object_model.proofs.Exts.{contents_ok, contents_err}
+use Rattle.btf_object_model.proofs.Opened.{opened_others}
 
 -- the contents do not change if no readable text changes
 contents_stay : (old new : Table) → ((offset : ℕ) (text : List ℕ) → text_at old.strings offset ≡ Ok text → text_at new.strings offset ≡ Ok text) → (order : Endianness) (bytes : List ℕ) → HasSameContents order bytes old new
@@ -216,7 +217,7 @@ final_texts_stay : (has : BtfFeature → Bool) (o : Object) (bytes : List ℕ) (
     → (offset : ℕ) (text : List ℕ) → text_at given.strings offset ≡ Ok text → text_at (sized (with_ksyms_size base r.ids) new).strings offset ≡ Ok text
 final_texts_stay has o bytes given base new answers r offset text reads =
     let more = placeholder_strings base r.ids in
-    let same : base.strings ≡ given.strings = ap (λ (t : Table). t.strings) r.finalized.others in
+    let same : base.strings ≡ given.strings = ap (λ (t : Table). t.strings) (opened_others (layout_of o) given base r.opened) in
     texts_stay FillSized (with_placeholder base r.ids) new (with_placeholder_id base r.ids) (layout_of o) (answers_of has) r.rewritten offset text
     (ap (λ (xs : List ℕ). text_at xs offset) more.1 ∙ text_stays base.strings more.0 offset text (ap (λ (xs : List ℕ). text_at xs offset) same ∙ reads))
 

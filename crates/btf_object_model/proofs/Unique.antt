@@ -1,10 +1,12 @@
 -- A table is finalized in one way.
-use Rattle.std.proofs.Common.{◌≡◌, ℕ, zero, suc, ◌<◌, ◌≤◌, Bool, true, false, List, [], ◌∷◌, length, get_or, filter, Option, Some, refl, sym, ap, ◌∙◌, arith, inl, inr, suc-le-suc, zero-le, nat_cmp, is_lt}
-use Rattle.std.specs.List.Sorted.{ties, IsNonDecreasingBy}
-use Rattle.std.proofs.lemmas.Bool.{cond-true, cond-false, cases_Bool}
-use Rattle.std.proofs.lemmas.Bool.Decides.{nat_tests}
+use Rattle.std.specs.Prelude.{slice_index_or}
+use Rattle.std.proofs.Common.{◌≡◌, ℕ, zero, suc, ◌+◌, ◌<◌, Bool, true, false, ◌&&◌, not, List, [], ◌∷◌, length, filter, Option, Some, refl, sym, ap, subst, ◌∙◌, arith, inl, inr}
+use Rattle.std.specs.Cmp.{IsStrictWeakOrder}
+use Rattle.std.specs.List.Sorted.{ties, IsSortedBy, IsStableBy}
+use Rattle.std.proofs.lemmas.Bool.{cond-true, cond-false, cases_Bool, false≢true}
+use Rattle.std.proofs.lemmas.Cmp.{nat_cmp_total}
 use Rattle.std.proofs.lemmas.List.{ext_get_or}
-use Rattle.std.proofs.lemmas.List.Sorted.{IsNonDecreasingBy-from_sort}
+use Rattle.std.proofs.lemmas.List.MinMax.{ranks_by}
 use Rattle.std.proofs.lemmas.Option.{unwrap_or-slice_get}
 use Rattle.btf_model.specs.Record as kinds
 use Rattle.btf_model.specs.Record.{Kind, Record, unknown, vlen}
@@ -13,81 +15,103 @@ use Rattle.btf_rewrite_model.specs.Made.{Entry, record_at, kind_at, data_sec}
 use Rattle.btf_rewrite_model.specs.Pass.{Layout}
 use Rattle.btf_object_model.specs.Finalized.{AreInOrder, final_size, final_entries, IsFinal, IsFinalized}
 
--- two entries have the same offset
-abbrev ties_with : Entry → Entry → Bool
-ties_with = ties (λ (x y : Entry). is_lt (nat_cmp x.offset y.offset))
+suc_first : (k : ℕ) → suc k + 1 ≡ suc (k + 1)
+suc_first k = omega arith
 
-ties_at : (m n : ℕ) → (ties (λ x y. is_lt (nat_cmp x y)) m n ≡ true → m ≡ n) × (m ≡ n → ties (λ x y. is_lt (nat_cmp x y)) m n ≡ true)
-ties_at m n = (λ h. grind (arith, nat_tests), λ h. grind (arith, nat_tests))
+one_is : zero + 1 ≡ suc zero
+one_is = omega arith
 
-ties-true : (x y : Entry) → ties_with x y ≡ true → x.offset ≡ y.offset
-ties-true x y = (ties_at x.offset y.offset).0
+-- ---- one order
 
-ties-from : (x y : Entry) → x.offset ≡ y.offset → ties_with x y ≡ true
-ties-from x y = (ties_at x.offset y.offset).1
+module _ {X : Type 0} (lt : X → X → Bool) (order : IsStrictWeakOrder lt) where
+  abbrev ties_with : X → X → Bool
+  ties_with = ties lt
 
-kept : (p : Entry → Bool) (y : Entry) (ys : List Entry) → p y ≡ true → filter p (y ∷ ys) ≡ y ∷ filter p ys
-kept p y ys h = cond-true _ _ _ h
+  ties-from : (x y : X) → lt x y ≡ false → lt y x ≡ false → ties_with x y ≡ true
+  ties-from x y low high = ap (λ (b : Bool). not b && not (lt y x)) low ∙ ap not high
 
-dropped : (p : Entry → Bool) (y : Entry) (ys : List Entry) → p y ≡ false → filter p (y ∷ ys) ≡ filter p ys
-dropped p y ys h = cond-false _ _ _ h
+  not_below-self : (x : X) → lt x x ≡ false
+  not_below-self x = elim (cases_Bool (lt x x)) [ inl is ↦ order.one_way x x is | inr is ↦ is ]
 
--- no offset is below n
-abbrev AreAtLeast : ℕ → List Entry → Type 0
-AreAtLeast n [] = Unit {0}
-AreAtLeast n (y ∷ ys) = (n ≤ y.offset) × AreAtLeast n ys
+  ties-self : (x : X) → ties_with x x ≡ true
+  ties-self x = ties-from x x (not_below-self x) (not_below-self x)
 
--- no offset is below an earlier one
-abbrev Rises : List Entry → Type 0
-Rises [] = Unit {0}
-Rises (y ∷ ys) = AreAtLeast y.offset ys × Rises ys
+  -- one that ties with another one is not below it
+  ties-not_below : (x y : X) → ties_with x y ≡ true → lt x y ≡ false
+  ties-not_below x y is = elim (cases_Bool (lt x y)) [
+    | inl below ↦ absurd (false≢true (sym (ap (λ (b : Bool). not b && not (lt y x)) below) ∙ is))
+    | inr above ↦ above
+  ]
 
-at_least : (n : ℕ) (ys : List Entry) → ((j : ℕ) (d : Entry) → j < length ys → n ≤ (get_or ys j d).offset) → AreAtLeast n ys
-at_least n [] h = tt
-at_least n (y ∷ ys) h = (h zero y (suc-le-suc zero-le), at_least n ys (λ j d lt. h (suc j) d (suc-le-suc lt)))
+  kept : (p : X → Bool) (y : X) (ys : List X) → p y ≡ true → filter p (y ∷ ys) ≡ y ∷ filter p ys
+  kept p y ys h = cond-true _ _ _ h
 
-rises : (ys : List Entry) → IsNonDecreasingBy (λ (e : Entry). e.offset) ys → Rises ys
-rises [] h = tt
-rises (y ∷ ys) h = (at_least y.offset ys (λ j d lt. h zero (suc j) d zero-le (suc-le-suc lt)), rises ys (λ i j d le lt. h (suc i) (suc j) d (suc-le-suc le) (suc-le-suc lt)))
+  dropped : (p : X → Bool) (y : X) (ys : List X) → p y ≡ false → filter p (y ∷ ys) ≡ filter p ys
+  dropped p y ys h = cond-false _ _ _ h
 
--- an entry with this offset is among those that are not below n
-not_below : (n : ℕ) (e : Entry) (xs : List Entry) → AreAtLeast n xs → (z : Entry) (zs : List Entry) → filter (ties_with e) xs ≡ z ∷ zs → n ≤ e.offset
-not_below n e [] low z zs some = cc
-not_below n e (y ∷ ys) low z zs some =
-    elim (cases_Bool (ties_with e y)) [
-      | inl with ↦ let same : e.offset ≡ y.offset = ties-true e y with in let first : n ≤ y.offset = low.0 in omega (arith, same, first)
-      | inr without ↦ not_below n e ys low.1 z zs (sym (dropped (ties_with e) y ys without) ∙ some)
-    ]
+  -- none is below x
+  abbrev AreAtLeast : X → List X → Type 0
+  AreAtLeast x [] = Unit {0}
+  AreAtLeast x (y ∷ ys) = (lt y x ≡ false) × AreAtLeast x ys
 
--- rising lists whose entries of each offset are the same, in the same order, are equal
-one_order : (xs ys : List Entry) → Rises xs → Rises ys → ((x : Entry) → filter (ties_with x) xs ≡ filter (ties_with x) ys) → xs ≡ ys
-one_order [] [] up up' same = refl
-one_order [] (y ∷ ys) up up' same = let some : [] ≡ y ∷ filter (ties_with y) ys = same y ∙ kept (ties_with y) y ys (ties-from y y refl) in cc
-one_order (x ∷ xs) [] up up' same = let some : x ∷ filter (ties_with x) xs ≡ [] = sym (kept (ties_with x) x xs (ties-from x x refl)) ∙ same x in cc
-one_order (x ∷ xs) (y ∷ ys) up up' same =
-    let self_x : ties_with x x ≡ true = ties-from x x refl in
-    let self_y : ties_with y y ≡ true = ties-from y y refl in
-    let low : x.offset ≤ y.offset = not_below x.offset y (x ∷ xs) (omega arith, up.0) y (filter (ties_with y) ys) (same y ∙ kept (ties_with y) y ys self_y) in
-    let high : y.offset ≤ x.offset = not_below y.offset x (y ∷ ys) (omega arith, up'.0) x (filter (ties_with x) xs) (sym (same x) ∙ kept (ties_with x) x xs self_x) in
-    let offsets : x.offset ≡ y.offset = omega (arith, low, high) in
-    let heads : x ∷ filter (ties_with x) xs ≡ y ∷ filter (ties_with x) ys = sym (kept (ties_with x) x xs self_x) ∙ same x ∙ kept (ties_with x) y ys (ties-from x y offsets) in
-    let head : x ≡ y = cc in
-    let rest : (z : Entry) → filter (ties_with z) xs ≡ filter (ties_with z) ys =
-    λ z. elim (cases_Bool (ties_with z x)) [
-      | inl with ↦
-          let with_y : ties_with z y ≡ true = ties-from z y (ties-true z x with ∙ offsets) in
-          let both : x ∷ filter (ties_with z) xs ≡ y ∷ filter (ties_with z) ys = sym (kept (ties_with z) x xs with) ∙ same z ∙ kept (ties_with z) y ys with_y in
-          cc
-      | inr without ↦
-          let without_y : ties_with z y ≡ false = ap (ties_with z) (sym head) ∙ without in
-          sym (dropped (ties_with z) x xs without) ∙ same z ∙ dropped (ties_with z) y ys without_y
-    ] in
-    let tail : xs ≡ ys = one_order xs ys up.1 up'.1 rest in
-    λ i. head i ∷ tail i
+  -- none is below an earlier one
+  abbrev Rises : List X → Type 0
+  Rises [] = Unit {0}
+  Rises (y ∷ ys) = AreAtLeast y ys × Rises ys
+
+  further : (x y : X) (ys : List X) → lt y x ≡ false → AreAtLeast y ys → AreAtLeast x ys
+  further x y [] low h = tt
+  further x y (z ∷ zs) low h = (order.chain z y x h.0 low, further x y zs low h.1)
+
+  rises : (xs : List X) → IsSortedBy lt xs → Rises xs
+  rises [] h = tt
+  rises (x ∷ []) h = (tt, tt)
+  rises (x ∷ y ∷ ys) h =
+      let rest : Rises (y ∷ ys) = rises (y ∷ ys)
+      (λ k d low high. subst (λ (n : ℕ). lt (slice_index_or (x ∷ y ∷ ys) n d) (slice_index_or (y ∷ ys) k d) ≡ false) (suc_first k) (h (suc k) d (omega arith) (omega (arith, high)))) in
+      let next : lt y x ≡ false = subst (λ (n : ℕ). lt (slice_index_or (x ∷ y ∷ ys) n x) x ≡ false) one_is (h zero x (omega arith) (omega arith)) in
+      ((next, further x y ys next rest.0), rest)
+
+  -- one that ties with an element of a list is not below what the list is not below
+  not_below : (x e : X) (xs : List X) → AreAtLeast x xs → (z : X) (zs : List X) → filter (ties_with e) xs ≡ z ∷ zs → lt e x ≡ false
+  not_below x e [] low z zs some = cc
+  not_below x e (y ∷ ys) low z zs some =
+      elim (cases_Bool (ties_with e y)) [
+        | inl with ↦ order.chain e y x (ties-not_below e y with) low.0
+        | inr without ↦ not_below x e ys low.1 z zs (sym (dropped (ties_with e) y ys without) ∙ some)
+      ]
+
+  -- rising lists whose tied elements are the same, in the same order, are equal
+  one_order : (xs ys : List X) → Rises xs → Rises ys → ((x : X) → filter (ties_with x) xs ≡ filter (ties_with x) ys) → xs ≡ ys
+  one_order [] [] up up' same = refl
+  one_order [] (y ∷ ys) up up' same = let some : [] ≡ y ∷ filter (ties_with y) ys = same y ∙ kept (ties_with y) y ys (ties-self y) in cc
+  one_order (x ∷ xs) [] up up' same = let some : x ∷ filter (ties_with x) xs ≡ [] = sym (kept (ties_with x) x xs (ties-self x)) ∙ same x in cc
+  one_order (x ∷ xs) (y ∷ ys) up up' same =
+      let low : lt y x ≡ false = not_below x y (x ∷ xs) (not_below-self x, up.0) y (filter (ties_with y) ys) (same y ∙ kept (ties_with y) y ys (ties-self y)) in
+      let high : lt x y ≡ false = not_below y x (y ∷ ys) (not_below-self y, up'.0) x (filter (ties_with x) xs) (sym (same x) ∙ kept (ties_with x) x xs (ties-self x)) in
+      let heads : x ∷ filter (ties_with x) xs ≡ y ∷ filter (ties_with x) ys = sym (kept (ties_with x) x xs (ties-self x)) ∙ same x ∙ kept (ties_with x) y ys (ties-from x y high low) in
+      let head : x ≡ y = cc in
+      let rest : (z : X) → filter (ties_with z) xs ≡ filter (ties_with z) ys =
+      λ z. elim (cases_Bool (ties_with z x)) [
+        | inl with ↦
+            let with_y : ties_with z y ≡ true = ap (ties_with z) (sym head) ∙ with in
+            let both : x ∷ filter (ties_with z) xs ≡ y ∷ filter (ties_with z) ys = sym (kept (ties_with z) x xs with) ∙ same z ∙ kept (ties_with z) y ys with_y in
+            cc
+        | inr without ↦
+            let without_y : ties_with z y ≡ false = ap (ties_with z) (sym head) ∙ without in
+            sym (dropped (ties_with z) x xs without) ∙ same z ∙ dropped (ties_with z) y ys without_y
+      ] in
+      let tail : xs ≡ ys = one_order xs ys up.1 up'.1 rest in
+      λ i. head i ∷ tail i
+
+  -- a list is sorted in one way
+  pub one_sorted : (es xs ys : List X) → IsSortedBy lt xs → IsSortedBy lt ys → IsStableBy lt es xs → IsStableBy lt es ys → xs ≡ ys
+  one_sorted es xs ys up up' stable stable' = one_order xs ys (rises xs up) (rises ys up') (λ x. stable x ∙ sym (stable' x))
+
+-- ---- a finalized table
 
 same_order : (es xs ys : List Entry) → AreInOrder es xs → AreInOrder es ys → xs ≡ ys
-same_order es xs ys a b =
-    one_order xs ys (rises xs (IsNonDecreasingBy-from_sort (λ (e : Entry). e.offset) xs a.rising)) (rises ys (IsNonDecreasingBy-from_sort (λ (e : Entry). e.offset) ys b.rising)) (λ x. a.stable x ∙ sym (b.stable x))
+same_order es xs ys a b = one_sorted _ (ranks_by nat_cmp_total (λ (e : Entry). e.offset)) es xs ys a.rising b.rising a.stable b.stable
 
 same_final : (layout : Layout) (t : Table) (k : Option Kind) (r new other : Record) → IsFinal layout t k r new → IsFinal layout t k r other → new ≡ other
 same_final layout t k r new other a b =

@@ -3,7 +3,7 @@
 -- the sizes of the STRUCTs that DATASECs became.
 -- Source: libbpf's `btf_fixup_datasec`. Compilers leave these sizes and offsets 0, because they do not know the
 -- sections of the object. libbpf does not determine the order of entries with the same offset; here it stays.
-use Rattle.std.specs.Prelude.{◌≡◌, ℕ, ◌<◌, ◌*◌, ◌^◌, ◌==◌, ◌&&◌, ◌||◌, Bool, true, false, if◌then◌else◌, List, [], ◌∷◌, ◌++◌, length, map, set, codes, Option, Some, None, Result, Ok, Err}
+use Rattle.std.specs.Prelude.{◌≡◌, ℕ, ◌<◌, ◌*◌, ◌^◌, ◌==◌, ◌&&◌, ◌||◌, Bool, true, false, if◌then◌else◌, List, [], ◌∷◌, ◌++◌, length, map, set, slice_index, codes, Option, Some, None, Result, Ok, Err}
 use Rattle.std.specs.List.{list_all, list_any}
 use Rattle.std.specs.List.Sorted.{IsSortedByKey, IsStableByKey}
 use Rattle.std.specs.Option.{is_some, option_map, unwrap_or}
@@ -42,15 +42,19 @@ abbrev pub section_size : Layout → Result (List ℕ) Refusal → Option ℕ
 section_size layout (Ok name) = if is_of_externs name then None else if_positive (in_a_word (layout.sections name))
 section_size layout (Err refusal) = None
 
--- The offset of a variable in its section, by its name: a Static variable retains its offset, and another one has the
--- offset of its symbol, if it is known and has 32 bits. Source: `btf_fixup_datasec`, `find_elf_var_sym`.
+-- A Static or an Extern variable retains its offset. Source: `btf_fixup_datasec`.
+abbrev pub retains_offset : Record → Bool
+retains_offset r = is_static r || (slice_index r.tail 0 == 2)
+
+-- The offset of a variable in its section, by its name: its own if it retains it, and else the offset of its symbol, if
+-- it is known and has 32 bits. Source: `btf_fixup_datasec`, `find_elf_var_sym`.
 abbrev pub variable_offset : Layout → Bool → ℕ → Result (List ℕ) Refusal → Option ℕ
-variable_offset layout static old (Ok name) = if static then Some old else in_a_word (layout.symbols name)
-variable_offset layout static old (Err refusal) = None
+variable_offset layout retains old (Ok name) = if retains then Some old else in_a_word (layout.symbols name)
+variable_offset layout retains old (Err refusal) = None
 
 -- the offset of an entry by its type, which has to be a VAR
 abbrev pub offset_by : Layout → Table → Option Kind → Record → ℕ → Option ℕ
-offset_by layout t (Some kinds.Var) r old = variable_offset layout (is_static r) old (text_at t.strings r.name)
+offset_by layout t (Some kinds.Var) r old = variable_offset layout (retains_offset r) old (text_at t.strings r.name)
 offset_by layout t k r old = None
 
 -- the offset of an entry, if it is known

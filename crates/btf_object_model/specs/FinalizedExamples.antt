@@ -8,7 +8,7 @@ use Rattle.btf_rewrite_model.specs.Made.{Entry, record_at, c_int, struct, data_s
 use Rattle.btf_rewrite_model.specs.Pass.{Layout}
 use Rattle.btf_rewrite_model.specs.RewriteExamples.{no_layout, only, named_table, int}
 use Rattle.btf_rewrite_model.specs.declared.ksyms_ids.KsymsIds.{KsymsIds}
-use Rattle.btf_object_model.specs.Finalized.{is_completed, final_size, final_entries, placeholder, with_placeholder, with_placeholder_id, placeholder_fault, sized_record}
+use Rattle.btf_object_model.specs.Finalized.{entry_offset, is_completed, final_size, final_entries, placeholder, with_placeholder, with_placeholder_id, placeholder_fault, sized_record}
 
 -- a VAR of the type of id 1
 var : ℕ → ℕ → Record
@@ -35,6 +35,13 @@ completed_section :
     ≡ entry 2 8 4 ∷ entry 3 12 4 ∷ [])
 unfolding compiled layout var entry pieces_from encode
 completed_section = (refl, refl)
+
+-- so does an Extern one
+extern_variable :
+    entry_offset (layout (codes ".bss")) (named_table (codes "int" ∷ codes "count" ∷ []) (int 1 ∷ var 5 2 ∷ []))
+    (entry 2 12 4) ≡ Some 12
+unfolding layout var entry pieces_from encode
+extern_variable = refl
 
 -- an unknown section, a section of externs, and a section whose variable has no symbol stay as they are
 sections_that_stay :

@@ -15,7 +15,7 @@ use Rattle.btf_rewrite_model.specs.declared.feature.FeatureAnswer.{FeatureAnswer
 use Rattle.btf_rewrite_model.specs.declared.feature.FillPolicy.{FillPolicy}
 use Rattle.btf_rewrite_model.specs.declared.ksyms_ids.KsymsIds.{KsymsIds}
 use Rattle.btf_object_model.specs.Finalized.{IsFinalized}
-use Rattle.btf_object_model.specs.SanitizedFinalized.{IsSanitizedFinalized}
+use Rattle.btf_object_model.specs.SanitizedFinalized.{IsOpened, IsSanitizedFinalized}
 use Rattle.btf_object_model.specs.Sanitized.{Target, HasSection, IsSanitized, table_name, ext_name}
 
 -- A text that can be read at an offset of a table's strings is read at the same offset of the rewritten table.
@@ -68,3 +68,8 @@ FinalizedKeepsExt =
 abbrev pub IsFinalizedOnce : Type 0
 IsFinalizedOnce =
     (layout : Layout) (old new other : Table) → IsFinalized layout old new → IsFinalized layout old other → new ≡ other
+
+-- A loader opens an object in one way: an object determines the table that it then has.
+abbrev pub IsOpenedOnce : Type 0
+IsOpenedOnce =
+    (layout : Layout) (old new other : Table) → IsOpened layout old new → IsOpened layout old other → new ≡ other

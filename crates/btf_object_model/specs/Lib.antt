@@ -3,7 +3,9 @@ pub mod Ksyms
 pub mod Kernel
 pub mod Sanitized
 pub mod Finalized
+pub mod Kconfig
 pub mod SanitizedFinalized
 pub mod Laws
 pub mod Examples
 pub mod FinalizedExamples
+pub mod KconfigExamples

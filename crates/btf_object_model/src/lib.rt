@@ -4,7 +4,7 @@
 //! The definitions are in `specs/`. Each law is the contract of a function here that does nothing.
 #![tactic(auto)]
 
-ghost use Rattle.btf_object_model.specs.Laws.{TextsStay, ExtStays, SanitizedKeepsExt, FinalizedKeepsExt, IsFinalizedOnce};
+ghost use Rattle.btf_object_model.specs.Laws.{TextsStay, ExtStays, SanitizedKeepsExt, FinalizedKeepsExt, IsFinalizedOnce, IsOpenedOnce};
 
 mod version;
 
@@ -35,4 +35,9 @@ pub fn finalized_keeps_ext()
 /// A table is finalized in one way: an object determines the finalized table.
 pub fn is_finalized_once()
     ensures { IsFinalizedOnce }
+{}
+
+/// A loader opens an object in one way: an object determines the table with `.kconfig` laid out, and finalized.
+pub fn is_opened_once()
+    ensures { IsOpenedOnce }
 {}

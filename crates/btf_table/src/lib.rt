@@ -8,5 +8,5 @@ pub use btf_rewrite_model::KsymsIds;
 pub use sanitize::{rewrite_bytes, rewrite_bytes_with};
 pub use table::{
     Btf, BtfStr, WALK_LIMIT, allocator_of, comparable_end, is_named, name_bytes, set_type,
-    type_count,
+    short_name, type_count,
 };

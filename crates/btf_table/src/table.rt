@@ -8,7 +8,7 @@ mod text;
 mod types;
 mod walk;
 
-ghost use Rattle.std.specs.Prelude.{◌≡◌, List, ◌+◌, ◌*◌, ◌≤◌, ◌↔◌, [], ◌∷◌, map, IsTrue, IfOk, OnOk, OnErr, MatchResult, Ok, Err, Some, slice_get, set, length, drop, ◌<◌, ◌^◌};
+ghost use Rattle.std.specs.Prelude.{◌≡◌, List, ◌+◌, ◌*◌, ◌≤◌, ◌↔◌, [], ◌∷◌, map, IsTrue, IfOk, OnOk, OnErr, MatchResult, Ok, Err, Some, slice_get, set, length, take, drop, ◌<◌, ◌^◌};
 ghost use Rattle.std.specs.Slice.Iter.{iter_rest};
 ghost use Rattle.btf_model.specs.Record.{Record, unknown, kind_of};
 ghost use Rattle.btf_model.specs.Refusal.{Refusal};
@@ -424,6 +424,17 @@ pub fn name_bytes<'a>(table: &'a Btf, btf_type: &BtfType) -> Option<&'a [u8]>
         ≡ model.bytes_at table.now.strings (record_of btf_type.now).name }
 {
     bytes_at(&table.strings, btf_type.name_offset(), 0)
+}
+
+/// The bytes of the name at a string offset, from the offset up to the first zero byte, if it is among the first `limit`
+/// bytes; they need not be UTF-8. Reads at most `limit` bytes.
+pub fn short_name(table: &Btf, offset: u32, limit: usize) -> Option<&[u8]>
+    ensures { option_map (λ b. b.now) result
+        ≡ model.bytes_at (take limit (drop offset table.now.strings)) 0 }
+{
+    let rest = strings_from(&table.strings, offset);
+    let front = &rest[..limit.min(rest.len())];
+    bytes_at(front, 0, 0)
 }
 
 /// The end of the offsets at which a text of the table can be read, for `is_named`, if a name can be compared with bytes;

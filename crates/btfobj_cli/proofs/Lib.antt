@@ -1,3 +1,4 @@
+mod Files
 mod Reports
 mod Changed
 mod Compared

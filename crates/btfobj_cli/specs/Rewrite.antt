@@ -15,6 +15,8 @@ use Rattle.btf_object_model.specs.SanitizedFinalized.{IsSanitizedFinalized}
 use Rattle.btf_object.specs.Errors.{target_of}
 use Rattle.btf_object.specs.Kernel.{has}
 use Rattle.btfobj_cli.specs.Blob.{BeginsObject, BeginsTable}
+use Rattle.btfobj_cli.specs.declared.blob.Blob.{Blob}
+use Rattle.btfobj_cli.specs.declared.blob.Blob.TheVariants.{Object, Table as TableAlone}
 use Rattle.btfobj_cli.specs.declared.rewrite.Rewrite.{Rewrite}
 
 -- the target that the settings give
@@ -43,6 +45,12 @@ abbrev pub RewritesObject : List ℕ → Rewrite → List ℕ → List FeatureAn
 RewritesObject bytes rewrite file answers =
     MatchBool rewrite.is_finalized (IsSanitizedFinalized bytes (has rewrite.kernel) file answers)
     (IsSanitized bytes (chosen_target rewrite) file answers)
+
+-- The same for a file that is read: an object, or a table alone.
+abbrev pub RewritesBlob : Blob → Rewrite → List ℕ → List FeatureAnswer → Type 0
+RewritesBlob (Object object) rewrite file answers = RewritesObject object.bytes rewrite file answers
+RewritesBlob (TableAlone bytes order) rewrite file answers =
+    RewritesAlone order bytes.now (chosen_target rewrite) file answers
 
 -- The new file is the old one, rewritten by these settings: an object with its table rewritten, or a table alone.
 pub record IsRewritten (bytes : List ℕ) (rewrite : Rewrite) (file : List ℕ) (answers : List FeatureAnswer) : Type 0 where

@@ -3,13 +3,14 @@
 ghost use Rattle.std.specs.Prelude.{◌≡◌, ℕ, List, None, IfOk};
 ghost use Rattle.btf_object.specs.Kernel.{has};
 ghost use Rattle.btf_rules.specs.Layout.{sizes_of, offsets_of};
-ghost use Rattle.btfobj_cli.specs.Rewrite.{chosen_target, RewritesAlone, RewritesObject, IsRewritten};
+ghost use Rattle.btfobj_cli.specs.Rewrite.{chosen_target, RewritesAlone, RewritesObject, RewritesBlob, IsRewritten};
 
 use crate::blob::Blob;
 use crate::fault::Fault;
 use arrayvec::ArrayVec;
+use btf_elf::Object;
 use btf_model::Endianness;
-use btf_object::{Kernel, ksyms_of, sanitize_finalized, sanitize_object_with};
+use btf_object::{Kernel, ksyms_of, sanitize_parsed, sanitize_parsed_finalized};
 use btf_rewrite_model::{BtfFeature, FeatureAnswer, FillPolicy};
 use btf_rules::BtfFeatureResolver;
 use btf_table::Btf;
@@ -48,28 +49,43 @@ pub fn sanitize<H: BuildHasher + Clone + Drop>(
     // new file of a table alone is the written form of the rewritten table.
     ensures { IfOk result (λ r. IsRewritten bytes.now rewrite.now r.0.items r.1.items) }
 {
-    match Blob::read(alloc, bytes)? {
-        Blob::Object(_object) => rewrite_object(alloc, bytes, rewrite, hash_builder),
-        Blob::Table(bytes, endianness) => sanitize_table(alloc, bytes, endianness, rewrite),
+    let blob = Blob::read(alloc, bytes)?;
+    sanitize_blob(alloc, &blob, rewrite, hash_builder)
+}
+
+/// `sanitize` of a file that is already read, with its errors but `UnknownFormat`.
+pub fn sanitize_blob<H: BuildHasher + Clone + Drop>(
+    alloc: Global,
+    blob: &Blob<'_>,
+    rewrite: &Rewrite<'_>,
+    hash_builder: H,
+) -> Result<(Vec<u8>, ArrayVec<FeatureAnswer, 8>), Fault>
+    ensures { IfOk result (λ r. RewritesBlob blob.now rewrite.now r.0.items r.1.items) }
+{
+    match blob {
+        Blob::Object(object) => rewrite_object(alloc, object, rewrite, hash_builder),
+        Blob::Table(bytes, endianness) => sanitize_table(alloc, bytes, *endianness, rewrite),
     }
 }
 
 /// Rewrites the table of an object: after it is finalized, or as it is.
 fn rewrite_object<H: BuildHasher + Clone + Drop>(
     alloc: Global,
-    bytes: &[u8],
+    object: &Object<'_>,
     rewrite: &Rewrite<'_>,
     hash_builder: H,
 ) -> Result<(Vec<u8>, ArrayVec<FeatureAnswer, 8>), Fault>
-    ensures { IfOk result (λ r. RewritesObject bytes.now rewrite.now r.0.items r.1.items) }
+    ensures { IfOk result
+        (λ r. RewritesObject object.now.bytes rewrite.now r.0.items r.1.items) }
 {
+    let kernel = &rewrite.kernel;
     if rewrite.is_finalized {
-        return Ok(sanitize_finalized(alloc, bytes, &rewrite.kernel, hash_builder)?);
+        return Ok(sanitize_parsed_finalized(alloc, object, kernel, hash_builder)?);
     }
-    Ok(sanitize_object_with(
+    Ok(sanitize_parsed(
         alloc,
-        bytes,
-        &rewrite.kernel,
+        object,
+        kernel,
         rewrite.policy,
         rewrite.placeholder,
         hash_builder,

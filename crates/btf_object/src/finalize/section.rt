@@ -21,8 +21,8 @@ use btf_words::BtfError;
 use std::alloc::{AllocError, Global};
 use std::hash::BuildHasher;
 
-/// The offset of an entry, if it is known: its own if its variable is Static, else the offset of its variable's symbol.
-/// `OutOfMemory` is the only error.
+/// The offset of an entry, if it is known: its own if its variable is Static or Extern, else the offset of its variable's
+/// symbol. `OutOfMemory` is the only error.
 fn entry_offset<H: BuildHasher>(
     btf: &Btf,
     layout: &ObjectLayout<H>,
@@ -45,7 +45,7 @@ fn entry_offset<H: BuildHasher>(
         return Ok(None);
     };
     match var.linkage() {
-        VarLinkage::Static => Ok(Some(entry.offset)),
+        VarLinkage::Static | VarLinkage::Extern => Ok(Some(entry.offset)),
         _ => Ok(symbol),
     }
 }

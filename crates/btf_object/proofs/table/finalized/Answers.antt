@@ -20,37 +20,37 @@ pub returns-in_err-ids-clause-refused : goal.returns-in_err-ids-clause-refused
 returns-in_err-ids-clause-refused g c =
     let at = goal.at.returns-in_err-ids-clause-refused g c in
     passed_on _ _ c.in_err-ids.field-0.0 c.from_residual-in_err-ids.result
-    (refuses_ksyms c.args.object.now c.args.table.now (has c.args.kernel.now) c.in_ok-btf.btf c.finalize.new.btf (layout_of c.in_ok-layout.layout.sections c.in_ok-layout.layout.symbols) c.in_ok-layout.ensures.layout (parsed g at.In_ok-btf)
-    c.in_ok-finalize.ensures.made)
+    (refuses_ksyms c.args.object.now c.args.table.now (has c.args.kernel.now) c.in_ok-btf.btf c.open.new.btf (layout_of c.in_ok-layout.layout.sections c.in_ok-layout.layout.symbols) c.in_ok-layout.ensures.layout (parsed g at.In_ok-btf)
+    c.in_ok-open.ensures.made)
     c.in_err-ids.ensures c.from_residual-in_err-ids.ensures.1
 
 pub returns-in_err-ids-2-clause-refused : goal.returns-in_err-ids-2-clause-refused
 returns-in_err-ids-2-clause-refused g c =
     let at = goal.at.returns-in_err-ids-2-clause-refused g c in
     passed_on _ _ c.in_err-ids-2.field-0.0 c.from_residual-in_err-ids-2.result
-    (refuses_placeholder c.args.object.now c.args.table.now (has c.args.kernel.now) c.in_ok-btf.btf c.finalize.new.btf (layout_of c.in_ok-layout.layout.sections c.in_ok-layout.layout.symbols) c.in_ok-layout.ensures.layout (parsed g at.In_ok-btf)
-    c.in_ok-finalize.ensures.made c.in_ok-ids.ids c.in_ok-ids.ensures)
+    (refuses_placeholder c.args.object.now c.args.table.now (has c.args.kernel.now) c.in_ok-btf.btf c.open.new.btf (layout_of c.in_ok-layout.layout.sections c.in_ok-layout.layout.symbols) c.in_ok-layout.ensures.layout (parsed g at.In_ok-btf)
+    c.in_ok-open.ensures.made c.in_ok-ids.ids c.in_ok-ids.ensures)
     c.in_err-ids-2.ensures.answer c.from_residual-in_err-ids-2.ensures.1
 
 pub returns-in_err-answers-clause-refused : goal.returns-in_err-answers-clause-refused
 returns-in_err-answers-clause-refused g c =
     let at = goal.at.returns-in_err-answers-clause-refused g c in
     passed_on _ _ c.in_err-answers.field-0.0 c.from_residual-in_err-answers.result
-    (refuses_rewrite c.args.object.now c.args.table.now (has c.args.kernel.now) c.in_ok-btf.btf c.finalize.new.btf (layout_of c.in_ok-layout.layout.sections c.in_ok-layout.layout.symbols) c.in_ok-layout.ensures.layout (parsed g at.In_ok-btf)
-    c.in_ok-finalize.ensures.made c.in_ok-ids.ids c.in_ok-ids.ensures c.add_placeholder.new.btf c.in_ok-ids-2.ids c.in_ok-ids-2.ensures.table c.in_ok-ids-2.ensures.answer)
+    (refuses_rewrite c.args.object.now c.args.table.now (has c.args.kernel.now) c.in_ok-btf.btf c.open.new.btf (layout_of c.in_ok-layout.layout.sections c.in_ok-layout.layout.symbols) c.in_ok-layout.ensures.layout (parsed g at.In_ok-btf)
+    c.in_ok-open.ensures.made c.in_ok-ids.ids c.in_ok-ids.ensures c.add_placeholder.new.btf c.in_ok-ids-2.ids c.in_ok-ids-2.ensures.table c.in_ok-ids-2.ensures.answer)
     c.in_err-answers.ensures.refused c.from_residual-in_err-answers.ensures.1
 
 pub returns-clause-made : goal.returns-clause-made
 returns-clause-made g c =
     let at = goal.at.returns-clause-made g c in
-    let base : Table = c.finalize.new.btf in
+    let base : Table = c.open.new.btf in
     let new : Table = c.rewrite_for.new.btf in
     let made : Table = c.set_sizes.new.btf in
     let made_is : made ≡ sized (with_ksyms_size base c.in_ok-ids.ids) new =
     c.in_ok-set_sizes.ensures.made (with_ksyms_size base c.in_ok-ids.ids) (c.deref.ensures.value ∙ c.in_ok-sizes.ensures) in
     let bytes_are : c.in_ok-to_bytes.field-0.items ≡ canon made = same_ok {E = Refusal} c.in_ok-to_bytes.field-0.items (canon made) c.in_ok-to_bytes.ensures.written in
     let all =
-    rewrites_finalized c.args.object.now c.args.table.now (has c.args.kernel.now) c.in_ok-btf.btf base (layout_of c.in_ok-layout.layout.sections c.in_ok-layout.layout.symbols) c.in_ok-layout.ensures.layout (parsed g at.In_ok-btf) c.in_ok-finalize.ensures.made
+    rewrites_finalized c.args.object.now c.args.table.now (has c.args.kernel.now) c.in_ok-btf.btf base (layout_of c.in_ok-layout.layout.sections c.in_ok-layout.layout.symbols) c.in_ok-layout.ensures.layout (parsed g at.In_ok-btf) c.in_ok-open.ensures.made
     c.in_ok-ids.ids c.in_ok-ids.ensures c.add_placeholder.new.btf c.in_ok-ids-2.ids c.in_ok-ids-2.ensures.table c.in_ok-ids-2.ensures.answer new made c.in_ok-answers.answers.items c.in_ok-to_bytes.field-0.items c.in_ok-answers.ensures.rewritten
     c.in_ok-answers.ensures.answers c.in_ok-answers.ensures.order made_is bytes_are c.in_ok-to_bytes.ensures.parses_back in
     (c.in_ok-btf.btf, base, new, all.0, all.1)

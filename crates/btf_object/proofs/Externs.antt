@@ -1,0 +1,263 @@
+-- The externs of `.kconfig`, and their layout.
+use Rattle.std.proofs.Common.{◌≡◌, ◌≢◌, ℕ, zero, suc, ◌+◌, ◌*◌, ◌<◌, ◌≤◌, ◌^◌, Bool, true, false, List, [], ◌∷◌, ◌++◌, length, get_or, set, take, drop, filter, map, cond, Option, None, Some, Result, Ok, Err, refl, sym, ap, subst, ◌∙◌, inl, inr, ⊎_elim, arith, is_lt}
+use Rattle.std.specs.Prelude.{slice_get, IfSome, IfNone, Vec}
+use Rattle.std.specs.List.{AllByRecursion, flat_map}
+use Rattle.std.specs.List.Sorted.{ties, IsSorted, IsSortedBy, IsStable, IsStableBy}
+use Rattle.std.specs.Option.{option_map, unwrap_or}
+use Rattle.std.proofs.lemmas.Bool.{cases_lt}
+use Rattle.std.proofs.lemmas.Bool.Decides.{nat_tests}
+use Rattle.std.proofs.lemmas.List.{map-append, length-append, length-map, get_or-map, take_more, take_all, set-get_or, get_or-set_other}
+use Rattle.std.proofs.lemmas.Option.{same_Some, none-some, slice_get_within, slice_get-get_or, get_or_from_slice_get, unwrap_or-slice_get, slice_get-map}
+use Rattle.btf_model.specs.Record as kinds
+use Rattle.btf_model.specs.Record.{Kind, Record, unknown, kind_of, vlen}
+use Rattle.btf_model.specs.Refusal.{Refusal}
+use Rattle.btf_model.specs.Table.{Table, Fallback}
+use Rattle.btf_model.specs.Text.{FindsName}
+use Rattle.btf_rewrite_model.specs.Made.{Entry, entries, record_at, kind_at, data_sec}
+use Rattle.btf_rewrite_model.specs.Made as made
+use Rattle.btf_rewrite_model.proofs.Granted.{kind_made, vlen_small}
+use Rattle.btf_items.specs.Items.{entry_words}
+use Rattle.btf_items.specs.declared.items.DataSecEntry.{DataSecEntry}
+use Rattle.btf_table.specs.Btf.{HasShapeOf}
+use Rattle.btf_table.specs.KsymsStep.{entry}
+use Rattle.btf_table.proofs.KsymsEntries.{at, zero_entry, entries_of_words}
+use Rattle.btf_object_model.specs.Finalized.{kconfig_name, is_data_sec}
+use Rattle.btf_object_model.specs.Kconfig as model
+use Rattle.btf_object_model.specs.Kconfig.{FindsValue, FindsExternBy, FindsExtern, FindsExterns, extern_name, extern_cmp, total, laid_out, with_record, with_globals, with_externs, made_global, IsLaidOut, ConfiguresIf, ConfiguresAt, IsConfigured}
+use Rattle.btf_object.specs.Kconfig.{value_of, extern_of, is_var, IsVariable, IsDataSec, HasExterns, IsSection, StaysAsItIs, MakesGlobal, HasDataSecOf, PutsSection}
+use Rattle.btf_object.specs.declared.finalize.kconfig.Extern.{Extern}
+use Rattle.btf_object.proofs.FinalSections.{all_entries, entries_up_to, entries_len}
+
+-- ---- types of a kind
+
+variable_at : (t : Table) (id : ℕ) (r : Record) → slice_get t.records id ≡ Some r → record_at t id ≡ r
+variable_at t id r here = ap (λ (o : Option Record). unwrap_or o unknown) here
+
+kind_here : (t : Table) (id : ℕ) (r : Record) (k : Kind) → slice_get t.records id ≡ Some r → kind_of r.info ≡ Some k → kind_at t id ≡ Some k
+kind_here t id r k here kind = ap (λ (x : Record). kind_of x.info) (variable_at t id r here) ∙ kind
+
+-- ---- the extern of an entry
+
+-- the value of a variable is not known
+pub value_unknown : (t : Table) (e : Entry) (r : Record) (type : ℕ) (value : Option model.Value) → IsVariable t e.type r → type ≡ r.third → FindsValue t type value → value ≡ None → FindsExtern t e None
+value_unknown t e r type value is type_is found none =
+    let finds : FindsValue t r.third value = subst (λ (n : ℕ). FindsValue t n value) type_is found in
+    subst (λ (k : Option Kind). FindsExternBy t k (record_at t e.type) e None) (sym (kind_here t e.type r kinds.Var is.here is.kind))
+    (subst (λ (x : Record). FindsExternBy t (Some kinds.Var) x e None) (sym (variable_at t e.type r is.here)) (value, finds, sym (ap (λ (v : Option model.Value). model.extern_of e v (extern_name t.strings r.name)) none)))
+
+-- the entry of an extern
+entry_made : (e : Entry) (value : Option model.Value) (name : Option (List ℕ)) (x : model.Extern) → Some x ≡ model.extern_of e value name → x.entry ≡ e
+entry_made e (Some value) (Some name) x is = ap (λ (y : model.Extern). y.entry) (same_Some x (record { entry = e; value = value; name = name }) is)
+entry_made e (Some value) None x is = absurd (none-some x (sym is))
+entry_made e None name x is = absurd (none-some x (sym is))
+
+entry_by : (t : Table) (k : Option Kind) (r : Record) (e : Entry) (x : model.Extern) → FindsExternBy t k r e (Some x) → x.entry ≡ e
+entry_by t k r e x finds =
+    elim k as (λ (k : Option Kind). FindsExternBy t k r e (Some x) → x.entry ≡ e) [
+      | Some kinds.Var ↦ λ f. entry_made e f.0 (extern_name t.strings r.name) x f.2
+      | _ ↦ λ is. absurd (none-some x (sym is))
+    ] finds
+
+entry_is : (t : Table) (e : Entry) (x : model.Extern) → FindsExtern t e (Some x) → x.entry ≡ e
+entry_is t e x finds = entry_by t (kind_at t e.type) (record_at t e.type) e x finds
+
+-- ---- the externs of all entries
+
+abbrev pub entries_are : List model.Extern → List Entry
+entries_are xs = map (λ (x : model.Extern). x.entry) xs
+
+abbrev pub AreExterns : Table → List model.Extern → Type 0
+AreExterns t xs = AllByRecursion (λ x. FindsExtern t x.entry (Some x)) xs
+
+all-append : (t : Table) (xs : List model.Extern) (x : model.Extern) → AreExterns t xs → FindsExtern t x.entry (Some x) → AreExterns t (xs ++ x ∷ [])
+all-append t [] x all finds = (finds, tt)
+all-append t (y ∷ ys) x all finds = (all.0, all-append t ys x all.1 finds)
+
+-- The entries before a place have known externs, and these are they.
+pub record AreKnownBefore (t : Table) (es : List DataSecEntry) (i : ℕ) (xs : List Extern) : Type 0 where
+  pub are : map (λ (x : model.Extern). x.entry) (map extern_of xs) ≡ map entry (take i es)
+  pub known : AllByRecursion (λ x. FindsExtern t x.entry (Some x)) (map extern_of xs)
+  pub count : length xs ≡ i
+
+pub none_known : (t : Table) (es : List DataSecEntry) → AreKnownBefore t es 0 []
+none_known t es = record { are = refl; known = tt; count = refl }
+
+pub one_known : (t : Table) (es : List DataSecEntry) (i : ℕ) (xs new : List Extern) (x : Extern) → i < length es → AreKnownBefore t es i xs → FindsExtern t (entry (at es i)) (Some (extern_of x)) → new ≡ xs ++ x ∷ [] → AreKnownBefore t es (i + 1) new
+one_known t es i xs new x lt p finds is =
+    let m : model.Extern = extern_of x in
+    let here : m.entry ≡ entry (at es i) = entry_is t (entry (at es i)) m finds in
+    let added : map extern_of new ≡ map extern_of xs ++ m ∷ [] = ap (map extern_of) is ∙ map-append extern_of xs (x ∷ []) in
+    record {
+      are = ap entries_are added ∙ map-append (λ (y : model.Extern). y.entry) (map extern_of xs) (m ∷ []) ∙ ap (λ (ys : List Entry). ys ++ m.entry ∷ []) p.are
+          ∙ ap (λ (e : Entry). map entry (take i es) ++ e ∷ []) here ∙ sym (entries_up_to es i lt);
+      known = subst (AreExterns t) (sym added) (all-append t (map extern_of xs) m p.known (subst (λ (e : Entry). FindsExtern t e (Some m)) (sym here) finds));
+      count = omega (arith, ap (λ (ys : List Extern). length ys) is, length-append xs (x ∷ []), p.count);
+    }
+
+pub all_known : (t : Table) (tail : List ℕ) (es : List DataSecEntry) (i : ℕ) (xs : List Extern) → tail ≡ flat_map entry_words es → length es ≤ i → AreKnownBefore t es i xs → FindsExterns t (entries tail) (Some (map extern_of xs))
+all_known t tail es i xs words end p = (p.are ∙ ap (map entry) (take_all i es end) ∙ sym (all_entries tail es words), p.known)
+
+pub unknown_there : (t : Table) (tail : List ℕ) (es : List DataSecEntry) (i : ℕ) (found : Option Extern) → tail ≡ flat_map entry_words es → i < length es → FindsExtern t (entry (at es i)) (option_map extern_of found) → found ≡ None → FindsExterns t (entries tail) None
+unknown_there t tail es i found words lt finds none = (
+  i,
+  entry (at es i),
+  ap (λ (xs : List Entry). slice_get xs i) (all_entries tail es words) ∙ slice_get-map entry es i ∙ ap (option_map entry) (slice_get-get_or es i zero_entry lt),
+  subst (λ (o : Option Extern). FindsExtern t (entry (at es i)) (option_map extern_of o)) none finds,
+)
+
+-- ---- the layout
+
+total-append : (xs : List model.Extern) (x : model.Extern) → total (xs ++ x ∷ []) ≡ total xs + x.value.size
+total-append [] x = omega arith
+total-append (y ∷ ys) x = let rest : total (ys ++ x ∷ []) ≡ total ys + x.value.size = total-append ys x in omega (arith, rest)
+
+before_zero : (n : ℕ) → n ≡ n + 0
+before_zero n = omega arith
+
+laid_out-append : (from : ℕ) (xs : List model.Extern) (x : model.Extern) → laid_out from (xs ++ x ∷ []) ≡ laid_out from xs ++ record x.entry { offset = from + total xs } ∷ []
+laid_out-append from [] x = ap (λ (n : ℕ). record x.entry { offset = n } ∷ []) (before_zero from)
+laid_out-append from (y ∷ ys) x =
+    let after : (from + y.value.size) + total ys ≡ from + total (y ∷ ys) = omega arith in
+    ap (λ (es : List Entry). record y.entry { offset = from } ∷ es)
+    (laid_out-append (from + y.value.size) ys x ∙ ap (λ (n : ℕ). laid_out (from + y.value.size) ys ++ record x.entry { offset = n } ∷ []) after)
+
+total_take : (i : ℕ) (xs : List Extern) → total (map extern_of (take i xs)) ≤ total (map extern_of xs)
+total_take zero xs = omega arith
+total_take (suc i) [] = omega arith
+total_take (suc i) (x ∷ xs) = let rest : total (map extern_of (take i xs)) ≤ total (map extern_of xs) = total_take i xs in omega (arith, rest)
+
+after_zero : (n : ℕ) → n ≡ 0 + n
+after_zero n = omega arith
+
+-- The externs before a place have these entries, and end here.
+pub record AreLaidOutBefore (xs : List Extern) (i : ℕ) (es : List DataSecEntry) (size : ℕ) : Type 0 where
+  pub are : map entry es ≡ laid_out 0 (map extern_of (take i xs))
+  pub ends : size ≡ total (map extern_of (take i xs))
+  pub small : size < 2 ^ 32
+
+externs_up_to : (xs : List Extern) (i : ℕ) (d : Extern) → i < length xs → map extern_of (take (i + 1) xs) ≡ map extern_of (take i xs) ++ extern_of (get_or xs i d) ∷ []
+externs_up_to xs i d lt = ap (map extern_of) (take_more xs i d lt) ∙ map-append extern_of (take i xs) (get_or xs i d ∷ [])
+
+pub one_laid_out : (xs : List Extern) (i : ℕ) (d : Extern) (es new : List DataSecEntry) (size end : ℕ) → i < length xs → AreLaidOutBefore xs i es size
+    → new ≡ es ++ record { btf_type = (get_or xs i d).entry.now.btf_type; offset = size; size = (get_or xs i d).entry.now.size } ∷ [] → size + (get_or xs i d).value.size < 2 ^ 32 → end ≡ size + (get_or xs i d).value.size → AreLaidOutBefore xs (i + 1) new end
+one_laid_out xs i d es new size end lt p is fits end_is =
+    let x : Extern = get_or xs i d in
+    let before : List model.Extern = map extern_of (take i xs) in
+    let more : map extern_of (take (i + 1) xs) ≡ before ++ extern_of x ∷ [] = externs_up_to xs i d lt in
+    let e : DataSecEntry = record { btf_type = x.entry.now.btf_type; offset = size; size = x.entry.now.size } in
+    record {
+      are = ap (map entry) is ∙ map-append entry es (e ∷ []) ∙ ap (λ (ys : List Entry). ys ++ entry e ∷ []) p.are
+          ∙ ap (λ (n : ℕ). laid_out 0 before ++ record (entry x.entry.now) { offset = n } ∷ []) (p.ends ∙ after_zero (total before)) ∙ sym (ap (laid_out 0) more ∙ laid_out-append 0 before (extern_of x));
+      ends = end_is ∙ ap (λ (n : ℕ). n + x.value.size) p.ends ∙ sym (ap total more ∙ total-append before (extern_of x));
+      small = omega (arith, fits, end_is);
+    }
+
+-- The externs have these entries and this total size, which has 32 bits.
+abbrev pub AreLaidOut : List Extern → List DataSecEntry → ℕ → Type 0
+AreLaidOut xs es size = (map entry es ≡ laid_out 0 (map extern_of xs)) × (size ≡ total (map extern_of xs)) × (size < 2 ^ 32)
+
+pub all_laid_out : (xs : List Extern) (i : ℕ) (es : List DataSecEntry) (size : ℕ) → length xs ≤ i → AreLaidOutBefore xs i es size → AreLaidOut xs es size
+all_laid_out xs i es size end p =
+    (p.are ∙ ap (λ (ys : List Extern). laid_out 0 (map extern_of ys)) (take_all i xs end), p.ends ∙ ap (λ (ys : List Extern). total (map extern_of ys)) (take_all i xs end), p.small)
+
+-- the size exceeds 32 bits before the end
+pub too_large : (xs : List Extern) (i : ℕ) (d : Extern) (es : List DataSecEntry) (size : ℕ) → i < length xs → AreLaidOutBefore xs i es size → 2 ^ 32 ≤ size + (get_or xs i d).value.size → 2 ^ 32 ≤ total (map extern_of xs)
+too_large xs i d es size lt p large =
+    let here : total (map extern_of (take (i + 1) xs)) ≡ total (map extern_of (take i xs)) + (get_or xs i d).value.size =
+    ap total (externs_up_to xs i d lt) ∙ total-append (map extern_of (take i xs)) (extern_of (get_or xs i d)) in
+    let rest : total (map extern_of (take (i + 1) xs)) ≤ total (map extern_of xs) = total_take (i + 1) xs in
+    omega (arith, here, rest, large, p.ends)
+
+pub at_least : (n m : ℕ) → (n < m → ⊥) → m ≤ n
+at_least n m not = ⊎_elim (λ (lt : n < m). absurd (not lt)) (λ (le : m ≤ n). le) (cases_lt n m)
+
+-- ---- the order
+
+filter-map : {X Y : Type 0} (p : Y → Bool) (f : X → Y) (xs : List X) → filter p (map f xs) ≡ map f (filter (λ x. p (f x)) xs)
+filter-map p f [] = refl
+filter-map {X} p f (x ∷ xs) =
+    elim (p (f x)) as (λ (b : Bool). cond b (f x ∷ filter p (map f xs)) (filter p (map f xs)) ≡ map f (cond b (x ∷ filter (λ x. p (f x)) xs) (filter (λ x. p (f x)) xs))) [
+      | true ↦ ap (λ ys. f x ∷ ys) (filter-map p f xs)
+      | false ↦ filter-map p f xs
+    ]
+
+-- the test of the order, by the externs of the definitions
+abbrev pub is_below : Extern → Extern → Bool
+is_below x y = is_lt (extern_cmp (extern_of x) (extern_of y))
+
+-- an extern of the code that is this one of the definitions
+like : Extern → model.Extern → Extern
+like s x = record s {
+  entry = record s.entry { now = record { btf_type = x.entry.type; offset = x.entry.offset; size = x.entry.size } };
+  value = record { size = x.value.size; alignment = x.value.alignment };
+  name = record s.name { now = x.name };
+}
+
+sorted_some : (s : Extern) (xs sorted : List Extern) → IsSortedBy is_below sorted → IsStableBy is_below xs sorted → IsSorted extern_cmp (map extern_of sorted) × IsStable extern_cmp (map extern_of xs) (map extern_of sorted)
+unfolding like
+sorted_some s xs sorted rising stable =
+    let len : length (map extern_of sorted) ≡ length sorted = length-map sorted extern_of in (
+      λ k d low high.
+          let there : k + 1 < length sorted = omega (arith, high, len) in
+          let next : get_or (map extern_of sorted) (k + 1) d ≡ extern_of (get_or sorted (k + 1) s) = get_or-map extern_of sorted (k + 1) s d there in
+          let this : get_or (map extern_of sorted) k d ≡ extern_of (get_or sorted k s) = get_or-map extern_of sorted k s d (omega (arith, there)) in
+          (λ i. is_lt (extern_cmp (next i) (this i))) ∙ rising k s low there,
+      λ x.
+          let p : model.Extern → Bool = ties (λ (a b : model.Extern). is_lt (extern_cmp a b)) x in
+          filter-map p extern_of sorted ∙ ap (map extern_of) (stable (like s x)) ∙ sym (filter-map p extern_of xs),
+    )
+
+no_externs : (sorted : List Extern) → length sorted ≡ 0 → sorted ≡ []
+no_externs [] is = refl
+no_externs (x ∷ xs) is = absurd (omega (arith, is))
+
+pub are_sorted : (xs sorted : List Extern) → length sorted ≡ length xs → IsSortedBy is_below sorted → IsStableBy is_below xs sorted → IsSorted extern_cmp (map extern_of sorted) × IsStable extern_cmp (map extern_of xs) (map extern_of sorted)
+are_sorted [] sorted len rising stable =
+    subst (λ (ys : List Extern). IsSorted extern_cmp (map extern_of ys) × IsStable extern_cmp [] (map extern_of ys)) (sym (no_externs sorted len)) (λ k d low high. absurd (omega (arith, high)), λ x. refl)
+are_sorted (s ∷ xs) sorted len rising stable = sorted_some s (s ∷ xs) sorted rising stable
+
+-- ---- the DATASEC
+
+laid_out-len : (from : ℕ) (xs : List model.Extern) → length (laid_out from xs) ≡ length xs
+laid_out-len from [] = refl
+laid_out-len from (x ∷ xs) = let rest : length (laid_out (from + x.value.size) xs) ≡ length xs = laid_out-len (from + x.value.size) xs in omega (arith, rest)
+
+entry_words_same : (es : List DataSecEntry) → flat_map entry_words es ≡ flat_map made.entry_words (map entry es)
+entry_words_same [] = refl
+entry_words_same (e ∷ es) = ap (λ (ws : List ℕ). entry_words e ++ ws) (entry_words_same es)
+
+pub has_externs : (t : Table) (r : Record) (xs sorted : List Extern) → FindsExterns t (entries r.tail) (Some (map extern_of xs)) → length sorted ≡ length xs → IsSortedBy is_below sorted → IsStableBy is_below xs sorted → HasExterns t r (map extern_of sorted)
+has_externs t r xs sorted known len rising stable =
+    let both = are_sorted xs sorted len rising stable in
+    record { externs = map extern_of xs; known = known; rising = both.0; stable = both.1 }
+
+-- the number of entries
+pub entries_count : (sorted : List Extern) (es : List DataSecEntry) → map entry es ≡ laid_out 0 (map extern_of sorted) → length es ≡ length sorted
+entries_count sorted es are =
+    sym (length-map es entry) ∙ ap (λ (xs : List Entry). length xs) are ∙ laid_out-len 0 (map extern_of sorted) ∙ length-map sorted extern_of
+
+pub section_made : (t : Table) (r new : Record) (sorted : List Extern) (es : List DataSecEntry) (size count : ℕ) → HasExterns t r (map extern_of sorted) → r.third ≡ 0 → AreLaidOut sorted es size → count ≡ vlen r.info → length es ≡ vlen r.info → length r.tail ≡ 3 * vlen r.info
+    → new ≡ record { name = r.name; info = 15 * 2 ^ 24 + count; third = size; tail = flat_map entry_words es } → IsSection t r new
+section_made t r new sorted es size count externs empty laid count_is len_is tail_len is =
+    let words : flat_map entry_words es ≡ flat_map made.entry_words (laid_out 0 (map extern_of sorted)) = entry_words_same es ∙ ap (flat_map made.entry_words) laid.0 in
+    let words_len : length (flat_map entry_words es) ≡ 3 * length es = entries_len es in
+    record {
+      sorted = map extern_of sorted;
+      externs = externs;
+      empty = empty;
+      fits = subst (λ (n : ℕ). n < 2 ^ 32) laid.1 laid.2;
+      made = is ∙ ap (λ (n : ℕ). record { name = r.name; info = 15 * 2 ^ 24 + n; third = size; tail = flat_map entry_words es }) count_is
+          ∙ ap (λ (n : ℕ). record { name = r.name; info = 15 * 2 ^ 24 + vlen r.info; third = n; tail = flat_map entry_words es }) laid.1
+          ∙ ap (λ (ws : List ℕ). record { name = r.name; info = 15 * 2 ^ 24 + vlen r.info; third = total (map extern_of sorted); tail = ws }) words;
+      len = ap (λ (x : Record). length x.tail) is ∙ words_len ∙ ap (λ (n : ℕ). 3 * n) len_is ∙ sym tail_len;
+    }
+
+-- what is known if there is a value, and if there is none
+pub if_some : {X : Type 0} (o : Option X) (x : X) (P : X → Type 0) → o ≡ Some x → IfSome o P → P x
+if_some o x P is h = subst (λ (y : Option _). IfSome y P) is h
+
+pub if_none : {X : Type 0} (o : Option X) (P : Type 0) → o ≡ None → IfNone o P → P
+if_none o P is h = subst (λ (y : Option _). IfNone y P) is h
+
+pub known_some : {A : Type 0} (t : Table) (es : List Entry) (o : Option (Vec Extern A)) (v : Vec Extern A) → o ≡ Some v → FindsExterns t es (option_map (λ v. map extern_of v.items) o) → FindsExterns t es (Some (map extern_of v.items))
+known_some {A} t es o v is h = subst (λ (y : Option (Vec Extern A)). FindsExterns t es (option_map (λ v. map extern_of v.items) y)) is h

@@ -1,0 +1,27 @@
+-- A file that is read and rewritten.
+use Rattle.std.proofs.Common.{◌≡◌, ℕ, Bool, true, List, sym, ap, subst}
+use Rattle.std.proofs.lemmas.Bool.{false≢true}
+use Rattle.btf_model.specs.declared.endianness.Endianness.{Endianness}
+use Rattle.btf_model.specs.declared.endianness.Endianness.TheVariants.{Little, Big}
+use Rattle.btf_elf_model.specs.Object as elf
+use Rattle.btf_rewrite_model.specs.declared.feature.FeatureAnswer.{FeatureAnswer}
+use Rattle.btfobj_cli.specs.Blob.{BeginsObject, BeginsTable, IsBlob, IsTable, is_object}
+use Rattle.btfobj_cli.specs.Rewrite.{chosen_target, RewritesAlone, RewritesObject, RewritesBlob, IsRewritten}
+use Rattle.btfobj_cli.specs.declared.blob.Blob.{Blob}
+use Rattle.btfobj_cli.specs.declared.blob.Blob.TheVariants as blobs
+use Rattle.btfobj_cli.specs.declared.rewrite.Rewrite.{Rewrite}
+
+-- the rewrite of the file that bytes are is the rewrite of the bytes
+pub rewritten_file : (bytes : List ℕ) (rewrite : Rewrite) (blob : Blob) (file : List ℕ) (answers : List FeatureAnswer) → IsBlob bytes blob → (BeginsObject bytes → is_object blob ≡ true)
+    → (BeginsTable Little bytes → IsTable Little bytes blob) → (BeginsTable Big bytes → IsTable Big bytes blob) → RewritesBlob blob rewrite file answers → IsRewritten bytes rewrite file answers
+rewritten_file bytes rewrite (blobs.Object object) file answers is begins little big made = record {
+  object = λ _. subst (λ (bs : List ℕ). RewritesObject bs rewrite file answers) (ap (λ (o : elf.Object). o.bytes) is.object) made;
+  table = λ order. elim order as (λ (o : Endianness). BeginsTable o bytes → RewritesAlone o bytes (chosen_target rewrite) file answers) [ Little ↦ λ b. absurd (little b) | Big ↦ λ b. absurd (big b) ];
+}
+rewritten_file bytes rewrite (blobs.Table own order) file answers is begins little big made =
+    let alone : (o : Endianness) → BeginsTable o bytes → IsTable o bytes (blobs.Table own order) =
+    λ o. elim o as (λ (x : Endianness). BeginsTable x bytes → IsTable x bytes (blobs.Table own order)) [ Little ↦ little | Big ↦ big ] in
+    record {
+      object = λ b. absurd (false≢true (begins b));
+      table = λ o b. subst (λ (y : Endianness). RewritesAlone y bytes (chosen_target rewrite) file answers) (alone o b).1 (subst (λ (bs : List ℕ). RewritesAlone order bs (chosen_target rewrite) file answers) (alone o b).0 made);
+    }
