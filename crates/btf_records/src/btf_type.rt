@@ -58,6 +58,38 @@ pub enum BtfType {
     Enum64(Enum64),
 }
 
+/// An expression over the record `t` of a type; `unknown` for Unknown, which has no record.
+macro_rules! each {
+    ($of:expr, $unknown:expr, $t:ident => $e:expr) => {
+        each!(
+            $of, $unknown, $t => $e;
+            Int, Ptr, Array, Struct, Union, Enum, Fwd, Typedef, Volatile, Const, Restrict, Func, FuncProto, Var,
+            DataSec, Float, DeclTag, TypeTag, Enum64
+        )
+    };
+    ($of:expr, $unknown:expr, $t:ident => $e:expr; $($kind:ident),*) => {
+        match $of {
+            BtfType::Unknown => $unknown,
+            $(BtfType::$kind($t) => $e,)*
+        }
+    };
+}
+
+/// An expression over the record `t` of a STRUCT or a UNION; None for the kinds without members.
+macro_rules! of_composite {
+    ($of:expr, $t:ident => $e:expr) => {
+        match $of {
+            BtfType::Struct($t) => Some($e),
+            BtfType::Union($t) => Some($e),
+            BtfType::Unknown | BtfType::Int(_) | BtfType::Ptr(_) | BtfType::Array(_) | BtfType::Enum(_)
+            | BtfType::Fwd(_) | BtfType::Typedef(_) | BtfType::Volatile(_) | BtfType::Const(_)
+            | BtfType::Restrict(_) | BtfType::Func(_) | BtfType::FuncProto(_) | BtfType::Var(_)
+            | BtfType::DataSec(_) | BtfType::Float(_) | BtfType::DeclTag(_) | BtfType::TypeTag(_)
+            | BtfType::Enum64(_) => None,
+        }
+    };
+}
+
 impl BtfType {
     ghost use Rattle.std.specs.Prelude.{◌≡◌, ◌+◌, ◌*◌, ◌↔◌, length, Some, None, Ok, IsTrue, ◌==◌};
     ghost use Rattle.std.specs.Prelude.{if◌then◌else◌, true};
@@ -80,28 +112,7 @@ impl BtfType {
     {
         // Only a use of the info word proves the other two clauses about it.
         let _ = self.info();
-        match self {
-            BtfType::Unknown => BtfKind::Unknown,
-            BtfType::Int(_) => BtfKind::Int,
-            BtfType::Ptr(_) => BtfKind::Ptr,
-            BtfType::Array(_) => BtfKind::Array,
-            BtfType::Struct(_) => BtfKind::Struct,
-            BtfType::Union(_) => BtfKind::Union,
-            BtfType::Enum(_) => BtfKind::Enum,
-            BtfType::Fwd(_) => BtfKind::Fwd,
-            BtfType::Typedef(_) => BtfKind::Typedef,
-            BtfType::Volatile(_) => BtfKind::Volatile,
-            BtfType::Const(_) => BtfKind::Const,
-            BtfType::Restrict(_) => BtfKind::Restrict,
-            BtfType::Func(_) => BtfKind::Func,
-            BtfType::FuncProto(_) => BtfKind::FuncProto,
-            BtfType::Var(_) => BtfKind::Var,
-            BtfType::DataSec(_) => BtfKind::DataSec,
-            BtfType::Float(_) => BtfKind::Float,
-            BtfType::DeclTag(_) => BtfKind::DeclTag,
-            BtfType::TypeTag(_) => BtfKind::TypeTag,
-            BtfType::Enum64(_) => BtfKind::Enum64,
-        }
+        each!(self, BtfKind::Unknown, t => t.kind())
     }
 
     /// The string offset of the name; 0 for Unknown.
@@ -109,28 +120,7 @@ impl BtfType {
         ensures value { result ≡ (record_of self.now).name }
         ensures kind { kind_of (record_of self.now).info ≡ Some (type_kind self.now) }
     {
-        match self {
-            BtfType::Unknown => 0,
-            BtfType::Int(t) => t.name_offset(),
-            BtfType::Ptr(t) => t.name_offset(),
-            BtfType::Array(t) => t.name_offset(),
-            BtfType::Struct(t) => t.name_offset(),
-            BtfType::Union(t) => t.name_offset(),
-            BtfType::Enum(t) => t.name_offset(),
-            BtfType::Fwd(t) => t.name_offset(),
-            BtfType::Typedef(t) => t.name_offset(),
-            BtfType::Volatile(t) => t.name_offset(),
-            BtfType::Const(t) => t.name_offset(),
-            BtfType::Restrict(t) => t.name_offset(),
-            BtfType::Func(t) => t.name_offset(),
-            BtfType::FuncProto(t) => t.name_offset(),
-            BtfType::Var(t) => t.name_offset(),
-            BtfType::DataSec(t) => t.name_offset(),
-            BtfType::Float(t) => t.name_offset(),
-            BtfType::DeclTag(t) => t.name_offset(),
-            BtfType::TypeTag(t) => t.name_offset(),
-            BtfType::Enum64(t) => t.name_offset(),
-        }
+        each!(self, 0, t => t.name_offset())
     }
 
     /// The info word; 0 for Unknown.
@@ -142,28 +132,7 @@ impl BtfType {
         ensures no_third { has_no_third (type_kind self.now) ≡ true
             → (record_of self.now).third ≡ 0 }
     {
-        match self {
-            BtfType::Unknown => 0,
-            BtfType::Int(t) => t.info(),
-            BtfType::Ptr(t) => t.info(),
-            BtfType::Array(t) => t.info(),
-            BtfType::Struct(t) => t.info(),
-            BtfType::Union(t) => t.info(),
-            BtfType::Enum(t) => t.info(),
-            BtfType::Fwd(t) => t.info(),
-            BtfType::Typedef(t) => t.info(),
-            BtfType::Volatile(t) => t.info(),
-            BtfType::Const(t) => t.info(),
-            BtfType::Restrict(t) => t.info(),
-            BtfType::Func(t) => t.info(),
-            BtfType::FuncProto(t) => t.info(),
-            BtfType::Var(t) => t.info(),
-            BtfType::DataSec(t) => t.info(),
-            BtfType::Float(t) => t.info(),
-            BtfType::DeclTag(t) => t.info(),
-            BtfType::TypeTag(t) => t.info(),
-            BtfType::Enum64(t) => t.info(),
-        }
+        each!(self, 0, t => t.info())
     }
 
     /// The size in bytes that the record itself gives, which is 8 for a pointer; None for the kinds without a size.
@@ -179,7 +148,18 @@ impl BtfType {
             BtfType::Float(t) => Some(t.size()),
             BtfType::Enum64(t) => Some(t.size()),
             BtfType::Ptr(_) => Some(8),
-            _ => None,
+            BtfType::Unknown
+            | BtfType::Array(_)
+            | BtfType::Fwd(_)
+            | BtfType::Typedef(_)
+            | BtfType::Volatile(_)
+            | BtfType::Const(_)
+            | BtfType::Restrict(_)
+            | BtfType::Func(_)
+            | BtfType::FuncProto(_)
+            | BtfType::Var(_)
+            | BtfType::DeclTag(_)
+            | BtfType::TypeTag(_) => None,
         }
     }
 
@@ -198,7 +178,17 @@ impl BtfType {
             BtfType::Var(t) => Some(t.btf_type()),
             BtfType::DeclTag(t) => Some(t.btf_type()),
             BtfType::TypeTag(t) => Some(t.btf_type()),
-            _ => None,
+            BtfType::Unknown
+            | BtfType::Int(_)
+            | BtfType::Array(_)
+            | BtfType::Struct(_)
+            | BtfType::Union(_)
+            | BtfType::Enum(_)
+            | BtfType::Fwd(_)
+            | BtfType::Func(_)
+            | BtfType::DataSec(_)
+            | BtfType::Float(_)
+            | BtfType::Enum64(_) => None,
         }
     }
 
@@ -208,28 +198,7 @@ impl BtfType {
         ensures len { result ≡ 12 + 4 * length (record_of self.now).tail }
         ensures kind { kind_of (record_of self.now).info ≡ Some (type_kind self.now) }
     {
-        match self {
-            BtfType::Unknown => 12,
-            BtfType::Int(t) => t.type_info_size(),
-            BtfType::Ptr(t) => t.type_info_size(),
-            BtfType::Array(t) => t.type_info_size(),
-            BtfType::Struct(t) => t.type_info_size(),
-            BtfType::Union(t) => t.type_info_size(),
-            BtfType::Enum(t) => t.type_info_size(),
-            BtfType::Fwd(t) => t.type_info_size(),
-            BtfType::Typedef(t) => t.type_info_size(),
-            BtfType::Volatile(t) => t.type_info_size(),
-            BtfType::Const(t) => t.type_info_size(),
-            BtfType::Restrict(t) => t.type_info_size(),
-            BtfType::Func(t) => t.type_info_size(),
-            BtfType::FuncProto(t) => t.type_info_size(),
-            BtfType::Var(t) => t.type_info_size(),
-            BtfType::DataSec(t) => t.type_info_size(),
-            BtfType::Float(t) => t.type_info_size(),
-            BtfType::DeclTag(t) => t.type_info_size(),
-            BtfType::TypeTag(t) => t.type_info_size(),
-            BtfType::Enum64(t) => t.type_info_size(),
-        }
+        each!(self, 12, t => t.type_info_size())
     }
 
     /// Whether the record is a STRUCT or a UNION.
@@ -253,11 +222,7 @@ impl BtfType {
             ≡ (if model.is_composite (type_kind self.now) then Some (record_of self.now).tail
             else None) }
     {
-        match self {
-            BtfType::Struct(t) => Some(t.members().iter()),
-            BtfType::Union(t) => Some(t.members().iter()),
-            _ => None,
-        }
+        of_composite!(self, t => t.members().iter())
     }
 
     /// The bit at which a member of this STRUCT or UNION begins; None for the other kinds.
@@ -265,11 +230,7 @@ impl BtfType {
         ensures { result ≡ (if model.is_composite (type_kind self.now)
             then Some (member_bit_offset (record_of self.now).info member.now.offset) else None) }
     {
-        match self {
-            BtfType::Struct(t) => Some(t.member_bit_offset(member)),
-            BtfType::Union(t) => Some(t.member_bit_offset(member)),
-            _ => None,
-        }
+        of_composite!(self, t => t.member_bit_offset(member))
     }
 
     /// The number of bits of a member of this STRUCT or UNION that is a bit-field, else 0; None for the other kinds.
@@ -278,11 +239,7 @@ impl BtfType {
             then Some (member_bit_field_size (record_of self.now).info member.now.offset)
             else None) }
     {
-        match self {
-            BtfType::Struct(t) => Some(t.member_bit_field_size(member)),
-            BtfType::Union(t) => Some(t.member_bit_field_size(member)),
-            _ => None,
-        }
+        of_composite!(self, t => t.member_bit_field_size(member))
     }
 
     /// A copy of the record and its fallback. `OutOfMemory` is the only error.
