@@ -1,4 +1,4 @@
-//! The records of BTF that have no list, each a struct of its words, and re-exports of the crates below.
+//! The record, and the kinds of records that have no list; re-exports of the crates below.
 #![tactic(auto)]
 
 mod array;
@@ -8,22 +8,32 @@ mod encoding;
 mod float;
 mod func;
 mod fwd;
+mod head;
 mod int;
 mod linkage;
+mod record;
+mod refs;
 mod var;
+mod words;
 
-pub use array::Array;
+pub use array::{Array, ArrayKind};
 pub use btf_array::BtfArray;
-pub use btf_refs::{Const, Ptr, Restrict, TypeTag, Typedef, Volatile};
 pub use btf_words::{BtfError, BtfKind, Endianness, SectionIndex};
-pub use decl_tag::DeclTag;
+pub use decl_tag::{DeclTag, DeclTagKind};
 pub use encoding::IntEncoding;
-pub use float::Float;
-pub use func::Func;
-pub use fwd::Fwd;
-pub use int::Int;
+pub use float::{Float, FloatKind};
+pub use func::{Func, FuncKind};
+pub use fwd::{Fwd, FwdKind};
+pub use head::Head;
+pub use int::{Int, IntKind};
 pub use linkage::{FuncLinkage, VarLinkage};
-pub use var::Var;
+pub use record::{Kind, Measured, Record, Refers};
+pub use refs::{
+    Const, ConstKind, Ptr, PtrKind, Restrict, RestrictKind, TypeTag, TypeTagKind, Typedef,
+    TypedefKind, Volatile, VolatileKind,
+};
+pub use var::{Var, VarKind};
+pub use words::{Fixed, Words};
 
 /// The largest number of items in one record: vlen has 16 bits.
 pub const MAX_VLEN: usize = 65535;

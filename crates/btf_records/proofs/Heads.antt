@@ -21,8 +21,8 @@ use Rattle.btf_plain.specs.declared.linkage.VarLinkage.TheVariants as linkages
 use Rattle.btf_plain.specs.Linkage.{var_linkage_number}
 use Rattle.btf_words.specs.Error.{refusal_of}
 use Rattle.btf_records.specs.declared.btf_type.BtfType.{BtfType}
-use Rattle.btf_records.specs.declared.codec.Head.{Head}
-use Rattle.btf_records.specs.Head.{IsHead, record_after, ReadsTail}
+use Rattle.btf_plain.specs.declared.head.Head.{Head}
+use Rattle.btf_plain.specs.Head.{IsHead, record_after, ReadsTail}
 use Rattle.btf_records.specs.Slot.{Puts, StaysOr}
 
 after_is : (order : Endianness) (bytes : List ℕ) (head : Head) (rest : List ℕ) (n : ℕ) → IsHead order bytes head rest → record_at order n bytes ≡ record_after order head n rest
