@@ -2,7 +2,7 @@
 use Rattle.std.specs.Prelude.{◌≡◌, ℕ, ◌*◌, ◌<◌, ◌≤◌, List, length, take, drop, Result, Ok, Err}
 use Rattle.btf_model.specs.Word.{word_of, words_at}
 use Rattle.btf_model.specs.declared.endianness.Endianness.{Endianness}
-use Rattle.btf_model.specs.Record.{Kind, Fwd, Array, Record, vlen, tail_words}
+use Rattle.btf_model.specs.Record.{Kind, Record, vlen, tail_words}
 use Rattle.btf_model.specs.Refusal.{Refusal, InvalidTypeInfo}
 use Rattle.btf_model.specs.Spelling.{kept}
 use Rattle.btf_plain.specs.declared.head.Head.{Head}

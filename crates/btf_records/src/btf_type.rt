@@ -4,12 +4,13 @@ ghost use Rattle.std.specs.Prelude.{◌≡◌};
 ghost use Rattle.btf_model.specs.Record.{compared_kind};
 ghost use Rattle.btf_words.specs.Kind as kinds;
 
-use crate::records::{DataSec, Enum, Enum64, FuncProto, Struct, Union};
-use btf_items::BtfMember;
+use crate::union::Union;
+use btf_items::{BtfMember, push_array};
 use btf_plain::{
-    Array, BtfError, BtfKind, Const, DeclTag, Float, Func, Fwd, Int, Ptr, Restrict, TypeTag,
-    Typedef, Var, Volatile,
+    Array, BtfError, BtfKind, Const, DataSec, DeclTag, Endianness, Enum, Enum64, Float, Func,
+    FuncProto, Fwd, Int, Ptr, Restrict, Struct, TypeTag, Typedef, Var, Volatile,
 };
+use std::alloc::AllocError;
 use std::slice::Iter;
 
 /// One type of a table (the kernel's documentation, "Type Encoding"). In contracts it is the record of its words, and
@@ -75,6 +76,23 @@ macro_rules! each {
     };
 }
 
+/// The type of the same kind whose record is an expression over the record `t`.
+macro_rules! with_record {
+    ($of:expr, $t:ident => $e:expr) => {
+        with_record!(
+            $of, $t => $e;
+            Int, Ptr, Array, Struct, Union, Enum, Fwd, Typedef, Volatile, Const, Restrict, Func, FuncProto, Var,
+            DataSec, Float, DeclTag, TypeTag, Enum64
+        )
+    };
+    ($of:expr, $t:ident => $e:expr; $($kind:ident),*) => {
+        match $of {
+            BtfType::Unknown => Ok(BtfType::Unknown),
+            $(BtfType::$kind($t) => Ok(BtfType::$kind($e)),)*
+        }
+    };
+}
+
 /// An expression over the record `t` of a STRUCT or a UNION; None for the kinds without members.
 macro_rules! of_composite {
     ($of:expr, $t:ident => $e:expr) => {
@@ -91,7 +109,7 @@ macro_rules! of_composite {
 }
 
 impl BtfType {
-    ghost use Rattle.std.specs.Prelude.{◌≡◌, ◌+◌, ◌*◌, ◌↔◌, length, Some, None, Ok, IsTrue, ◌==◌};
+    ghost use Rattle.std.specs.Prelude.{◌≡◌, ◌+◌, ◌*◌, ◌++◌, ◌↔◌, length, Some, None, Ok, OnOk, IsTrue, ◌==◌};
     ghost use Rattle.std.specs.Prelude.{if◌then◌else◌, true};
     ghost use Rattle.std.specs.Option.{option_map};
     ghost use Rattle.std.specs.List.{flat_map};
@@ -99,6 +117,7 @@ impl BtfType {
     ghost use Rattle.btf_items.specs.Items.{member_words};
     ghost use Rattle.btf_model.specs.Record.{kind_of, vlen, tail_words, compared_kind, record_size, record_target, member_bit_offset, member_bit_field_size};
     ghost use Rattle.btf_model.specs.Record as model;
+    ghost use Rattle.btf_model.specs.Spelling.{spell, IsWhole};
     ghost use Rattle.btf_words.specs.Error.{IsOrNoMemory};
     ghost use Rattle.btf_words.specs.Kind as kinds;
     ghost use Rattle.btf_records.specs.BtfType.{record_of, fallback_of, type_kind, has_no_third};
@@ -247,28 +266,18 @@ impl BtfType {
         ensures record { IsOrNoMemory record_of result (Ok (record_of self.now)) }
         ensures fallback { IsOrNoMemory fallback_of result (Ok (fallback_of self.now)) }
     {
-        match self {
-            BtfType::Unknown => Ok(BtfType::Unknown),
-            BtfType::Int(t) => Ok(BtfType::Int(t.clone()?)),
-            BtfType::Ptr(t) => Ok(BtfType::Ptr(t.clone()?)),
-            BtfType::Array(t) => Ok(BtfType::Array(t.clone()?)),
-            BtfType::Struct(t) => Ok(BtfType::Struct(t.try_clone()?)),
-            BtfType::Union(t) => Ok(BtfType::Union(t.try_clone()?)),
-            BtfType::Enum(t) => Ok(BtfType::Enum(t.try_clone()?)),
-            BtfType::Fwd(t) => Ok(BtfType::Fwd(t.clone()?)),
-            BtfType::Typedef(t) => Ok(BtfType::Typedef(t.clone()?)),
-            BtfType::Volatile(t) => Ok(BtfType::Volatile(t.clone()?)),
-            BtfType::Const(t) => Ok(BtfType::Const(t.clone()?)),
-            BtfType::Restrict(t) => Ok(BtfType::Restrict(t.clone()?)),
-            BtfType::Func(t) => Ok(BtfType::Func(t.clone()?)),
-            BtfType::FuncProto(t) => Ok(BtfType::FuncProto(t.try_clone()?)),
-            BtfType::Var(t) => Ok(BtfType::Var(t.clone()?)),
-            BtfType::DataSec(t) => Ok(BtfType::DataSec(t.try_clone()?)),
-            BtfType::Float(t) => Ok(BtfType::Float(t.clone()?)),
-            BtfType::DeclTag(t) => Ok(BtfType::DeclTag(t.clone()?)),
-            BtfType::TypeTag(t) => Ok(BtfType::TypeTag(t.clone()?)),
-            BtfType::Enum64(t) => Ok(BtfType::Enum64(t.try_clone()?)),
-        }
+        with_record!(self, t => t.try_clone()?)
+    }
+
+    /// Appends the record to bytes, in this byte order. Fails only if an allocation fails, and then some of the
+    /// record's words may already be appended.
+    pub fn append_to(&self, out: &mut Vec<u8>, order: Endianness) -> Result<(), AllocError>
+        ensures written { OnOk result (out.new.items ≡ out.old.items
+            ++ spell order (record_of self.now)) }
+        // The written bytes are read as the record.
+        ensures whole { OnOk result (IsWhole (record_of self.now)) }
+    {
+        each!(self, push_array(out, order, &[0, 0, 0]), t => t.append_to(out, order))
     }
 }
 

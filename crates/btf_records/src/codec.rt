@@ -1,8 +1,8 @@
 //! Reading records from bytes, and writing them.
 
-ghost use Rattle.std.specs.Prelude.{◌≡◌, ◌++◌, [], ◌∷◌, Some, None, Ok, OnOk, IfOk};
+ghost use Rattle.std.specs.Prelude.{◌≡◌, ◌++◌, [], ◌∷◌, Some, None, Ok, IfOk};
 ghost use Rattle.btf_model.specs.Record.{kind_of};
-ghost use Rattle.btf_model.specs.Spelling.{spell, IsRecord, IsWhole};
+ghost use Rattle.btf_model.specs.Spelling.{spell, IsRecord};
 ghost use Rattle.btf_model.specs.Blob.{ReadsFront};
 ghost use Rattle.btf_words.specs.Error.{MeetsOrNoMemory, IsOrNoMemory};
 ghost use Rattle.btf_records.specs.BtfType.{record_of, fallback_of};
@@ -11,27 +11,10 @@ ghost use Rattle.btf_records.specs.Slot.{Puts, StaysOr};
 ghost use Rattle.btf_words.specs.Kind as kinds;
 
 use crate::btf_type::BtfType;
-use crate::records::{DataSec, Enum, Enum64, FuncProto, Struct, Union, WithList, append_with_list};
+use crate::lists::{put_data_sec, put_enum, put_enum64, put_func_proto, put_struct, put_union};
 use crate::slot::{One, Slot, put};
-use btf_items::push_array;
 use btf_plain::{BtfError, BtfKind, Endianness, Head, Record};
-use std::alloc::{AllocError, Global};
-
-/// A record with this head and a list, which has as many items as vlen gives.
-fn read_with_list<R: WithList>(
-    alloc: Global,
-    head: Head,
-    rest: &[u8],
-    endianness: Endianness,
-) -> Result<R, BtfError>
-    requires { kind_of head.info ≡ Some R.kind }
-    ensures front { MeetsOrNoMemory R.words result
-        (ReadsTail endianness head R.kind rest.now) }
-    ensures alone { IfOk result R.words_alone }
-{
-    let items = R::read_list(alloc, rest, endianness, head.vlen())?;
-    Ok(R::from_parts(head.name, head.info, head.third, items))
-}
+use std::alloc::Global;
 
 impl BtfType {
     /// The record at the front of the data, with words in this byte order. Bytes may follow it.
@@ -63,38 +46,6 @@ impl BtfType {
     {
         let alloc = *types.allocator();
         read_to(types, alloc, data, endianness)
-    }
-
-    /// Appends the record to bytes, in this byte order. Fails only if an allocation fails, and then some of the
-    /// record's words may already be appended.
-    pub fn append_to(&self, out: &mut Vec<u8>, order: Endianness) -> Result<(), AllocError>
-        ensures written { OnOk result (out.new.items ≡ out.old.items
-            ++ spell order (record_of self.now)) }
-        // The written bytes are read as the record.
-        ensures whole { OnOk result (IsWhole (record_of self.now)) }
-    {
-        match self {
-            BtfType::Unknown => push_array(out, order, &[0, 0, 0]),
-            BtfType::Int(t) => t.append_to(out, order),
-            BtfType::Ptr(t) => t.append_to(out, order),
-            BtfType::Array(t) => t.append_to(out, order),
-            BtfType::Fwd(t) => t.append_to(out, order),
-            BtfType::Typedef(t) => t.append_to(out, order),
-            BtfType::Volatile(t) => t.append_to(out, order),
-            BtfType::Const(t) => t.append_to(out, order),
-            BtfType::Restrict(t) => t.append_to(out, order),
-            BtfType::Func(t) => t.append_to(out, order),
-            BtfType::Var(t) => t.append_to(out, order),
-            BtfType::Float(t) => t.append_to(out, order),
-            BtfType::DeclTag(t) => t.append_to(out, order),
-            BtfType::TypeTag(t) => t.append_to(out, order),
-            BtfType::Struct(t) => append_with_list(t, out, order),
-            BtfType::Union(t) => append_with_list(t, out, order),
-            BtfType::Enum(t) => append_with_list(t, out, order),
-            BtfType::FuncProto(t) => append_with_list(t, out, order),
-            BtfType::DataSec(t) => append_with_list(t, out, order),
-            BtfType::Enum64(t) => append_with_list(t, out, order),
-        }
     }
 
     /// The bytes of the record, in this byte order. `OutOfMemory` is the only error.
@@ -155,9 +106,9 @@ fn put_tail<S: Slot>(
             slot,
             BtfType::Array(Record::read(alloc, head, rest, endianness)?),
         ),
-        BtfKind::Struct => put_with_list::<S, Struct>(slot, alloc, &head, rest, endianness),
-        BtfKind::Union => put_with_list::<S, Union>(slot, alloc, &head, rest, endianness),
-        BtfKind::Enum => put_with_list::<S, Enum>(slot, alloc, &head, rest, endianness),
+        BtfKind::Struct => put_struct(slot, alloc, &head, rest, endianness),
+        BtfKind::Union => put_union(slot, alloc, &head, rest, endianness),
+        BtfKind::Enum => put_enum(slot, alloc, &head, rest, endianness),
         BtfKind::Fwd => put(
             slot,
             BtfType::Fwd(Record::read(alloc, head, rest, endianness)?),
@@ -182,12 +133,12 @@ fn put_tail<S: Slot>(
             slot,
             BtfType::Func(Record::read(alloc, head, rest, endianness)?),
         ),
-        BtfKind::FuncProto => put_with_list::<S, FuncProto>(slot, alloc, &head, rest, endianness),
+        BtfKind::FuncProto => put_func_proto(slot, alloc, &head, rest, endianness),
         BtfKind::Var => put(
             slot,
             BtfType::Var(Record::read(alloc, head, rest, endianness)?),
         ),
-        BtfKind::DataSec => put_with_list::<S, DataSec>(slot, alloc, &head, rest, endianness),
+        BtfKind::DataSec => put_data_sec(slot, alloc, &head, rest, endianness),
         BtfKind::Float => put(
             slot,
             BtfType::Float(Record::read(alloc, head, rest, endianness)?),
@@ -200,23 +151,6 @@ fn put_tail<S: Slot>(
             slot,
             BtfType::TypeTag(Record::read(alloc, head, rest, endianness)?),
         ),
-        BtfKind::Enum64 => put_with_list::<S, Enum64>(slot, alloc, &head, rest, endianness),
+        BtfKind::Enum64 => put_enum64(slot, alloc, &head, rest, endianness),
     }
-}
-
-/// Puts a record with this head and a list in a slot. Returns its length in bytes. The list is on the call stack until
-/// then. This is a function of its own because a function clears its whole stack frame when it is called.
-fn put_with_list<S: Slot, R: WithList>(
-    slot: &mut S,
-    alloc: Global,
-    head: &Head,
-    rest: &[u8],
-    endianness: Endianness,
-) -> Result<usize, BtfError>
-    requires { kind_of head.now.info ≡ Some R.kind }
-    ensures { Puts S.has_put (StaysOr S.has_kept) slot.old slot.new
-        (ReadsTail endianness head.now R.kind rest.now) result }
-{
-    let record: R = read_with_list(alloc, *head, rest, endianness)?;
-    put(slot, record.into_type())
 }

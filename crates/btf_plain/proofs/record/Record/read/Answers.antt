@@ -1,4 +1,4 @@
-use Rattle.std.proofs.Common.{ℕ, ◌≡◌, ◌*◌, ◌≤◌, length, ap, sym, ◌∙◌, arith}
+use Rattle.std.proofs.Common.{ℕ, ◌≡◌, length, ap, sym, ◌∙◌, arith}
 use Rattle.btf_model.specs.Record.{vlen, tail_words}
 use Rattle.btf_model.specs.Word.{words_at}
 use Rattle.btf_model.proofs.Words.{length-words_at}
