@@ -14,6 +14,7 @@ from typing import Iterator, NamedTuple
 
 HEAD = re.compile(r"^(\s*)(?:pub(?:\([a-z]+\))? )?(?:const )?(?:extern \"C\" )?fn (\w+)", re.M)
 IMPL = re.compile(r"^impl\b(.*?)\{?$", re.M)
+OF_ARGUMENTS = re.compile(r" (\w+)<([\w, ]+)> ?$")
 CONST = re.compile(r"\s*(?:pub(?:\([a-z]+\))? )?const (\w+):")
 NOTE = re.compile(r"# refused at: ")
 
@@ -103,7 +104,10 @@ class Verdict(NamedTuple):
 
 
 def owner_of(text: str) -> tuple[str, str]:
-    """Returns the type of an `impl` line, and its trait or nothing."""
+    """Returns the type of an `impl` line, and its trait or nothing. The type of `impl Record<IntKind>` is
+    `Record+IntKind`, as the prover names it."""
+    if of_arguments := OF_ARGUMENTS.match(text):
+        return "+".join([of_arguments[1], *of_arguments[2].split(", ")]), ""
     text, shorter = text.replace("->", ""), ""
     while shorter != text:
         text, shorter = re.sub(r"<[^<>]*>", "", text), text

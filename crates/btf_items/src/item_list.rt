@@ -7,7 +7,6 @@ ghost use Rattle.btf_items.specs.ReadItems.{ReadsItems};
 ghost use Rattle.btf_items.specs.ItemList.{items_of};
 ghost use Rattle.btf_items.specs.Items.{variant_of_param};
 
-use crate::blank::Blank;
 use crate::items::{BtfEnum, BtfParam};
 use crate::list::{Item, clone_items, read_items};
 use btf_words::{BtfError, Endianness};
@@ -41,7 +40,7 @@ impl<T, const N: usize> ItemList<T, N> {
     }
 }
 
-impl<T: Blank, const N: usize> ItemList<T, N> {
+impl<T: Item, const N: usize> ItemList<T, N> {
     /// Reads `count` items from the front of bytes. Fails with `InvalidTypeInfo` if the bytes are too few.
     pub fn read(
         alloc: Global,
@@ -50,7 +49,7 @@ impl<T: Blank, const N: usize> ItemList<T, N> {
         count: usize,
     ) -> Result<Self, BtfError>
         ensures { MeetsOrNoMemory items_of result
-            (ReadsItems T.width T.item_words endianness bytes.now count) }
+            (ReadsItems T.WIDTH T.item_words endianness bytes.now count) }
     {
         if count > N {
             return Ok(ItemList::Many(read_items(alloc, bytes, endianness, count)?));
@@ -142,7 +141,7 @@ fn many_variants(params: &Vec<BtfParam>) -> Result<Vec<BtfEnum>, AllocError>
 }
 
 /// A copy of the items. A loop with a constant number of rounds is compiled to one copy of the whole array.
-fn copy_few<T: Blank, const N: usize>(items: &[T; N]) -> [T; N]
+fn copy_few<T: Item, const N: usize>(items: &[T; N]) -> [T; N]
     ensures { result ≡ items.now }
 {
     let mut copies: [T; N] = array::from_fn(|_| T::blank());
@@ -154,14 +153,14 @@ fn copy_few<T: Blank, const N: usize>(items: &[T; N]) -> [T; N]
 
 /// Reads `count` items from the front of bytes into the first places of an array. Fails with `InvalidTypeInfo` if the
 /// bytes are too few.
-fn read_few<T: Blank, const N: usize>(
+fn read_few<T: Item, const N: usize>(
     bytes: &[u8],
     endianness: Endianness,
     count: usize,
 ) -> Result<[T; N], BtfError>
     requires { count ≤ N }
     ensures { MeetsOrNoMemory (take count) result
-        (ReadsItems T.width T.item_words endianness bytes.now count) }
+        (ReadsItems T.WIDTH T.item_words endianness bytes.now count) }
 {
     let mut items: [T; N] = array::from_fn(|_| T::blank());
     let mut rest = bytes;

@@ -96,7 +96,13 @@ pub struct DataSecEntry {
 }
 
 impl Item for BtfEnum {
-    ghost width = { 2 };
+    ghost use Rattle.std.specs.Prelude.{refl};
+    ghost use Rattle.std.proofs.Common.{lit<, lit≤};
+    ghost use Rattle.btf_items.specs.Items.{enum_words};
+
+    const WIDTH: usize = 2;
+
+    ghost WIDTH = { 2 };
 
     ghost item_words = { enum_words };
 
@@ -110,11 +116,37 @@ impl Item for BtfEnum {
         push_array(out, endianness, &[self.name_offset, self.value])
     }
 
+    fn blank() -> Self {
+        BtfEnum {
+            name_offset: 0,
+            value: 0,
+        }
+    }
+
+    fn copied(&self) -> Self {
+        BtfEnum {
+            name_offset: self.name_offset,
+            value: self.value,
+        }
+    }
+
     ghost cloned_words = { λ x y h i. h.0 i ∷ h.1 i ∷ [] };
+
+    ghost item_width = { λ x. refl };
+
+    ghost some_word = { lit< tt };
+
+    ghost few_words = { lit≤ tt };
 }
 
 impl Item for BtfEnum64 {
-    ghost width = { 3 };
+    ghost use Rattle.std.specs.Prelude.{refl};
+    ghost use Rattle.std.proofs.Common.{lit<, lit≤};
+    ghost use Rattle.btf_items.specs.Items.{enum64_words};
+
+    const WIDTH: usize = 3;
+
+    ghost WIDTH = { 3 };
 
     ghost item_words = { enum64_words };
 
@@ -140,11 +172,39 @@ impl Item for BtfEnum64 {
         )
     }
 
+    fn blank() -> Self {
+        BtfEnum64 {
+            name_offset: 0,
+            value_low: 0,
+            value_high: 0,
+        }
+    }
+
+    fn copied(&self) -> Self {
+        BtfEnum64 {
+            name_offset: self.name_offset,
+            value_low: self.value_low,
+            value_high: self.value_high,
+        }
+    }
+
     ghost cloned_words = { λ x y h i. enum64_words (h i) };
+
+    ghost item_width = { λ x. refl };
+
+    ghost some_word = { lit< tt };
+
+    ghost few_words = { lit≤ tt };
 }
 
 impl Item for BtfMember {
-    ghost width = { 3 };
+    ghost use Rattle.std.specs.Prelude.{refl};
+    ghost use Rattle.std.proofs.Common.{lit<, lit≤};
+    ghost use Rattle.btf_items.specs.Items.{member_words};
+
+    const WIDTH: usize = 3;
+
+    ghost WIDTH = { 3 };
 
     ghost item_words = { member_words };
 
@@ -170,11 +230,39 @@ impl Item for BtfMember {
         )
     }
 
+    fn blank() -> Self {
+        BtfMember {
+            name_offset: 0,
+            btf_type: 0,
+            offset: 0,
+        }
+    }
+
+    fn copied(&self) -> Self {
+        BtfMember {
+            name_offset: self.name_offset,
+            btf_type: self.btf_type,
+            offset: self.offset,
+        }
+    }
+
     ghost cloned_words = { λ x y h i. h.0 i ∷ h.1.0 i ∷ h.1.1 i ∷ [] };
+
+    ghost item_width = { λ x. refl };
+
+    ghost some_word = { lit< tt };
+
+    ghost few_words = { lit≤ tt };
 }
 
 impl Item for BtfParam {
-    ghost width = { 2 };
+    ghost use Rattle.std.specs.Prelude.{refl};
+    ghost use Rattle.std.proofs.Common.{lit<, lit≤};
+    ghost use Rattle.btf_items.specs.Items.{param_words};
+
+    const WIDTH: usize = 2;
+
+    ghost WIDTH = { 2 };
 
     ghost item_words = { param_words };
 
@@ -194,11 +282,37 @@ impl Item for BtfParam {
         push_array(out, endianness, &[self.name_offset, self.btf_type])
     }
 
+    fn blank() -> Self {
+        BtfParam {
+            name_offset: 0,
+            btf_type: 0,
+        }
+    }
+
+    fn copied(&self) -> Self {
+        BtfParam {
+            name_offset: self.name_offset,
+            btf_type: self.btf_type,
+        }
+    }
+
     ghost cloned_words = { λ x y h i. h.0 i ∷ h.1 i ∷ [] };
+
+    ghost item_width = { λ x. refl };
+
+    ghost some_word = { lit< tt };
+
+    ghost few_words = { lit≤ tt };
 }
 
 impl Item for DataSecEntry {
-    ghost width = { 3 };
+    ghost use Rattle.std.specs.Prelude.{refl};
+    ghost use Rattle.std.proofs.Common.{lit<, lit≤};
+    ghost use Rattle.btf_items.specs.Items.{entry_words};
+
+    const WIDTH: usize = 3;
+
+    ghost WIDTH = { 3 };
 
     ghost item_words = { entry_words };
 
@@ -220,5 +334,27 @@ impl Item for DataSecEntry {
         push_array(out, endianness, &[self.btf_type, self.offset, self.size])
     }
 
+    fn blank() -> Self {
+        DataSecEntry {
+            btf_type: 0,
+            offset: 0,
+            size: 0,
+        }
+    }
+
+    fn copied(&self) -> Self {
+        DataSecEntry {
+            btf_type: self.btf_type,
+            offset: self.offset,
+            size: self.size,
+        }
+    }
+
     ghost cloned_words = { λ x y h i. h.0 i ∷ h.1.0 i ∷ h.1.1 i ∷ [] };
+
+    ghost item_width = { λ x. refl };
+
+    ghost some_word = { lit< tt };
+
+    ghost few_words = { lit≤ tt };
 }

@@ -2,7 +2,6 @@
 //! retains of an ENUM64.
 #![tactic(auto)]
 
-mod blank;
 mod fallback;
 mod item_list;
 mod items;

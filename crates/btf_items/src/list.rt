@@ -13,7 +13,9 @@ use std::alloc::{AllocError, Global};
 /// An item of a list: a fixed number of words.
 pub trait Item: Sized + Clone + Drop {
     /// The number of words of an item.
-    ghost width: { ℕ };
+    const WIDTH: usize;
+
+    ghost WIDTH: { ℕ };
 
     /// The words of an item.
     ghost item_words: { Self → List ℕ };
@@ -21,10 +23,10 @@ pub trait Item: Sized + Clone + Drop {
     /// The item at the front of bytes, and the bytes after it.
     fn read(bytes: &[u8], endianness: Endianness) -> Result<(Self, &[u8]), BtfError>
         ensures { MatchResult result
-            (λ x. (4 * width ≤ length bytes.now)
-            × (item_words x.0 ≡ words_at endianness width bytes.now)
-            × (x.1.now ≡ drop (4 * width) bytes.now))
-            (λ e. (length bytes.now < 4 * width) × (e ≡ BtfError.InvalidTypeInfo)) };
+            (λ x. (4 * WIDTH ≤ length bytes.now)
+            × (item_words x.0 ≡ words_at endianness WIDTH bytes.now)
+            × (x.1.now ≡ drop (4 * WIDTH) bytes.now))
+            (λ e. (length bytes.now < 4 * WIDTH) × (e ≡ BtfError.InvalidTypeInfo)) };
 
     /// Appends the item to bytes.
     fn append_to(&self, out: &mut Vec<u8>, endianness: Endianness) -> Result<(), AllocError>
@@ -32,8 +34,24 @@ pub trait Item: Sized + Clone + Drop {
             ++ flat_map (word endianness) (item_words self.now)) }
         ensures words_fit { AllByRecursion (λ w. w < 2 ^ 32) (item_words self.now) };
 
+    /// The item whose words are zero. It fills unused places of a list.
+    fn blank() -> Self;
+
+    /// A copy of the item, without an allocation.
+    fn copied(&self) -> Self
+        ensures { result ≡ self.now };
+
     /// A clone has the same words.
     ghost cloned_words: { (x y : Self) → Self.is_clone x y → item_words y ≡ item_words x };
+
+    /// Each item has this number of words.
+    ghost item_width: { (x : Self) → length (item_words x) ≡ WIDTH };
+
+    /// An item has a word.
+    ghost some_word: { 0 < WIDTH };
+
+    /// An item has at most three words.
+    ghost few_words: { WIDTH ≤ 3 };
 }
 
 /// Appends items to bytes.
@@ -70,7 +88,7 @@ pub fn read_items<T: Item>(
     count: usize,
 ) -> Result<Vec<T>, BtfError>
     ensures { MeetsOrNoMemory (λ v. v.items) result
-        (ReadsItems T.width T.item_words endianness bytes.now count) }
+        (ReadsItems T.WIDTH T.item_words endianness bytes.now count) }
 {
     let mut items = Vec::with_capacity(alloc, count)?;
     let mut rest = bytes;

@@ -1,2 +1,5 @@
 pub mod Data
 pub mod Info
+pub mod Infos
+pub mod Params
+pub mod Tails

@@ -1,38 +1,37 @@
 //! ARRAY: an array.
 
-ghost use Rattle.std.specs.Prelude.{◌≡◌, ◌+◌, ◌*◌, ◌^◌, [], ◌∷◌, length, Some};
-ghost use Rattle.btf_model.specs.Record as model;
-ghost use Rattle.btf_model.specs.Record.{kind_of};
+ghost use Rattle.std.specs.Prelude.{◌≡◌, ◌+◌, ◌*◌, ◌^◌, [], ◌∷◌};
 
 use crate::btf_array::BtfArray;
-use btf_words::BtfKind;
-use std::marker::Model;
+use crate::head::Head;
+use crate::record::{Kind, Record};
+use crate::words::{Fixed, Words};
+use btf_items::{push_array, split_word};
+use btf_words::{BtfError, BtfKind, Endianness};
+use std::alloc::{AllocError, Global};
 
-/// An array (the kernel's documentation, "BTF_KIND_ARRAY"). In contracts it is the record of its words.
-#[derive(Clone, Debug, Drop)]
-pub struct Array {
-    name_offset: u32,
-    info: u32,
-    array: BtfArray,
+/// The kind ARRAY.
+pub struct ArrayKind;
+
+impl Kind for ArrayKind {
+    ghost use Rattle.std.specs.Prelude.{refl};
+    ghost use Rattle.btf_words.specs.declared.kind.BtfKind.TheVariants.{Array};
+
+    type Tail = BtfArray;
+
+    const KIND: BtfKind = BtfKind::Array;
+
+    ghost KIND = { Array };
+
+    ghost tail_number = { λ _. refl };
+
+    ghost is_kept = { λ _. refl };
 }
 
-impl Model for Array {
-    ghost use Rattle.std.specs.Prelude.{◌≡◌, [], ◌∷◌, Some};
-    ghost use Rattle.btf_model.specs.Record.{Record, kind_of, Array as ArrayKind};
+/// An array (the kernel's documentation, "BTF_KIND_ARRAY"). Its third word is 0.
+pub type Array = Record<ArrayKind>;
 
-    ghost Value = { Record };
-
-    ghost view = { λ a. record {
-      name = a.name_offset;
-      info = a.info;
-      third = 0;
-      tail = a.array.element_type ∷ a.array.index_type ∷ a.array.len ∷ [];
-    } };
-
-    ghost invariant = { λ a. kind_of a.info ≡ Some ArrayKind };
-}
-
-impl Array {
+impl Record<ArrayKind> {
     /// An array of `len` elements of the type of id `element_type`, indexed by the type of id `index_type`.
     pub fn new(name_offset: u32, element_type: u32, index_type: u32, len: u32) -> Self
         ensures { result ≡ record {
@@ -42,48 +41,12 @@ impl Array {
           tail = element_type ∷ index_type ∷ len ∷ [];
         } }
     {
-        Self {
-            name_offset,
-            info: (BtfKind::Array as u32) << 24,
-            array: BtfArray {
-                element_type,
-                index_type,
-                len,
-            },
-        }
-    }
-
-    /// The same record with this info, whose kind is ARRAY.
-    pub fn with_info(self, info: u32) -> Self
-        requires { kind_of info ≡ Some model.Array }
-        ensures { result ≡ record self { info = info } }
-    {
-        Self { info, ..self }
-    }
-
-    /// The kind of the record.
-    pub fn kind(&self) -> BtfKind
-        ensures { result ≡ BtfKind.Array }
-    {
-        BtfKind::Array
-    }
-
-    /// The string offset of the name.
-    pub fn name_offset(&self) -> u32
-        ensures value { result ≡ self.now.name }
-        ensures kind { kind_of self.now.info ≡ Some model.Array }
-    {
-        self.name_offset
-    }
-
-    /// The info word, whose kind is ARRAY.
-    pub fn info(&self) -> u32
-        ensures value { result ≡ self.now.info }
-        ensures kind { kind_of result ≡ Some model.Array }
-        ensures tail { length self.now.tail ≡ 3 }
-        ensures no_third { self.now.third ≡ 0 }
-    {
-        self.info
+        let array = BtfArray {
+            element_type,
+            index_type,
+            len,
+        };
+        Self::of(name_offset, (BtfKind::Array as u32) << 24, 0, array)
     }
 
     /// The words of the array.
@@ -91,14 +54,76 @@ impl Array {
         ensures { self.now.tail ≡
             result.now.element_type ∷ result.now.index_type ∷ result.now.len ∷ [] }
     {
-        &self.array
+        &self.tail
+    }
+}
+
+/// The three words of the array.
+impl Words for BtfArray {
+    ghost use Rattle.std.specs.Prelude.{[], ◌∷◌, refl};
+
+    ghost words = { λ a. a.element_type ∷ a.index_type ∷ a.len ∷ [] };
+
+    ghost number = { λ _. 3 };
+
+    ghost kept = { λ ws. ws };
+
+    fn number(_vlen: usize) -> usize {
+        3
     }
 
-    /// The length of the record in bytes.
-    pub fn type_info_size(&self) -> usize
-        ensures len { result ≡ 12 + 4 * length self.now.tail }
-        ensures kind { kind_of self.now.info ≡ Some model.Array }
-    {
-        6 * size_of_val(&self.info)
+    fn read(
+        _alloc: Global,
+        bytes: &[u8],
+        endianness: Endianness,
+        _vlen: usize,
+    ) -> Result<Self, BtfError> {
+        let (element_type, rest) = split_word(bytes, endianness)?;
+        let (index_type, rest) = split_word(rest, endianness)?;
+        let (len, _) = split_word(rest, endianness)?;
+        Ok(BtfArray {
+            element_type,
+            index_type,
+            len,
+        })
     }
+
+    fn append_to(
+        &self,
+        head: &Head,
+        out: &mut Vec<u8>,
+        endianness: Endianness,
+    ) -> Result<(), AllocError> {
+        let words = [
+            head.name,
+            head.info,
+            head.third,
+            self.element_type,
+            self.index_type,
+            self.len,
+        ];
+        push_array(out, endianness, &words)
+    }
+
+    fn try_clone(&self) -> Result<Self, AllocError> {
+        Ok(self.copied())
+    }
+
+    ghost words_kept = { λ _. refl };
+
+    ghost length_kept = { λ _. refl };
+}
+
+impl Fixed for BtfArray {
+    ghost use Rattle.std.specs.Prelude.{refl};
+
+    fn copied(&self) -> Self {
+        BtfArray {
+            element_type: self.element_type,
+            index_type: self.index_type,
+            len: self.len,
+        }
+    }
+
+    ghost same_number = { λ _ _. refl };
 }

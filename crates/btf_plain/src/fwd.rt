@@ -1,33 +1,34 @@
 //! FWD: a forward declaration of a structure or a union.
 
-ghost use Rattle.std.specs.Prelude.{◌≡◌, ◌+◌, ◌*◌, ◌^◌, [], length, Some};
-ghost use Rattle.btf_model.specs.Record as model;
-ghost use Rattle.btf_model.specs.Record.{kind_of};
+ghost use Rattle.std.specs.Prelude.{◌≡◌, ◌+◌, ◌*◌, ◌^◌, [], ◌↔◌, IsTrue};
+ghost use Rattle.btf_model.specs.Record.{kind_flag};
 ghost use Rattle.btf_model.specs.Info.{flag_bit};
 
+use crate::record::{Kind, Record};
 use btf_words::BtfKind;
-use std::marker::Model;
 
-/// A forward declaration of a structure or a union (the kernel's documentation, "BTF_KIND_FWD"). In contracts it is the
-/// record of its words.
-#[derive(Clone, Debug, Drop)]
-pub struct Fwd {
-    name_offset: u32,
-    info: u32,
+/// The kind FWD.
+pub struct FwdKind;
+
+impl Kind for FwdKind {
+    ghost use Rattle.std.specs.Prelude.{refl};
+    ghost use Rattle.btf_words.specs.declared.kind.BtfKind.TheVariants.{Fwd};
+
+    type Tail = ();
+
+    const KIND: BtfKind = BtfKind::Fwd;
+
+    ghost KIND = { Fwd };
+
+    ghost tail_number = { λ _. refl };
+
+    ghost is_kept = { λ _. refl };
 }
 
-impl Model for Fwd {
-    ghost use Rattle.std.specs.Prelude.{◌≡◌, [], Some};
-    ghost use Rattle.btf_model.specs.Record.{Record, kind_of, Fwd as FwdKind};
+/// A forward declaration of a structure or a union (the kernel's documentation, "BTF_KIND_FWD"). Its third word is 0.
+pub type Fwd = Record<FwdKind>;
 
-    ghost Value = { Record };
-
-    ghost view = { λ a. record { name = a.name_offset; info = a.info; third = 0; tail = [] } };
-
-    ghost invariant = { λ a. kind_of a.info ≡ Some FwdKind };
-}
-
-impl Fwd {
+impl Record<FwdKind> {
     /// A forward declaration. If the kind flag is set, it declares a union, else a structure.
     pub fn new(name_offset: u32, kind_flag: bool) -> Self
         ensures { result ≡ record {
@@ -38,50 +39,13 @@ impl Fwd {
         } }
     {
         let flag = if kind_flag { 1 << 31 } else { 0 };
-        Self {
-            name_offset,
-            info: (BtfKind::Fwd as u32) << 24 | flag,
-        }
+        Self::of(name_offset, (BtfKind::Fwd as u32) << 24 | flag, 0, ())
     }
 
-    /// The same record with this info, whose kind is FWD.
-    pub fn with_info(self, info: u32) -> Self
-        requires { kind_of info ≡ Some model.Fwd }
-        ensures { result ≡ record self { info = info } }
+    /// Whether a union is declared, and not a structure: the kind flag of info.
+    pub fn is_union(&self) -> bool
+        ensures { IsTrue result ↔ (kind_flag self.now.info ≡ 1) }
     {
-        Self { info, ..self }
-    }
-
-    /// The kind of the record.
-    pub fn kind(&self) -> BtfKind
-        ensures { result ≡ BtfKind.Fwd }
-    {
-        BtfKind::Fwd
-    }
-
-    /// The string offset of the name.
-    pub fn name_offset(&self) -> u32
-        ensures value { result ≡ self.now.name }
-        ensures kind { kind_of self.now.info ≡ Some model.Fwd }
-    {
-        self.name_offset
-    }
-
-    /// The info word, whose kind is FWD.
-    pub fn info(&self) -> u32
-        ensures value { result ≡ self.now.info }
-        ensures kind { kind_of result ≡ Some model.Fwd }
-        ensures no_third { self.now.third ≡ 0 }
-        ensures no_tail { self.now.tail ≡ [] }
-    {
-        self.info
-    }
-
-    /// The length of the record in bytes.
-    pub fn type_info_size(&self) -> usize
-        ensures len { result ≡ 12 + 4 * length self.now.tail }
-        ensures kind { kind_of self.now.info ≡ Some model.Fwd }
-    {
-        3 * size_of_val(&self.info)
+        self.head.info >> 31 == 1
     }
 }

@@ -1,41 +1,40 @@
 //! VAR: a variable.
 
-ghost use Rattle.std.specs.Prelude.{◌≡◌, ◌+◌, ◌*◌, ◌^◌, [], ◌∷◌, length, Some};
-ghost use Rattle.btf_model.specs.Record as model;
-ghost use Rattle.btf_model.specs.Record.{kind_of};
+ghost use Rattle.std.specs.Prelude.{◌≡◌, ◌+◌, ◌*◌, ◌^◌, [], ◌∷◌};
 ghost use Rattle.btf_plain.specs.Linkage.{var_linkage_number};
 
+use crate::head::Head;
 use crate::linkage::VarLinkage;
-use btf_words::BtfKind;
-use std::marker::Model;
+use crate::record::{Kind, Record, Refers};
+use crate::words::{Fixed, Words};
+use btf_items::{push_array, split_word};
+use btf_words::{BtfError, BtfKind, Endianness};
+use std::alloc::{AllocError, Global};
 
-/// A variable (the kernel's documentation, "BTF_KIND_VAR"). In contracts it is the record of its words.
-#[derive(Clone, Debug, Drop)]
-pub struct Var {
-    name_offset: u32,
-    info: u32,
-    btf_type: u32,
-    linkage: VarLinkage,
+/// The kind VAR.
+pub struct VarKind;
+
+impl Kind for VarKind {
+    ghost use Rattle.std.specs.Prelude.{refl};
+    ghost use Rattle.btf_words.specs.declared.kind.BtfKind.TheVariants.{Var};
+
+    type Tail = VarLinkage;
+
+    const KIND: BtfKind = BtfKind::Var;
+
+    ghost KIND = { Var };
+
+    ghost tail_number = { λ _. refl };
+
+    ghost is_kept = { λ _. refl };
 }
 
-impl Model for Var {
-    ghost use Rattle.std.specs.Prelude.{◌≡◌, [], ◌∷◌, Some};
-    ghost use Rattle.btf_model.specs.Record.{Record, kind_of, Var as VarKind};
-    ghost use Rattle.btf_plain.specs.Linkage.{var_linkage_number};
+impl Refers for VarKind {}
 
-    ghost Value = { Record };
+/// A variable (the kernel's documentation, "BTF_KIND_VAR"). It refers to the type of the variable.
+pub type Var = Record<VarKind>;
 
-    ghost view = { λ a. record {
-      name = a.name_offset;
-      info = a.info;
-      third = a.btf_type;
-      tail = var_linkage_number a.linkage ∷ [];
-    } };
-
-    ghost invariant = { λ a. kind_of a.info ≡ Some VarKind };
-}
-
-impl Var {
+impl Record<VarKind> {
     /// A variable of the type of id `btf_type`.
     pub fn new(name_offset: u32, btf_type: u32, linkage: VarLinkage) -> Self
         ensures { result ≡ record {
@@ -45,63 +44,14 @@ impl Var {
           tail = var_linkage_number linkage ∷ [];
         } }
     {
-        Self {
-            name_offset,
-            info: (BtfKind::Var as u32) << 24,
-            btf_type,
-            linkage,
-        }
-    }
-
-    /// The same record with this info, whose kind is VAR.
-    pub fn with_info(self, info: u32) -> Self
-        requires { kind_of info ≡ Some model.Var }
-        ensures { result ≡ record self { info = info } }
-    {
-        Self { info, ..self }
-    }
-
-    /// The kind of the record.
-    pub fn kind(&self) -> BtfKind
-        ensures { result ≡ BtfKind.Var }
-    {
-        BtfKind::Var
-    }
-
-    /// The string offset of the name.
-    pub fn name_offset(&self) -> u32
-        ensures value { result ≡ self.now.name }
-        ensures kind { kind_of self.now.info ≡ Some model.Var }
-    {
-        self.name_offset
-    }
-
-    /// The info word, whose kind is VAR.
-    pub fn info(&self) -> u32
-        ensures value { result ≡ self.now.info }
-        ensures kind { kind_of result ≡ Some model.Var }
-        ensures tail { length self.now.tail ≡ 1 }
-    {
-        self.info
-    }
-
-    /// The id of the type of the variable.
-    pub fn btf_type(&self) -> u32
-        ensures { result ≡ self.now.third }
-    {
-        self.btf_type
+        Self::of(name_offset, (BtfKind::Var as u32) << 24, btf_type, linkage)
     }
 
     /// The linkage.
     pub fn linkage(&self) -> VarLinkage
         ensures { self.now.tail ≡ var_linkage_number result ∷ [] }
     {
-        match &self.linkage {
-            VarLinkage::Static => VarLinkage::Static,
-            VarLinkage::Global => VarLinkage::Global,
-            VarLinkage::Extern => VarLinkage::Extern,
-            VarLinkage::Unknown => VarLinkage::Unknown,
-        }
+        self.tail.copied()
     }
 
     /// Sets the type and the linkage. The name and info do not change.
@@ -111,15 +61,67 @@ impl Var {
           tail = var_linkage_number linkage ∷ [];
         } }
     {
-        self.btf_type = btf_type;
-        self.linkage = linkage;
+        self.head.third = btf_type;
+        self.tail = linkage;
+    }
+}
+
+/// One word, the number of the linkage. A linkage that has no name is read as Unknown.
+impl Words for VarLinkage {
+    ghost use Rattle.std.specs.Prelude.{[], ◌∷◌, map, min};
+    ghost use Rattle.btf_plain.specs.Linkage.{var_linkage_number};
+    ghost use Rattle.btf_plain.specs.VarWord.{linkage_stays, length_stays};
+
+    ghost words = { λ linkage. var_linkage_number linkage ∷ [] };
+
+    ghost number = { λ _. 1 };
+
+    ghost kept = { map (min 3) };
+
+    fn number(_vlen: usize) -> usize {
+        1
     }
 
-    /// The length of the record in bytes.
-    pub fn type_info_size(&self) -> usize
-        ensures len { result ≡ 12 + 4 * length self.now.tail }
-        ensures kind { kind_of self.now.info ≡ Some model.Var }
-    {
-        4 * size_of_val(&self.info)
+    fn read(
+        _alloc: Global,
+        bytes: &[u8],
+        endianness: Endianness,
+        _vlen: usize,
+    ) -> Result<Self, BtfError> {
+        let (number, _) = split_word(bytes, endianness)?;
+        Ok(VarLinkage::from(number))
     }
+
+    fn append_to(
+        &self,
+        head: &Head,
+        out: &mut Vec<u8>,
+        endianness: Endianness,
+    ) -> Result<(), AllocError> {
+        let number = self.copied().number();
+        push_array(out, endianness, &[head.name, head.info, head.third, number])
+    }
+
+    fn try_clone(&self) -> Result<Self, AllocError> {
+        Ok(self.copied())
+    }
+
+    ghost words_kept = { linkage_stays };
+
+    ghost length_kept = { length_stays };
+}
+
+impl Fixed for VarLinkage {
+    ghost use Rattle.std.specs.Prelude.{refl};
+
+    fn copied(&self) -> Self {
+        match self {
+            VarLinkage::Static => VarLinkage::Static,
+            VarLinkage::Global => VarLinkage::Global,
+            VarLinkage::Extern => VarLinkage::Extern,
+            VarLinkage::Unknown => VarLinkage::Unknown,
+        }
+    }
+
+    ghost same_number = { λ _ _. refl };
 }

@@ -16,13 +16,10 @@ use Rattle.btf_model.proofs.Reading.{reads, reads_other_kind, reads_cut, record_
 use Rattle.btf_words.specs.declared.error.BtfError.{BtfError}
 use Rattle.btf_words.specs.declared.error.BtfError.TheVariants.{InvalidTypeKind}
 use Rattle.btf_words.specs.Kind.{kind}
-use Rattle.btf_plain.specs.declared.linkage.VarLinkage.{VarLinkage}
-use Rattle.btf_plain.specs.declared.linkage.VarLinkage.TheVariants as linkages
-use Rattle.btf_plain.specs.Linkage.{var_linkage_number}
 use Rattle.btf_words.specs.Error.{refusal_of}
 use Rattle.btf_records.specs.declared.btf_type.BtfType.{BtfType}
-use Rattle.btf_records.specs.declared.codec.Head.{Head}
-use Rattle.btf_records.specs.Head.{IsHead, record_after, ReadsTail}
+use Rattle.btf_plain.specs.declared.head.Head.{Head}
+use Rattle.btf_plain.specs.Head.{IsHead, record_after, ReadsTail}
 use Rattle.btf_records.specs.Slot.{Puts, StaysOr}
 
 after_is : (order : Endianness) (bytes : List ℕ) (head : Head) (rest : List ℕ) (n : ℕ) → IsHead order bytes head rest → record_at order n bytes ≡ record_after order head n rest
@@ -65,29 +62,6 @@ whole k r kind tail fits stays = (k, record { kind = kind; tail = tail; words = 
 pub unknown_is_whole : IsWhole unknown
 unknown_is_whole = whole Unknown unknown refl refl (omega arith, (omega arith, (omega arith, tt))) refl
 
--- a record without a tail
-pub plain_is_whole : (k : Kind) (r : Record) → kind_of r.info ≡ Some k → r.tail ≡ [] → tail_words k (vlen r.info) ≡ 0 → r.name < 2 ^ 32 → r.info < 2 ^ 32 → r.third < 2 ^ 32 → kept k r ≡ r → IsWhole r
-plain_is_whole k r kind none zero name info third stays =
-    whole k r kind (ap length none ∙ sym zero) (name, (info, (third, subst (AllByRecursion (λ w. w < 2 ^ 32)) (sym none) tt))) stays
-
 pub always : {T E P : Type 0} (r : Result T E) → P → OnOk r P
 always (Ok x) p = p
 always (Err e) p = tt
-
--- a linkage has a small number, which reading does not change
-pub small_linkage : (l : VarLinkage) → var_linkage_number l < 2 ^ 32
-small_linkage linkages.Static = omega arith
-small_linkage linkages.Global = omega arith
-small_linkage linkages.Extern = omega arith
-small_linkage linkages.Unknown = omega arith
-
-linkage_stays : (l : VarLinkage) → min 3 (var_linkage_number l) ≡ var_linkage_number l
-linkage_stays linkages.Static = refl
-linkage_stays linkages.Global = refl
-linkage_stays linkages.Extern = refl
-linkage_stays linkages.Unknown = refl
-
-pub var_stays : (r : Record) (l : VarLinkage) → r.tail ≡ var_linkage_number l ∷ [] → kept Var r ≡ r
-var_stays r l is =
-    let tail : map (min 3) r.tail ≡ r.tail = ap (map (min 3)) is ∙ ap (λ (n : ℕ). n ∷ []) (linkage_stays l) ∙ sym is in
-    ap (λ (t : List ℕ). record r { tail = t }) tail

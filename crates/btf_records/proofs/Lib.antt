@@ -1,3 +1,1 @@
-pub mod Infos
-pub mod Params
 pub mod Heads

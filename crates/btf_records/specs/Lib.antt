@@ -1,5 +1,4 @@
 pub mod BtfType
-pub mod Head
 pub mod Members
 pub mod Slot
 pub use Rattle.btf_model.specs.Word
@@ -10,3 +9,4 @@ pub use Rattle.btf_model.specs.Blob
 pub use Rattle.btf_words.specs.Error
 pub use Rattle.btf_model.specs.Info
 pub use Rattle.btf_words.specs.Kind
+pub use Rattle.btf_plain.specs.Head

@@ -4,8 +4,8 @@ use Rattle.btf_model.specs.Table.{Fallback}
 use Rattle.btf_items.specs.declared.items.BtfMember.{BtfMember}
 use Rattle.btf_items.specs.Fallback.{fallback_value}
 use Rattle.btf_items.specs.ItemList.{items_of}
-use Rattle.btf_records.specs.declared.records.union.Members.{Members}
-use Rattle.btf_records.specs.declared.records.union.Members.TheVariants.{Alone, InsteadOf}
+use Rattle.btf_records.specs.declared.union.Members.{Members}
+use Rattle.btf_records.specs.declared.union.Members.TheVariants.{Alone, InsteadOf}
 
 -- the members of a UNION
 abbrev pub members_of : Members → List BtfMember

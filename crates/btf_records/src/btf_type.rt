@@ -4,12 +4,13 @@ ghost use Rattle.std.specs.Prelude.{◌≡◌};
 ghost use Rattle.btf_model.specs.Record.{compared_kind};
 ghost use Rattle.btf_words.specs.Kind as kinds;
 
-use crate::records::{DataSec, Enum, Enum64, FuncProto, Struct, Union};
-use btf_items::BtfMember;
+use crate::union::Union;
+use btf_items::{BtfMember, push_array};
 use btf_plain::{
-    Array, BtfError, BtfKind, Const, DeclTag, Float, Func, Fwd, Int, Ptr, Restrict, TypeTag,
-    Typedef, Var, Volatile,
+    Array, BtfError, BtfKind, Const, DataSec, DeclTag, Endianness, Enum, Enum64, Float, Func,
+    FuncProto, Fwd, Int, Ptr, Restrict, Struct, TypeTag, Typedef, Var, Volatile,
 };
+use std::alloc::AllocError;
 use std::slice::Iter;
 
 /// One type of a table (the kernel's documentation, "Type Encoding"). In contracts it is the record of its words, and
@@ -58,8 +59,57 @@ pub enum BtfType {
     Enum64(Enum64),
 }
 
+/// An expression over the record `t` of a type; `unknown` for Unknown, which has no record.
+macro_rules! each {
+    ($of:expr, $unknown:expr, $t:ident => $e:expr) => {
+        each!(
+            $of, $unknown, $t => $e;
+            Int, Ptr, Array, Struct, Union, Enum, Fwd, Typedef, Volatile, Const, Restrict, Func, FuncProto, Var,
+            DataSec, Float, DeclTag, TypeTag, Enum64
+        )
+    };
+    ($of:expr, $unknown:expr, $t:ident => $e:expr; $($kind:ident),*) => {
+        match $of {
+            BtfType::Unknown => $unknown,
+            $(BtfType::$kind($t) => $e,)*
+        }
+    };
+}
+
+/// The type of the same kind whose record is an expression over the record `t`.
+macro_rules! with_record {
+    ($of:expr, $t:ident => $e:expr) => {
+        with_record!(
+            $of, $t => $e;
+            Int, Ptr, Array, Struct, Union, Enum, Fwd, Typedef, Volatile, Const, Restrict, Func, FuncProto, Var,
+            DataSec, Float, DeclTag, TypeTag, Enum64
+        )
+    };
+    ($of:expr, $t:ident => $e:expr; $($kind:ident),*) => {
+        match $of {
+            BtfType::Unknown => Ok(BtfType::Unknown),
+            $(BtfType::$kind($t) => Ok(BtfType::$kind($e)),)*
+        }
+    };
+}
+
+/// An expression over the record `t` of a STRUCT or a UNION; None for the kinds without members.
+macro_rules! of_composite {
+    ($of:expr, $t:ident => $e:expr) => {
+        match $of {
+            BtfType::Struct($t) => Some($e),
+            BtfType::Union($t) => Some($e),
+            BtfType::Unknown | BtfType::Int(_) | BtfType::Ptr(_) | BtfType::Array(_) | BtfType::Enum(_)
+            | BtfType::Fwd(_) | BtfType::Typedef(_) | BtfType::Volatile(_) | BtfType::Const(_)
+            | BtfType::Restrict(_) | BtfType::Func(_) | BtfType::FuncProto(_) | BtfType::Var(_)
+            | BtfType::DataSec(_) | BtfType::Float(_) | BtfType::DeclTag(_) | BtfType::TypeTag(_)
+            | BtfType::Enum64(_) => None,
+        }
+    };
+}
+
 impl BtfType {
-    ghost use Rattle.std.specs.Prelude.{◌≡◌, ◌+◌, ◌*◌, ◌↔◌, length, Some, None, Ok, IsTrue, ◌==◌};
+    ghost use Rattle.std.specs.Prelude.{◌≡◌, ◌+◌, ◌*◌, ◌++◌, ◌↔◌, length, Some, None, Ok, OnOk, IsTrue, ◌==◌};
     ghost use Rattle.std.specs.Prelude.{if◌then◌else◌, true};
     ghost use Rattle.std.specs.Option.{option_map};
     ghost use Rattle.std.specs.List.{flat_map};
@@ -67,6 +117,7 @@ impl BtfType {
     ghost use Rattle.btf_items.specs.Items.{member_words};
     ghost use Rattle.btf_model.specs.Record.{kind_of, vlen, tail_words, compared_kind, record_size, record_target, member_bit_offset, member_bit_field_size};
     ghost use Rattle.btf_model.specs.Record as model;
+    ghost use Rattle.btf_model.specs.Spelling.{spell, IsWhole};
     ghost use Rattle.btf_words.specs.Error.{IsOrNoMemory};
     ghost use Rattle.btf_words.specs.Kind as kinds;
     ghost use Rattle.btf_records.specs.BtfType.{record_of, fallback_of, type_kind, has_no_third};
@@ -80,28 +131,7 @@ impl BtfType {
     {
         // Only a use of the info word proves the other two clauses about it.
         let _ = self.info();
-        match self {
-            BtfType::Unknown => BtfKind::Unknown,
-            BtfType::Int(_) => BtfKind::Int,
-            BtfType::Ptr(_) => BtfKind::Ptr,
-            BtfType::Array(_) => BtfKind::Array,
-            BtfType::Struct(_) => BtfKind::Struct,
-            BtfType::Union(_) => BtfKind::Union,
-            BtfType::Enum(_) => BtfKind::Enum,
-            BtfType::Fwd(_) => BtfKind::Fwd,
-            BtfType::Typedef(_) => BtfKind::Typedef,
-            BtfType::Volatile(_) => BtfKind::Volatile,
-            BtfType::Const(_) => BtfKind::Const,
-            BtfType::Restrict(_) => BtfKind::Restrict,
-            BtfType::Func(_) => BtfKind::Func,
-            BtfType::FuncProto(_) => BtfKind::FuncProto,
-            BtfType::Var(_) => BtfKind::Var,
-            BtfType::DataSec(_) => BtfKind::DataSec,
-            BtfType::Float(_) => BtfKind::Float,
-            BtfType::DeclTag(_) => BtfKind::DeclTag,
-            BtfType::TypeTag(_) => BtfKind::TypeTag,
-            BtfType::Enum64(_) => BtfKind::Enum64,
-        }
+        each!(self, BtfKind::Unknown, t => t.kind())
     }
 
     /// The string offset of the name; 0 for Unknown.
@@ -109,28 +139,7 @@ impl BtfType {
         ensures value { result ≡ (record_of self.now).name }
         ensures kind { kind_of (record_of self.now).info ≡ Some (type_kind self.now) }
     {
-        match self {
-            BtfType::Unknown => 0,
-            BtfType::Int(t) => t.name_offset(),
-            BtfType::Ptr(t) => t.name_offset(),
-            BtfType::Array(t) => t.name_offset(),
-            BtfType::Struct(t) => t.name_offset(),
-            BtfType::Union(t) => t.name_offset(),
-            BtfType::Enum(t) => t.name_offset(),
-            BtfType::Fwd(t) => t.name_offset(),
-            BtfType::Typedef(t) => t.name_offset(),
-            BtfType::Volatile(t) => t.name_offset(),
-            BtfType::Const(t) => t.name_offset(),
-            BtfType::Restrict(t) => t.name_offset(),
-            BtfType::Func(t) => t.name_offset(),
-            BtfType::FuncProto(t) => t.name_offset(),
-            BtfType::Var(t) => t.name_offset(),
-            BtfType::DataSec(t) => t.name_offset(),
-            BtfType::Float(t) => t.name_offset(),
-            BtfType::DeclTag(t) => t.name_offset(),
-            BtfType::TypeTag(t) => t.name_offset(),
-            BtfType::Enum64(t) => t.name_offset(),
-        }
+        each!(self, 0, t => t.name_offset())
     }
 
     /// The info word; 0 for Unknown.
@@ -142,28 +151,7 @@ impl BtfType {
         ensures no_third { has_no_third (type_kind self.now) ≡ true
             → (record_of self.now).third ≡ 0 }
     {
-        match self {
-            BtfType::Unknown => 0,
-            BtfType::Int(t) => t.info(),
-            BtfType::Ptr(t) => t.info(),
-            BtfType::Array(t) => t.info(),
-            BtfType::Struct(t) => t.info(),
-            BtfType::Union(t) => t.info(),
-            BtfType::Enum(t) => t.info(),
-            BtfType::Fwd(t) => t.info(),
-            BtfType::Typedef(t) => t.info(),
-            BtfType::Volatile(t) => t.info(),
-            BtfType::Const(t) => t.info(),
-            BtfType::Restrict(t) => t.info(),
-            BtfType::Func(t) => t.info(),
-            BtfType::FuncProto(t) => t.info(),
-            BtfType::Var(t) => t.info(),
-            BtfType::DataSec(t) => t.info(),
-            BtfType::Float(t) => t.info(),
-            BtfType::DeclTag(t) => t.info(),
-            BtfType::TypeTag(t) => t.info(),
-            BtfType::Enum64(t) => t.info(),
-        }
+        each!(self, 0, t => t.info())
     }
 
     /// The size in bytes that the record itself gives, which is 8 for a pointer; None for the kinds without a size.
@@ -179,7 +167,18 @@ impl BtfType {
             BtfType::Float(t) => Some(t.size()),
             BtfType::Enum64(t) => Some(t.size()),
             BtfType::Ptr(_) => Some(8),
-            _ => None,
+            BtfType::Unknown
+            | BtfType::Array(_)
+            | BtfType::Fwd(_)
+            | BtfType::Typedef(_)
+            | BtfType::Volatile(_)
+            | BtfType::Const(_)
+            | BtfType::Restrict(_)
+            | BtfType::Func(_)
+            | BtfType::FuncProto(_)
+            | BtfType::Var(_)
+            | BtfType::DeclTag(_)
+            | BtfType::TypeTag(_) => None,
         }
     }
 
@@ -198,7 +197,17 @@ impl BtfType {
             BtfType::Var(t) => Some(t.btf_type()),
             BtfType::DeclTag(t) => Some(t.btf_type()),
             BtfType::TypeTag(t) => Some(t.btf_type()),
-            _ => None,
+            BtfType::Unknown
+            | BtfType::Int(_)
+            | BtfType::Array(_)
+            | BtfType::Struct(_)
+            | BtfType::Union(_)
+            | BtfType::Enum(_)
+            | BtfType::Fwd(_)
+            | BtfType::Func(_)
+            | BtfType::DataSec(_)
+            | BtfType::Float(_)
+            | BtfType::Enum64(_) => None,
         }
     }
 
@@ -208,28 +217,7 @@ impl BtfType {
         ensures len { result ≡ 12 + 4 * length (record_of self.now).tail }
         ensures kind { kind_of (record_of self.now).info ≡ Some (type_kind self.now) }
     {
-        match self {
-            BtfType::Unknown => 12,
-            BtfType::Int(t) => t.type_info_size(),
-            BtfType::Ptr(t) => t.type_info_size(),
-            BtfType::Array(t) => t.type_info_size(),
-            BtfType::Struct(t) => t.type_info_size(),
-            BtfType::Union(t) => t.type_info_size(),
-            BtfType::Enum(t) => t.type_info_size(),
-            BtfType::Fwd(t) => t.type_info_size(),
-            BtfType::Typedef(t) => t.type_info_size(),
-            BtfType::Volatile(t) => t.type_info_size(),
-            BtfType::Const(t) => t.type_info_size(),
-            BtfType::Restrict(t) => t.type_info_size(),
-            BtfType::Func(t) => t.type_info_size(),
-            BtfType::FuncProto(t) => t.type_info_size(),
-            BtfType::Var(t) => t.type_info_size(),
-            BtfType::DataSec(t) => t.type_info_size(),
-            BtfType::Float(t) => t.type_info_size(),
-            BtfType::DeclTag(t) => t.type_info_size(),
-            BtfType::TypeTag(t) => t.type_info_size(),
-            BtfType::Enum64(t) => t.type_info_size(),
-        }
+        each!(self, 12, t => t.type_info_size())
     }
 
     /// Whether the record is a STRUCT or a UNION.
@@ -253,11 +241,7 @@ impl BtfType {
             ≡ (if model.is_composite (type_kind self.now) then Some (record_of self.now).tail
             else None) }
     {
-        match self {
-            BtfType::Struct(t) => Some(t.members().iter()),
-            BtfType::Union(t) => Some(t.members().iter()),
-            _ => None,
-        }
+        of_composite!(self, t => t.members().iter())
     }
 
     /// The bit at which a member of this STRUCT or UNION begins; None for the other kinds.
@@ -265,11 +249,7 @@ impl BtfType {
         ensures { result ≡ (if model.is_composite (type_kind self.now)
             then Some (member_bit_offset (record_of self.now).info member.now.offset) else None) }
     {
-        match self {
-            BtfType::Struct(t) => Some(t.member_bit_offset(member)),
-            BtfType::Union(t) => Some(t.member_bit_offset(member)),
-            _ => None,
-        }
+        of_composite!(self, t => t.member_bit_offset(member))
     }
 
     /// The number of bits of a member of this STRUCT or UNION that is a bit-field, else 0; None for the other kinds.
@@ -278,11 +258,7 @@ impl BtfType {
             then Some (member_bit_field_size (record_of self.now).info member.now.offset)
             else None) }
     {
-        match self {
-            BtfType::Struct(t) => Some(t.member_bit_field_size(member)),
-            BtfType::Union(t) => Some(t.member_bit_field_size(member)),
-            _ => None,
-        }
+        of_composite!(self, t => t.member_bit_field_size(member))
     }
 
     /// A copy of the record and its fallback. `OutOfMemory` is the only error.
@@ -290,28 +266,18 @@ impl BtfType {
         ensures record { IsOrNoMemory record_of result (Ok (record_of self.now)) }
         ensures fallback { IsOrNoMemory fallback_of result (Ok (fallback_of self.now)) }
     {
-        match self {
-            BtfType::Unknown => Ok(BtfType::Unknown),
-            BtfType::Int(t) => Ok(BtfType::Int(t.clone()?)),
-            BtfType::Ptr(t) => Ok(BtfType::Ptr(t.clone()?)),
-            BtfType::Array(t) => Ok(BtfType::Array(t.clone()?)),
-            BtfType::Struct(t) => Ok(BtfType::Struct(t.try_clone()?)),
-            BtfType::Union(t) => Ok(BtfType::Union(t.try_clone()?)),
-            BtfType::Enum(t) => Ok(BtfType::Enum(t.try_clone()?)),
-            BtfType::Fwd(t) => Ok(BtfType::Fwd(t.clone()?)),
-            BtfType::Typedef(t) => Ok(BtfType::Typedef(t.clone()?)),
-            BtfType::Volatile(t) => Ok(BtfType::Volatile(t.clone()?)),
-            BtfType::Const(t) => Ok(BtfType::Const(t.clone()?)),
-            BtfType::Restrict(t) => Ok(BtfType::Restrict(t.clone()?)),
-            BtfType::Func(t) => Ok(BtfType::Func(t.clone()?)),
-            BtfType::FuncProto(t) => Ok(BtfType::FuncProto(t.try_clone()?)),
-            BtfType::Var(t) => Ok(BtfType::Var(t.clone()?)),
-            BtfType::DataSec(t) => Ok(BtfType::DataSec(t.try_clone()?)),
-            BtfType::Float(t) => Ok(BtfType::Float(t.clone()?)),
-            BtfType::DeclTag(t) => Ok(BtfType::DeclTag(t.clone()?)),
-            BtfType::TypeTag(t) => Ok(BtfType::TypeTag(t.clone()?)),
-            BtfType::Enum64(t) => Ok(BtfType::Enum64(t.try_clone()?)),
-        }
+        with_record!(self, t => t.try_clone()?)
+    }
+
+    /// Appends the record to bytes, in this byte order. Fails only if an allocation fails, and then some of the
+    /// record's words may already be appended.
+    pub fn append_to(&self, out: &mut Vec<u8>, order: Endianness) -> Result<(), AllocError>
+        ensures written { OnOk result (out.new.items ≡ out.old.items
+            ++ spell order (record_of self.now)) }
+        // The written bytes are read as the record.
+        ensures whole { OnOk result (IsWhole (record_of self.now)) }
+    {
+        each!(self, push_array(out, order, &[0, 0, 0]), t => t.append_to(out, order))
     }
 }
 

@@ -1,13 +1,15 @@
-//! Records of all kinds: reading them from bytes, and writing them.
+//! The record of any kind: reading it from bytes, and writing it. UNION; re-exports of the other kinds with a list.
 #![tactic(auto)]
 
 mod btf_type;
 mod codec;
-mod records;
+mod lists;
 mod slot;
+mod union;
 
 pub use btf_items::{
     BtfEnum, BtfEnum64, BtfMember, BtfParam, DataSecEntry, Enum64Fallback, Enum64VariantFallback,
 };
+pub use btf_plain::{DataSec, Enum, Enum64, FuncProto, Struct, as_enum};
 pub use btf_type::BtfType;
-pub use records::{DataSec, Enum, Enum64, FuncProto, Struct, Union, as_enum};
+pub use union::Union;

@@ -1,0 +1,73 @@
+//! ENUM: an enumeration of 32-bit values.
+
+ghost use Rattle.std.specs.Prelude.{◌≡◌, ◌+◌, ◌*◌, ◌^◌, ◌≤◌, length, vec_len, ◌↔◌, IsTrue};
+ghost use Rattle.std.specs.List.{flat_map};
+ghost use Rattle.btf_model.specs.Record.{vlen, kind_flag};
+ghost use Rattle.btf_model.specs.Info.{flag_bit, with_flag};
+ghost use Rattle.btf_items.specs.Items.{enum_words};
+
+use crate::list::{MAX_VLEN, flag_word};
+use crate::record::{Kind, Measured, Record};
+use btf_items::{BtfEnum, ItemList};
+use btf_words::BtfKind;
+
+/// The kind ENUM.
+pub struct EnumKind;
+
+impl Kind for EnumKind {
+    ghost use Rattle.std.specs.Prelude.{refl};
+    ghost use Rattle.btf_words.specs.declared.kind.BtfKind.TheVariants.{Enum};
+
+    type Tail = ItemList<BtfEnum, 6>;
+
+    const KIND: BtfKind = BtfKind::Enum;
+
+    ghost KIND = { Enum };
+
+    ghost tail_number = { λ _. refl };
+
+    ghost is_kept = { λ _. refl };
+}
+
+impl Measured for EnumKind {}
+
+/// An enumeration of 32-bit values (the kernel's documentation, "BTF_KIND_ENUM").
+pub type Enum = Record<EnumKind>;
+
+impl Record<EnumKind> {
+    /// An enumeration of 4 bytes with these variants. There are at most `MAX_VLEN` of them.
+    pub fn new(name_offset: u32, signed: bool, variants: Vec<BtfEnum>) -> Self
+        requires { vec_len variants ≤ MAX_VLEN }
+        ensures { result ≡ record {
+          name = name_offset;
+          info = 6 * 2 ^ 24 + vec_len variants + flag_bit signed;
+          third = 4;
+          tail = flat_map enum_words variants.items;
+        } }
+    {
+        let items = ItemList::from_vec(variants);
+        Self::listing(BtfKind::Enum as u32, name_offset, signed, 4, items)
+    }
+
+    /// The variants, in order.
+    pub fn variants(&self) -> &[BtfEnum]
+        ensures words { self.now.tail ≡ flat_map enum_words result.now }
+        ensures count { vlen self.now.info ≡ length result.now }
+    {
+        self.items()
+    }
+
+    /// Whether the values have a sign: the kind flag of info.
+    pub fn is_signed(&self) -> bool
+        ensures { IsTrue result ↔ (kind_flag self.now.info ≡ 1) }
+    {
+        self.head.info >> 31 == 1
+    }
+
+    /// Sets whether the values have a sign, and changes nothing else.
+    pub fn set_signed(&mut self, signed: bool)
+        ensures { self.new ≡ record self.old { info = with_flag self.old.info signed } }
+    {
+        self.head.info = self.head.info & 0x7fff_ffff | flag_word(signed);
+    }
+}

@@ -1,0 +1,66 @@
+//! ENUM64: an enumeration of 64-bit values.
+
+ghost use Rattle.std.specs.Prelude.{◌≡◌, ◌+◌, ◌*◌, ◌^◌, ◌≤◌, length, vec_len, ◌↔◌, IsTrue};
+ghost use Rattle.std.specs.List.{flat_map};
+ghost use Rattle.btf_model.specs.Record.{vlen, kind_flag};
+ghost use Rattle.btf_model.specs.Info.{flag_bit};
+ghost use Rattle.btf_items.specs.Items.{enum64_words};
+
+use crate::list::MAX_VLEN;
+use crate::record::{Kind, Measured, Record};
+use btf_items::{BtfEnum64, ItemList};
+use btf_words::BtfKind;
+
+/// The kind ENUM64.
+pub struct Enum64Kind;
+
+impl Kind for Enum64Kind {
+    ghost use Rattle.std.specs.Prelude.{refl};
+    ghost use Rattle.btf_words.specs.declared.kind.BtfKind.TheVariants.{Enum64};
+
+    type Tail = ItemList<BtfEnum64, 4>;
+
+    const KIND: BtfKind = BtfKind::Enum64;
+
+    ghost KIND = { Enum64 };
+
+    ghost tail_number = { λ _. refl };
+
+    ghost is_kept = { λ _. refl };
+}
+
+impl Measured for Enum64Kind {}
+
+/// An enumeration of 64-bit values (the kernel's documentation, "BTF_KIND_ENUM64").
+pub type Enum64 = Record<Enum64Kind>;
+
+impl Record<Enum64Kind> {
+    /// An enumeration of 8 bytes with these variants. There are at most `MAX_VLEN` of them.
+    pub fn new(name_offset: u32, signed: bool, variants: Vec<BtfEnum64>) -> Self
+        requires { vec_len variants ≤ MAX_VLEN }
+        ensures { result ≡ record {
+          name = name_offset;
+          info = 19 * 2 ^ 24 + vec_len variants + flag_bit signed;
+          third = 8;
+          tail = flat_map enum64_words variants.items;
+        } }
+    {
+        let items = ItemList::from_vec(variants);
+        Self::listing(BtfKind::Enum64 as u32, name_offset, signed, 8, items)
+    }
+
+    /// The variants, in order.
+    pub fn variants(&self) -> &[BtfEnum64]
+        ensures words { self.now.tail ≡ flat_map enum64_words result.now }
+        ensures count { vlen self.now.info ≡ length result.now }
+    {
+        self.items()
+    }
+
+    /// Whether the values have a sign: the kind flag of info.
+    pub fn is_signed(&self) -> bool
+        ensures { IsTrue result ↔ (kind_flag self.now.info ≡ 1) }
+    {
+        self.head.info >> 31 == 1
+    }
+}
