@@ -11,11 +11,11 @@ use Rattle.btf_object.proofs.sanitize.sanitize_parsed.Goals.{In_ok-file}
 
 pub returns-in_err-written-clause-refused : goal.returns-in_err-written-clause-refused
 returns-in_err-written-clause-refused g c =
-    becomes _ (of_table c.in_err-written.field-0.0) c.from_residual-in_err-written.result
+    becomes _ (of_table c.in_err-written.field-0.0) c.from_residual.result
     (table_cause c.args.object.now.bytes c.args.object.now c.in-Some.index c.in-Some.table.now (whole c.args.object.now c.bytes.result.now c.bytes.ensures.value c.bytes.ensures.object) c.in-Some.ensures.some
     (RefusesFor (target_of c.args.kernel.now c.args.policy (option_map (λ (name : Bor (List ℕ)). name.now) c.args.placeholder))) (RewritesFor (target_of c.args.kernel.now c.args.policy (option_map (λ (name : Bor (List ℕ)). name.now) c.args.placeholder)))
     c.in_err-written.field-0.0 c.in_err-written.ensures.refused)
-    c.from_residual-in_err-written.ensures.1
+    c.from_residual.ensures.1
 
 pub returns-in_err-file-clause-refused : goal.returns-in_err-file-clause-refused
 returns-in_err-file-clause-refused g c =

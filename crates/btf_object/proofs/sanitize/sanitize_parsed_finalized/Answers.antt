@@ -11,10 +11,10 @@ use Rattle.btf_object.proofs.sanitize.sanitize_parsed_finalized.Goals.{In_ok-wit
 
 pub returns-in_err-written-clause-refused : goal.returns-in_err-written-clause-refused
 returns-in_err-written-clause-refused g c =
-    becomes _ (of_table c.in_err-written.field-0.0) c.from_residual-in_err-written.result
+    becomes _ (of_table c.in_err-written.field-0.0) c.from_residual.result
     (table_cause c.args.object.now.bytes c.args.object.now c.in-Some.index c.in-Some.table.now (whole c.args.object.now c.bytes.result.now c.bytes.ensures.value c.bytes.ensures.object) c.in-Some.ensures.some
     (RefusesFinalizedFor (has c.args.kernel.now)) (RewritesFinalizedFor (has c.args.kernel.now)) c.in_err-written.field-0.0 c.in_err-written.ensures.refused)
-    c.from_residual-in_err-written.ensures.1
+    c.from_residual.ensures.1
 
 pub returns-in_err-with_section-clause-refused : goal.returns-in_err-with_section-clause-refused
 returns-in_err-with_section-clause-refused g c =
