@@ -190,9 +190,16 @@ impl<K: Kind> Record<K> {
     pub fn try_clone(&self) -> Result<Self, BtfError>
         ensures { IsOrNoMemory (λ r. r) result (Ok self.now) }
     {
+        let tail = self.tail.try_clone()?;
+        // Word by word: with a copy of the whole head, cloning a `BtfType` clears a head for each kind on the stack.
+        let head = Head {
+            name: self.head.name,
+            info: self.head.info,
+            third: self.head.third,
+        };
         Ok(Record {
-            head: self.head,
-            tail: self.tail.try_clone()?,
+            head,
+            tail,
             kind: PhantomData,
         })
     }

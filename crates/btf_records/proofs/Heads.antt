@@ -1,13 +1,13 @@
 -- Reading a record after its head, and writing a record.
-use Rattle.std.proofs.Common.{inl, ◌≡◌, ℕ, ◌+◌, ◌^◌, ◌<◌, List, [], ◌∷◌, drop, length, Some, None, Result, Ok, Err, refl, sym, ap, subst, ◌∙◌, arith}
-use Rattle.std.specs.Prelude.{IsErrAnd, OnOk, slice_get, map, min}
+use Rattle.std.proofs.Common.{inl, ◌≡◌, ℕ, ◌+◌, ◌^◌, ◌<◌, List, drop, length, Some, None, Result, Ok, Err, refl, sym, ap, subst, ◌∙◌, arith}
+use Rattle.std.specs.Prelude.{IsErrAnd, OnOk, slice_get}
 use Rattle.std.specs.List.{AllByRecursion}
 use Rattle.std.proofs.lemmas.List.{length-drop}
 use Rattle.std.proofs.lemmas.Option.{IfSome_then}
 use Rattle.std.proofs.lemmas.Result.{err_from_is_err_and}
 use Rattle.btf_model.specs.Word.{words_at}
 use Rattle.btf_model.specs.declared.endianness.Endianness.{Endianness}
-use Rattle.btf_model.specs.Record.{Kind, Unknown, Var, Record, kinds, unknown, words, kind_number, kind_of, vlen, tail_words}
+use Rattle.btf_model.specs.Record.{Kind, Unknown, Record, kinds, unknown, words, kind_number, kind_of, vlen, tail_words}
 use Rattle.btf_model.specs.Refusal as refusals
 use Rattle.btf_model.specs.Spelling.{kept, IsWhole}
 use Rattle.btf_model.specs.Blob.{ReadsFront}
