@@ -28,6 +28,10 @@ use Rattle.btf_object.specs.declared.error.SanitizeError.{SanitizeError}
 pub whole : (o : Object) (bytes : List ℕ) → bytes ≡ o.bytes → IsObject bytes o → IsObject o.bytes o
 whole o bytes is object = subst (λ (b : List ℕ). IsObject b o) is object
 
+-- what is known about the bytes of a parsed object
+pub of_bytes : (P : List ℕ → Type 0) (bytes : List ℕ) (o : Object) → IsObject bytes o → P o.bytes → P bytes
+of_bytes P bytes o is known = subst P (ap (λ (x : Object). x.bytes) is.object) known
+
 -- what is known about an error that is converted to another
 pub becomes : {T : Type 0} (P : SanitizeError → Type 0) (e : SanitizeError) (r : Result T SanitizeError) → P e → IsErrAnd r (λ y. y ≡ e) → IfErr r P
 becomes {T} P e r known err =
