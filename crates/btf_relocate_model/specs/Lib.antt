@@ -1,0 +1,5 @@
+pub mod Kind
+pub mod Name
+pub mod Access
+pub mod Instruction
+pub mod Examples
