@@ -3,12 +3,28 @@
 #![tactic(auto)]
 
 mod access;
+mod compatible;
+mod enumerator;
+mod field;
 mod instruction;
+mod lookup;
+mod matching;
 mod name;
+mod path;
+mod resolving;
+mod search;
+mod section;
+mod size;
+mod target;
+mod types;
+mod value;
 
 pub use access::Access;
 pub use btf_relocate_model::{
-    Instruction, Patched, RelocationError, RelocationKind, Resolved, Slot,
+    Field, Instruction, Patched, RelocationError, RelocationKind, Resolved, Slot,
 };
 pub use instruction::patch;
 pub use name::essential_name;
+pub use resolving::resolve;
+pub use section::{CandidatePolicy, Outcome, candidates_of, relocate_section};
+pub use target::Target;

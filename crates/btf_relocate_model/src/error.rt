@@ -9,6 +9,10 @@ use thiserror::Error;
 /// Why a record is not relocated. No byte of the program changes then.
 #[derive(Clone, Copy, Debug, PartialEq, Eq, Error)]
 pub enum RelocationError {
+    /// The program's table and the target's have different byte orders.
+    #[error("the tables have different byte orders")]
+    OrderMismatch,
+
     /// The number of the record's kind is above 12.
     #[error("unknown relocation kind {kind}")]
     UnknownKind {
