@@ -1,0 +1,4 @@
+mod Names
+mod Accesses
+mod Walks
+mod Sizes

@@ -1,0 +1,4 @@
+pub mod Access
+pub mod Extent
+pub mod Members
+pub mod Patch

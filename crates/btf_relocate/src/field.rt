@@ -1,0 +1,152 @@
+//! Places in a type that a path of indices leads to.
+
+ghost use Rattle.std.specs.Prelude.{◌≡◌, ◌*◌, Ok, Err, map, Some, None, MatchOption, length};
+ghost use Rattle.std.specs.Option.{option_map};
+ghost use Rattle.btf_model.specs.Record.{member_bit_offset, member_bit_field_size, is_composite};
+ghost use Rattle.btf_records.specs.BtfType.{record_of, type_kind};
+ghost use Rattle.btf_relocate_model.specs.Field as model;
+ghost use Rattle.btf_relocate.specs.Members.{member_of};
+
+use crate::lookup::{resolved, type_at};
+use crate::size::size_of;
+use btf_items::BtfMember;
+use btf_records::BtfType;
+use btf_relocate_model::{Field, RelocationError};
+use btf_table::Btf;
+
+/// The first bit after a number of bits.
+fn moved(bit: u32, by: u64) -> Result<u32, RelocationError>
+    ensures { result ≡ model.moved bit by }
+{
+    match u64::from(bit).checked_add(by) {
+        Some(sum) if sum < 0x1_0000_0000 => Ok(sum as u32),
+        _ => Err(RelocationError::BitOffsetTooBig),
+    }
+}
+
+/// The value at an index of values of a type, which begin at a bit.
+fn placed(
+    table: &Btf,
+    pointer_size: u32,
+    type_id: u32,
+    bit: u32,
+    index: u32,
+) -> Result<Field, RelocationError>
+    ensures { result ≡ model.placed pointer_size table.now type_id bit index }
+{
+    let size = size_of(table, pointer_size, type_id)?;
+    let bytes = u64::from(index) * u64::from(size);
+    // So many bytes have more than 2^32 bits.
+    if bytes >= 0x2000_0000 {
+        return Err(RelocationError::BitOffsetTooBig);
+    }
+    let bit = moved(bit, bytes * 8)?;
+    Ok(Field {
+        type_id,
+        bit,
+        bits: 0,
+        is_member: false,
+        is_last: false,
+    })
+}
+
+/// The value of a type at an index, counted in whole values of the type.
+pub fn root(
+    table: &Btf,
+    pointer_size: u32,
+    type_id: u32,
+    index: u32,
+) -> Result<Field, RelocationError>
+    ensures { result ≡ model.root pointer_size table.now type_id index }
+{
+    let end = resolved(table, type_id)?;
+    placed(table, pointer_size, end, 0, index)
+}
+
+/// The element at an index of the ARRAY at a place; `None` if there is no ARRAY, or no such element. An array of length 0
+/// that is the last member of its type has elements at all indices, because C uses it as a flexible array member.
+pub fn element(
+    table: &Btf,
+    pointer_size: u32,
+    field: &Field,
+    index: u32,
+) -> Result<Option<Field>, RelocationError>
+    ensures { result ≡ model.element pointer_size table.now field.now index }
+{
+    let id = resolved(table, field.type_id)?;
+    let BtfType::Array(array) = type_at(table, id)? else {
+        return Ok(None);
+    };
+    let array = array.array();
+    let is_flexible = array.len == 0 && field.is_member && field.is_last;
+    if index >= array.len && !is_flexible {
+        return Ok(None);
+    }
+    let end = resolved(table, array.element_type)?;
+    let element = placed(table, pointer_size, end, field.bit, index)?;
+    Ok(Some(element))
+}
+
+/// The member at an index of the STRUCT or UNION at a place, with the string offset of its name; `None` if there is no
+/// STRUCT or UNION, or no such member.
+pub fn member(
+    table: &Btf,
+    field: &Field,
+    index: u32,
+) -> Result<Option<(Field, u32)>, RelocationError> {
+    let btf_type = type_at(table, resolved(table, field.type_id)?)?;
+    let Some(members) = members(btf_type) else {
+        return Ok(None);
+    };
+    let index = index as usize;
+    let Some(member) = members.get(index) else {
+        return Ok(None);
+    };
+    let is_last = members.len() - index == 1;
+    let found = member_field(btf_type, member, field.bit, is_last)?;
+    Ok(Some((found, member.name_offset)))
+}
+
+/// The members of a STRUCT or UNION; `None` for a type of another kind.
+pub fn members(btf_type: &BtfType) -> Option<&[BtfMember]> {
+    match btf_type {
+        BtfType::Struct(t) => Some(t.members()),
+        BtfType::Union(t) => Some(t.members()),
+        _ => None,
+    }
+}
+
+/// The bit of a STRUCT or UNION at which a member begins, and the number of bits of a bit-field, else 0.
+fn bits_of(btf_type: &BtfType, member: &BtfMember) -> (u32, u32)
+    ensures { result ≡ (
+      member_bit_offset (record_of btf_type.now).info member.now.offset,
+      member_bit_field_size (record_of btf_type.now).info member.now.offset,
+    ) }
+{
+    if btf_type.info() / 0x8000_0000 == 1 {
+        (member.offset % 0x100_0000, member.offset / 0x100_0000)
+    } else {
+        (member.offset, 0)
+    }
+}
+
+/// A member of a STRUCT or UNION that begins at this bit.
+pub fn member_field(
+    btf_type: &BtfType,
+    member: &BtfMember,
+    bit: u32,
+    is_last: bool,
+) -> Result<Field, RelocationError>
+    ensures { result ≡ model.member_field (record_of btf_type.now).info bit is_last
+        (member_of member.now) }
+{
+    let (offset, bits) = bits_of(btf_type, member);
+    let first = moved(bit, u64::from(offset))?;
+    Ok(Field {
+        type_id: member.btf_type,
+        bit: first,
+        bits,
+        is_member: true,
+        is_last,
+    })
+}

@@ -1,0 +1,347 @@
+//! Patches of instructions.
+
+ghost use Rattle.std.specs.Prelude.{◌≡◌, ◌+◌, ◌≤◌, ◌++◌, length, IfOk};
+ghost use Rattle.btf_model.specs.Word.{half_of};
+ghost use Rattle.btf_model.specs.Blob.{slice, word_at};
+ghost use Rattle.btf_relocate_model.specs.Instruction as model;
+ghost use Rattle.btf_relocate_model.specs.Instruction.{patched_code};
+ghost use Rattle.btf_relocate.specs.Patch.{HasPatched};
+
+use arrayvec::ArrayVec;
+use btf_model::Endianness;
+use btf_relocate_model::{Instruction, Patched, RelocationError, Resolved, Slot};
+
+/// The length of a slot in bytes.
+const SLOT_LEN: usize = 8;
+
+/// The opcode of the load of a 64-bit immediate.
+const LD_IMM64: u8 = 0x18;
+
+/// The slot that the kernel refuses if a program can reach it: a call of the helper 0xbad2310.
+const POISON: Slot = Slot {
+    opcode: 0x85,
+    registers: 0,
+    offset: 0,
+    immediate: 195896080,
+};
+
+/// Patches the instruction at an offset of a section's code, in bytes, as a record asks.
+///
+/// The value becomes the immediate of an arithmetic instruction or of a 64-bit load, or the offset of a load or store.
+/// A load or store also gets the size of the target's field if that differs from the local one. Nothing else of the
+/// code changes. The instruction is poisoned, so that the kernel refuses a program that can reach it, if the record
+/// asks for that, or if the size of a load or store would have to change and may not. The source is libbpf's
+/// `bpf_core_patch_insn`.
+///
+/// An error leaves the code unchanged. It is the first of these that applies:
+///
+/// - `Misaligned` for an offset that is no multiple of 8; `NoInstruction` if the instruction, and `NoSecondSlot` if the
+///   second half of a 64-bit load, is outside the code.
+/// - `NotPatchable` for a jump or a call, and `BadLdImm64` for a load of another form than that of a 64-bit immediate.
+/// - `NotImmediate` for an arithmetic instruction whose source is a register.
+/// - `WrongImmediate` if the field must have the expected value, and has another one.
+/// - `ImmediateOverflow` for an arithmetic instruction, if the value is neither the zero-extension nor the
+///   sign-extension of 32 bits. libbpf cuts the value.
+/// - `OffsetTooBig` for a load or store, if the value exceeds 32767.
+/// - `WrongAccessSize` if a load or store has another size than the local field, `BadAccessSize` if the target's field
+///   has none of the sizes 1, 2, 4 and 8; both only if these sizes differ.
+pub fn patch(
+    code: &mut [u8],
+    offset: usize,
+    endianness: Endianness,
+    resolved: &Resolved,
+) -> Result<Patched, RelocationError>
+    ensures { HasPatched code.old code.new (patched_code endianness resolved.now code.old offset)
+        result }
+{
+    let instruction = instruction_at(code, offset, endianness)?;
+    let (patched, instruction) = relocated(endianness, resolved, instruction)?;
+    put_instruction(code, offset, endianness, instruction);
+    Ok(patched)
+}
+
+/// The half-word at a place.
+fn half_at(bytes: &[u8], at: usize, order: Endianness) -> u16
+    requires { at + 2 ≤ length bytes.now }
+    ensures { result ≡ half_of order (slice at 2 bytes.now) }
+{
+    let (_, rest) = bytes.split_at(at);
+    let (half, _) = rest.split_first_chunk::<2>().unwrap();
+    order.read_u16(*half)
+}
+
+/// The word at a place.
+fn word_at(bytes: &[u8], at: usize, order: Endianness) -> u32
+    requires { at + 4 ≤ length bytes.now }
+    ensures { result ≡ word_at order at bytes.now }
+{
+    let (_, rest) = bytes.split_at(at);
+    let (word, _) = rest.split_first_chunk::<4>().unwrap();
+    order.read_u32(*word)
+}
+
+/// The slot at a place.
+fn slot_at(code: &[u8], at: usize, order: Endianness) -> Slot
+    requires { at + SLOT_LEN ≤ length code.now }
+    ensures { result ≡ model.slot_at order code.now at }
+{
+    Slot {
+        opcode: code[at],
+        registers: code[at + 1],
+        offset: half_at(code, at + 2, order),
+        immediate: word_at(code, at + 4, order),
+    }
+}
+
+/// The instruction at a place.
+fn instruction_at(code: &[u8], at: usize, order: Endianness) -> Result<Instruction, RelocationError>
+    ensures value { result ≡ model.instruction_at order code.now at }
+    ensures room { IfOk result (λ i. at + length (model.instruction_bytes order i) ≤ length code.now) }
+{
+    if at % SLOT_LEN != 0 {
+        return Err(RelocationError::Misaligned);
+    }
+    let room = code.len().saturating_sub(at);
+    if room < SLOT_LEN {
+        return Err(RelocationError::NoInstruction);
+    }
+    let slot = slot_at(code, at, order);
+    if slot.opcode != LD_IMM64 {
+        return Ok(Instruction::Narrow(slot));
+    }
+    if room < 2 * SLOT_LEN {
+        return Err(RelocationError::NoSecondSlot);
+    }
+    Ok(Instruction::Wide(slot, slot_at(code, at + SLOT_LEN, order)))
+}
+
+/// The sign-extension of 32 bits to 64.
+fn sign_extended_32(number: u32) -> u64
+    ensures { result ≡ model.sign_extended 32 number }
+{
+    if number < 0x8000_0000 {
+        u64::from(number)
+    } else {
+        u64::from(number) + 0xffff_ffff_0000_0000
+    }
+}
+
+/// The sign-extension of 16 bits to 64.
+fn sign_extended_16(number: u16) -> u64
+    ensures { result ≡ model.sign_extended 16 number }
+{
+    if number < 0x8000 {
+        u64::from(number)
+    } else {
+        u64::from(number) + 0xffff_ffff_ffff_0000
+    }
+}
+
+/// Whether a field must have the expected value, and has another one.
+fn is_unexpected(resolved: &Resolved, field: u64) -> bool
+    ensures { result ≡ model.is_unexpected resolved.now field }
+{
+    resolved.validates && field != resolved.expected
+}
+
+/// Whether the low 32 bits of a value extend to the value.
+fn fits_immediate(value: u64) -> bool
+    ensures { result ≡ model.fits_immediate value }
+{
+    value < 0x1_0000_0000 || sign_extended_32((value % 0x1_0000_0000) as u32) == value
+}
+
+/// The source register of a slot.
+fn source(slot: &Slot, order: Endianness) -> u8
+    ensures { result ≡ model.source order slot.now }
+{
+    match order {
+        Endianness::Little => slot.registers / 16,
+        Endianness::Big => slot.registers % 16,
+    }
+}
+
+/// The number of bytes that a load or store reads or writes.
+fn access_size(slot: &Slot) -> u32
+    ensures { result ≡ model.access_size slot.now }
+{
+    match slot.opcode / 8 % 4 {
+        0 => 4,
+        1 => 2,
+        2 => 1,
+        _ => 8,
+    }
+}
+
+/// The two bits of an opcode for a number of bytes.
+fn size_bits(size: u32) -> Option<u8>
+    ensures { result ≡ model.size_bits size }
+{
+    match size {
+        4 => Some(0),
+        2 => Some(1),
+        1 => Some(2),
+        8 => Some(3),
+        _ => None,
+    }
+}
+
+/// An arithmetic instruction with the value as its immediate.
+fn patched_immediate(resolved: &Resolved, slot: Slot) -> Result<(Patched, Slot), RelocationError>
+    ensures { result ≡ model.patched_immediate resolved.now slot }
+{
+    if slot.opcode / 8 % 2 == 1 {
+        return Err(RelocationError::NotImmediate);
+    }
+    if is_unexpected(resolved, sign_extended_32(slot.immediate)) {
+        return Err(RelocationError::WrongImmediate);
+    }
+    if !fits_immediate(resolved.value) {
+        return Err(RelocationError::ImmediateOverflow);
+    }
+    let immediate = (resolved.value % 0x1_0000_0000) as u32;
+    Ok((Patched::Written, Slot { immediate, ..slot }))
+}
+
+/// A load or store with the value as its offset, and with the size of the target's field.
+fn patched_offset(resolved: &Resolved, slot: Slot) -> Result<(Patched, Slot), RelocationError>
+    ensures { result ≡ model.patched_offset resolved.now slot }
+{
+    if is_unexpected(resolved, sign_extended_16(slot.offset)) {
+        return Err(RelocationError::WrongImmediate);
+    }
+    if resolved.value > 32767 {
+        return Err(RelocationError::OffsetTooBig);
+    }
+    let offset = resolved.value as u16;
+    if resolved.local_size == resolved.target_size {
+        return Ok((Patched::Written, Slot { offset, ..slot }));
+    }
+    if !resolved.is_adjustable {
+        return Ok((Patched::Poisoned, POISON));
+    }
+    if access_size(&slot) != resolved.local_size {
+        return Err(RelocationError::WrongAccessSize);
+    }
+    let Some(bits) = size_bits(resolved.target_size) else {
+        return Err(RelocationError::BadAccessSize);
+    };
+    let opcode = slot.opcode - slot.opcode / 8 % 4 * 8 + bits * 8;
+    Ok((
+        Patched::Written,
+        Slot {
+            opcode,
+            offset,
+            ..slot
+        },
+    ))
+}
+
+/// An instruction of one slot with the value, by the class of its opcode.
+fn patched_slot(resolved: &Resolved, slot: Slot) -> Result<(Patched, Slot), RelocationError>
+    ensures { result ≡ model.patched_slot resolved.now slot }
+{
+    match slot.opcode % 8 {
+        0 => Err(RelocationError::BadLdImm64),
+        1..=3 => patched_offset(resolved, slot),
+        5 | 6 => Err(RelocationError::NotPatchable),
+        _ => patched_immediate(resolved, slot),
+    }
+}
+
+/// Whether two slots load a 64-bit immediate.
+fn is_ld_imm64(order: Endianness, first: &Slot, second: &Slot) -> bool
+    ensures { result ≡ model.is_ld_imm64 order first.now second.now }
+{
+    source(first, order) == 0
+        && first.offset == 0
+        && second.opcode == 0
+        && second.registers == 0
+        && second.offset == 0
+}
+
+/// The load of a 64-bit immediate with the value.
+fn patched_wide(
+    order: Endianness,
+    resolved: &Resolved,
+    first: Slot,
+    second: Slot,
+) -> Result<(Patched, Instruction), RelocationError>
+    ensures { result ≡ model.patched_wide order resolved.now first second }
+{
+    if !is_ld_imm64(order, &first, &second) {
+        return Err(RelocationError::BadLdImm64);
+    }
+    let field = u64::from(first.immediate) + u64::from(second.immediate) * 0x1_0000_0000;
+    if is_unexpected(resolved, field) {
+        return Err(RelocationError::WrongImmediate);
+    }
+    let low = (resolved.value % 0x1_0000_0000) as u32;
+    let high = (resolved.value / 0x1_0000_0000) as u32;
+    Ok((
+        Patched::Written,
+        Instruction::Wide(
+            Slot {
+                immediate: low,
+                ..first
+            },
+            Slot {
+                immediate: high,
+                ..second
+            },
+        ),
+    ))
+}
+
+/// What a relocation makes of an instruction.
+fn relocated(
+    order: Endianness,
+    resolved: &Resolved,
+    instruction: Instruction,
+) -> Result<(Patched, Instruction), RelocationError>
+    ensures value { result ≡ model.relocated order resolved.now instruction }
+    // An instruction keeps its number of slots.
+    ensures length { IfOk result (λ p. length (model.instruction_bytes order p.1)
+        ≡ length (model.instruction_bytes order instruction)) }
+{
+    match instruction {
+        Instruction::Narrow(_) if resolved.is_poisoned => {
+            Ok((Patched::Poisoned, Instruction::Narrow(POISON)))
+        }
+        Instruction::Wide(_, _) if resolved.is_poisoned => {
+            Ok((Patched::Poisoned, Instruction::Wide(POISON, POISON)))
+        }
+        Instruction::Narrow(slot) => {
+            let (patched, slot) = patched_slot(resolved, slot)?;
+            Ok((patched, Instruction::Narrow(slot)))
+        }
+        Instruction::Wide(first, second) => patched_wide(order, resolved, first, second),
+    }
+}
+
+/// Adds the bytes of a slot.
+fn add_slot(bytes: &mut ArrayVec<u8, 16>, slot: &Slot, order: Endianness)
+    requires { length bytes.old.items ≤ SLOT_LEN }
+    ensures { bytes.new.items ≡ bytes.old.items ++ model.slot_bytes order slot.now }
+{
+    // There is room for two slots.
+    let _ = bytes.try_extend_from_slice(&[slot.opcode, slot.registers]);
+    let _ = bytes.try_extend_from_slice(&order.write_u16(slot.offset));
+    let _ = bytes.try_extend_from_slice(&order.write_u32(slot.immediate));
+}
+
+/// Overwrites the bytes at a place with those of an instruction.
+fn put_instruction(code: &mut [u8], at: usize, order: Endianness, instruction: Instruction)
+    requires { at + length (model.instruction_bytes order instruction) ≤ length code.old }
+    ensures { code.new ≡ model.overwritten at (model.instruction_bytes order instruction) code.old }
+{
+    let mut bytes = ArrayVec::new();
+    match instruction {
+        Instruction::Narrow(slot) => add_slot(&mut bytes, &slot, order),
+        Instruction::Wide(first, second) => {
+            add_slot(&mut bytes, &first, order);
+            add_slot(&mut bytes, &second, order);
+        }
+    }
+    code[at..at + bytes.len()].copy_from_slice(&bytes);
+}

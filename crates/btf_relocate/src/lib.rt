@@ -1,0 +1,30 @@
+//! CO-RE relocations: the values that a program compiled against one table gets for another table, and the patches of
+//! its instructions.
+#![tactic(auto)]
+
+mod access;
+mod compatible;
+mod enumerator;
+mod field;
+mod instruction;
+mod lookup;
+mod matching;
+mod name;
+mod path;
+mod resolving;
+mod search;
+mod section;
+mod size;
+mod target;
+mod types;
+mod value;
+
+pub use access::Access;
+pub use btf_relocate_model::{
+    Field, Instruction, Patched, RelocationError, RelocationKind, Resolved, Slot,
+};
+pub use instruction::patch;
+pub use name::essential_name;
+pub use resolving::resolve;
+pub use section::{CandidatePolicy, Outcome, candidates_of, relocate_section};
+pub use target::Target;

@@ -1,0 +1,31 @@
+//! Essential names.
+
+ghost use Rattle.std.specs.Prelude.{◌≡◌};
+ghost use Rattle.btf_relocate_model.specs.Name.{essential, separates};
+
+/// The part of a type's or an enumerator's name that counts when the target is searched: the name without its last
+/// flavor. A flavor begins with three underscores between two bytes that are no underscores. So the essential name of
+/// `task_struct___v2` is `task_struct`, that of `a___b___c` is `a___b`, and `a____b` has no flavor.
+///
+/// The source is libbpf's `bpf_core_essential_name_len`. `aya-obj`, and `fields_are_compatible` of this library, cut a
+/// name at its first three underscores.
+pub fn essential_name(name: &[u8]) -> &[u8]
+    ensures { result.now ≡ essential name.now }
+{
+    for last in (0..name.len()).rev() {
+        if separates(&name[last..]) {
+            return &name[..last + 1];
+        }
+    }
+    name
+}
+
+/// Whether a flavor begins after the first byte.
+fn separates(name: &[u8]) -> bool
+    ensures { result ≡ separates name.now }
+{
+    match name {
+        [before, b'_', b'_', b'_', after, ..] => *before != b'_' && *after != b'_',
+        _ => false,
+    }
+}

@@ -1,0 +1,183 @@
+-- What a patch changes.
+use Rattle.std.proofs.Common.{◌≡◌, ◌≢◌, ℕ, ◌+◌, ◌-◌, ◌*◌, ◌/◌, ◌%◌, ◌^◌, ◌<◌, ◌≤◌, Bool, true, false, List, Option, Some, None, Result, Ok, Err, refl, sym, ap, subst, ◌∙◌, arith, inl, inr}
+use Rattle.std.specs.Prelude.{◌⊎◌, ◌==◌, not, nat_lt, nat_le, ◌||◌, if◌then◌else◌}
+use Rattle.std.proofs.lemmas.Bool.Decides.{nat_tests}
+use Rattle.btf_model.specs.declared.endianness.Endianness.{Endianness}
+use Rattle.btf_relocate_model.specs.Instruction.{patched_immediate, patched_offset, patched_slot, patched_wide, patched, relocated, narrow, poison, poisoned, is_unexpected, access_size, is_ld_imm64, wide_immediate, sign_extended, size_bits, with_size, fits_immediate}
+use Rattle.btf_relocate_model.specs.Laws.{SlotHas, SlotKeeps, HasValue, Keeps, WrittenReadsBack, WrittenKeepsTheRest}
+use Rattle.btf_relocate_model.specs.declared.error.RelocationError.{RelocationError}
+use Rattle.btf_relocate_model.specs.declared.error.RelocationError.TheVariants.{WrongImmediate, OffsetTooBig, WrongAccessSize, BadLdImm64, NotPatchable}
+use Rattle.btf_relocate_model.specs.declared.instruction.Instruction.{Instruction}
+use Rattle.btf_relocate_model.specs.declared.instruction.Instruction.TheVariants.{Narrow, Wide}
+use Rattle.btf_relocate_model.specs.declared.instruction.Slot.{Slot}
+use Rattle.btf_relocate_model.specs.declared.instruction.Patched.{Patched}
+use Rattle.btf_relocate_model.specs.declared.instruction.Patched.TheVariants.{Written, Poisoned}
+use Rattle.btf_relocate_model.specs.declared.resolved.Resolved.{Resolved}
+
+-- two results of a choice are one
+same_ok : {A : Type 0} (x z : A) → ◌≡◌ {A = Result A RelocationError} (Ok x) (Ok z) → x ≡ z
+same_ok x z is = cc
+
+-- the sizes of a load or store
+bits_small : (size bits : ℕ) → size_bits size ≡ Some bits → bits ≤ 3
+bits_small size bits is = grind (arith, nat_tests)
+
+-- the outcomes of a load or store that is not refused
+outcome : (unexpected big same fixed wrong : Bool) (e f g : RelocationError) (x p z : Patched × Slot) (w : Result (Patched × Slot) RelocationError)
+    → (if unexpected then Err e else (if big then Err f else (if same then Ok x else (if fixed then Ok p else (if wrong then Err g else w))))) ≡ Ok z → (x ≡ z) ⊎ ((p ≡ z) ⊎ (w ≡ Ok z))
+outcome true big same fixed wrong e f g x p z w is = absurd (cc)
+outcome false true same fixed wrong e f g x p z w is = absurd (cc)
+outcome false false true fixed wrong e f g x p z w is = inl (same_ok x z is)
+outcome false false false true wrong e f g x p z w is = inr (inl (same_ok p z is))
+outcome false false false false true e f g x p z w is = absurd (cc)
+outcome false false false false false e f g x p z w is = inr (inr is)
+
+is_written : Patched → Type 0
+is_written Written = Unit {0}
+is_written Poisoned = ⊥
+
+-- a poisoned instruction is not a written one
+no_poison : (s u : Slot) → ◌≡◌ {A = Patched × Slot} (Poisoned, s) (Written, u) → ⊥
+unfolding is_written
+no_poison s u is = subst is_written (sym (ap (λ (q : Patched × Slot). q.0) is)) tt
+
+-- what a size makes of a load or store
+resized : (r : Resolved) (s u : Slot) (o : Option ℕ) → ((bits : ℕ) → o ≡ Some bits → bits ≤ 3) → with_size r s o ≡ Ok (Written, u)
+    → (u ≡ record s { offset = r.value }) ⊎ ((bits : ℕ) × (bits ≤ 3) × (u ≡ record s { opcode = s.opcode - s.opcode / 8 % 4 * 8 + bits * 8; offset = r.value }))
+resized r s u None small is = absurd (cc)
+resized r s u (Some bits) small is = inr (bits, small bits refl, sym (ap (λ (p : Patched × Slot). p.1) (same_ok _ _ is)))
+
+-- what is written into a load or store: the offset, with the old opcode or with other size bits
+pub offset_result : (r : Resolved) (s u : Slot) → patched_offset r s ≡ Ok (Written, u)
+    → (u ≡ record s { offset = r.value }) ⊎ ((bits : ℕ) × (bits ≤ 3) × (u ≡ record s { opcode = s.opcode - s.opcode / 8 % 4 * 8 + bits * 8; offset = r.value }))
+offset_result r s u is =
+    let z : Patched × Slot = (Written, u) in
+    let x : Patched × Slot = (Written, record s { offset = r.value }) in
+    let p : Patched × Slot = (Poisoned, poison) in
+    let cases : (x ≡ z) ⊎ ((p ≡ z) ⊎ (with_size r s (size_bits r.target_size) ≡ Ok z)) = outcome (is_unexpected r (sign_extended 16 s.offset)) (nat_lt 32767 r.value) (r.local_size == r.target_size) (not r.is_adjustable) (not (access_size s == r.local_size)) WrongImmediate OffsetTooBig WrongAccessSize x p z (with_size r s (size_bits r.target_size)) is in
+    elim cases [
+      | inl same ↦ inl (sym (ap (λ (q : Patched × Slot). q.1) same))
+      | inr (inl other) ↦ absurd (no_poison poison u other)
+      | inr (inr other) ↦ resized r s u (size_bits r.target_size) (bits_small r.target_size) other
+    ]
+
+pub offset_written : (r : Resolved) (s u : Slot) → patched_offset r s ≡ Ok (Written, u) → u.offset ≡ r.value
+offset_written r s u is =
+    elim (offset_result r s u is) [ inl same ↦ ap (λ (t : Slot). t.offset) same | inr other ↦ ap (λ (t : Slot). t.offset) other.2 ]
+
+pub immediate_written : (r : Resolved) (s u : Slot) → patched_immediate r s ≡ Ok (Written, u) → (u.immediate ≡ r.value) ⊎ (sign_extended 32 u.immediate ≡ r.value)
+immediate_written r s u is = grind (arith, nat_tests)
+
+pub immediate_keeps : (r : Resolved) (s u : Slot) → patched_immediate r s ≡ Ok (Written, u) → SlotKeeps s u
+immediate_keeps r s u is = grind (arith, nat_tests)
+
+-- other size bits leave the class and the mode
+class_stays : (n bits : ℕ) → bits ≤ 3 → (n - n / 8 % 4 * 8 + bits * 8) % 8 ≡ n % 8
+class_stays n bits small = omega arith
+
+mode_stays : (n bits : ℕ) → bits ≤ 3 → (n - n / 8 % 4 * 8 + bits * 8) / 32 ≡ n / 32
+mode_stays n bits small = omega arith
+
+pub offset_keeps : (r : Resolved) (s u : Slot) → patched_offset r s ≡ Ok (Written, u) → SlotKeeps s u
+offset_keeps r s u is =
+    elim (offset_result r s u is) [
+      | inl same ↦ record {
+        registers = ap (λ (t : Slot). t.registers) same;
+        class = ap (λ (t : Slot). t.opcode % 8) same;
+        mode = ap (λ (t : Slot). t.opcode / 32) same;
+        others = inl (ap (λ (t : Slot). t.immediate) same);
+      }
+      | inr other ↦ record {
+        registers = ap (λ (t : Slot). t.registers) other.2;
+        class = ap (λ (t : Slot). t.opcode % 8) other.2 ∙ class_stays s.opcode other.0 other.1;
+        mode = ap (λ (t : Slot). t.opcode / 32) other.2 ∙ mode_stays s.opcode other.0 other.1;
+        others = inl (ap (λ (t : Slot). t.immediate) other.2);
+      }
+    ]
+
+-- ---- one slot
+
+-- the outcomes of a slot by its class
+by_class : (other memory jump : Bool) (e f : RelocationError) (m a : Result (Patched × Slot) RelocationError) (z : Patched × Slot)
+    → (if other then Err e else (if memory then m else (if jump then Err f else a))) ≡ Ok z → ((memory ≡ true) × (m ≡ Ok z)) ⊎ ((memory ≡ false) × (a ≡ Ok z))
+by_class true memory jump e f m a z is = absurd (cc)
+by_class false true jump e f m a z is = inl (refl, is)
+by_class false false true e f m a z is = absurd (cc)
+by_class false false false e f m a z is = inr (refl, is)
+
+-- the class of a slot that was patched, and by which rule
+slot_class : (r : Resolved) (s : Slot) (z : Patched × Slot) → patched_slot r s ≡ Ok z
+    → ((nat_le (s.opcode % 8) 3 ≡ true) × (patched_offset r s ≡ Ok z)) ⊎ ((nat_le (s.opcode % 8) 3 ≡ false) × (patched_immediate r s ≡ Ok z))
+slot_class r s z is =
+    by_class (s.opcode % 8 == 0) (nat_le (s.opcode % 8) 3) ((s.opcode % 8 == 5) || (s.opcode % 8 == 6)) BadLdImm64 NotPatchable (patched_offset r s) (patched_immediate r s) z is
+
+pub slot_keeps : (r : Resolved) (s u : Slot) → patched_slot r s ≡ Ok (Written, u) → SlotKeeps s u
+slot_keeps r s u is =
+    elim (slot_class r s (Written, u) is) [ inl memory ↦ offset_keeps r s u memory.1 | inr arithmetic ↦ immediate_keeps r s u arithmetic.1 ]
+
+pub slot_written : (r : Resolved) (s u : Slot) → patched_slot r s ≡ Ok (Written, u) → SlotHas r.value u
+slot_written r s u is =
+    let keeps : SlotKeeps s u = slot_keeps r s u is in
+    elim (slot_class r s (Written, u) is) [
+      | inl memory ↦ inl (let low : s.opcode % 8 ≤ 3 = grind (arith, nat_tests) in omega (arith, keeps.class), offset_written r s u memory.1)
+      | inr arithmetic ↦ inr (let high : 3 < s.opcode % 8 = grind (arith, nat_tests) in omega (arith, keeps.class), immediate_written r s u arithmetic.1)
+    ]
+
+-- ---- instructions
+
+-- an outcome of a slot, as that of an instruction
+narrowed : (o : Result (Patched × Slot) RelocationError) (p : Patched) (j : Instruction) → narrow o ≡ Ok (p, j) → (u : Slot) × (o ≡ Ok (p, u)) × (j ≡ Narrow u)
+narrowed (Err e) p j is = absurd (cc)
+narrowed (Ok q) p j is =
+    let same : ◌≡◌ {A = Patched × Instruction} (q.0, Narrow q.1) (p, j) = same_instruction (q.0, Narrow q.1) (p, j) is in
+    (q.1, ap (λ (x : Patched). Ok (x, q.1)) (ap (λ (x : Patched × Instruction). x.0) same), sym (ap (λ (x : Patched × Instruction). x.1) same))
+  where
+    same_instruction : (x z : Patched × Instruction) → ◌≡◌ {A = Result (Patched × Instruction) RelocationError} (Ok x) (Ok z) → x ≡ z
+    same_instruction x z is = cc
+
+-- what the load of a 64-bit immediate becomes, if it is not refused
+wide_outcome : (bad unexpected : Bool) (e f : RelocationError) (x z : Patched × Instruction) → (if bad then Err e else (if unexpected then Err f else Ok x)) ≡ Ok z → x ≡ z
+wide_outcome true unexpected e f x z is = absurd (cc)
+wide_outcome false true e f x z is = absurd (cc)
+wide_outcome false false e f x z is = cc
+
+wide_result : (order : Endianness) (r : Resolved) (s t : Slot) (z : Patched × Instruction) → patched_wide order r s t ≡ Ok z
+    → ◌≡◌ {A = Patched × Instruction} (Written, Wide (record s { immediate = r.value % 2 ^ 32 }) (record t { immediate = r.value / 2 ^ 32 })) z
+wide_result order r s t z is =
+    wide_outcome (not (is_ld_imm64 order s t)) (is_unexpected r (wide_immediate s t)) BadLdImm64 WrongImmediate (Written, Wide (record s { immediate = r.value % 2 ^ 32 }) (record t { immediate = r.value / 2 ^ 32 })) z is
+
+-- a written instruction is not a poisoned one
+not_written : (i j : Instruction) → ◌≡◌ {A = Patched × Instruction} (Poisoned, i) (Written, j) → ⊥
+unfolding is_written
+not_written i j is = subst is_written (sym (ap (λ (q : Patched × Instruction). q.0) is)) tt
+
+-- an instruction that was written was patched
+is_patched : (asked : Bool) (i j : Instruction) (o : Result (Patched × Instruction) RelocationError) → (if asked then Ok (Poisoned, i) else o) ≡ Ok (Written, j) → o ≡ Ok (Written, j)
+is_patched true i j o is = absurd (not_written i j cc)
+is_patched false i j o is = is
+
+halves : (n : ℕ) → n % 2 ^ 32 + n / 2 ^ 32 * 2 ^ 32 ≡ n
+halves n = omega arith
+
+patched_has : (order : Endianness) (r : Resolved) (i j : Instruction) → patched order r i ≡ Ok (Written, j) → HasValue r.value j
+patched_has order r (Narrow s) j is =
+    let one = narrowed (patched_slot r s) Written j is in
+    subst (HasValue r.value) (sym one.2) (slot_written r s one.0 one.1)
+patched_has order r (Wide s t) j is =
+    subst (HasValue r.value) (ap (λ (q : Patched × Instruction). q.1) (wide_result order r s t (Written, j) is)) (halves r.value)
+
+patched_keeps : (order : Endianness) (r : Resolved) (i j : Instruction) → patched order r i ≡ Ok (Written, j) → Keeps i j
+patched_keeps order r (Narrow s) j is =
+    let one = narrowed (patched_slot r s) Written j is in
+    subst (Keeps (Narrow s)) (sym one.2) (slot_keeps r s one.0 one.1)
+patched_keeps order r (Wide s t) j is =
+    subst (Keeps (Wide s t)) (ap (λ (q : Patched × Instruction). q.1) (wide_result order r s t (Written, j) is)) (
+      record { registers = refl; class = refl; mode = refl; others = inr refl },
+      record { registers = refl; class = refl; mode = refl; others = inr refl },
+    )
+
+pub reads_back : WrittenReadsBack
+reads_back order r i j is = patched_has order r i j (is_patched r.is_poisoned (poisoned i) j (patched order r i) is)
+
+pub keeps_the_rest : WrittenKeepsTheRest
+keeps_the_rest order r i j is = patched_keeps order r i j (is_patched r.is_poisoned (poisoned i) j (patched order r i) is)

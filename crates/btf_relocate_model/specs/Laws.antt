@@ -1,0 +1,45 @@
+-- The laws of the definitions. Each is the contract of a public function of this crate.
+use Rattle.std.specs.Prelude.{◌≡◌, ◌≢◌, ◌⊎◌, ℕ, ◌*◌, ◌/◌, ◌%◌, ◌^◌, ◌<◌, ◌≤◌, ◌==◌, nat_le, if◌then◌else◌, Bool, true, false, List, length, Ok}
+use Rattle.btf_model.specs.declared.endianness.Endianness.{Endianness}
+use Rattle.btf_relocate_model.specs.Instruction.{relocated, patched_code, poison, poisoned, sign_extended, wide_immediate}
+use Rattle.btf_relocate_model.specs.declared.instruction.Slot.{Slot}
+use Rattle.btf_relocate_model.specs.declared.instruction.Instruction.{Instruction}
+use Rattle.btf_relocate_model.specs.declared.instruction.Instruction.TheVariants.{Narrow, Wide}
+use Rattle.btf_relocate_model.specs.declared.instruction.Patched.TheVariants.{Written, Poisoned}
+use Rattle.btf_relocate_model.specs.declared.resolved.Resolved.{Resolved}
+
+-- The field of a slot reads as a value: the offset of a load or store, the immediate of another instruction, which is
+-- zero- or sign-extended.
+abbrev pub SlotHas : ℕ → Slot → Type 0
+SlotHas value s =
+    ((s.opcode % 8 ≤ 3) × (s.offset ≡ value))
+    ⊎ ((3 < s.opcode % 8) × ((s.immediate ≡ value) ⊎ (sign_extended 32 s.immediate ≡ value)))
+
+-- the field of an instruction reads as a value
+abbrev pub HasValue : ℕ → Instruction → Type 0
+HasValue value (Narrow s) = SlotHas value s
+HasValue value (Wide s t) = wide_immediate s t ≡ value
+
+-- A value that was written is read back.
+abbrev pub WrittenReadsBack : Type 0
+WrittenReadsBack =
+    (order : Endianness) (r : Resolved) (i j : Instruction)
+    → relocated order r i ≡ Ok (Written, j) → HasValue r.value j
+
+-- Nothing but the field of a slot, and the size of a load or store, has changed.
+pub record SlotKeeps (s u : Slot) : Type 0 where
+  pub registers : u.registers ≡ s.registers
+  pub class : u.opcode % 8 ≡ s.opcode % 8
+  pub mode : u.opcode / 32 ≡ s.opcode / 32
+  pub others : ((u.immediate ≡ s.immediate) ⊎ (u.offset ≡ s.offset))
+
+-- Nothing but the fields of an instruction has changed.
+abbrev pub Keeps : Instruction → Instruction → Type 0
+Keeps (Narrow s) (Narrow u) = SlotKeeps s u
+Keeps (Wide s t) (Wide u v) = SlotKeeps s u × SlotKeeps t v
+Keeps i j = ⊥
+
+-- A written instruction is the old one but for its field, and the size of a load or store.
+abbrev pub WrittenKeepsTheRest : Type 0
+WrittenKeepsTheRest =
+    (order : Endianness) (r : Resolved) (i j : Instruction) → relocated order r i ≡ Ok (Written, j) → Keeps i j

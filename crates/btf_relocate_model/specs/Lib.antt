@@ -1,0 +1,12 @@
+pub mod Kind
+pub mod Name
+pub mod Access
+pub mod Instruction
+pub mod Types
+pub mod Candidates
+pub mod Field
+pub mod Compatible
+pub mod Enumerator
+pub mod Value
+pub mod Laws
+pub mod Examples
