@@ -95,7 +95,7 @@ fn write_words<W: Write>(out: &mut W, btf_type: &BtfType) -> fmt::Result {
             out.write_str(encoding_text(t.is_signed()))?;
             write_size(out, t.size(), t.variants().len())
         }
-        BtfType::Fwd(t) => out.write_str(forward_text(t.info())),
+        BtfType::Fwd(t) => out.write_str(forward_text(t.is_union())),
         BtfType::Func(t) => {
             let (target, linkage) = (t.btf_type(), func_linkage_text(&t.linkage()));
             write!(out, " type_id={target} linkage={linkage}")
@@ -167,9 +167,9 @@ fn encoding_text(signed: bool) -> &'static str {
     }
 }
 
-/// The kind of type that a forward declaration declares: bit 31 of its info word is set for a union.
-fn forward_text(info: u32) -> &'static str {
-    if info >> 31 == 1 {
+/// The kind of type that a forward declaration declares.
+fn forward_text(is_union: bool) -> &'static str {
+    if is_union {
         " fwd_kind=union"
     } else {
         " fwd_kind=struct"

@@ -85,7 +85,7 @@ pub fn keyword(btf_type: &BtfType) -> &'static str {
         BtfType::Struct(_) => "struct",
         BtfType::Union(_) => "union",
         BtfType::Enum(_) | BtfType::Enum64(_) => "enum",
-        BtfType::Fwd(t) if t.info() >> 31 == 1 => "union",
+        BtfType::Fwd(t) if t.is_union() => "union",
         BtfType::Fwd(_) => "struct",
         _ => "",
     }
