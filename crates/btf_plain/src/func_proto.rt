@@ -79,8 +79,8 @@ impl Record<FuncProtoKind> {
     }
 }
 
-/// The prototype as an unsigned ENUM of 4 bytes: each parameter becomes a variant with the parameter's name, whose
-/// value is the parameter's type. A few are converted without an allocation.
+/// The prototype as an unsigned ENUM of 4 bytes: each parameter becomes a variant with the parameter's name, whose value
+/// is the parameter's type. A few are converted without an allocation.
 pub fn as_enum(proto: &FuncProto) -> Result<Enum, BtfError>
     ensures { IsOrNoMemory (λ r. r) result (Ok (record {
       name = proto.now.name;

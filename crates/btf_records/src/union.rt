@@ -131,8 +131,8 @@ impl Union {
         }
     }
 
-    /// Reads the union with this head, whose members are at the front of bytes. Fails with `InvalidTypeInfo` if the
-    /// bytes are too few.
+    /// Reads the union with this head, whose members are at the front of bytes. Fails with `InvalidTypeInfo` if the bytes
+    /// are too few.
     pub(crate) fn read(
         alloc: Global,
         head: Head,
