@@ -1,40 +1,34 @@
 -- The externs of `.kconfig`, and their layout.
-use Rattle.std.proofs.Common.{◌≡◌, ◌≢◌, ℕ, zero, suc, ◌+◌, ◌*◌, ◌<◌, ◌≤◌, ◌^◌, Bool, true, false, List, [], ◌∷◌, ◌++◌, length, get_or, set, take, drop, filter, map, cond, Option, None, Some, Result, Ok, Err, refl, sym, ap, subst, ◌∙◌, inl, inr, ⊎_elim, arith, is_lt}
+use Rattle.std.proofs.Common.{◌≡◌, ℕ, zero, suc, ◌+◌, ◌*◌, ◌<◌, ◌≤◌, ◌^◌, Bool, List, [], ◌∷◌, ◌++◌, length, get_or, take, map, Option, None, Some, refl, sym, ap, subst, ◌∙◌, ⊎_elim, arith, is_lt}
 use Rattle.std.specs.Prelude.{slice_get, IfSome, IfNone, Vec}
 use Rattle.std.specs.List.{AllByRecursion, flat_map}
 use Rattle.std.specs.List.Sorted.{ties, IsSorted, IsSortedBy, IsStable, IsStableBy}
 use Rattle.std.specs.Option.{option_map, unwrap_or}
 use Rattle.std.proofs.lemmas.Bool.{cases_lt}
-use Rattle.std.proofs.lemmas.Bool.Decides.{nat_tests}
-use Rattle.std.proofs.lemmas.List.{map-append, length-append, length-map, get_or-map, take_more, take_all, set-get_or, get_or-set_other}
-use Rattle.std.proofs.lemmas.Option.{same_Some, none-some, slice_get_within, slice_get-get_or, get_or_from_slice_get, unwrap_or-slice_get, slice_get-map}
+use Rattle.std.proofs.lemmas.List.{map-append, length-append, length-map, get_or-map, take_more, take_all}
+use Rattle.std.proofs.lemmas.Option.{same_Some, none-some, slice_get-get_or, slice_get-map}
 use Rattle.btf_model.specs.Record as kinds
 use Rattle.btf_model.specs.Record.{Kind, Record, unknown, kind_of, vlen}
-use Rattle.btf_model.specs.Refusal.{Refusal}
-use Rattle.btf_model.specs.Table.{Table, Fallback}
-use Rattle.btf_model.specs.Text.{FindsName}
-use Rattle.btf_rewrite_model.specs.Made.{Entry, entries, record_at, kind_at, data_sec}
+use Rattle.btf_model.specs.Table.{Table}
+use Rattle.btf_rewrite_model.specs.Made.{Entry, entries, record_at, kind_at}
 use Rattle.btf_rewrite_model.specs.Made as made
-use Rattle.btf_rewrite_model.proofs.Granted.{kind_made, vlen_small}
 use Rattle.btf_items.specs.Items.{entry_words}
 use Rattle.btf_items.specs.declared.items.DataSecEntry.{DataSecEntry}
-use Rattle.btf_table.specs.Btf.{HasShapeOf}
 use Rattle.btf_table.specs.KsymsStep.{entry}
-use Rattle.btf_table.proofs.KsymsEntries.{at, zero_entry, entries_of_words}
-use Rattle.btf_object_model.specs.Finalized.{kconfig_name, is_data_sec}
+use Rattle.btf_table.proofs.KsymsEntries.{at, zero_entry}
 use Rattle.btf_object_model.specs.Kconfig as model
-use Rattle.btf_object_model.specs.Kconfig.{FindsValue, FindsExternBy, FindsExtern, FindsExterns, extern_name, extern_cmp, total, laid_out, with_record, with_globals, with_externs, made_global, IsLaidOut, ConfiguresIf, ConfiguresAt, IsConfigured}
-use Rattle.btf_object.specs.Kconfig.{value_of, extern_of, is_var, IsVariable, IsDataSec, HasExterns, IsSection, StaysAsItIs, MakesGlobal, HasDataSecOf, PutsSection}
+use Rattle.btf_object_model.specs.Kconfig.{FindsValue, FindsExternBy, FindsExtern, FindsExterns, extern_name, extern_cmp, total, laid_out}
+use Rattle.btf_object.specs.Kconfig.{extern_of, IsVariable, HasExterns, IsSection}
 use Rattle.btf_object.specs.declared.finalize.kconfig.Extern.{Extern}
-use Rattle.btf_object.proofs.FinalSections.{all_entries, entries_up_to, entries_len}
+use Rattle.btf_object.proofs.FinalSections.{all_entries, entries_up_to, entries_len, filter-map, entry_words_same}
 
 -- ---- types of a kind
 
-variable_at : (t : Table) (id : ℕ) (r : Record) → slice_get t.records id ≡ Some r → record_at t id ≡ r
-variable_at t id r here = ap (λ (o : Option Record). unwrap_or o unknown) here
+pub at_id : (t : Table) (id : ℕ) (r : Record) → slice_get t.records id ≡ Some r → record_at t id ≡ r
+at_id t id r here = ap (λ (o : Option Record). unwrap_or o unknown) here
 
-kind_here : (t : Table) (id : ℕ) (r : Record) (k : Kind) → slice_get t.records id ≡ Some r → kind_of r.info ≡ Some k → kind_at t id ≡ Some k
-kind_here t id r k here kind = ap (λ (x : Record). kind_of x.info) (variable_at t id r here) ∙ kind
+pub kind_at_id : (t : Table) (id : ℕ) (r : Record) (k : Kind) → slice_get t.records id ≡ Some r → kind_of r.info ≡ Some k → kind_at t id ≡ Some k
+kind_at_id t id r k here kind = ap (λ (x : Record). kind_of x.info) (at_id t id r here) ∙ kind
 
 -- ---- the extern of an entry
 
@@ -42,8 +36,8 @@ kind_here t id r k here kind = ap (λ (x : Record). kind_of x.info) (variable_at
 pub value_unknown : (t : Table) (e : Entry) (r : Record) (type : ℕ) (value : Option model.Value) → IsVariable t e.type r → type ≡ r.third → FindsValue t type value → value ≡ None → FindsExtern t e None
 value_unknown t e r type value is type_is found none =
     let finds : FindsValue t r.third value = subst (λ (n : ℕ). FindsValue t n value) type_is found in
-    subst (λ (k : Option Kind). FindsExternBy t k (record_at t e.type) e None) (sym (kind_here t e.type r kinds.Var is.here is.kind))
-    (subst (λ (x : Record). FindsExternBy t (Some kinds.Var) x e None) (sym (variable_at t e.type r is.here)) (value, finds, sym (ap (λ (v : Option model.Value). model.extern_of e v (extern_name t.strings r.name)) none)))
+    subst (λ (k : Option Kind). FindsExternBy t k (record_at t e.type) e None) (sym (kind_at_id t e.type r kinds.Var is.here is.kind))
+    (subst (λ (x : Record). FindsExternBy t (Some kinds.Var) x e None) (sym (at_id t e.type r is.here)) (value, finds, sym (ap (λ (v : Option model.Value). model.extern_of e v (extern_name t.strings r.name)) none)))
 
 -- the entry of an extern
 entry_made : (e : Entry) (value : Option model.Value) (name : Option (List ℕ)) (x : model.Extern) → Some x ≡ model.extern_of e value name → x.entry ≡ e
@@ -173,14 +167,6 @@ at_least n m not = ⊎_elim (λ (lt : n < m). absurd (not lt)) (λ (le : m ≤ n
 
 -- ---- the order
 
-filter-map : {X Y : Type 0} (p : Y → Bool) (f : X → Y) (xs : List X) → filter p (map f xs) ≡ map f (filter (λ x. p (f x)) xs)
-filter-map p f [] = refl
-filter-map {X} p f (x ∷ xs) =
-    elim (p (f x)) as (λ (b : Bool). cond b (f x ∷ filter p (map f xs)) (filter p (map f xs)) ≡ map f (cond b (x ∷ filter (λ x. p (f x)) xs) (filter (λ x. p (f x)) xs))) [
-      | true ↦ ap (λ ys. f x ∷ ys) (filter-map p f xs)
-      | false ↦ filter-map p f xs
-    ]
-
 -- the test of the order, by the externs of the definitions
 abbrev pub is_below : Extern → Extern → Bool
 is_below x y = is_lt (extern_cmp (extern_of x) (extern_of y))
@@ -221,10 +207,6 @@ are_sorted (s ∷ xs) sorted len rising stable = sorted_some s (s ∷ xs) sorted
 laid_out-len : (from : ℕ) (xs : List model.Extern) → length (laid_out from xs) ≡ length xs
 laid_out-len from [] = refl
 laid_out-len from (x ∷ xs) = let rest : length (laid_out (from + x.value.size) xs) ≡ length xs = laid_out-len (from + x.value.size) xs in omega (arith, rest)
-
-entry_words_same : (es : List DataSecEntry) → flat_map entry_words es ≡ flat_map made.entry_words (map entry es)
-entry_words_same [] = refl
-entry_words_same (e ∷ es) = ap (λ (ws : List ℕ). entry_words e ++ ws) (entry_words_same es)
 
 pub has_externs : (t : Table) (r : Record) (xs sorted : List Extern) → FindsExterns t (entries r.tail) (Some (map extern_of xs)) → length sorted ≡ length xs → IsSortedBy is_below sorted → IsStableBy is_below xs sorted → HasExterns t r (map extern_of sorted)
 has_externs t r xs sorted known len rising stable =

@@ -149,7 +149,7 @@ entries_len (e ∷ es) = let rest : length (flat_map entry_words es) ≡ 3 * len
 
 -- ---- sorted entries
 
-filter-map : {X Y : Type 0} (p : Y → Bool) (f : X → Y) (xs : List X) → filter p (map f xs) ≡ map f (filter (λ x. p (f x)) xs)
+pub filter-map : {X Y : Type 0} (p : Y → Bool) (f : X → Y) (xs : List X) → filter p (map f xs) ≡ map f (filter (λ x. p (f x)) xs)
 filter-map p f [] = refl
 filter-map {X} p f (x ∷ xs) =
     elim (p (f x)) as (λ (b : Bool). cond b (f x ∷ filter p (map f xs)) (filter p (map f xs)) ≡ map f (cond b (x ∷ filter (λ x. p (f x)) xs) (filter (λ x. p (f x)) xs))) [
@@ -157,7 +157,7 @@ filter-map {X} p f (x ∷ xs) =
       | false ↦ filter-map p f xs
     ]
 
-entry_words_same : (es : List DataSecEntry) → flat_map entry_words es ≡ flat_map made.entry_words (map entry es)
+pub entry_words_same : (es : List DataSecEntry) → flat_map entry_words es ≡ flat_map made.entry_words (map entry es)
 entry_words_same [] = refl
 entry_words_same (e ∷ es) = ap (λ (ws : List ℕ). entry_words e ++ ws) (entry_words_same es)
 

@@ -1,15 +1,13 @@
 -- `.kconfig` with its variables in a table.
-use Rattle.std.proofs.Common.{◌≡◌, ◌≢◌, ℕ, zero, suc, ◌+◌, ◌*◌, ◌<◌, ◌≤◌, ◌^◌, Bool, true, false, List, [], ◌∷◌, ◌++◌, length, get_or, set, take, map, Option, None, Some, Result, Ok, Err, refl, sym, ap, subst, ◌∙◌, inl, inr, ⊎_elim, arith}
+use Rattle.std.proofs.Common.{◌≡◌, ◌≢◌, ℕ, ◌+◌, ◌*◌, ◌<◌, ◌≤◌, ◌^◌, Bool, true, false, List, [], ◌∷◌, ◌++◌, length, get_or, set, take, map, Option, None, Some, Ok, Err, refl, sym, ap, subst, ◌∙◌, inl, inr, ⊎_elim, arith}
 use Rattle.std.specs.Prelude.{◌⊎◌, ◌==◌, nat_lt, slice_get, if◌then◌else◌}
 use Rattle.std.specs.List.{flat_map}
-use Rattle.std.specs.Option.{unwrap_or}
 use Rattle.std.proofs.lemmas.Bool.{cases_eq, cases_Bool, false≢true}
 use Rattle.std.proofs.lemmas.Bool.Decides.{nat_tests}
 use Rattle.std.proofs.lemmas.List.{map-append, take_more, take_all, set-get_or, get_or-set_same, get_or-set_other, length-set}
-use Rattle.std.proofs.lemmas.Option.{slice_get_within, slice_get-get_or, get_or_from_slice_get, unwrap_or-slice_get, same_Some}
+use Rattle.std.proofs.lemmas.Option.{slice_get_within, slice_get-get_or, get_or_from_slice_get, unwrap_or-slice_get}
 use Rattle.btf_model.specs.Record as kinds
 use Rattle.btf_model.specs.Record.{Kind, Record, unknown, kind_of, vlen}
-use Rattle.btf_model.specs.Refusal.{Refusal}
 use Rattle.btf_model.specs.Table.{Table, Fallback}
 use Rattle.btf_model.specs.Text.{FindsName}
 use Rattle.btf_rewrite_model.specs.Made.{Entry, entries, record_at, kind_at, data_sec}
@@ -19,18 +17,13 @@ use Rattle.btf_items.specs.Items.{entry_words}
 use Rattle.btf_items.specs.declared.items.DataSecEntry.{DataSecEntry}
 use Rattle.btf_table.specs.Btf.{HasShapeOf}
 use Rattle.btf_table.specs.KsymsStep.{entry}
-use Rattle.btf_table.proofs.KsymsEntries.{at, zero_entry, entries_of_words}
+use Rattle.btf_table.proofs.KsymsEntries.{at, zero_entry}
 use Rattle.btf_object_model.specs.Finalized.{kconfig_name, is_data_sec}
 use Rattle.btf_object_model.specs.Kconfig as model
-use Rattle.btf_object_model.specs.Kconfig.{total, laid_out, with_record, with_globals, with_externs, made_global, IsLaidOut, ConfiguresIf, ConfiguresAt, IsConfigured}
+use Rattle.btf_object_model.specs.Kconfig.{total, laid_out, with_record, with_globals, with_externs, made_global, ConfiguresIf, IsConfigured}
 use Rattle.btf_object.specs.Kconfig.{is_var, IsVariable, IsDataSec, IsSection, StaysAsItIs, LaysOutSection, MakesGlobal, FindsKconfig, HasDataSecOf, PutsSection}
+use Rattle.btf_object.proofs.Externs.{at_id, kind_at_id}
 use Rattle.btf_object.proofs.FinalSections.{all_entries}
-
-at_id : (t : Table) (id : ℕ) (r : Record) → slice_get t.records id ≡ Some r → record_at t id ≡ r
-at_id t id r here = ap (λ (o : Option Record). unwrap_or o unknown) here
-
-kind_at_id : (t : Table) (id : ℕ) (r : Record) (k : Kind) → slice_get t.records id ≡ Some r → kind_of r.info ≡ Some k → kind_at t id ≡ Some k
-kind_at_id t id r k here kind = ap (λ (x : Record). kind_of x.info) (at_id t id r here) ∙ kind
 
 set_here : {X : Type 0} (xs : List X) (id : ℕ) (x : X) → slice_get xs id ≡ Some x → set xs id x ≡ xs
 set_here xs id x is = ap (set xs id) (sym (get_or_from_slice_get xs id x x is)) ∙ set-get_or xs id x
