@@ -81,14 +81,7 @@ pub fn sanitize_object_with<H: BuildHasher + Clone + Drop>(
         (target_of kernel.now policy (option_map (λ name. name.now) placeholder.entry))) }
 {
     let object = Object::parse(alloc, bytes)?;
-    sanitize_parsed(
-        alloc,
-        &object,
-        kernel,
-        policy,
-        placeholder,
-        hash_builder,
-    )
+    sanitize_parsed(alloc, &object, kernel, policy, placeholder, hash_builder)
 }
 
 /// `sanitize_object_with` of the bytes of an object that is already parsed, with the same errors.

@@ -9,7 +9,7 @@ returns g c = (
   c.in_ok-written.written.items,
   c.in_ok-written.answers.items,
   rewritten_file c.args.bytes.now c.args.rewrite.now c.in_ok-blob.blob c.in_ok-written.written.items c.in_ok-written.answers.items c.in_ok-blob.ensures.read c.in_ok-blob.ensures.object c.in_ok-blob.ensures.little c.in_ok-blob.ensures.big
-  c.in_ok-written.ensures,
+      c.in_ok-written.ensures,
   c.lacks_any-lacks.ensures ∙ ap lacks_any c.as_slice-2.ensures.value,
   (
     c.in_ok-old.old,
