@@ -2,3 +2,4 @@ mod Names
 mod Accesses
 mod Walks
 mod Sizes
+mod Compatibles

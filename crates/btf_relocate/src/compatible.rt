@@ -1,7 +1,14 @@
 //! Compatible types of fields.
 
-use crate::lookup::{name_at, resolved, type_at};
+ghost use Rattle.std.specs.Prelude.{◌≡◌, MatchOption};
+ghost use Rattle.btf_model.specs.Fields.{element_type};
+ghost use Rattle.btf_records.specs.BtfType.{record_of, type_kind};
+ghost use Rattle.btf_relocate_model.specs.Compatible as model;
+ghost use Rattle.btf_relocate.specs.Arrays.{AreArrays, AreNotArrays};
+
+use crate::lookup::{kind_number, name_at, resolved_type};
 use crate::name::essential_name;
+use crate::target::compared_number;
 use btf_records::BtfType;
 use btf_relocate_model::RelocationError;
 use btf_table::{Btf, WALK_LIMIT};
@@ -16,17 +23,37 @@ pub fn are_compatible(
     local_id: u32,
     target: &Btf,
     target_id: u32,
-) -> Result<bool, RelocationError> {
-    let mut ids = (local_id, target_id);
+) -> Result<bool, RelocationError>
+    ensures { result ≡ model.compatible local.now target.now local_id target_id }
+{
+    let mut id = local_id;
+    let mut other_id = target_id;
     for _ in 0..WALK_LIMIT {
-        let one = type_at(local, resolved(local, ids.0)?)?;
-        let other = type_at(target, resolved(target, ids.1)?)?;
-        let (BtfType::Array(array), BtfType::Array(other_array)) = (one, other) else {
+        let one = resolved_type(local, id)?;
+        let other = resolved_type(target, other_id)?;
+        let Some(pair) = elements(one, other) else {
             return are_alike(local, one, target, other);
         };
-        ids = (array.array().element_type, other_array.array().element_type);
+        id = pair.0;
+        other_id = pair.1;
     }
     Err(RelocationError::MaximumTypeDepthReached { type_id: local_id })
+}
+
+/// The types of the elements of two ARRAYs; `None` if they are not both ARRAYs.
+fn elements(one: &BtfType, other: &BtfType) -> Option<(u32, u32)>
+    ensures { MatchOption result (AreNotArrays (type_kind one.now) (type_kind other.now))
+        (λ p. AreArrays (type_kind one.now) (type_kind other.now)
+        × (p ≡ (element_type (record_of one.now), element_type (record_of other.now)))) }
+{
+    match (one, other) {
+        (BtfType::Array(array), BtfType::Array(other_array)) => {
+            let array = array.array();
+            let other_array = other_array.array();
+            Some((array.element_type, other_array.element_type))
+        }
+        _ => None,
+    }
 }
 
 /// Whether two types of fields that are no modifiers and not both arrays are compatible.
@@ -35,21 +62,39 @@ fn are_alike(
     one: &BtfType,
     target: &Btf,
     other: &BtfType,
-) -> Result<bool, RelocationError> {
+) -> Result<bool, RelocationError>
+    ensures { result ≡ model.alike local.now target.now (record_of one.now) (record_of other.now) }
+{
+    // Only a use of the kinds proves that the info words have them.
+    let _ = (one.kind(), other.kind());
     if one.is_composite() && other.is_composite() {
         return Ok(true);
     }
-    if !one.is_compatible(other) {
+    if compared_number(kind_number(one)) != compared_number(kind_number(other)) {
         return Ok(false);
     }
     match (one, other) {
-        (BtfType::Ptr(_), _) | (BtfType::Float(_), _) => Ok(true),
+        (BtfType::Ptr(_), _) => Ok(true),
+        (BtfType::Float(_), _) => Ok(true),
         (BtfType::Int(t), BtfType::Int(u)) => Ok(t.offset() == 0 && u.offset() == 0),
-        (BtfType::Fwd(_), _) | (BtfType::Enum(_), _) | (BtfType::Enum64(_), _) => {
-            let name = essential_name(name_at(local, one.name_offset())?);
-            let other_name = essential_name(name_at(target, other.name_offset())?);
-            Ok(name.is_empty() || other_name.is_empty() || name == other_name)
-        }
+        (BtfType::Fwd(_), _) => are_named_alike(local, one, target, other),
+        (BtfType::Enum(_), _) => are_named_alike(local, one, target, other),
+        (BtfType::Enum64(_), _) => are_named_alike(local, one, target, other),
         _ => Ok(false),
     }
+}
+
+/// Whether one of two types has no name, or their essential names are equal.
+fn are_named_alike(
+    local: &Btf,
+    one: &BtfType,
+    target: &Btf,
+    other: &BtfType,
+) -> Result<bool, RelocationError>
+    ensures { result ≡ model.named_alike local.now target.now (record_of one.now)
+        (record_of other.now) }
+{
+    let name = essential_name(name_at(local, one.name_offset())?);
+    let other_name = essential_name(name_at(target, other.name_offset())?);
+    Ok(name.is_empty() || other_name.is_empty() || name == other_name)
 }

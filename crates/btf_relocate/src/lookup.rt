@@ -2,7 +2,7 @@
 
 ghost use Rattle.std.specs.Prelude.{◌≡◌, Ok, Err, Some, IfSome, MatchResult};
 ghost use Rattle.std.specs.Option.{option_map};
-ghost use Rattle.btf_model.specs.Record.{kind_of};
+ghost use Rattle.btf_model.specs.Record.{kind_of, kind_number};
 ghost use Rattle.btf_model.specs.Text as text;
 ghost use Rattle.btf_words.specs.Error.{refusal_of};
 ghost use Rattle.btf_records.specs.BtfType.{record_of, type_kind};
@@ -47,6 +47,24 @@ pub fn resolved(table: &Btf, type_id: u32) -> Result<u32, RelocationError>
         Ok(id) => Ok(id),
         Err(error) => Err(walk_error(&error, type_id)),
     }
+}
+
+/// The type that an id resolves to.
+pub fn resolved_type(table: &Btf, type_id: u32) -> Result<&BtfType, RelocationError>
+    ensures { MatchResult result
+        (λ t. (model.resolved_record table.now type_id ≡ Ok (record_of t.now))
+        × (kind_of (record_of t.now).info ≡ Some (type_kind t.now)))
+        (λ e. model.resolved_record table.now type_id ≡ Err e) }
+{
+    let id = resolved(table, type_id)?;
+    type_at(table, id)
+}
+
+/// The number of a type's kind.
+pub fn kind_number(btf_type: &BtfType) -> u32
+    ensures { result ≡ kind_number (record_of btf_type.now).info }
+{
+    btf_type.info() / 0x100_0000 % 32
 }
 
 /// The bytes of a text, which need not be UTF-8; `None` if there is no text at the offset.

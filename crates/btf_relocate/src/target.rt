@@ -1,8 +1,9 @@
 //! The table that a program is relocated against.
 
-ghost use Rattle.std.specs.Prelude.{◌≤◌, length};
+ghost use Rattle.std.specs.Prelude.{◌≡◌, ◌≤◌, length};
+ghost use Rattle.btf_relocate_model.specs.Candidates.{compared_number};
 
-use crate::lookup::name_or_none;
+use crate::lookup::{kind_number, name_or_none};
 use crate::name::essential_name;
 use btf_plain::{BtfError, BtfKind};
 use btf_records::BtfType;
@@ -56,7 +57,7 @@ impl<'t> Target<'t> {
     /// The ids of the types of this kind whose names have the same essential name, in rising order. An ENUM64 counts as
     /// an ENUM.
     pub fn candidates(&self, name: &[u8], kind: BtfKind) -> &[u32] {
-        let key = (essential_name(name), compared_number(kind));
+        let key = (essential_name(name), compared_number(kind as u32));
         let start = self.first_from(|entry| entry >= key);
         let end = self.first_from(|entry| entry > key);
         if start < end {
@@ -89,23 +90,22 @@ fn key_of(table: &Btf, type_id: u32) -> (&[u8], u32) {
     match table.type_by_id(type_id) {
         Ok(btf_type) => (
             essential_name(name_or_none(table, btf_type.name_offset())),
-            compared_number(btf_type.kind()),
+            compared_number(kind_number(btf_type)),
         ),
         Err(_) => (&[], 0),
     }
 }
 
 /// The number of a kind when kinds are compared: ENUM64 counts as ENUM.
-fn compared_number(kind: BtfKind) -> u32 {
-    match kind {
-        BtfKind::Enum64 => BtfKind::Enum as u32,
-        kind => kind as u32,
-    }
+pub fn compared_number(kind: u32) -> u32
+    ensures { result ≡ compared_number kind }
+{
+    if kind == 19 { 6 } else { kind }
 }
 
 /// The types that have a name, in rising order of their ids.
 fn named_types(alloc: Global, table: &Btf) -> Result<Vec<Entry<'_>>, AllocError> {
-    let mut entries = Vec::new(alloc);
+    let mut entries = Vec::with_capacity(alloc, type_count(table) as usize)?;
     for type_id in 1..type_count(table) {
         let (name, kind) = key_of(table, type_id);
         if !name.is_empty() {

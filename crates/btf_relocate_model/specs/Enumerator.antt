@@ -1,13 +1,13 @@
 -- Enumerators, by index and by name.
 -- Source: libbpf's `bpf_core_parse_spec`, `bpf_core_spec_match` and `bpf_core_calc_enumval_relo`, for enumerators. The
 -- value of an ENUM is sign-extended whatever its kind flag says, as there.
-use Rattle.std.specs.Prelude.{ℕ, ◌+◌, ◌*◌, ◌^◌, if◌then◌else◌, Bool, List, [], ◌∷◌, slice_get, Option, Some, None, Result, Ok, Err}
+use Rattle.std.specs.Prelude.{ℕ, ◌+◌, ◌*◌, ◌^◌, if◌then◌else◌, List, [], ◌∷◌, slice_get, Option, Some, None, Result, Ok, Err}
 use Rattle.std.specs.Str.{bytes_eq}
-use Rattle.btf_model.specs.Record.{Kind, Enum, Enum64, Record, kind_of}
+use Rattle.btf_model.specs.Record.{Kind, Enum, Enum64, kind_of}
 use Rattle.btf_model.specs.Table.{Table, Variant}
 use Rattle.btf_relocate_model.specs.Instruction.{sign_extended}
 use Rattle.btf_relocate_model.specs.Name.{essential}
-use Rattle.btf_relocate_model.specs.Types.{◌>>=◌, record_at, name_at, resolved}
+use Rattle.btf_relocate_model.specs.Types.{◌>>=◌, name_at, resolved_record}
 use Rattle.btf_relocate_model.specs.declared.error.RelocationError.{RelocationError}
 use Rattle.btf_relocate_model.specs.declared.error.RelocationError.TheVariants.{BadIndex}
 
@@ -32,7 +32,7 @@ enumerators_by k words = []
 -- The enumerators of the type that an id resolves to.
 abbrev pub enumerators : Table → ℕ → Result (List Variant) RelocationError
 enumerators t id =
-    resolved t id >>= λ end. record_at t end >>= λ r. Ok (enumerators_by (kind_of r.info) r.tail)
+    resolved_record t id >>= λ r. Ok (enumerators_by (kind_of r.info) r.tail)
 
 -- the enumerator at an index, and its name
 abbrev pub named : Table → Option Variant → Result (Variant × List ℕ) RelocationError

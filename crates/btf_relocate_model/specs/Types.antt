@@ -68,6 +68,10 @@ resolved_by id answer = Err (MaximumTypeDepthReached id)
 abbrev pub resolved : Table → ℕ → Result ℕ RelocationError
 resolved t id = resolved_by id (walk (λ at. unmodified_in at (slice_get t.records at)) walk_limit id)
 
+-- the record of the type that an id resolves to
+abbrev pub resolved_record : Table → ℕ → Result Record RelocationError
+resolved_record t id = resolved t id >>= λ end. record_at t end
+
 -- ---- sizes
 
 -- What a record gives for the size of its type, where a pointer has a given size: as for the table alone, but a

@@ -1,7 +1,7 @@
 -- The value of a field, by the kind of the relocation.
 -- Source: libbpf's `bpf_core_calc_field_relo`. A bit-field of a type that is no integer of 1, 2, 4 or 8 bytes, and a
 -- shift of a member of more than 8 bytes, are refused here; libbpf divides by the size, and wraps the shift.
-use Rattle.std.specs.Prelude.{ℕ, ◌+◌, ◌-◌, ◌*◌, ◌/◌, ◌%◌, ◌^◌, ◌==◌, ◌&&◌, ◌||◌, not, nat_lt, nat_le, if◌then◌else◌, Bool, true, false, List, [], ◌∷◌, slice_index, Option, Some, None, Result, Ok, Err}
+use Rattle.std.specs.Prelude.{ℕ, ◌+◌, ◌-◌, ◌*◌, ◌/◌, ◌%◌, ◌^◌, ◌==◌, ◌&&◌, ◌||◌, not, nat_lt, nat_le, if◌then◌else◌, Bool, true, false, List, [], ◌∷◌, slice_index, Option, Some, Result, Ok, Err}
 use Rattle.btf_model.specs.Record.{Kind, Int, Ptr, Enum, Enum64, Record, kind_of, kind_flag}
 use Rattle.btf_model.specs.Table.{Table}
 use Rattle.btf_model.specs.declared.endianness.Endianness.{Endianness}
