@@ -53,5 +53,5 @@ returns-clause-made c =
     let at = goal.at.returns-clause-made c in
     let count = entries_len at.In_ok-entries at.In-Some-2 (len_is at.In_ok-entries) in
     section_made c.args.btf.now c.args.data_sec.now c.new.result c.sort_by_key.new.self.items c.in-Some-2.entries.items c.in-Some-2.size c.in-Some-2.entries.len (sorted at.In_ok-entries) (sym c.size.ensures ∙ c.if-size-ne0.false) (laid at.In-Some-2)
-    (c.in-Some-2.entries.ok.0 ∙ count) count c.info.ensures.tail
+    (c.in-Some-2.entries.ok.0 ∙ count) count (c.info.ensures.tail ∙ ap (λ (n : ℕ). 3 * vlen n) c.info.ensures.value)
     (c.new.ensures ∙ ap (λ (n : ℕ). record { name = n; info = 15 * 2 ^ 24 + c.in-Some-2.entries.len; third = c.in-Some-2.size; tail = flat_map entry_words c.in-Some-2.entries.items }) c.name_offset.ensures.value)
