@@ -15,9 +15,9 @@ use btf_table::{Btf, WALK_LIMIT};
 
 /// Whether the types of two fields are compatible, each in its own table (libbpf's `bpf_core_fields_are_compat`).
 ///
-/// Two STRUCTs or UNIONs are compatible, and so are two PTRs, two FLOATs, and two INTs that begin at bit 0. Two FWDs, and
-/// two ENUMs or ENUM64s, are compatible if one of them has no name, or if their essential names are equal. Two ARRAYs
-/// are compatible if the types of their elements are.
+/// Two STRUCTs or UNIONs are compatible, and so are two PTRs, two FLOATs, and two INTs that begin at bit 0. Two FWDs,
+/// and two ENUMs or ENUM64s, are compatible if one of them has no name, or if their essential names are equal. Two
+/// ARRAYs are compatible if the types of their elements are.
 pub fn are_compatible(
     local: &Btf,
     local_id: u32,

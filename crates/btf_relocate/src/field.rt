@@ -63,8 +63,8 @@ pub fn root(
     placed(table, pointer_size, end, 0, index)
 }
 
-/// The element at an index of the ARRAY at a place; `None` if there is no ARRAY, or no such element. An array of length 0
-/// that is the last member of its type has elements at all indices, because C uses it as a flexible array member.
+/// The element at an index of the ARRAY at a place; `None` if there is no ARRAY, or no such element. An array of length
+/// 0 that is the last member of its type has elements at all indices, because C uses it as a flexible array member.
 pub fn element(
     table: &Btf,
     pointer_size: u32,

@@ -96,7 +96,8 @@ fn slot_at(code: &[u8], at: usize, order: Endianness) -> Slot
 /// The instruction at a place.
 fn instruction_at(code: &[u8], at: usize, order: Endianness) -> Result<Instruction, RelocationError>
     ensures value { result ≡ model.instruction_at order code.now at }
-    ensures room { IfOk result (λ i. at + length (model.instruction_bytes order i) ≤ length code.now) }
+    ensures room { IfOk result
+        (λ i. at + length (model.instruction_bytes order i) ≤ length code.now) }
 {
     if at % SLOT_LEN != 0 {
         return Err(RelocationError::Misaligned);

@@ -49,8 +49,8 @@ pub fn size_of(table: &Btf, pointer_size: u32, type_id: u32) -> Result<u32, Relo
 
 /// What a type gives for its size.
 fn extent_at(btf_type: &BtfType, pointer_size: u32) -> Extent
-    ensures { extent_of result ≡ model.extent_with pointer_size (kind_of (record_of btf_type.now).info)
-        (record_of btf_type.now) }
+    ensures { extent_of result ≡ model.extent_with pointer_size
+        (kind_of (record_of btf_type.now).info) (record_of btf_type.now) }
 {
     // Only a use of the kind proves that the info word has it.
     let _ = btf_type.kind();

@@ -261,8 +261,8 @@ fn is_signed(btf_type: &BtfType) -> bool
     }
 }
 
-/// Whether a load or store of the local type may get the size of the target's type: both are PTRs, or both are INTs that
-/// are not plain signed numbers. Zero-extension is right for these.
+/// Whether a load or store of the local type may get the size of the target's type: both are PTRs, or both are INTs
+/// that are not plain signed numbers. Zero-extension is right for these.
 pub fn is_adjustable(one: &BtfType, other: &BtfType) -> bool
     ensures { result ≡ model.is_adjustable (kind_of (record_of one.now).info)
         (kind_of (record_of other.now).info) (record_of one.now) (record_of other.now) }

@@ -1,10 +1,10 @@
 -- What a patch changes.
-use Rattle.std.proofs.Common.{◌≡◌, ℕ, ◌+◌, ◌-◌, ◌*◌, ◌/◌, ◌%◌, ◌^◌, ◌<◌, ◌≤◌, Bool, true, false, Option, Some, None, Result, Ok, Err, refl, sym, ap, subst, ◌∙◌, arith, inl, inr}
+use Rattle.std.proofs.Common.{◌≡◌, ◌≢◌, ℕ, ◌+◌, ◌-◌, ◌*◌, ◌/◌, ◌%◌, ◌^◌, ◌<◌, ◌≤◌, Bool, true, false, Option, Some, None, Result, Ok, Err, refl, sym, ap, subst, ◌∙◌, arith, inl, inr}
 use Rattle.std.specs.Prelude.{◌⊎◌, ◌==◌, not, nat_lt, nat_le, ◌||◌, if◌then◌else◌}
 use Rattle.std.proofs.lemmas.Bool.Decides.{nat_tests}
 use Rattle.btf_model.specs.declared.endianness.Endianness.{Endianness}
 use Rattle.btf_relocate_model.specs.Instruction.{patched_immediate, patched_offset, patched_slot, patched_wide, patched, narrow, poison, poisoned, is_unexpected, access_size, is_ld_imm64, wide_immediate, sign_extended, size_bits, with_size}
-use Rattle.btf_relocate_model.specs.Laws.{SlotHas, SlotKeeps, HasValue, Keeps, WrittenReadsBack, WrittenKeepsTheRest}
+use Rattle.btf_relocate_model.specs.Laws.{SlotHas, SlotKeeps, HasValue, Keeps, WrittenReadsBack, WrittenKeepsTheRest, PoisonHasAReason}
 use Rattle.btf_relocate_model.specs.declared.error.RelocationError.{RelocationError}
 use Rattle.btf_relocate_model.specs.declared.error.RelocationError.TheVariants.{WrongImmediate, OffsetTooBig, WrongAccessSize, BadLdImm64, NotPatchable}
 use Rattle.btf_relocate_model.specs.declared.instruction.Instruction.{Instruction}
@@ -181,3 +181,88 @@ reads_back order r i j is = patched_has order r i j (is_patched r.is_poisoned (p
 
 pub keeps_the_rest : WrittenKeepsTheRest
 keeps_the_rest order r i j is = patched_keeps order r i j (is_patched r.is_poisoned (poisoned i) j (patched order r i) is)
+
+-- ---- poison
+
+-- the outcomes of a load or store that is not refused, with the tests for poison
+poison_outcome : (unexpected big same fixed wrong : Bool) (e f g : RelocationError) (x p z : Patched × Slot) (w : Result (Patched × Slot) RelocationError)
+    → (if unexpected then Err e else (if big then Err f else (if same then Ok x else (if fixed then Ok p else (if wrong then Err g else w))))) ≡ Ok z
+    → ((same ≡ false) × (fixed ≡ true)) ⊎ ((x ≡ z) ⊎ (w ≡ Ok z))
+poison_outcome true big same fixed wrong e f g x p z w is = absurd (cc)
+poison_outcome false true same fixed wrong e f g x p z w is = absurd (cc)
+poison_outcome false false true fixed wrong e f g x p z w is = inr (inl (same_ok x z is))
+poison_outcome false false false true wrong e f g x p z w is = inl (refl, refl)
+poison_outcome false false false false true e f g x p z w is = absurd (cc)
+poison_outcome false false false false false e f g x p z w is = inr (inr is)
+
+-- the poison of a choice is the one that it has
+poison_is : (unexpected big same fixed wrong : Bool) (e f g : RelocationError) (x p z : Patched × Slot) (w : Result (Patched × Slot) RelocationError)
+    → (if unexpected then Err e else (if big then Err f else (if same then Ok x else (if fixed then Ok p else (if wrong then Err g else w))))) ≡ Ok z → same ≡ false → fixed ≡ true → p ≡ z
+poison_is true big same fixed wrong e f g x p z w is apart stays = absurd (cc)
+poison_is false true same fixed wrong e f g x p z w is apart stays = absurd (cc)
+poison_is false false true fixed wrong e f g x p z w is apart stays = absurd (cc)
+poison_is false false false true wrong e f g x p z w is apart stays = same_ok p z is
+poison_is false false false false wrong e f g x p z w is apart stays = absurd (cc)
+
+negated : (b : Bool) → not b ≡ true → b ≡ false
+negated true is = absurd (cc)
+negated false is = refl
+
+-- sizes never poison
+no_poison_sized : (r : Resolved) (s u : Slot) (o : Option ℕ) → with_size r s o ≡ Ok (Poisoned, u) → ⊥
+no_poison_sized r s u None is = cc
+no_poison_sized r s u (Some bits) is = no_poison u (record s { opcode = s.opcode - s.opcode / 8 % 4 * 8 + bits * 8; offset = r.value }) (sym (same_ok _ _ is))
+
+offset_poisoned : (r : Resolved) (s u : Slot) → patched_offset r s ≡ Ok (Poisoned, u) → (u ≡ poison) × (r.local_size ≢ r.target_size) × (r.is_adjustable ≡ false)
+offset_poisoned r s u is =
+    let z : Patched × Slot = (Poisoned, u) in
+    let x : Patched × Slot = (Written, record s { offset = r.value }) in
+    let p : Patched × Slot = (Poisoned, poison) in
+    let w : Result (Patched × Slot) RelocationError = with_size r s (size_bits r.target_size) in
+    let unexpected = is_unexpected r (sign_extended 16 s.offset) in
+    let big = nat_lt 32767 r.value in
+    let same = r.local_size == r.target_size in
+    let fixed = not r.is_adjustable in
+    let wrong = not (access_size s == r.local_size) in
+    let cases : ((same ≡ false) × (fixed ≡ true)) ⊎ ((x ≡ z) ⊎ (w ≡ Ok z)) = poison_outcome unexpected big same fixed wrong WrongImmediate OffsetTooBig WrongAccessSize x p z w is in
+    elim cases [
+      | inl reason ↦ (
+        sym (ap (λ (q : Patched × Slot). q.1) (poison_is unexpected big same fixed wrong WrongImmediate OffsetTooBig WrongAccessSize x p z w is reason.0 reason.1)),
+        sizes_apart r.local_size r.target_size reason.0,
+        negated r.is_adjustable reason.1,
+      )
+      | inr (inl written) ↦ absurd (no_poison u (record s { offset = r.value }) (sym written))
+      | inr (inr sized) ↦ absurd (no_poison_sized r s u (size_bits r.target_size) sized)
+    ]
+  where
+    sizes_apart : (m n : ℕ) → (m == n) ≡ false → m ≢ n
+    sizes_apart m n is = grind (arith, nat_tests)
+
+immediate_not_poisoned : (r : Resolved) (s u : Slot) → patched_immediate r s ≡ Ok (Poisoned, u) → ⊥
+immediate_not_poisoned r s u is = grind (arith, nat_tests)
+
+slot_poisoned : (r : Resolved) (s u : Slot) → patched_slot r s ≡ Ok (Poisoned, u) → (u ≡ poison) × (r.local_size ≢ r.target_size) × (r.is_adjustable ≡ false)
+slot_poisoned r s u is =
+    elim (slot_class r s (Poisoned, u) is) [ inl memory ↦ offset_poisoned r s u memory.1 | inr arithmetic ↦ absurd (immediate_not_poisoned r s u arithmetic.1) ]
+
+patched_poisoned : (order : Endianness) (r : Resolved) (i j : Instruction) → patched order r i ≡ Ok (Poisoned, j) → (j ≡ poisoned i) × (r.local_size ≢ r.target_size) × (r.is_adjustable ≡ false)
+patched_poisoned order r (Narrow s) j is =
+    let one = narrowed (patched_slot r s) Poisoned j is in
+    let reason = slot_poisoned r s one.0 one.1 in (one.2 ∙ ap (λ (t : Slot). Narrow t) reason.0, reason.1, reason.2)
+patched_poisoned order r (Wide s t) j is = absurd (not_written j (Wide (record s { immediate = r.value % 2 ^ 32 }) (record t { immediate = r.value / 2 ^ 32 })) (sym (wide_result order r s t (Poisoned, j) is)))
+
+-- by whether the record asks for poison
+poisoned_by : (asked : Bool) (p j : Instruction) (o : Result (Patched × Instruction) RelocationError) → (if asked then Ok (Poisoned, p) else o) ≡ Ok (Poisoned, j)
+    → ((asked ≡ true) × (j ≡ p)) ⊎ (o ≡ Ok (Poisoned, j))
+poisoned_by true p j o is = inl (refl, sym (ap (λ (q : Patched × Instruction). q.1) (same_pair (Poisoned, p) (Poisoned, j) is)))
+  where
+    same_pair : (x z : Patched × Instruction) → ◌≡◌ {A = Result (Patched × Instruction) RelocationError} (Ok x) (Ok z) → x ≡ z
+    same_pair x z is = cc
+poisoned_by false p j o is = inr is
+
+pub has_a_reason : PoisonHasAReason
+has_a_reason order r i j is =
+    elim (poisoned_by r.is_poisoned (poisoned i) j (patched order r i) is) [
+      | inl asked ↦ (asked.1, inl asked.0)
+      | inr sized ↦ let reason = patched_poisoned order r i j sized in (reason.0, inr (reason.1, reason.2))
+    ]

@@ -1,11 +1,11 @@
 -- The laws of the definitions. Each is the contract of a public function of this crate.
-use Rattle.std.specs.Prelude.{◌≡◌, ◌⊎◌, ℕ, ◌/◌, ◌%◌, ◌<◌, ◌≤◌, Ok}
+use Rattle.std.specs.Prelude.{◌≡◌, ◌≢◌, ◌⊎◌, ℕ, ◌/◌, ◌%◌, ◌<◌, ◌≤◌, true, false, Ok}
 use Rattle.btf_model.specs.declared.endianness.Endianness.{Endianness}
-use Rattle.btf_relocate_model.specs.Instruction.{relocated, sign_extended, wide_immediate}
+use Rattle.btf_relocate_model.specs.Instruction.{relocated, poisoned, sign_extended, wide_immediate}
 use Rattle.btf_relocate_model.specs.declared.instruction.Slot.{Slot}
 use Rattle.btf_relocate_model.specs.declared.instruction.Instruction.{Instruction}
 use Rattle.btf_relocate_model.specs.declared.instruction.Instruction.TheVariants.{Narrow, Wide}
-use Rattle.btf_relocate_model.specs.declared.instruction.Patched.TheVariants.{Written}
+use Rattle.btf_relocate_model.specs.declared.instruction.Patched.TheVariants.{Written, Poisoned}
 use Rattle.btf_relocate_model.specs.declared.resolved.Resolved.{Resolved}
 
 -- The field of a slot reads as a value: the offset of a load or store, the immediate of another instruction, which is
@@ -43,3 +43,10 @@ Keeps i j = ⊥
 abbrev pub WrittenKeepsTheRest : Type 0
 WrittenKeepsTheRest =
     (order : Endianness) (r : Resolved) (i j : Instruction) → relocated order r i ≡ Ok (Written, j) → Keeps i j
+
+-- An instruction is poisoned only if the record asks for it, or if the size of a load or store would have to change and
+-- may not. Then each of its slots is the poison.
+abbrev pub PoisonHasAReason : Type 0
+PoisonHasAReason =
+    (order : Endianness) (r : Resolved) (i j : Instruction) → relocated order r i ≡ Ok (Poisoned, j)
+    → (j ≡ poisoned i) × ((r.is_poisoned ≡ true) ⊎ ((r.local_size ≢ r.target_size) × (r.is_adjustable ≡ false)))

@@ -4,7 +4,7 @@
 //! contract of a function that does nothing.
 #![tactic(auto)]
 
-ghost use Rattle.btf_relocate_model.specs.Laws.{WrittenReadsBack, WrittenKeepsTheRest};
+ghost use Rattle.btf_relocate_model.specs.Laws.{WrittenReadsBack, WrittenKeepsTheRest, PoisonHasAReason};
 
 mod error;
 mod field;
@@ -26,4 +26,10 @@ pub fn written_reads_back()
 /// A relocation that writes a value changes nothing of an instruction but its field, and the size of a load or store.
 pub fn written_keeps_the_rest()
     ensures { WrittenKeepsTheRest }
+{}
+
+/// A relocation poisons an instruction only if the record asks for it, or if the size of a load or store would have to
+/// change and may not. Then each slot of the instruction is the poison.
+pub fn poison_has_a_reason()
+    ensures { PoisonHasAReason }
 {}
