@@ -73,24 +73,6 @@ fn read_to<S: Slot>(
     ensures { Puts S.has_put (StaysOr S.has_kept) slot.old slot.new
         (ReadsFront endianness «data».now) result }
 {
-    // The byte order is known in each branch, so that the compiler leaves out a test of it for each word.
-    match endianness {
-        Endianness::Little => read_in(slot, alloc, data, Endianness::Little),
-        Endianness::Big => read_in(slot, alloc, data, Endianness::Big),
-    }
-}
-
-/// `read_to`, with the byte order that is known where this is inlined.
-#[inline(always)]
-fn read_in<S: Slot>(
-    slot: &mut S,
-    alloc: Global,
-    data: &[u8],
-    endianness: Endianness,
-) -> Result<usize, BtfError>
-    ensures { Puts S.has_put (StaysOr S.has_kept) slot.old slot.new
-        (ReadsFront endianness «data».now) result }
-{
     let (head, rest) = Head::read(data, endianness)?;
     let kind = BtfKind::try_from(head.kind())?;
     put_tail(slot, alloc, kind, head, rest, endianness)
