@@ -125,9 +125,9 @@ pub fn sanitize_parsed<H: BuildHasher + Clone + Drop>(
 /// other section changes.
 ///
 /// Before the rewrite, the variables of `.kconfig` are laid out, DATASECs get the sizes of their sections, and their
-/// entries get the offsets of their variables and are sorted by them. If functions are in `.ksyms`, a variable `dummy_ksym` is added, which replaces them. A
-/// DATASEC that has a size and no entries gets one if the kernel requires it (`FillPolicy::FillSized`). After the
-/// rewrite, a STRUCT that was a DATASEC has the DATASEC's size.
+/// entries get the offsets of their variables and are sorted by them. If functions are in `.ksyms`, a variable
+/// `dummy_ksym` is added, which replaces them. A DATASEC that has a size and no entries gets one if the kernel requires
+/// it (`FillPolicy::FillSized`). After the rewrite, a STRUCT that was a DATASEC has the DATASEC's size.
 ///
 /// `hash_builder` hashes the names of the object's sections and symbols. The default has a fixed seed, so an attacker
 /// can choose names that collide, and n of them take time in proportion to n squared. For an untrusted object, pass a

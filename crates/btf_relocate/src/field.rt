@@ -36,7 +36,7 @@ fn placed(
 {
     let size = size_of(table, pointer_size, type_id)?;
     let bytes = u64::from(index) * u64::from(size);
-    // So many bytes have more than 2^32 bits.
+    // The number of bits would exceed 32 bits.
     if bytes >= 0x2000_0000 {
         return Err(RelocationError::BitOffsetTooBig);
     }
