@@ -171,8 +171,8 @@ impl<'a> Object<'a> {
     /// The file with other bytes in a section. The new bytes replace the old ones in their place if there are at most
     /// as many, and if no other section shares this place. Otherwise they are at the end of the file, at a multiple of
     /// `sh_addralign`, but of at most 4096, with zeros before them. In the header of the section only `sh_offset` and
-    /// `sh_size` change. The new file is an object in which the section has these bytes; all other sections, symbols and
-    /// names are unchanged. Bytes that belong to no section any more remain in the file.
+    /// `sh_size` change. The new file is an object in which the section has these bytes; all other sections, symbols
+    /// and names are unchanged. Bytes that belong to no section any more remain in the file.
     ///
     /// Fails with `NoSuchSection`, `NotReplaceable` or `OutOfMemory`, tested in this order.
     pub fn with_section(
