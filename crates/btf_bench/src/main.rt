@@ -6,26 +6,34 @@
 //!
 //! `btf_bench FAMILY N [REPS] [--csv|--names]` measures a table that an attacker could make, at the sizes N, 2 N and
 //! 4 N: a step that is not linear shows in the time of a unit. FAMILY is `collide`, `fan`, `rings`, `nest`, `flood`,
-//! `floodrings`, `longname`, `listing`, `sections`, `collidedsections`, `keyedsections`, `entries`, `symbols` or
-//! `datasecs`; the module `hostile` describes these.
+//! `floodrings`, `longname`, `listing`, `sections`, `collidedsections`, `keyedsections`, `entries`, `symbols`,
+//! `datasecs`, `twins`, `namesakes`, `fields`, `levels` or `loops`; the modules `hostile` and `relocated` describe these.
+//!
+//! `btf_bench relocate LOCAL TARGET [REPS] [--csv|--names]` measures 20,000 relocations of random accesses of one table
+//! against another, the index of the other included. With `--names` it prints the records: type, access, kind.
 //!
 //! `btf_bench names N [REPS] [--csv|--names]` reads a name N times, for names of several lengths, each as the last of
 //! the string section and as another one.
 #![tactic(auto)]
 
+mod accesses;
 mod data_secs;
 mod flood;
 mod hostile;
 mod listing;
 mod names;
+mod relocated;
+mod relocations;
 mod sections;
 mod sketch;
 mod table;
 mod timing;
 mod work;
 
+use crate::accesses::accesses;
 use crate::hostile::{Family, Hostile};
 use crate::names::{LENGTHS, Names};
+use crate::relocations::Relocations;
 use crate::table::{Form, Row};
 use crate::timing::Timing;
 use crate::work::{Bench, NAMES};
@@ -35,11 +43,16 @@ use std::alloc::{AllocError, Global};
 use std::test::Fail;
 use std::{env, fs};
 
+/// The seed of the accesses.
+const SEED: u64 = 20_261_129;
+
 /// The request in the words after the program's name.
 #[derive(Drop)]
 struct Request {
     file: String,
     what: String,
+    /// The file of the second table, for `relocate`.
+    target: String,
     reps: usize,
     form: Form,
 }
@@ -50,6 +63,7 @@ impl Request {
         Ok(Request {
             file: String::new(alloc),
             what: String::from_str(alloc, "all")?,
+            target: String::new(alloc),
             reps: 15,
             form: Form::Table,
         })
@@ -71,8 +85,14 @@ impl Request {
 /// The request of the words.
 fn asked_for(rt: &HostRuntime, alloc: Global) -> Result<Request, Fail> {
     let mut request = Request::new(alloc)?;
-    for (place, word) in env::args(rt)?.enumerate() {
-        request.take(place, word)?;
+    let mut place = 0usize;
+    for word in env::args(rt)? {
+        if place == 3 && request.file.as_str() == "relocate" && request.target.is_empty() {
+            request.target = word;
+        } else {
+            request.take(place, word)?;
+            place = place.wrapping_add(1);
+        }
     }
     Ok(request)
 }
@@ -141,8 +161,40 @@ fn time_names(rt: &HostRuntime, request: &Request) -> Result<(), Fail> {
     Ok(())
 }
 
+/// The table of a file.
+fn table_of(rt: &HostRuntime, file: &str) -> Result<Btf, Fail> {
+    Ok(Btf::parse(rt.alloc(), &fs::read(rt, file)?, Endianness::Little)?)
+}
+
+/// Prints the records of relocations: the type, the access string and the kind of each.
+fn print_records(rt: &HostRuntime, relocations: &Relocations) -> Result<(), Fail> {
+    for &[_, type_id, access, kind] in relocations.records() {
+        let text = relocations.access(rt.alloc(), access)?;
+        println!(rt; "{type_id} {text} {kind}")?;
+    }
+    Ok(())
+}
+
+/// Times relocations of random accesses, and prints their line.
+fn time_relocations(rt: &HostRuntime, request: &Request) -> Result<(), Fail> {
+    let mut local = table_of(rt, request.what.as_str())?;
+    let kernel = table_of(rt, request.target.as_str())?;
+    let accesses = accesses(rt.alloc(), &mut local, SEED)?;
+    let mut relocations = Relocations::new(rt.alloc(), local, kernel, &accesses)?;
+    if matches!(request.form, Form::Names) {
+        return print_records(rt, &relocations);
+    }
+    relocations.compile(rt.alloc())?;
+    let timing = relocations.timing(rt, request.reps)?;
+    let (name, units, unit) = ("relocate", accesses.len() as u64, "record");
+    Row { name, units, unit }.print(rt, &timing, request.form)
+}
+
 fn main(rt: HostRuntime) -> Result<(), Fail> {
     let request = asked_for(&rt, rt.alloc())?;
+    if request.file.as_str() == "relocate" {
+        return time_relocations(&rt, &request);
+    }
     if request.file.as_str() == "names" {
         return time_names(&rt, &request);
     }

@@ -45,6 +45,27 @@ impl Sketch {
         self.record(&[0, 0x0200_0000, to])
     }
 
+    /// A TYPEDEF with the name at this offset.
+    pub fn typedef(&mut self, name_offset: u32, to: u32) -> Result<u32, AllocError> {
+        self.record(&[name_offset, 0x0800_0000, to])
+    }
+
+    /// An array of this number of elements.
+    pub fn array(&mut self, element: u32, index: u32, count: u32) -> Result<u32, AllocError> {
+        self.record(&[0, 0x0300_0000, 0, element, index, count])
+    }
+
+    /// A STRUCT of 8 bytes with the name at this offset, whose members all begin at bit 0: the string offset of the name,
+    /// and the type, of each.
+    pub fn structure(&mut self, name_offset: u32, members: &[(u32, u32)]) -> Result<u32, Fail> {
+        let vlen = u32::from(u16::try_from(members.len())?);
+        let id = self.record(&[name_offset, 0x0400_0000 | vlen, 8])?;
+        for &(name, to) in members {
+            push_words(&mut self.types, &[name, to, 0], Endianness::Little)?;
+        }
+        Ok(id)
+    }
+
     /// A Global FUNC with the name at this offset.
     pub fn func(&mut self, name_offset: u32, prototype: u32) -> Result<u32, AllocError> {
         self.record(&[name_offset, 0x0c00_0001, prototype])

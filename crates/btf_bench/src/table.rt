@@ -10,7 +10,7 @@ pub enum Form {
     Table,
     /// Values separated by commas.
     Csv,
-    /// The name alone.
+    /// The name alone; for relocations their records.
     Names,
 }
 

@@ -12,6 +12,7 @@ mod lasting;
 mod layout;
 mod list;
 mod old_kernel;
+mod relocated;
 
 use btf::{Btf, Endianness};
 use std::test::Fail;
@@ -32,5 +33,6 @@ fn main(rt: HostRuntime) -> Result<(), Fail> {
     layout::print_struct(&rt, &program, "packet")?;
     compatible::print_compatible(&rt, &program, &kernel, "handler")?;
     old_kernel::print_rewritten(&rt, &program.to_bytes()?)?;
+    relocated::print_relocated(&rt, &mut program, &kernel)?;
     lasting::print_values(&rt, &mut program, "verdict")
 }

@@ -40,6 +40,11 @@ pub record RewritesAlone (order : Endianness) (bytes : List ℕ) (target : Targe
   pub written : file ≡ canon new
   pub parses_back : IsTable order file (strip new)
 
+-- Whatever bytes represent the table, the file is their rewrite for the target.
+abbrev pub RewritesTable : Table → Target → List ℕ → List FeatureAnswer → Type 0
+RewritesTable old target file answers =
+    (order : Endianness) → (bytes : List ℕ) → IsTable order bytes old → RewritesAlone order bytes target file answers
+
 -- The file is the object with its table rewritten: after it is finalized, or as it is.
 abbrev pub RewritesObject : List ℕ → Rewrite → List ℕ → List FeatureAnswer → Type 0
 RewritesObject bytes rewrite file answers =

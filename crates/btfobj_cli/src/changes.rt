@@ -5,7 +5,7 @@ ghost use Rattle.btfobj_cli.specs.Changes.{Checks, has_changed, lacks_any};
 
 use crate::blob::Blob;
 use crate::fault::Fault;
-use crate::rewrite::{Rewrite, sanitize_blob};
+use crate::rewrite::{Rewrite, sanitize_parsed_blob};
 use btf_model::Endianness;
 use btf_records::BtfType;
 use btf_rewrite_model::{BtfFeature, FeatureAnswer};
@@ -39,7 +39,7 @@ pub fn check<W: io::Write, H: BuildHasher + Clone + Drop>(
 {
     let blob = Blob::read(alloc, bytes)?;
     let old = blob.whole_table(alloc)?;
-    let (written, answers) = sanitize_blob(alloc, &blob, rewrite, hash_builder)?;
+    let (written, answers) = sanitize_parsed_blob(alloc, &blob, &old, rewrite, hash_builder)?;
     let new = Blob::read(alloc, &written)?.table(alloc)?;
     let mut text = TextBuffer::new(out);
     write_features(answers.as_slice(), &mut text)?;

@@ -3,13 +3,13 @@
 ghost use Rattle.std.specs.Prelude.{◌≡◌, ℕ, List, None, IfOk};
 ghost use Rattle.btf_object.specs.Kernel.{has};
 ghost use Rattle.btf_rules.specs.Layout.{sizes_of, offsets_of};
-ghost use Rattle.btfobj_cli.specs.Rewrite.{chosen_target, RewritesAlone, RewritesObject, RewritesBlob, IsRewritten};
+ghost use Rattle.btfobj_cli.specs.Blob.{HasTable};
+ghost use Rattle.btfobj_cli.specs.Rewrite.{chosen_target, RewritesTable, RewritesObject, RewritesBlob, IsRewritten};
 
 use crate::blob::Blob;
 use crate::fault::Fault;
 use arrayvec::ArrayVec;
 use btf_elf::Object;
-use btf_model::Endianness;
 use btf_object::{Kernel, ksyms_of, sanitize_parsed, sanitize_parsed_finalized};
 use btf_rewrite_model::{BtfFeature, FeatureAnswer, FillPolicy};
 use btf_rules::BtfFeatureResolver;
@@ -64,7 +64,26 @@ pub fn sanitize_blob<H: BuildHasher + Clone + Drop>(
 {
     match blob {
         Blob::Object(object) => rewrite_object(alloc, object, rewrite, hash_builder),
-        Blob::Table(bytes, endianness) => sanitize_table(alloc, bytes, *endianness, rewrite),
+        Blob::Table(bytes, endianness) => {
+            sanitize_table(alloc, Btf::parse(alloc, bytes, *endianness)?, rewrite)
+        }
+    }
+}
+
+/// `sanitize_blob` of a file whose table is already parsed: a table alone is not parsed again.
+pub fn sanitize_parsed_blob<H: BuildHasher + Clone + Drop>(
+    alloc: Global,
+    blob: &Blob<'_>,
+    table: &Btf,
+    rewrite: &Rewrite<'_>,
+    hash_builder: H,
+) -> Result<(Vec<u8>, ArrayVec<FeatureAnswer, 8>), Fault>
+    requires { HasTable blob.now table.now }
+    ensures { IfOk result (λ r. RewritesBlob blob.now rewrite.now r.0.items r.1.items) }
+{
+    match blob {
+        Blob::Object(object) => rewrite_object(alloc, object, rewrite, hash_builder),
+        Blob::Table(_, _) => sanitize_table(alloc, table.try_clone()?, rewrite),
     }
 }
 
@@ -109,14 +128,12 @@ fn no_symbols(alloc: Global) -> HashMap<String, u64>
 /// Rewrites a table alone. Returns its bytes, and the answers for the features that the rewrite asked about.
 fn sanitize_table(
     alloc: Global,
-    bytes: &[u8],
-    endianness: Endianness,
+    mut table: Btf,
     rewrite: &Rewrite<'_>,
 ) -> Result<(Vec<u8>, ArrayVec<FeatureAnswer, 8>), Fault>
     ensures { IfOk result (λ r.
-        RewritesAlone endianness bytes.now (chosen_target rewrite.now) r.0.items r.1.items) }
+        RewritesTable table (chosen_target rewrite.now) r.0.items r.1.items) }
 {
-    let mut table = Btf::parse(alloc, bytes, endianness)?;
     let ids = ksyms_of(&table, rewrite.placeholder)?;
     let sections = no_sections(alloc);
     let symbols = no_symbols(alloc);

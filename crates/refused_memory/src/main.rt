@@ -11,6 +11,7 @@ mod ext;
 mod object;
 mod probe;
 mod records;
+mod relocated;
 mod report;
 mod rewrite;
 mod table;
@@ -59,6 +60,9 @@ fn done(work: &str, probe: &Probe, blob: &[u8], report: &mut Report) -> Result<(
         ),
         "variant_value" => above::value(probe, blob, report),
         "relocations_of" => above::relocations(probe, blob, report),
+        "target" | "resolve" | "relocate_section" => relocated::relocated(
+            work, probe, blob, report,
+        ),
         "ksyms" | "ksyms_alone" => rewrite::step(work, probe, blob, report),
         "parse_func_sizes" => ext::least_sizes("func", probe, blob, report),
         "parse_line_sizes" => ext::least_sizes("line", probe, blob, report),

@@ -11,7 +11,7 @@ use std::test::Fail;
 /// A table: its name, the words of its records, and its strings.
 struct Table(&'static str, &'static str, &'static [u8]);
 
-static TABLES: [Table; 23] = [
+static TABLES: [Table; 24] = [
     Table("empty", "", b"\0"),
     // A name that is not UTF-8.
     Table("lossy", "1 01000000 4 20", b"\0\xffA\0"),
@@ -44,6 +44,12 @@ static TABLES: [Table; 23] = [
     ),
     // An ENUM whose variants have names that are not UTF-8, except for the last one.
     Table("lossy_variants", "0 06000002 4  1 1 4 2", b"\0\xffA\0B\0"),
+    // A STRUCT with a member, and an access string.
+    Table(
+        "member",
+        "5 1000000 4 1000020  1 4000001 4 3 1 0",
+        b"\0s\0m\0int\00:0\0",
+    ),
     // Names that are not UTF-8, of two ENUMs.
     Table("lossy_enums", "1 06000000 4  1 06000000 4", b"\0\xffA\0"),
     // A DATASEC that names a variable.

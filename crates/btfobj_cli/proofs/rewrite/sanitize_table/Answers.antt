@@ -26,18 +26,18 @@ returns c =
     let same : layout ≡ no_layout = layouts_alike layout no_layout c.no_sections-sections.ensures c.no_symbols-symbols.ensures in
     let before = ap (λ r. r.0.0.now) c.new-resolver.ensures in
     let are : AreOfKernel target.has answers = all_of_kernel _ target.has (λ f. f.0.now ≡ c.args.rewrite.now.kernel) (λ f g feature granted is s. (search rules, search rules)) c.new-resolver.result.0 answers call.new.resolver.0 before call.ensures.called in
-    let Known : Layout → Type 0 = λ l. Rewritten target.policy c.in_ok-table.table c.in_ok-ids.ids l answers call.new.self × (features_asked answers ≡ Asked (pass_of target.policy c.in_ok-table.table c.in_ok-ids.ids l answers)) in
+    let Known : Layout → Type 0 = λ l. Rewritten target.policy c.args.table c.in_ok-ids.ids l answers call.new.self × (features_asked answers ≡ Asked (pass_of target.policy c.args.table c.in_ok-ids.ids l answers)) in
     let known : Known no_layout = subst Known same c.in_ok-answers.ensures.rewrites in
     let new : Table = call.new.self in
     let file : List ℕ = c.in_ok-to_bytes.field-0.items in
-    rw c.in_ok-answers.ensures.answers (record {
-      old = c.in_ok-table.table;
+    rw c.in_ok-answers.ensures.answers (λ order bytes is. record {
+      old = c.args.table;
       new = new;
       ids = c.in_ok-ids.ids;
-      table = c.in_ok-table.ensures.parsed;
+      table = is;
       ksyms = c.in_ok-ids.ensures;
-      rewritten = rewritten_alike target.policy c.in_ok-table.table new c.in_ok-ids.ids no_layout answers (answers_of target.has) known.0 known.1 (kernel_agrees target.has answers are);
+      rewritten = rewritten_alike target.policy c.args.table new c.in_ok-ids.ids no_layout answers (answers_of target.has) known.0 known.1 (kernel_agrees target.has answers are);
       answers_are = record { of_kernel = are; asked_for = known.1 };
       written = same_ok {E = Refusal} file (canon new) c.in_ok-to_bytes.ensures.written;
-      parses_back = written_again c.args.endianness c.args.bytes.now file c.in_ok-table.table new c.in_ok-ids.ids (under target.policy layout) answers c.in_ok-table.ensures.parsed c.in_ok-answers.ensures.rewrites.0 c.in_ok-to_bytes.ensures.parses_back;
+      parses_back = written_again order bytes file c.args.table new c.in_ok-ids.ids (under target.policy layout) answers is c.in_ok-answers.ensures.rewrites.0 c.in_ok-to_bytes.ensures.parses_back;
     })
