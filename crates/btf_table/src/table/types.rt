@@ -11,6 +11,13 @@ use btf_plain::{BtfError, Endianness};
 use btf_records::BtfType;
 use std::alloc::{AllocError, Global};
 
+/// The length in bytes of a record for which room is made before the records are read: a little less than the mean of a
+/// kernel's table, which is 25. A record has at least 12 bytes, so the vector of types grows at most once.
+const RECORD_LEN: usize = 24;
+
+/// The number of types for which a copy has room beside its own: a rewrite seldom appends more.
+const SPARE: usize = 4;
+
 /// The types of a type section, by id; the type of id 0 is first.
 ///
 /// Fails if the section does not consist of records: with `InvalidTypeInfo` if a record is truncated, and with
@@ -22,7 +29,7 @@ pub fn read_types(
 ) -> Result<Vec<BtfType>, BtfError>
     ensures { MeetsOrNoMemory (λ v. v.items) result (ReadsTypes endianness «data».now) }
 {
-    let mut types = Vec::new(alloc);
+    let mut types = Vec::with_capacity(alloc, 1 + data.len() / RECORD_LEN)?;
     types.push(BtfType::Unknown)?;
     let mut rest = data;
     while !rest.is_empty() {
@@ -50,14 +57,15 @@ pub fn append_types(
     Ok(())
 }
 
-/// Copies of the types, in a vector whose capacity is their number.
+/// Copies of the types, in a vector that has room for a few more, so that a rewrite of a copied table does not move all
+/// types to append an INT.
 pub fn clone_types(types: &Vec<BtfType>) -> Result<Vec<BtfType>, BtfError>
     ensures records { IsOrNoMemory (λ v. map record_of v.items) result
         (Ok (map record_of types.now.items)) }
     ensures fallbacks { IsOrNoMemory (λ v. map fallback_of v.items) result
         (Ok (map fallback_of types.now.items)) }
 {
-    let mut copies = Vec::with_capacity(*types.allocator(), types.len())?;
+    let mut copies = Vec::with_capacity(*types.allocator(), types.len() + SPARE)?;
     for record in types.as_slice() {
         copies.push(record.try_clone()?)?;
     }
