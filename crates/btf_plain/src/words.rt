@@ -1,11 +1,12 @@
 //! The words of a record after the third.
 
-ghost use Rattle.std.specs.Prelude.{◌≡◌, ◌++◌, ◌<◌, ◌^◌, length, IfOk, OnOk};
+ghost use Rattle.std.specs.Prelude.{◌≡◌, ◌++◌, ◌<◌, ◌^◌, length, IfOk, OnOk, [], refl, ◌∷◌};
 ghost use Rattle.std.specs.List.{AllByRecursion};
 ghost use Rattle.btf_model.specs.Record as model;
 ghost use Rattle.btf_model.specs.Spelling.{spell};
 ghost use Rattle.btf_words.specs.Error.{MeetsOrNoMemory};
 ghost use Rattle.btf_plain.specs.Head.{ReadsWords, headed};
+ghost use Rattle.std.specs.Int.{cast_unsigned, w32};
 
 use crate::head::Head;
 use btf_items::{push_array, split_word};
@@ -79,8 +80,6 @@ pub trait Fixed: Words {
 
 /// No words.
 impl Words for () {
-    ghost use Rattle.std.specs.Prelude.{[], refl};
-
     ghost words = { λ _. [] };
 
     ghost number = { λ _. 0 };
@@ -119,8 +118,6 @@ impl Words for () {
 }
 
 impl Fixed for () {
-    ghost use Rattle.std.specs.Prelude.{refl};
-
     fn copied(&self) -> Self {
         ()
     }
@@ -130,8 +127,6 @@ impl Fixed for () {
 
 /// One word.
 impl Words for u32 {
-    ghost use Rattle.std.specs.Prelude.{[], ◌∷◌, refl};
-
     ghost words = { λ w. w ∷ [] };
 
     ghost number = { λ _. 1 };
@@ -171,8 +166,6 @@ impl Words for u32 {
 }
 
 impl Fixed for u32 {
-    ghost use Rattle.std.specs.Prelude.{refl};
-
     fn copied(&self) -> Self {
         *self
     }
@@ -182,9 +175,6 @@ impl Fixed for u32 {
 
 /// One word, in two's complement.
 impl Words for i32 {
-    ghost use Rattle.std.specs.Prelude.{[], ◌∷◌, refl};
-    ghost use Rattle.std.specs.Int.{cast_unsigned, w32};
-
     ghost words = { λ n. cast_unsigned w32 n ∷ [] };
 
     ghost number = { λ _. 1 };
@@ -225,8 +215,6 @@ impl Words for i32 {
 }
 
 impl Fixed for i32 {
-    ghost use Rattle.std.specs.Prelude.{refl};
-
     fn copied(&self) -> Self {
         *self
     }
