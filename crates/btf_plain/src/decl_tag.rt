@@ -12,7 +12,7 @@ use btf_words::BtfKind;
 pub struct DeclTagKind;
 
 impl Kind for DeclTagKind {
-    type Tail = i32;
+    type Tail = u32;
 
     const KIND: BtfKind = BtfKind::DeclTag;
 
@@ -36,13 +36,13 @@ impl Record<DeclTagKind> {
             (cast_unsigned w32 component_index) }
     {
         let info = (BtfKind::DeclTag as u32) << 24;
-        Self::of(name_offset, info, btf_type, component_index)
+        Self::of(name_offset, info, btf_type, component_index.cast_unsigned())
     }
 
     /// The index of the member or the parameter that is tagged, or -1.
     pub fn component_index(&self) -> i32
         ensures { self.now.tail ≡ cast_unsigned w32 result ∷ [] }
     {
-        self.tail
+        self.tail.cast_signed()
     }
 }

@@ -5,6 +5,7 @@ ghost use Rattle.btf_model.specs.Record.{kind_flag};
 ghost use Rattle.btf_model.specs.Made as made;
 ghost use Rattle.btf_words.specs.declared.kind.BtfKind.TheVariants.{Fwd};
 
+use crate::list::flag_word;
 use crate::record::{Kind, Record};
 use btf_words::BtfKind;
 
@@ -31,8 +32,8 @@ impl Record<FwdKind> {
     pub fn new(name_offset: u32, kind_flag: bool) -> Self
         ensures { result ≡ made.fwd name_offset kind_flag }
     {
-        let flag = if kind_flag { 1 << 31 } else { 0 };
-        Self::of(name_offset, (BtfKind::Fwd as u32) << 24 | flag, 0, ())
+        let info = (BtfKind::Fwd as u32) << 24 | flag_word(kind_flag);
+        Self::of(name_offset, info, 0, ())
     }
 
     /// Whether a union is declared, and not a structure: the kind flag of info.

@@ -6,7 +6,6 @@ ghost use Rattle.btf_model.specs.Record as model;
 ghost use Rattle.btf_model.specs.Spelling.{spell};
 ghost use Rattle.btf_words.specs.Error.{MeetsOrNoMemory};
 ghost use Rattle.btf_plain.specs.Head.{ReadsWords, headed};
-ghost use Rattle.std.specs.Int.{cast_unsigned, w32};
 
 use crate::head::Head;
 use btf_items::{push_array, split_word};
@@ -166,55 +165,6 @@ impl Words for u32 {
 }
 
 impl Fixed for u32 {
-    fn copied(&self) -> Self {
-        *self
-    }
-
-    ghost same_number = { λ _ _. refl };
-}
-
-/// One word, in two's complement.
-impl Words for i32 {
-    ghost words = { λ n. cast_unsigned w32 n ∷ [] };
-
-    ghost number = { λ _. 1 };
-
-    ghost kept = { λ ws. ws };
-
-    fn number(_vlen: usize) -> usize {
-        1
-    }
-
-    fn read(
-        _alloc: Global,
-        bytes: &[u8],
-        endianness: Endianness,
-        _vlen: usize,
-    ) -> Result<Self, BtfError> {
-        let (word, _) = split_word(bytes, endianness)?;
-        Ok(word.cast_signed())
-    }
-
-    fn append_to(
-        &self,
-        head: &Head,
-        out: &mut Vec<u8>,
-        endianness: Endianness,
-    ) -> Result<(), AllocError> {
-        let word = self.cast_unsigned();
-        push_array(out, endianness, &[head.name, head.info, head.third, word])
-    }
-
-    fn try_clone(&self) -> Result<Self, AllocError> {
-        Ok(*self)
-    }
-
-    ghost words_kept = { λ _. refl };
-
-    ghost length_kept = { λ _. refl };
-}
-
-impl Fixed for i32 {
     fn copied(&self) -> Self {
         *self
     }
