@@ -99,7 +99,10 @@ impl Item for BtfEnum {
         Self::new(name_offset, value)
     }
 
-    ghost same_item = { λ x y same i. record { name_offset = slice_index (same i) 0; value = slice_index (same i) 1 } };
+    ghost same_item = { λ x y same i. record {
+      name_offset = slice_index (same i) 0;
+      value = slice_index (same i) 1;
+    } };
 
     ghost cloned_words = { λ x y h i. h.0 i ∷ h.1 i ∷ [] };
 
@@ -128,7 +131,11 @@ impl Item for BtfEnum64 {
         }
     }
 
-    ghost same_item = { λ x y same i. record { name_offset = slice_index (same i) 0; value_low = slice_index (same i) 1; value_high = slice_index (same i) 2 } };
+    ghost same_item = { λ x y same i. record {
+      name_offset = slice_index (same i) 0;
+      value_low = slice_index (same i) 1;
+      value_high = slice_index (same i) 2;
+    } };
 
     ghost cloned_words = { λ x y h i. enum64_words (h i) };
 
@@ -157,7 +164,11 @@ impl Item for BtfMember {
         }
     }
 
-    ghost same_item = { λ x y same i. record { name_offset = slice_index (same i) 0; btf_type = slice_index (same i) 1; offset = slice_index (same i) 2 } };
+    ghost same_item = { λ x y same i. record {
+      name_offset = slice_index (same i) 0;
+      btf_type = slice_index (same i) 1;
+      offset = slice_index (same i) 2;
+    } };
 
     ghost cloned_words = { λ x y h i. h.0 i ∷ h.1.0 i ∷ h.1.1 i ∷ [] };
 
@@ -185,7 +196,10 @@ impl Item for BtfParam {
         }
     }
 
-    ghost same_item = { λ x y same i. record { name_offset = slice_index (same i) 0; btf_type = slice_index (same i) 1 } };
+    ghost same_item = { λ x y same i. record {
+      name_offset = slice_index (same i) 0;
+      btf_type = slice_index (same i) 1;
+    } };
 
     ghost cloned_words = { λ x y h i. h.0 i ∷ h.1 i ∷ [] };
 
@@ -214,7 +228,11 @@ impl Item for DataSecEntry {
         }
     }
 
-    ghost same_item = { λ x y same i. record { btf_type = slice_index (same i) 0; offset = slice_index (same i) 1; size = slice_index (same i) 2 } };
+    ghost same_item = { λ x y same i. record {
+      btf_type = slice_index (same i) 0;
+      offset = slice_index (same i) 1;
+      size = slice_index (same i) 2;
+    } };
 
     ghost cloned_words = { λ x y h i. h.0 i ∷ h.1.0 i ∷ h.1.1 i ∷ [] };
 
