@@ -8,7 +8,7 @@ ghost use Rattle.btf_items.specs.ItemList.{items_of};
 ghost use Rattle.btf_items.specs.Items.{variant_of_param};
 
 use crate::items::{BtfEnum, BtfParam};
-use crate::list::{Item, clone_items, read_items};
+use crate::list::{Item, clone_items, copied, read_item, read_items};
 use btf_words::{BtfError, Endianness};
 use std::alloc::{AllocError, Global};
 use std::{array, fmt};
@@ -72,9 +72,9 @@ impl<T: Item, const N: usize> ItemList<T, N> {
         if items.len() > N {
             return ItemList::Many(items);
         }
-        let mut few: [T; N] = array::from_fn(|_| T::blank());
+        let mut few: [T; N] = array::from_fn(|_| T::from_words([0; 3]));
         for index in 0..items.len() {
-            few[index] = items[index].copied();
+            few[index] = copied(&items[index]);
         }
         ItemList::Few(items.len(), few)
     }
@@ -90,9 +90,7 @@ impl<T: Item, const N: usize> ItemList<T, N> {
             ItemList::Many(items) => Ok(ItemList::Many(clone_items(items)?)),
         }
     }
-}
 
-impl<T: Item, const N: usize> ItemList<T, N> {
     /// Replaces the item at an index.
     pub fn set(&mut self, index: usize, item: T)
         requires { index < length (items_of self.old) }
@@ -122,9 +120,10 @@ pub fn as_variants<const N: usize>(
 fn few_variants<const N: usize>(params: &[BtfParam; N]) -> [BtfEnum; N]
     ensures { result ≡ map variant_of_param params.now }
 {
-    let mut variants: [BtfEnum; N] = array::from_fn(|_| BtfEnum::blank());
+    let mut variants: [BtfEnum; N] = array::from_fn(|_| BtfEnum::new(0, 0));
     for index in 0..N {
-        variants[index] = BtfEnum::of_param(&params.as_slice()[index]);
+        let param = &params.as_slice()[index];
+        variants[index] = BtfEnum::new(param.name_offset, param.btf_type);
     }
     variants
 }
@@ -135,7 +134,7 @@ fn many_variants(params: &Vec<BtfParam>) -> Result<Vec<BtfEnum>, AllocError>
 {
     let mut variants = Vec::with_capacity(*params.allocator(), params.len())?;
     for param in params {
-        variants.push(BtfEnum::of_param(param))?;
+        variants.push(BtfEnum::new(param.name_offset, param.btf_type))?;
     }
     Ok(variants)
 }
@@ -144,9 +143,9 @@ fn many_variants(params: &Vec<BtfParam>) -> Result<Vec<BtfEnum>, AllocError>
 fn copy_few<T: Item, const N: usize>(items: &[T; N]) -> [T; N]
     ensures { result ≡ items.now }
 {
-    let mut copies: [T; N] = array::from_fn(|_| T::blank());
+    let mut copies: [T; N] = array::from_fn(|_| T::from_words([0; 3]));
     for index in 0..N {
-        copies[index] = items.as_slice()[index].copied();
+        copies[index] = copied(&items.as_slice()[index]);
     }
     copies
 }
@@ -162,10 +161,10 @@ fn read_few<T: Item, const N: usize>(
     ensures { MeetsOrNoMemory (take count) result
         (ReadsItems T.WIDTH T.item_words endianness bytes.now count) }
 {
-    let mut items: [T; N] = array::from_fn(|_| T::blank());
+    let mut items: [T; N] = array::from_fn(|_| T::from_words([0; 3]));
     let mut rest = bytes;
     for index in 0..count {
-        let (item, after) = T::read(rest, endianness)?;
+        let (item, after) = read_item::<T>(rest, endianness)?;
         items[index] = item;
         rest = after;
     }

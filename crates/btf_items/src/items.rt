@@ -1,12 +1,10 @@
 //! The items of the records that have a list.
 
-ghost use Rattle.std.specs.Prelude.{◌≡◌, ◌/◌, ◌%◌, ◌^◌, [], ◌∷◌};
-ghost use Rattle.btf_items.specs.Items.{enum_words, enum64_words, member_words, param_words, entry_words, variant_of_param};
+ghost use Rattle.std.specs.Prelude.{◌≡◌, ◌/◌, ◌%◌, ◌^◌, [], ◌∷◌, slice_index, refl};
+ghost use Rattle.std.proofs.Common.{inl, inr};
+ghost use Rattle.btf_items.specs.Items.{enum_words, enum64_words, member_words, param_words, entry_words};
 
 use crate::list::Item;
-use crate::words::{push_array, split_word};
-use btf_words::{BtfError, Endianness};
-use std::alloc::AllocError;
 
 /// A variant of an ENUM (the kernel's documentation, "BTF_KIND_ENUM").
 #[derive(Clone, Debug, Drop)]
@@ -23,16 +21,6 @@ impl BtfEnum {
         ensures { result ≡ record { name_offset = name_offset; value = value } }
     {
         Self { name_offset, value }
-    }
-
-    /// A variant with the name of a parameter, whose value is the parameter's type.
-    pub(crate) fn of_param(param: &BtfParam) -> Self
-        ensures { result ≡ variant_of_param param.now }
-    {
-        Self {
-            name_offset: param.name_offset,
-            value: param.btf_type,
-        }
     }
 }
 
@@ -96,265 +84,159 @@ pub struct DataSecEntry {
 }
 
 impl Item for BtfEnum {
-    ghost use Rattle.std.specs.Prelude.{refl};
-    ghost use Rattle.std.proofs.Common.{lit<, lit≤};
-    ghost use Rattle.btf_items.specs.Items.{enum_words};
-
     const WIDTH: usize = 2;
 
     ghost WIDTH = { 2 };
 
     ghost item_words = { enum_words };
 
-    fn read(bytes: &[u8], endianness: Endianness) -> Result<(Self, &[u8]), BtfError> {
-        let (name_offset, rest) = split_word(bytes, endianness)?;
-        let (value, rest) = split_word(rest, endianness)?;
-        Ok((Self { name_offset, value }, rest))
+    fn words(&self) -> [u32; 3] {
+        [self.name_offset, self.value, 0]
     }
 
-    fn append_to(&self, out: &mut Vec<u8>, endianness: Endianness) -> Result<(), AllocError> {
-        push_array(out, endianness, &[self.name_offset, self.value])
+    fn from_words(words: [u32; 3]) -> Self {
+        let [name_offset, value, _] = words;
+        Self::new(name_offset, value)
     }
 
-    fn blank() -> Self {
-        BtfEnum {
-            name_offset: 0,
-            value: 0,
-        }
-    }
-
-    fn copied(&self) -> Self {
-        BtfEnum {
-            name_offset: self.name_offset,
-            value: self.value,
-        }
-    }
+    ghost same_item = { λ x y same i. record {
+      name_offset = slice_index (same i) 0;
+      value = slice_index (same i) 1;
+    } };
 
     ghost cloned_words = { λ x y h i. h.0 i ∷ h.1 i ∷ [] };
 
     ghost item_width = { λ x. refl };
 
-    ghost some_word = { lit< tt };
-
-    ghost few_words = { lit≤ tt };
+    ghost two_or_three = { inl refl };
 }
 
 impl Item for BtfEnum64 {
-    ghost use Rattle.std.specs.Prelude.{refl};
-    ghost use Rattle.std.proofs.Common.{lit<, lit≤};
-    ghost use Rattle.btf_items.specs.Items.{enum64_words};
-
     const WIDTH: usize = 3;
 
     ghost WIDTH = { 3 };
 
     ghost item_words = { enum64_words };
 
-    fn read(bytes: &[u8], endianness: Endianness) -> Result<(Self, &[u8]), BtfError> {
-        let (name_offset, rest) = split_word(bytes, endianness)?;
-        let (value_low, rest) = split_word(rest, endianness)?;
-        let (value_high, rest) = split_word(rest, endianness)?;
-        Ok((
-            Self {
-                name_offset,
-                value_low,
-                value_high,
-            },
-            rest,
-        ))
+    fn words(&self) -> [u32; 3] {
+        [self.name_offset, self.value_low, self.value_high]
     }
 
-    fn append_to(&self, out: &mut Vec<u8>, endianness: Endianness) -> Result<(), AllocError> {
-        push_array(
-            out,
-            endianness,
-            &[self.name_offset, self.value_low, self.value_high],
-        )
-    }
-
-    fn blank() -> Self {
-        BtfEnum64 {
-            name_offset: 0,
-            value_low: 0,
-            value_high: 0,
+    fn from_words(words: [u32; 3]) -> Self {
+        let [name_offset, value_low, value_high] = words;
+        Self {
+            name_offset,
+            value_low,
+            value_high,
         }
     }
 
-    fn copied(&self) -> Self {
-        BtfEnum64 {
-            name_offset: self.name_offset,
-            value_low: self.value_low,
-            value_high: self.value_high,
-        }
-    }
+    ghost same_item = { λ x y same i. record {
+      name_offset = slice_index (same i) 0;
+      value_low = slice_index (same i) 1;
+      value_high = slice_index (same i) 2;
+    } };
 
     ghost cloned_words = { λ x y h i. enum64_words (h i) };
 
     ghost item_width = { λ x. refl };
 
-    ghost some_word = { lit< tt };
-
-    ghost few_words = { lit≤ tt };
+    ghost two_or_three = { inr refl };
 }
 
 impl Item for BtfMember {
-    ghost use Rattle.std.specs.Prelude.{refl};
-    ghost use Rattle.std.proofs.Common.{lit<, lit≤};
-    ghost use Rattle.btf_items.specs.Items.{member_words};
-
     const WIDTH: usize = 3;
 
     ghost WIDTH = { 3 };
 
     ghost item_words = { member_words };
 
-    fn read(bytes: &[u8], endianness: Endianness) -> Result<(Self, &[u8]), BtfError> {
-        let (name_offset, rest) = split_word(bytes, endianness)?;
-        let (btf_type, rest) = split_word(rest, endianness)?;
-        let (offset, rest) = split_word(rest, endianness)?;
-        Ok((
-            Self {
-                name_offset,
-                btf_type,
-                offset,
-            },
-            rest,
-        ))
+    fn words(&self) -> [u32; 3] {
+        [self.name_offset, self.btf_type, self.offset]
     }
 
-    fn append_to(&self, out: &mut Vec<u8>, endianness: Endianness) -> Result<(), AllocError> {
-        push_array(
-            out,
-            endianness,
-            &[self.name_offset, self.btf_type, self.offset],
-        )
-    }
-
-    fn blank() -> Self {
-        BtfMember {
-            name_offset: 0,
-            btf_type: 0,
-            offset: 0,
+    fn from_words(words: [u32; 3]) -> Self {
+        let [name_offset, btf_type, offset] = words;
+        Self {
+            name_offset,
+            btf_type,
+            offset,
         }
     }
 
-    fn copied(&self) -> Self {
-        BtfMember {
-            name_offset: self.name_offset,
-            btf_type: self.btf_type,
-            offset: self.offset,
-        }
-    }
+    ghost same_item = { λ x y same i. record {
+      name_offset = slice_index (same i) 0;
+      btf_type = slice_index (same i) 1;
+      offset = slice_index (same i) 2;
+    } };
 
     ghost cloned_words = { λ x y h i. h.0 i ∷ h.1.0 i ∷ h.1.1 i ∷ [] };
 
     ghost item_width = { λ x. refl };
 
-    ghost some_word = { lit< tt };
-
-    ghost few_words = { lit≤ tt };
+    ghost two_or_three = { inr refl };
 }
 
 impl Item for BtfParam {
-    ghost use Rattle.std.specs.Prelude.{refl};
-    ghost use Rattle.std.proofs.Common.{lit<, lit≤};
-    ghost use Rattle.btf_items.specs.Items.{param_words};
-
     const WIDTH: usize = 2;
 
     ghost WIDTH = { 2 };
 
     ghost item_words = { param_words };
 
-    fn read(bytes: &[u8], endianness: Endianness) -> Result<(Self, &[u8]), BtfError> {
-        let (name_offset, rest) = split_word(bytes, endianness)?;
-        let (btf_type, rest) = split_word(rest, endianness)?;
-        Ok((
-            Self {
-                name_offset,
-                btf_type,
-            },
-            rest,
-        ))
+    fn words(&self) -> [u32; 3] {
+        [self.name_offset, self.btf_type, 0]
     }
 
-    fn append_to(&self, out: &mut Vec<u8>, endianness: Endianness) -> Result<(), AllocError> {
-        push_array(out, endianness, &[self.name_offset, self.btf_type])
-    }
-
-    fn blank() -> Self {
-        BtfParam {
-            name_offset: 0,
-            btf_type: 0,
+    fn from_words(words: [u32; 3]) -> Self {
+        let [name_offset, btf_type, _] = words;
+        Self {
+            name_offset,
+            btf_type,
         }
     }
 
-    fn copied(&self) -> Self {
-        BtfParam {
-            name_offset: self.name_offset,
-            btf_type: self.btf_type,
-        }
-    }
+    ghost same_item = { λ x y same i. record {
+      name_offset = slice_index (same i) 0;
+      btf_type = slice_index (same i) 1;
+    } };
 
     ghost cloned_words = { λ x y h i. h.0 i ∷ h.1 i ∷ [] };
 
     ghost item_width = { λ x. refl };
 
-    ghost some_word = { lit< tt };
-
-    ghost few_words = { lit≤ tt };
+    ghost two_or_three = { inl refl };
 }
 
 impl Item for DataSecEntry {
-    ghost use Rattle.std.specs.Prelude.{refl};
-    ghost use Rattle.std.proofs.Common.{lit<, lit≤};
-    ghost use Rattle.btf_items.specs.Items.{entry_words};
-
     const WIDTH: usize = 3;
 
     ghost WIDTH = { 3 };
 
     ghost item_words = { entry_words };
 
-    fn read(bytes: &[u8], endianness: Endianness) -> Result<(Self, &[u8]), BtfError> {
-        let (btf_type, rest) = split_word(bytes, endianness)?;
-        let (offset, rest) = split_word(rest, endianness)?;
-        let (size, rest) = split_word(rest, endianness)?;
-        Ok((
-            Self {
-                btf_type,
-                offset,
-                size,
-            },
-            rest,
-        ))
+    fn words(&self) -> [u32; 3] {
+        [self.btf_type, self.offset, self.size]
     }
 
-    fn append_to(&self, out: &mut Vec<u8>, endianness: Endianness) -> Result<(), AllocError> {
-        push_array(out, endianness, &[self.btf_type, self.offset, self.size])
-    }
-
-    fn blank() -> Self {
-        DataSecEntry {
-            btf_type: 0,
-            offset: 0,
-            size: 0,
+    fn from_words(words: [u32; 3]) -> Self {
+        let [btf_type, offset, size] = words;
+        Self {
+            btf_type,
+            offset,
+            size,
         }
     }
 
-    fn copied(&self) -> Self {
-        DataSecEntry {
-            btf_type: self.btf_type,
-            offset: self.offset,
-            size: self.size,
-        }
-    }
+    ghost same_item = { λ x y same i. record {
+      btf_type = slice_index (same i) 0;
+      offset = slice_index (same i) 1;
+      size = slice_index (same i) 2;
+    } };
 
     ghost cloned_words = { λ x y h i. h.0 i ∷ h.1.0 i ∷ h.1.1 i ∷ [] };
 
     ghost item_width = { λ x. refl };
 
-    ghost some_word = { lit< tt };
-
-    ghost few_words = { lit≤ tt };
+    ghost two_or_three = { inr refl };
 }

@@ -12,4 +12,4 @@ pub use fallback::{Enum64Fallback, Enum64VariantFallback};
 pub use item_list::{ItemList, as_variants};
 pub use items::{BtfEnum, BtfEnum64, BtfMember, BtfParam, DataSecEntry};
 pub use list::{Item, clone_items, push_items, read_items};
-pub use words::{push, push_array, split_word};
+pub use words::{push_array, split_word};

@@ -1,16 +1,16 @@
 //! Lists of items: the code that all kinds with a list share.
 
-ghost use Rattle.std.specs.Prelude.{◌≡◌, ℕ, ◌*◌, ◌<◌, ◌≤◌, ◌^◌, ◌++◌, List, length, drop, Ok, IfOk, OnOk, MatchResult};
+ghost use Rattle.std.specs.Prelude.{◌≡◌, ◌⊎◌, ℕ, ◌*◌, ◌<◌, ◌≤◌, ◌^◌, ◌++◌, List, length, take, drop, Ok, IfOk, OnOk, MatchResult};
 ghost use Rattle.std.specs.List.{flat_map, AllByRecursion};
 ghost use Rattle.btf_model.specs.Word.{word, words_at};
 ghost use Rattle.btf_words.specs.Error.{MeetsOrNoMemory};
-ghost use Rattle.btf_items.specs.ReadItems.{ReadsItems};
+ghost use Rattle.btf_items.specs.ReadItems.{ReadsItems, padded};
 
-use crate::words::push;
+use crate::words::{push_array, split_word};
 use btf_words::{BtfError, Endianness};
 use std::alloc::{AllocError, Global};
 
-/// An item of a list: a fixed number of words.
+/// An item of a list: two or three words.
 pub trait Item: Sized + Clone + Drop {
     /// The number of words of an item.
     const WIDTH: usize;
@@ -20,26 +20,16 @@ pub trait Item: Sized + Clone + Drop {
     /// The words of an item.
     ghost item_words: { Self → List ℕ };
 
-    /// The item at the front of bytes, and the bytes after it.
-    fn read(bytes: &[u8], endianness: Endianness) -> Result<(Self, &[u8]), BtfError>
-        ensures { MatchResult result
-            (λ x. (4 * WIDTH ≤ length bytes.now)
-            × (item_words x.0 ≡ words_at endianness WIDTH bytes.now)
-            × (x.1.now ≡ drop (4 * WIDTH) bytes.now))
-            (λ e. (length bytes.now < 4 * WIDTH) × (e ≡ BtfError.InvalidTypeInfo)) };
+    /// The words of the item. If it has two, the third word is 0.
+    fn words(&self) -> [u32; 3]
+        ensures { result ≡ padded (item_words self.now) };
 
-    /// Appends the item to bytes.
-    fn append_to(&self, out: &mut Vec<u8>, endianness: Endianness) -> Result<(), AllocError>
-        ensures written { OnOk result (out.new.items ≡ out.old.items
-            ++ flat_map (word endianness) (item_words self.now)) }
-        ensures words_fit { AllByRecursion (λ w. w < 2 ^ 32) (item_words self.now) };
+    /// The item with these words. If an item has two words, the third is ignored.
+    fn from_words(words: [u32; 3]) -> Self
+        ensures { item_words result ≡ take WIDTH words };
 
-    /// The item whose words are zero. It fills unused places of a list.
-    fn blank() -> Self;
-
-    /// A copy of the item, without an allocation.
-    fn copied(&self) -> Self
-        ensures { result ≡ self.now };
+    /// Items with the same words are equal.
+    ghost same_item: { (x y : Self) → item_words x ≡ item_words y → x ≡ y };
 
     /// A clone has the same words.
     ghost cloned_words: { (x y : Self) → Self.is_clone x y → item_words y ≡ item_words x };
@@ -47,11 +37,50 @@ pub trait Item: Sized + Clone + Drop {
     /// Each item has this number of words.
     ghost item_width: { (x : Self) → length (item_words x) ≡ WIDTH };
 
-    /// An item has a word.
-    ghost some_word: { 0 < WIDTH };
+    /// An item has two or three words.
+    ghost two_or_three: { (WIDTH ≡ 2) ⊎ (WIDTH ≡ 3) };
+}
 
-    /// An item has at most three words.
-    ghost few_words: { WIDTH ≤ 3 };
+/// The item at the front of bytes, and the bytes after it. Fails with `InvalidTypeInfo` if the bytes are too few.
+pub(crate) fn read_item<T: Item>(
+    bytes: &[u8],
+    endianness: Endianness,
+) -> Result<(T, &[u8]), BtfError>
+    ensures { MatchResult result
+        (λ x. (4 * T.WIDTH ≤ length bytes.now)
+        × (T.item_words x.0 ≡ words_at endianness T.WIDTH bytes.now)
+        × (x.1.now ≡ drop (4 * T.WIDTH) bytes.now))
+        (λ e. (length bytes.now < 4 * T.WIDTH) × (e ≡ BtfError.InvalidTypeInfo)) }
+{
+    let (first, rest) = split_word(bytes, endianness)?;
+    let (second, rest) = split_word(rest, endianness)?;
+    if T::WIDTH == 2 {
+        return Ok((T::from_words([first, second, 0]), rest));
+    }
+    let (third, rest) = split_word(rest, endianness)?;
+    Ok((T::from_words([first, second, third]), rest))
+}
+
+/// Appends an item to bytes.
+fn push_item<T: Item>(out: &mut Vec<u8>, endianness: Endianness, item: &T) -> Result<(), AllocError>
+    ensures written { OnOk result (out.new.items ≡ out.old.items
+        ++ flat_map (word endianness) (T.item_words item.now)) }
+    ensures words_fit { AllByRecursion (λ w. w < 2 ^ 32) (T.item_words item.now) }
+{
+    let words = item.words();
+    if T::WIDTH == 2 {
+        let [first, second, _] = words;
+        push_array(out, endianness, &[first, second])
+    } else {
+        push_array(out, endianness, &words)
+    }
+}
+
+/// A copy of an item, without an allocation.
+pub(crate) fn copied<T: Item>(item: &T) -> T
+    ensures { result ≡ item.now }
+{
+    T::from_words(item.words())
 }
 
 /// Appends items to bytes.
@@ -66,7 +95,7 @@ pub fn push_items<T: Item>(
         (AllByRecursion (λ w. w < 2 ^ 32) (flat_map T.item_words items.now)) }
 {
     for item in items {
-        item.append_to(out, endianness)?;
+        push_item(out, endianness, item)?;
     }
     Ok(())
 }
@@ -93,7 +122,7 @@ pub fn read_items<T: Item>(
     let mut items = Vec::with_capacity(alloc, count)?;
     let mut rest = bytes;
     for _ in 0..count {
-        let (item, behind) = T::read(rest, endianness)?;
+        let (item, behind) = read_item::<T>(rest, endianness)?;
         items.push(item)?;
         rest = behind;
     }

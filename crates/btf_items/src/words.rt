@@ -37,15 +37,3 @@ pub fn push_array<const N: usize>(
     }
     out.extend_from_slice(bytes.as_flattened())
 }
-
-/// Appends words to bytes.
-pub fn push(out: &mut Vec<u8>, endianness: Endianness, words: &[u32]) -> Result<(), AllocError>
-    ensures written { OnOk result (out.new.items ≡ out.old.items
-        ++ flat_map (word endianness) words.now) }
-    ensures words_fit { AllByRecursion (λ w. w < 2 ^ 32) words.now }
-{
-    for value in words {
-        out.extend_from_slice(&endianness.write_u32(*value))?;
-    }
-    Ok(())
-}

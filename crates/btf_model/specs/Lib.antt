@@ -15,6 +15,7 @@ pub mod RelocationWords
 pub mod ExtExamples
 pub mod AboveExamples
 pub mod Info
+pub mod Made
 pub mod Laws
 pub mod Examples
 pub mod Run

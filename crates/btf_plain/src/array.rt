@@ -1,6 +1,8 @@
 //! ARRAY: an array.
 
-ghost use Rattle.std.specs.Prelude.{◌≡◌, ◌+◌, ◌*◌, ◌^◌, [], ◌∷◌};
+ghost use Rattle.std.specs.Prelude.{◌≡◌, [], ◌∷◌, refl};
+ghost use Rattle.btf_model.specs.Made as made;
+ghost use Rattle.btf_words.specs.declared.kind.BtfKind.TheVariants.{Array};
 
 use crate::btf_array::BtfArray;
 use crate::head::Head;
@@ -14,9 +16,6 @@ use std::alloc::{AllocError, Global};
 pub struct ArrayKind;
 
 impl Kind for ArrayKind {
-    ghost use Rattle.std.specs.Prelude.{refl};
-    ghost use Rattle.btf_words.specs.declared.kind.BtfKind.TheVariants.{Array};
-
     type Tail = BtfArray;
 
     const KIND: BtfKind = BtfKind::Array;
@@ -34,12 +33,7 @@ pub type Array = Record<ArrayKind>;
 impl Record<ArrayKind> {
     /// An array of `len` elements of the type of id `element_type`, indexed by the type of id `index_type`.
     pub fn new(name_offset: u32, element_type: u32, index_type: u32, len: u32) -> Self
-        ensures { result ≡ record {
-          name = name_offset;
-          info = 3 * 2 ^ 24;
-          third = 0;
-          tail = element_type ∷ index_type ∷ len ∷ [];
-        } }
+        ensures { result ≡ made.array name_offset element_type index_type len }
     {
         let array = BtfArray {
             element_type,
@@ -60,8 +54,6 @@ impl Record<ArrayKind> {
 
 /// The three words of the array.
 impl Words for BtfArray {
-    ghost use Rattle.std.specs.Prelude.{[], ◌∷◌, refl};
-
     ghost words = { λ a. a.element_type ∷ a.index_type ∷ a.len ∷ [] };
 
     ghost number = { λ _. 3 };
@@ -115,8 +107,6 @@ impl Words for BtfArray {
 }
 
 impl Fixed for BtfArray {
-    ghost use Rattle.std.specs.Prelude.{refl};
-
     fn copied(&self) -> Self {
         BtfArray {
             element_type: self.element_type,

@@ -1,9 +1,11 @@
 //! DATASEC: a data section, with its variables as entries.
 
-ghost use Rattle.std.specs.Prelude.{◌≡◌, ◌+◌, ◌*◌, ◌^◌, ◌≤◌, length, vec_len, ◌++◌, ◌<◌, take, drop};
+ghost use Rattle.std.specs.Prelude.{◌≡◌, ◌+◌, ◌*◌, ◌≤◌, length, vec_len, ◌++◌, ◌<◌, take, drop, refl};
 ghost use Rattle.std.specs.List.{flat_map};
 ghost use Rattle.btf_model.specs.Record.{vlen};
+ghost use Rattle.btf_model.specs.Made as made;
 ghost use Rattle.btf_items.specs.Items.{entry_words};
+ghost use Rattle.btf_words.specs.declared.kind.BtfKind.TheVariants.{DataSec};
 
 use crate::list::MAX_VLEN;
 use crate::record::{Kind, Measured, Record};
@@ -14,9 +16,6 @@ use btf_words::BtfKind;
 pub struct DataSecKind;
 
 impl Kind for DataSecKind {
-    ghost use Rattle.std.specs.Prelude.{refl};
-    ghost use Rattle.btf_words.specs.declared.kind.BtfKind.TheVariants.{DataSec};
-
     type Tail = ItemList<DataSecEntry, 4>;
 
     const KIND: BtfKind = BtfKind::DataSec;
@@ -37,12 +36,8 @@ impl Record<DataSecKind> {
     /// A section of `size` bytes with these entries. There are at most `MAX_VLEN` of them.
     pub fn new(name_offset: u32, entries: Vec<DataSecEntry>, size: u32) -> Self
         requires { vec_len entries ≤ MAX_VLEN }
-        ensures { result ≡ record {
-          name = name_offset;
-          info = 15 * 2 ^ 24 + vec_len entries;
-          third = size;
-          tail = flat_map entry_words entries.items;
-        } }
+        ensures { result ≡ made.data_sec name_offset size (vec_len entries)
+            (flat_map entry_words entries.items) }
     {
         let items = ItemList::from_vec(entries);
         Self::listing(BtfKind::DataSec as u32, name_offset, false, size, items)

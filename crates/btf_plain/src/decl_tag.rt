@@ -1,7 +1,9 @@
 //! DECL_TAG: a tag of a declaration.
 
-ghost use Rattle.std.specs.Prelude.{◌≡◌, ◌+◌, ◌*◌, ◌^◌, [], ◌∷◌};
+ghost use Rattle.std.specs.Prelude.{◌≡◌, [], ◌∷◌, refl};
+ghost use Rattle.btf_model.specs.Made as made;
 ghost use Rattle.std.specs.Int.{cast_unsigned, w32};
+ghost use Rattle.btf_words.specs.declared.kind.BtfKind.TheVariants.{DeclTag};
 
 use crate::record::{Kind, Record, Refers};
 use btf_words::BtfKind;
@@ -10,10 +12,7 @@ use btf_words::BtfKind;
 pub struct DeclTagKind;
 
 impl Kind for DeclTagKind {
-    ghost use Rattle.std.specs.Prelude.{refl};
-    ghost use Rattle.btf_words.specs.declared.kind.BtfKind.TheVariants.{DeclTag};
-
-    type Tail = i32;
+    type Tail = u32;
 
     const KIND: BtfKind = BtfKind::DeclTag;
 
@@ -33,21 +32,17 @@ impl Record<DeclTagKind> {
     /// A tag of the type of id `btf_type`: of its member or parameter with this index, or of the whole type if the
     /// index is -1.
     pub fn new(name_offset: u32, btf_type: u32, component_index: i32) -> Self
-        ensures { result ≡ record {
-          name = name_offset;
-          info = 17 * 2 ^ 24;
-          third = btf_type;
-          tail = cast_unsigned w32 component_index ∷ [];
-        } }
+        ensures { result ≡ made.decl_tag name_offset btf_type
+            (cast_unsigned w32 component_index) }
     {
         let info = (BtfKind::DeclTag as u32) << 24;
-        Self::of(name_offset, info, btf_type, component_index)
+        Self::of(name_offset, info, btf_type, component_index.cast_unsigned())
     }
 
     /// The index of the member or the parameter that is tagged, or -1.
     pub fn component_index(&self) -> i32
         ensures { self.now.tail ≡ cast_unsigned w32 result ∷ [] }
     {
-        self.tail
+        self.tail.cast_signed()
     }
 }

@@ -1,10 +1,12 @@
 //! ENUM: an enumeration of 32-bit values.
 
-ghost use Rattle.std.specs.Prelude.{◌≡◌, ◌+◌, ◌*◌, ◌^◌, ◌≤◌, length, vec_len, ◌↔◌, IsTrue};
+ghost use Rattle.std.specs.Prelude.{◌≡◌, ◌≤◌, length, vec_len, ◌↔◌, IsTrue, refl};
 ghost use Rattle.std.specs.List.{flat_map};
 ghost use Rattle.btf_model.specs.Record.{vlen, kind_flag};
-ghost use Rattle.btf_model.specs.Info.{flag_bit, with_flag};
+ghost use Rattle.btf_model.specs.Info.{with_flag};
+ghost use Rattle.btf_model.specs.Made as made;
 ghost use Rattle.btf_items.specs.Items.{enum_words};
+ghost use Rattle.btf_words.specs.declared.kind.BtfKind.TheVariants.{Enum};
 
 use crate::list::{MAX_VLEN, flag_word};
 use crate::record::{Kind, Measured, Record};
@@ -15,9 +17,6 @@ use btf_words::BtfKind;
 pub struct EnumKind;
 
 impl Kind for EnumKind {
-    ghost use Rattle.std.specs.Prelude.{refl};
-    ghost use Rattle.btf_words.specs.declared.kind.BtfKind.TheVariants.{Enum};
-
     type Tail = ItemList<BtfEnum, 6>;
 
     const KIND: BtfKind = BtfKind::Enum;
@@ -38,12 +37,8 @@ impl Record<EnumKind> {
     /// An enumeration of 4 bytes with these variants. There are at most `MAX_VLEN` of them.
     pub fn new(name_offset: u32, signed: bool, variants: Vec<BtfEnum>) -> Self
         requires { vec_len variants ≤ MAX_VLEN }
-        ensures { result ≡ record {
-          name = name_offset;
-          info = 6 * 2 ^ 24 + vec_len variants + flag_bit signed;
-          third = 4;
-          tail = flat_map enum_words variants.items;
-        } }
+        ensures { result ≡ made.with_sign signed (made.enum name_offset (vec_len variants)
+            (flat_map enum_words variants.items)) }
     {
         let items = ItemList::from_vec(variants);
         Self::listing(BtfKind::Enum as u32, name_offset, signed, 4, items)

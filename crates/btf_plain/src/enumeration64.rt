@@ -1,10 +1,11 @@
 //! ENUM64: an enumeration of 64-bit values.
 
-ghost use Rattle.std.specs.Prelude.{◌≡◌, ◌+◌, ◌*◌, ◌^◌, ◌≤◌, length, vec_len, ◌↔◌, IsTrue};
+ghost use Rattle.std.specs.Prelude.{◌≡◌, ◌≤◌, length, vec_len, ◌↔◌, IsTrue, refl};
 ghost use Rattle.std.specs.List.{flat_map};
 ghost use Rattle.btf_model.specs.Record.{vlen, kind_flag};
-ghost use Rattle.btf_model.specs.Info.{flag_bit};
+ghost use Rattle.btf_model.specs.Made as made;
 ghost use Rattle.btf_items.specs.Items.{enum64_words};
+ghost use Rattle.btf_words.specs.declared.kind.BtfKind.TheVariants.{Enum64};
 
 use crate::list::MAX_VLEN;
 use crate::record::{Kind, Measured, Record};
@@ -15,9 +16,6 @@ use btf_words::BtfKind;
 pub struct Enum64Kind;
 
 impl Kind for Enum64Kind {
-    ghost use Rattle.std.specs.Prelude.{refl};
-    ghost use Rattle.btf_words.specs.declared.kind.BtfKind.TheVariants.{Enum64};
-
     type Tail = ItemList<BtfEnum64, 4>;
 
     const KIND: BtfKind = BtfKind::Enum64;
@@ -38,12 +36,8 @@ impl Record<Enum64Kind> {
     /// An enumeration of 8 bytes with these variants. There are at most `MAX_VLEN` of them.
     pub fn new(name_offset: u32, signed: bool, variants: Vec<BtfEnum64>) -> Self
         requires { vec_len variants ≤ MAX_VLEN }
-        ensures { result ≡ record {
-          name = name_offset;
-          info = 19 * 2 ^ 24 + vec_len variants + flag_bit signed;
-          third = 8;
-          tail = flat_map enum64_words variants.items;
-        } }
+        ensures { result ≡ made.with_sign signed (made.enum64 name_offset (vec_len variants)
+            (flat_map enum64_words variants.items)) }
     {
         let items = ItemList::from_vec(variants);
         Self::listing(BtfKind::Enum64 as u32, name_offset, signed, 8, items)

@@ -1,6 +1,8 @@
 //! FLOAT: a floating-point number.
 
-ghost use Rattle.std.specs.Prelude.{◌≡◌, ◌+◌, ◌*◌, ◌^◌, []};
+ghost use Rattle.std.specs.Prelude.{◌≡◌, refl};
+ghost use Rattle.btf_model.specs.Made as made;
+ghost use Rattle.btf_words.specs.declared.kind.BtfKind.TheVariants.{Float};
 
 use crate::record::{Kind, Measured, Record};
 use btf_words::BtfKind;
@@ -9,9 +11,6 @@ use btf_words::BtfKind;
 pub struct FloatKind;
 
 impl Kind for FloatKind {
-    ghost use Rattle.std.specs.Prelude.{refl};
-    ghost use Rattle.btf_words.specs.declared.kind.BtfKind.TheVariants.{Float};
-
     type Tail = ();
 
     const KIND: BtfKind = BtfKind::Float;
@@ -31,12 +30,7 @@ pub type Float = Record<FloatKind>;
 impl Record<FloatKind> {
     /// A floating-point number of `size` bytes.
     pub fn new(name_offset: u32, size: u32) -> Self
-        ensures { result ≡ record {
-          name = name_offset;
-          info = 16 * 2 ^ 24;
-          third = size;
-          tail = [];
-        } }
+        ensures { result ≡ made.float name_offset size }
     {
         Self::of(name_offset, (BtfKind::Float as u32) << 24, size, ())
     }

@@ -1,9 +1,11 @@
 //! FUNC: a function.
 
-ghost use Rattle.std.specs.Prelude.{◌≡◌, ◌+◌, ◌*◌, ◌^◌, []};
+ghost use Rattle.std.specs.Prelude.{◌≡◌, refl};
 ghost use Rattle.btf_model.specs.Record.{vlen};
 ghost use Rattle.btf_model.specs.Info.{with_vlen};
+ghost use Rattle.btf_model.specs.Made as made;
 ghost use Rattle.btf_plain.specs.Linkage.{func_linkage_number, func_linkage_of};
+ghost use Rattle.btf_words.specs.declared.kind.BtfKind.TheVariants.{Func};
 
 use crate::linkage::FuncLinkage;
 use crate::record::{Kind, Record, Refers};
@@ -13,9 +15,6 @@ use btf_words::BtfKind;
 pub struct FuncKind;
 
 impl Kind for FuncKind {
-    ghost use Rattle.std.specs.Prelude.{refl};
-    ghost use Rattle.btf_words.specs.declared.kind.BtfKind.TheVariants.{Func};
-
     type Tail = ();
 
     const KIND: BtfKind = BtfKind::Func;
@@ -35,12 +34,7 @@ pub type Func = Record<FuncKind>;
 impl Record<FuncKind> {
     /// A function whose prototype has the id `proto`. Its linkage is in bits 0 to 15 of info.
     pub fn new(name_offset: u32, proto: u32, linkage: FuncLinkage) -> Self
-        ensures { result ≡ record {
-          name = name_offset;
-          info = 12 * 2 ^ 24 + func_linkage_number linkage;
-          third = proto;
-          tail = [];
-        } }
+        ensures { result ≡ made.func name_offset proto (func_linkage_number linkage) }
     {
         let info = (BtfKind::Func as u32) << 24 | linkage.number();
         Self::of(name_offset, info, proto, ())

@@ -1,10 +1,12 @@
 //! FUNC_PROTO: a function prototype.
 
-ghost use Rattle.std.specs.Prelude.{◌≡◌, ◌+◌, ◌*◌, ◌^◌, ◌≤◌, length, vec_len, ◌++◌, ◌<◌, ◌∷◌, Ok, take, drop};
+ghost use Rattle.std.specs.Prelude.{◌≡◌, ◌+◌, ◌*◌, ◌≤◌, length, vec_len, ◌++◌, ◌<◌, ◌∷◌, Ok, take, drop, refl};
 ghost use Rattle.std.specs.List.{flat_map};
 ghost use Rattle.btf_model.specs.Record.{vlen};
+ghost use Rattle.btf_model.specs.Made as made;
 ghost use Rattle.btf_words.specs.Error.{IsOrNoMemory};
 ghost use Rattle.btf_items.specs.Items.{param_words};
+ghost use Rattle.btf_words.specs.declared.kind.BtfKind.TheVariants.{FuncProto};
 
 use crate::enumeration::Enum;
 use crate::list::MAX_VLEN;
@@ -16,9 +18,6 @@ use btf_words::{BtfError, BtfKind};
 pub struct FuncProtoKind;
 
 impl Kind for FuncProtoKind {
-    ghost use Rattle.std.specs.Prelude.{refl};
-    ghost use Rattle.btf_words.specs.declared.kind.BtfKind.TheVariants.{FuncProto};
-
     type Tail = ItemList<BtfParam, 6>;
 
     const KIND: BtfKind = BtfKind::FuncProto;
@@ -37,12 +36,8 @@ impl Record<FuncProtoKind> {
     /// A prototype with these parameters and no name. There are at most `MAX_VLEN` parameters.
     pub fn new(params: Vec<BtfParam>, return_type: u32) -> Self
         requires { vec_len params ≤ MAX_VLEN }
-        ensures { result ≡ record {
-          name = 0;
-          info = 13 * 2 ^ 24 + vec_len params;
-          third = return_type;
-          tail = flat_map param_words params.items;
-        } }
+        ensures { result ≡ made.func_proto return_type (vec_len params)
+            (flat_map param_words params.items) }
     {
         let items = ItemList::from_vec(params);
         Self::listing(BtfKind::FuncProto as u32, 0, false, return_type, items)
@@ -79,15 +74,11 @@ impl Record<FuncProtoKind> {
     }
 }
 
-/// The prototype as an unsigned ENUM of 4 bytes: each parameter becomes a variant with the parameter's name, whose value
-/// is the parameter's type. A few are converted without an allocation.
+/// The prototype as an unsigned ENUM of 4 bytes: each parameter becomes a variant with the parameter's name, whose
+/// value is the parameter's type. A few are converted without an allocation.
 pub fn as_enum(proto: &FuncProto) -> Result<Enum, BtfError>
-    ensures { IsOrNoMemory (λ r. r) result (Ok (record {
-      name = proto.now.name;
-      info = 6 * 2 ^ 24 + vlen proto.now.info;
-      third = 4;
-      tail = proto.now.tail;
-    })) }
+    ensures { IsOrNoMemory (λ r. r) result
+        (Ok (made.enum proto.now.name (vlen proto.now.info) proto.now.tail)) }
 {
     let variants = as_variants(&proto.tail)?;
     let name = proto.head.name;

@@ -1,9 +1,11 @@
 //! FWD: a forward declaration of a structure or a union.
 
-ghost use Rattle.std.specs.Prelude.{◌≡◌, ◌+◌, ◌*◌, ◌^◌, [], ◌↔◌, IsTrue};
+ghost use Rattle.std.specs.Prelude.{◌≡◌, ◌↔◌, IsTrue, refl};
 ghost use Rattle.btf_model.specs.Record.{kind_flag};
-ghost use Rattle.btf_model.specs.Info.{flag_bit};
+ghost use Rattle.btf_model.specs.Made as made;
+ghost use Rattle.btf_words.specs.declared.kind.BtfKind.TheVariants.{Fwd};
 
+use crate::list::flag_word;
 use crate::record::{Kind, Record};
 use btf_words::BtfKind;
 
@@ -11,9 +13,6 @@ use btf_words::BtfKind;
 pub struct FwdKind;
 
 impl Kind for FwdKind {
-    ghost use Rattle.std.specs.Prelude.{refl};
-    ghost use Rattle.btf_words.specs.declared.kind.BtfKind.TheVariants.{Fwd};
-
     type Tail = ();
 
     const KIND: BtfKind = BtfKind::Fwd;
@@ -31,15 +30,10 @@ pub type Fwd = Record<FwdKind>;
 impl Record<FwdKind> {
     /// A forward declaration. If the kind flag is set, it declares a union, else a structure.
     pub fn new(name_offset: u32, kind_flag: bool) -> Self
-        ensures { result ≡ record {
-          name = name_offset;
-          info = 7 * 2 ^ 24 + flag_bit kind_flag;
-          third = 0;
-          tail = [];
-        } }
+        ensures { result ≡ made.fwd name_offset kind_flag }
     {
-        let flag = if kind_flag { 1 << 31 } else { 0 };
-        Self::of(name_offset, (BtfKind::Fwd as u32) << 24 | flag, 0, ())
+        let info = (BtfKind::Fwd as u32) << 24 | flag_word(kind_flag);
+        Self::of(name_offset, info, 0, ())
     }
 
     /// Whether a union is declared, and not a structure: the kind flag of info.

@@ -1,7 +1,9 @@
 //! INT: an integer.
 
-ghost use Rattle.std.specs.Prelude.{◌≡◌, ◌+◌, ◌*◌, ◌%◌, ◌^◌, [], ◌∷◌, slice_index};
+ghost use Rattle.std.specs.Prelude.{◌≡◌, ◌*◌, ◌%◌, ◌^◌, [], ◌∷◌, slice_index, refl};
+ghost use Rattle.btf_model.specs.Made as made;
 ghost use Rattle.btf_plain.specs.Encoding.{encoding_number, encoding_of, int_data, encoding_bits, offset_bits, size_bits};
+ghost use Rattle.btf_words.specs.declared.kind.BtfKind.TheVariants.{Int};
 
 use crate::encoding::IntEncoding;
 use crate::record::{Kind, Measured, Record};
@@ -11,9 +13,6 @@ use btf_words::BtfKind;
 pub struct IntKind;
 
 impl Kind for IntKind {
-    ghost use Rattle.std.specs.Prelude.{refl};
-    ghost use Rattle.btf_words.specs.declared.kind.BtfKind.TheVariants.{Int};
-
     type Tail = u32;
 
     const KIND: BtfKind = BtfKind::Int;
@@ -34,12 +33,8 @@ impl Record<IntKind> {
     /// An integer of `size` bytes, whose bits begin at bit `offset`. The number of bits is 8 times the size. The bit
     /// offset and the number of bits are stored modulo 256.
     pub fn new(name_offset: u32, size: u32, encoding: IntEncoding, offset: u32) -> Self
-        ensures { result ≡ record {
-          name = name_offset;
-          info = 2 ^ 24;
-          third = size;
-          tail = int_data (encoding_number encoding) (offset % 2 ^ 8) (size * 8 % 2 ^ 8) ∷ [];
-        } }
+        ensures { result ≡ made.int name_offset size
+            (int_data (encoding_number encoding) (offset % 2 ^ 8) (size * 8 % 2 ^ 8)) }
     {
         let bits = size.wrapping_mul(8) & 0xff;
         let word = encoding.number() << 24 | (offset & 0xff) << 16 | bits;

@@ -1,11 +1,12 @@
 //! The tail of a record with a list: as many items as vlen gives.
 
-ghost use Rattle.std.specs.Prelude.{◌≡◌, ◌+◌, ◌*◌, ◌^◌, ◌<◌, ◌≤◌, length, Some, slice_get};
+ghost use Rattle.std.specs.Prelude.{◌≡◌, ◌+◌, ◌*◌, ◌^◌, ◌<◌, ◌≤◌, length, Some, slice_get, refl};
 ghost use Rattle.std.specs.List.{flat_map};
 ghost use Rattle.btf_model.specs.Info.{flag_bit};
 ghost use Rattle.btf_model.specs.Record.{vlen, kinds as all_kinds};
 ghost use Rattle.btf_words.specs.Kind as kinds;
 ghost use Rattle.btf_plain.specs.Third.{third_kept};
+ghost use Rattle.btf_items.specs.ItemList.{items_of};
 
 use crate::head::Head;
 use crate::record::{Kind, Record};
@@ -42,10 +43,6 @@ pub trait Items: Words {
 }
 
 impl<T: Item + fmt::Debug, const N: usize> Words for ItemList<T, N> {
-    ghost use Rattle.std.specs.Prelude.{◌*◌, refl};
-    ghost use Rattle.std.specs.List.{flat_map};
-    ghost use Rattle.btf_items.specs.ItemList.{items_of};
-
     ghost words = { λ list. flat_map T.item_words (items_of list) };
 
     ghost number = { λ vlen. T.WIDTH * vlen };
@@ -85,9 +82,6 @@ impl<T: Item + fmt::Debug, const N: usize> Words for ItemList<T, N> {
 }
 
 impl<T: Item + fmt::Debug, const N: usize> Items for ItemList<T, N> {
-    ghost use Rattle.std.specs.Prelude.{refl};
-    ghost use Rattle.btf_items.specs.ItemList.{items_of};
-
     type Element = T;
 
     ghost listed = { items_of };

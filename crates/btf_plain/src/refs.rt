@@ -1,6 +1,8 @@
 //! The records that refer to one other type and have no other data: PTR, TYPEDEF, VOLATILE, CONST, RESTRICT, TYPE_TAG.
 
-ghost use Rattle.std.specs.Prelude.{◌≡◌, ◌+◌, ◌*◌, ◌^◌, []};
+ghost use Rattle.std.specs.Prelude.{◌≡◌, refl};
+ghost use Rattle.btf_model.specs.Made as made;
+ghost use Rattle.btf_words.specs.declared.kind.BtfKind.TheVariants.{Ptr, Typedef, Volatile, Const, Restrict, TypeTag};
 
 use crate::record::{Kind, Record, Refers};
 use btf_words::BtfKind;
@@ -9,9 +11,6 @@ use btf_words::BtfKind;
 pub struct PtrKind;
 
 impl Kind for PtrKind {
-    ghost use Rattle.std.specs.Prelude.{refl};
-    ghost use Rattle.btf_words.specs.declared.kind.BtfKind.TheVariants.{Ptr};
-
     type Tail = ();
 
     const KIND: BtfKind = BtfKind::Ptr;
@@ -31,12 +30,7 @@ pub type Ptr = Record<PtrKind>;
 impl Record<PtrKind> {
     /// A pointer to the type of id `btf_type`.
     pub fn new(name_offset: u32, btf_type: u32) -> Self
-        ensures { result ≡ record {
-          name = name_offset;
-          info = 2 * 2 ^ 24;
-          third = btf_type;
-          tail = [];
-        } }
+        ensures { result ≡ made.ptr name_offset btf_type }
     {
         Self::of(name_offset, (BtfKind::Ptr as u32) << 24, btf_type, ())
     }
@@ -46,9 +40,6 @@ impl Record<PtrKind> {
 pub struct TypedefKind;
 
 impl Kind for TypedefKind {
-    ghost use Rattle.std.specs.Prelude.{refl};
-    ghost use Rattle.btf_words.specs.declared.kind.BtfKind.TheVariants.{Typedef};
-
     type Tail = ();
 
     const KIND: BtfKind = BtfKind::Typedef;
@@ -68,12 +59,7 @@ pub type Typedef = Record<TypedefKind>;
 impl Record<TypedefKind> {
     /// A name for the type of id `btf_type`.
     pub fn new(name_offset: u32, btf_type: u32) -> Self
-        ensures { result ≡ record {
-          name = name_offset;
-          info = 8 * 2 ^ 24;
-          third = btf_type;
-          tail = [];
-        } }
+        ensures { result ≡ made.typedef name_offset btf_type }
     {
         Self::of(name_offset, (BtfKind::Typedef as u32) << 24, btf_type, ())
     }
@@ -83,9 +69,6 @@ impl Record<TypedefKind> {
 pub struct VolatileKind;
 
 impl Kind for VolatileKind {
-    ghost use Rattle.std.specs.Prelude.{refl};
-    ghost use Rattle.btf_words.specs.declared.kind.BtfKind.TheVariants.{Volatile};
-
     type Tail = ();
 
     const KIND: BtfKind = BtfKind::Volatile;
@@ -105,7 +88,7 @@ pub type Volatile = Record<VolatileKind>;
 impl Record<VolatileKind> {
     /// The type of id `btf_type`, volatile. It has no name.
     pub fn new(btf_type: u32) -> Self
-        ensures { result ≡ record { name = 0; info = 9 * 2 ^ 24; third = btf_type; tail = [] } }
+        ensures { result ≡ made.volatile btf_type }
     {
         Self::of(0, (BtfKind::Volatile as u32) << 24, btf_type, ())
     }
@@ -115,9 +98,6 @@ impl Record<VolatileKind> {
 pub struct ConstKind;
 
 impl Kind for ConstKind {
-    ghost use Rattle.std.specs.Prelude.{refl};
-    ghost use Rattle.btf_words.specs.declared.kind.BtfKind.TheVariants.{Const};
-
     type Tail = ();
 
     const KIND: BtfKind = BtfKind::Const;
@@ -137,7 +117,7 @@ pub type Const = Record<ConstKind>;
 impl Record<ConstKind> {
     /// The type of id `btf_type`, constant. It has no name.
     pub fn new(btf_type: u32) -> Self
-        ensures { result ≡ record { name = 0; info = 10 * 2 ^ 24; third = btf_type; tail = [] } }
+        ensures { result ≡ made.const btf_type }
     {
         Self::of(0, (BtfKind::Const as u32) << 24, btf_type, ())
     }
@@ -147,9 +127,6 @@ impl Record<ConstKind> {
 pub struct RestrictKind;
 
 impl Kind for RestrictKind {
-    ghost use Rattle.std.specs.Prelude.{refl};
-    ghost use Rattle.btf_words.specs.declared.kind.BtfKind.TheVariants.{Restrict};
-
     type Tail = ();
 
     const KIND: BtfKind = BtfKind::Restrict;
@@ -169,7 +146,7 @@ pub type Restrict = Record<RestrictKind>;
 impl Record<RestrictKind> {
     /// The type of id `btf_type`, restricted. It has no name.
     pub fn new(btf_type: u32) -> Self
-        ensures { result ≡ record { name = 0; info = 11 * 2 ^ 24; third = btf_type; tail = [] } }
+        ensures { result ≡ made.restrict btf_type }
     {
         Self::of(0, (BtfKind::Restrict as u32) << 24, btf_type, ())
     }
@@ -179,9 +156,6 @@ impl Record<RestrictKind> {
 pub struct TypeTagKind;
 
 impl Kind for TypeTagKind {
-    ghost use Rattle.std.specs.Prelude.{refl};
-    ghost use Rattle.btf_words.specs.declared.kind.BtfKind.TheVariants.{TypeTag};
-
     type Tail = ();
 
     const KIND: BtfKind = BtfKind::TypeTag;
@@ -201,12 +175,7 @@ pub type TypeTag = Record<TypeTagKind>;
 impl Record<TypeTagKind> {
     /// A tag of the type of id `btf_type`.
     pub fn new(name_offset: u32, btf_type: u32) -> Self
-        ensures { result ≡ record {
-          name = name_offset;
-          info = 18 * 2 ^ 24;
-          third = btf_type;
-          tail = [];
-        } }
+        ensures { result ≡ made.type_tag name_offset btf_type }
     {
         Self::of(name_offset, (BtfKind::TypeTag as u32) << 24, btf_type, ())
     }

@@ -1,9 +1,11 @@
 //! STRUCT: a structure.
 
-ghost use Rattle.std.specs.Prelude.{◌≡◌, ◌+◌, ◌*◌, ◌^◌, ◌≤◌, length, vec_len};
+ghost use Rattle.std.specs.Prelude.{◌≡◌, ◌≤◌, length, vec_len, refl};
 ghost use Rattle.std.specs.List.{flat_map};
 ghost use Rattle.btf_model.specs.Record.{vlen, member_bit_offset, member_bit_field_size};
+ghost use Rattle.btf_model.specs.Made as made;
 ghost use Rattle.btf_items.specs.Items.{member_words};
+ghost use Rattle.btf_words.specs.declared.kind.BtfKind.TheVariants.{Struct};
 
 use crate::list::MAX_VLEN;
 use crate::record::{Kind, Measured, Record};
@@ -14,9 +16,6 @@ use btf_words::BtfKind;
 pub struct StructKind;
 
 impl Kind for StructKind {
-    ghost use Rattle.std.specs.Prelude.{refl};
-    ghost use Rattle.btf_words.specs.declared.kind.BtfKind.TheVariants.{Struct};
-
     type Tail = ItemList<BtfMember, 4>;
 
     const KIND: BtfKind = BtfKind::Struct;
@@ -37,12 +36,8 @@ impl Record<StructKind> {
     /// A structure of `size` bytes with these members. There are at most `MAX_VLEN` of them.
     pub fn new(name_offset: u32, members: Vec<BtfMember>, size: u32) -> Self
         requires { vec_len members ≤ MAX_VLEN }
-        ensures { result ≡ record {
-          name = name_offset;
-          info = 4 * 2 ^ 24 + vec_len members;
-          third = size;
-          tail = flat_map member_words members.items;
-        } }
+        ensures { result ≡ made.struct name_offset size (vec_len members)
+            (flat_map member_words members.items) }
     {
         let items = ItemList::from_vec(members);
         Self::listing(BtfKind::Struct as u32, name_offset, false, size, items)

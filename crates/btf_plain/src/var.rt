@@ -1,7 +1,10 @@
 //! VAR: a variable.
 
-ghost use Rattle.std.specs.Prelude.{◌≡◌, ◌+◌, ◌*◌, ◌^◌, [], ◌∷◌};
+ghost use Rattle.std.specs.Prelude.{◌≡◌, [], ◌∷◌, refl, map, min};
+ghost use Rattle.btf_model.specs.Made as made;
 ghost use Rattle.btf_plain.specs.Linkage.{var_linkage_number};
+ghost use Rattle.btf_words.specs.declared.kind.BtfKind.TheVariants.{Var};
+ghost use Rattle.btf_plain.specs.VarWord.{linkage_stays, length_stays};
 
 use crate::head::Head;
 use crate::linkage::VarLinkage;
@@ -15,9 +18,6 @@ use std::alloc::{AllocError, Global};
 pub struct VarKind;
 
 impl Kind for VarKind {
-    ghost use Rattle.std.specs.Prelude.{refl};
-    ghost use Rattle.btf_words.specs.declared.kind.BtfKind.TheVariants.{Var};
-
     type Tail = VarLinkage;
 
     const KIND: BtfKind = BtfKind::Var;
@@ -37,12 +37,7 @@ pub type Var = Record<VarKind>;
 impl Record<VarKind> {
     /// A variable of the type of id `btf_type`.
     pub fn new(name_offset: u32, btf_type: u32, linkage: VarLinkage) -> Self
-        ensures { result ≡ record {
-          name = name_offset;
-          info = 14 * 2 ^ 24;
-          third = btf_type;
-          tail = var_linkage_number linkage ∷ [];
-        } }
+        ensures { result ≡ made.var name_offset btf_type (var_linkage_number linkage) }
     {
         Self::of(name_offset, (BtfKind::Var as u32) << 24, btf_type, linkage)
     }
@@ -68,10 +63,6 @@ impl Record<VarKind> {
 
 /// One word, the number of the linkage. A linkage that has no name is read as Unknown.
 impl Words for VarLinkage {
-    ghost use Rattle.std.specs.Prelude.{[], ◌∷◌, map, min};
-    ghost use Rattle.btf_plain.specs.Linkage.{var_linkage_number};
-    ghost use Rattle.btf_plain.specs.VarWord.{linkage_stays, length_stays};
-
     ghost words = { λ linkage. var_linkage_number linkage ∷ [] };
 
     ghost number = { λ _. 1 };
@@ -112,8 +103,6 @@ impl Words for VarLinkage {
 }
 
 impl Fixed for VarLinkage {
-    ghost use Rattle.std.specs.Prelude.{refl};
-
     fn copied(&self) -> Self {
         match self {
             VarLinkage::Static => VarLinkage::Static,

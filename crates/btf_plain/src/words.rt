@@ -1,6 +1,6 @@
 //! The words of a record after the third.
 
-ghost use Rattle.std.specs.Prelude.{◌≡◌, ◌++◌, ◌<◌, ◌^◌, length, IfOk, OnOk};
+ghost use Rattle.std.specs.Prelude.{◌≡◌, ◌++◌, ◌<◌, ◌^◌, length, IfOk, OnOk, [], refl, ◌∷◌};
 ghost use Rattle.std.specs.List.{AllByRecursion};
 ghost use Rattle.btf_model.specs.Record as model;
 ghost use Rattle.btf_model.specs.Spelling.{spell};
@@ -79,8 +79,6 @@ pub trait Fixed: Words {
 
 /// No words.
 impl Words for () {
-    ghost use Rattle.std.specs.Prelude.{[], refl};
-
     ghost words = { λ _. [] };
 
     ghost number = { λ _. 0 };
@@ -119,8 +117,6 @@ impl Words for () {
 }
 
 impl Fixed for () {
-    ghost use Rattle.std.specs.Prelude.{refl};
-
     fn copied(&self) -> Self {
         ()
     }
@@ -130,8 +126,6 @@ impl Fixed for () {
 
 /// One word.
 impl Words for u32 {
-    ghost use Rattle.std.specs.Prelude.{[], ◌∷◌, refl};
-
     ghost words = { λ w. w ∷ [] };
 
     ghost number = { λ _. 1 };
@@ -171,62 +165,6 @@ impl Words for u32 {
 }
 
 impl Fixed for u32 {
-    ghost use Rattle.std.specs.Prelude.{refl};
-
-    fn copied(&self) -> Self {
-        *self
-    }
-
-    ghost same_number = { λ _ _. refl };
-}
-
-/// One word, in two's complement.
-impl Words for i32 {
-    ghost use Rattle.std.specs.Prelude.{[], ◌∷◌, refl};
-    ghost use Rattle.std.specs.Int.{cast_unsigned, w32};
-
-    ghost words = { λ n. cast_unsigned w32 n ∷ [] };
-
-    ghost number = { λ _. 1 };
-
-    ghost kept = { λ ws. ws };
-
-    fn number(_vlen: usize) -> usize {
-        1
-    }
-
-    fn read(
-        _alloc: Global,
-        bytes: &[u8],
-        endianness: Endianness,
-        _vlen: usize,
-    ) -> Result<Self, BtfError> {
-        let (word, _) = split_word(bytes, endianness)?;
-        Ok(word.cast_signed())
-    }
-
-    fn append_to(
-        &self,
-        head: &Head,
-        out: &mut Vec<u8>,
-        endianness: Endianness,
-    ) -> Result<(), AllocError> {
-        let word = self.cast_unsigned();
-        push_array(out, endianness, &[head.name, head.info, head.third, word])
-    }
-
-    fn try_clone(&self) -> Result<Self, AllocError> {
-        Ok(*self)
-    }
-
-    ghost words_kept = { λ _. refl };
-
-    ghost length_kept = { λ _. refl };
-}
-
-impl Fixed for i32 {
-    ghost use Rattle.std.specs.Prelude.{refl};
-
     fn copied(&self) -> Self {
         *self
     }

@@ -59,6 +59,16 @@ pub enum BtfType {
     Enum64(Enum64),
 }
 
+/// A match over all kinds: each of the first has an expression of its own; Unknown and the last have another.
+macro_rules! by_kind {
+    ($of:expr, $other:expr; $($kind:ident($t:pat) => $e:expr),*; $($last:ident),*) => {
+        match $of {
+            BtfType::Unknown $(| BtfType::$last(_))* => $other,
+            $(BtfType::$kind($t) => $e,)*
+        }
+    };
+}
+
 /// An expression over the record `t` of a type; `unknown` for Unknown, which has no record.
 macro_rules! each {
     ($of:expr, $unknown:expr, $t:ident => $e:expr) => {
@@ -69,10 +79,7 @@ macro_rules! each {
         )
     };
     ($of:expr, $unknown:expr, $t:ident => $e:expr; $($kind:ident),*) => {
-        match $of {
-            BtfType::Unknown => $unknown,
-            $(BtfType::$kind($t) => $e,)*
-        }
+        by_kind!($of, $unknown; $($kind($t) => $e),*;)
     };
 }
 
@@ -86,25 +93,19 @@ macro_rules! with_record {
         )
     };
     ($of:expr, $t:ident => $e:expr; $($kind:ident),*) => {
-        match $of {
-            BtfType::Unknown => Ok(BtfType::Unknown),
-            $(BtfType::$kind($t) => Ok(BtfType::$kind($e)),)*
-        }
+        by_kind!($of, Ok(BtfType::Unknown); $($kind($t) => Ok(BtfType::$kind($e))),*;)
     };
 }
 
 /// An expression over the record `t` of a STRUCT or a UNION; None for the kinds without members.
 macro_rules! of_composite {
     ($of:expr, $t:ident => $e:expr) => {
-        match $of {
-            BtfType::Struct($t) => Some($e),
-            BtfType::Union($t) => Some($e),
-            BtfType::Unknown | BtfType::Int(_) | BtfType::Ptr(_) | BtfType::Array(_) | BtfType::Enum(_)
-            | BtfType::Fwd(_) | BtfType::Typedef(_) | BtfType::Volatile(_) | BtfType::Const(_)
-            | BtfType::Restrict(_) | BtfType::Func(_) | BtfType::FuncProto(_) | BtfType::Var(_)
-            | BtfType::DataSec(_) | BtfType::Float(_) | BtfType::DeclTag(_) | BtfType::TypeTag(_)
-            | BtfType::Enum64(_) => None,
-        }
+        by_kind!(
+            $of, None;
+            Struct($t) => Some($e), Union($t) => Some($e);
+            Int, Ptr, Array, Enum, Fwd, Typedef, Volatile, Const, Restrict, Func, FuncProto, Var, DataSec, Float,
+            DeclTag, TypeTag, Enum64
+        )
     };
 }
 
@@ -158,28 +159,13 @@ impl BtfType {
     pub fn size(&self) -> Option<u32>
         ensures { result ≡ record_size (type_kind self.now) (record_of self.now) }
     {
-        match self {
-            BtfType::Int(t) => Some(t.size()),
-            BtfType::Struct(t) => Some(t.size()),
-            BtfType::Union(t) => Some(t.size()),
-            BtfType::Enum(t) => Some(t.size()),
-            BtfType::DataSec(t) => Some(t.size()),
-            BtfType::Float(t) => Some(t.size()),
-            BtfType::Enum64(t) => Some(t.size()),
-            BtfType::Ptr(_) => Some(8),
-            BtfType::Unknown
-            | BtfType::Array(_)
-            | BtfType::Fwd(_)
-            | BtfType::Typedef(_)
-            | BtfType::Volatile(_)
-            | BtfType::Const(_)
-            | BtfType::Restrict(_)
-            | BtfType::Func(_)
-            | BtfType::FuncProto(_)
-            | BtfType::Var(_)
-            | BtfType::DeclTag(_)
-            | BtfType::TypeTag(_) => None,
-        }
+        by_kind!(
+            self, None;
+            Int(t) => Some(t.size()), Struct(t) => Some(t.size()), Union(t) => Some(t.size()),
+            Enum(t) => Some(t.size()), DataSec(t) => Some(t.size()), Float(t) => Some(t.size()),
+            Enum64(t) => Some(t.size()), Ptr(_) => Some(8);
+            Array, Fwd, Typedef, Volatile, Const, Restrict, Func, FuncProto, Var, DeclTag, TypeTag
+        )
     }
 
     /// The id of the one type that the record refers to, which is the return type for a prototype; None for the kinds
@@ -187,28 +173,14 @@ impl BtfType {
     pub fn btf_type(&self) -> Option<u32>
         ensures { result ≡ record_target (type_kind self.now) (record_of self.now) }
     {
-        match self {
-            BtfType::Ptr(t) => Some(t.btf_type()),
-            BtfType::Typedef(t) => Some(t.btf_type()),
-            BtfType::Volatile(t) => Some(t.btf_type()),
-            BtfType::Const(t) => Some(t.btf_type()),
-            BtfType::Restrict(t) => Some(t.btf_type()),
-            BtfType::FuncProto(t) => Some(t.return_type()),
-            BtfType::Var(t) => Some(t.btf_type()),
-            BtfType::DeclTag(t) => Some(t.btf_type()),
-            BtfType::TypeTag(t) => Some(t.btf_type()),
-            BtfType::Unknown
-            | BtfType::Int(_)
-            | BtfType::Array(_)
-            | BtfType::Struct(_)
-            | BtfType::Union(_)
-            | BtfType::Enum(_)
-            | BtfType::Fwd(_)
-            | BtfType::Func(_)
-            | BtfType::DataSec(_)
-            | BtfType::Float(_)
-            | BtfType::Enum64(_) => None,
-        }
+        by_kind!(
+            self, None;
+            Ptr(t) => Some(t.btf_type()), Typedef(t) => Some(t.btf_type()), Volatile(t) => Some(t.btf_type()),
+            Const(t) => Some(t.btf_type()), Restrict(t) => Some(t.btf_type()), Var(t) => Some(t.btf_type()),
+            DeclTag(t) => Some(t.btf_type()), TypeTag(t) => Some(t.btf_type()),
+            FuncProto(t) => Some(t.return_type());
+            Int, Array, Struct, Union, Enum, Fwd, Func, DataSec, Float, Enum64
+        )
     }
 
     /// The length of the record in bytes.

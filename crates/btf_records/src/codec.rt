@@ -78,6 +78,20 @@ fn read_to<S: Slot>(
     put_tail(slot, alloc, kind, head, rest, endianness)
 }
 
+/// Puts a record in a slot: for the first kinds the record that is read, for the others by an expression of their own.
+macro_rules! put_by_kind {
+    (
+        $kind:expr, $slot:expr, $read:expr;
+        $($read_kind:ident),*;
+        $($other:ident => $put:expr),*
+    ) => {
+        match $kind {
+            $(BtfKind::$read_kind => put($slot, BtfType::$read_kind($read)),)*
+            $(BtfKind::$other => $put,)*
+        }
+    };
+}
+
 /// Puts a record of this kind and head in a slot. Returns its length in bytes.
 #[inline(always)]
 fn put_tail<S: Slot>(
@@ -92,65 +106,15 @@ fn put_tail<S: Slot>(
     ensures { Puts S.has_put (StaysOr S.has_kept) slot.old slot.new
         (ReadsTail endianness head (kinds.kind kind) rest.now) result }
 {
-    match kind {
-        BtfKind::Unknown => put(slot, BtfType::Unknown),
-        BtfKind::Int => put(
-            slot,
-            BtfType::Int(Record::read(alloc, head, rest, endianness)?),
-        ),
-        BtfKind::Ptr => put(
-            slot,
-            BtfType::Ptr(Record::read(alloc, head, rest, endianness)?),
-        ),
-        BtfKind::Array => put(
-            slot,
-            BtfType::Array(Record::read(alloc, head, rest, endianness)?),
-        ),
-        BtfKind::Struct => put_struct(slot, alloc, &head, rest, endianness),
-        BtfKind::Union => put_union(slot, alloc, &head, rest, endianness),
-        BtfKind::Enum => put_enum(slot, alloc, &head, rest, endianness),
-        BtfKind::Fwd => put(
-            slot,
-            BtfType::Fwd(Record::read(alloc, head, rest, endianness)?),
-        ),
-        BtfKind::Typedef => put(
-            slot,
-            BtfType::Typedef(Record::read(alloc, head, rest, endianness)?),
-        ),
-        BtfKind::Volatile => put(
-            slot,
-            BtfType::Volatile(Record::read(alloc, head, rest, endianness)?),
-        ),
-        BtfKind::Const => put(
-            slot,
-            BtfType::Const(Record::read(alloc, head, rest, endianness)?),
-        ),
-        BtfKind::Restrict => put(
-            slot,
-            BtfType::Restrict(Record::read(alloc, head, rest, endianness)?),
-        ),
-        BtfKind::Func => put(
-            slot,
-            BtfType::Func(Record::read(alloc, head, rest, endianness)?),
-        ),
-        BtfKind::FuncProto => put_func_proto(slot, alloc, &head, rest, endianness),
-        BtfKind::Var => put(
-            slot,
-            BtfType::Var(Record::read(alloc, head, rest, endianness)?),
-        ),
-        BtfKind::DataSec => put_data_sec(slot, alloc, &head, rest, endianness),
-        BtfKind::Float => put(
-            slot,
-            BtfType::Float(Record::read(alloc, head, rest, endianness)?),
-        ),
-        BtfKind::DeclTag => put(
-            slot,
-            BtfType::DeclTag(Record::read(alloc, head, rest, endianness)?),
-        ),
-        BtfKind::TypeTag => put(
-            slot,
-            BtfType::TypeTag(Record::read(alloc, head, rest, endianness)?),
-        ),
-        BtfKind::Enum64 => put_enum64(slot, alloc, &head, rest, endianness),
-    }
+    put_by_kind!(
+        kind, slot, Record::read(alloc, head, rest, endianness)?;
+        Int, Ptr, Array, Fwd, Typedef, Volatile, Const, Restrict, Func, Var, Float, DeclTag, TypeTag;
+        Unknown => put(slot, BtfType::Unknown),
+        Struct => put_struct(slot, alloc, &head, rest, endianness),
+        Union => put_union(slot, alloc, &head, rest, endianness),
+        Enum => put_enum(slot, alloc, &head, rest, endianness),
+        FuncProto => put_func_proto(slot, alloc, &head, rest, endianness),
+        DataSec => put_data_sec(slot, alloc, &head, rest, endianness),
+        Enum64 => put_enum64(slot, alloc, &head, rest, endianness)
+    )
 }

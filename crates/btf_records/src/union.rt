@@ -1,10 +1,11 @@
 //! UNION: a union.
 
-ghost use Rattle.std.specs.Prelude.{◌≡◌, ◌+◌, ◌*◌, ◌^◌, ◌≤◌, ◌++◌, length, Some, Ok, vec_len, None, IfOk, OnOk};
+ghost use Rattle.std.specs.Prelude.{◌≡◌, ◌+◌, ◌*◌, ◌≤◌, ◌++◌, length, Some, Ok, vec_len, None, IfOk, OnOk};
 ghost use Rattle.std.specs.Option.{option_copied};
 ghost use Rattle.std.specs.List.{flat_map};
 ghost use Rattle.btf_model.specs.Record as model;
 ghost use Rattle.btf_model.specs.Record.{kind_of, vlen, member_bit_offset, member_bit_field_size};
+ghost use Rattle.btf_model.specs.Made.{union};
 ghost use Rattle.btf_model.specs.Spelling.{spell, IsWhole};
 ghost use Rattle.btf_words.specs.Error.{IsOrNoMemory, MeetsOrNoMemory};
 ghost use Rattle.btf_plain.specs.Head.{ReadsTail};
@@ -113,12 +114,7 @@ impl Union {
     ) -> Self
         requires { vec_len members ≤ MAX_VLEN }
         ensures { result ≡ record {
-          words = record {
-            name = name_offset;
-            info = 5 * 2 ^ 24 + vec_len members;
-            third = size;
-            tail = flat_map member_words members.items;
-          };
+          words = union name_offset size (vec_len members) (flat_map member_words members.items);
           fallback = fallback_of_option fallback;
         } }
     {
@@ -131,8 +127,8 @@ impl Union {
         }
     }
 
-    /// Reads the union with this head, whose members are at the front of bytes. Fails with `InvalidTypeInfo` if the bytes
-    /// are too few.
+    /// Reads the union with this head, whose members are at the front of bytes. Fails with `InvalidTypeInfo` if the
+    /// bytes are too few.
     pub(crate) fn read(
         alloc: Global,
         head: Head,

@@ -1,10 +1,12 @@
 -- Records that a rewrite makes, and the items of the records that it reads. Source: the kernel's BTF documentation,
 -- "Type Encoding"; aya-obj's `fixup_and_sanitize` determines which record replaces which.
-use Rattle.std.specs.Prelude.{ℕ, ◌+◌, ◌*◌, ◌^◌, ◌==◌, ◌&&◌, not, Bool, false, List, [], ◌∷◌, length, slice_index, slice_get, unwrap_or, Option}
+use Rattle.std.specs.Prelude.{ℕ, ◌+◌, ◌^◌, ◌==◌, ◌&&◌, not, Bool, false, List, [], ◌∷◌, length, slice_index, slice_get, unwrap_or, Option}
 use Rattle.std.specs.List.{flat_map, range_with_len}
 use Rattle.btf_model.specs.Record.{Kind, Record, unknown, kind_of}
 use Rattle.btf_model.specs.Info.{with_vlen, with_flag}
 use Rattle.btf_model.specs.Table.{Table, Fallback}
+use Rattle.btf_model.specs.Made as made
+pub use Rattle.btf_model.specs.Made.{const, typedef, struct, union, enum}
 pub use Rattle.btf_model.specs.Value.{enum64_variants as variants}
 use Rattle.btf_rewrite_model.specs.Feature.{is_signed}
 
@@ -49,44 +51,19 @@ wants_name name type = name == 0 && not (type == 0)
 
 -- an INT of one byte, without sign
 abbrev pub byte_int : ℕ → Record
-byte_int name = record { name = name; info = 2 ^ 24; third = 1; tail = 8 ∷ [] }
+byte_int name = made.int name 1 8
 
 -- the INT of C's `int`: 4 bytes, signed
 abbrev pub c_int : ℕ → Record
-c_int name = record { name = name; info = 2 ^ 24; third = 4; tail = (2 ^ 24 + 32) ∷ [] }
+c_int name = made.int name 4 (2 ^ 24 + 32)
 
 -- a VAR of Static linkage
 abbrev pub static_var : ℕ → ℕ → Record
-static_var name type = record { name = name; info = 14 * 2 ^ 24; third = type; tail = 0 ∷ [] }
-
--- a CONST
-abbrev pub const : ℕ → Record
-const type = record { name = 0; info = 10 * 2 ^ 24; third = type; tail = [] }
-
--- a TYPEDEF
-abbrev pub typedef : ℕ → ℕ → Record
-typedef name type = record { name = name; info = 8 * 2 ^ 24; third = type; tail = [] }
-
--- a STRUCT with this number of members, by their words
-abbrev pub struct : ℕ → ℕ → ℕ → List ℕ → Record
-struct name size count members = record { name = name; info = 4 * 2 ^ 24 + count; third = size; tail = members }
-
--- a UNION with this number of members, by their words
-abbrev pub union : ℕ → ℕ → ℕ → List ℕ → Record
-union name size count members = record { name = name; info = 5 * 2 ^ 24 + count; third = size; tail = members }
-
--- an unsigned ENUM of 4 bytes with this number of variants, by their words
-abbrev pub enum : ℕ → ℕ → List ℕ → Record
-enum name count variants = record { name = name; info = 6 * 2 ^ 24 + count; third = 4; tail = variants }
+static_var name type = made.var name type 0
 
 -- a DATASEC with this number of entries
 abbrev pub data_sec : ℕ → ℕ → ℕ → List Entry → Record
-data_sec name size count es = record {
-  name = name;
-  info = 15 * 2 ^ 24 + count;
-  third = size;
-  tail = flat_map entry_words es;
-}
+data_sec name size count es = made.data_sec name size count (flat_map entry_words es)
 
 -- a FUNC with another linkage, which is its vlen
 abbrev pub with_linkage : ℕ → Record → Record
