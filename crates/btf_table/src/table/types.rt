@@ -11,10 +11,6 @@ use btf_plain::{BtfError, Endianness};
 use btf_records::BtfType;
 use std::alloc::{AllocError, Global};
 
-/// The length in bytes of a record for which room is made before the records are read: a little less than the mean of a
-/// kernel's table, which is 25. A record has at least 12 bytes, so the vector of types grows at most once.
-const RECORD_LEN: usize = 24;
-
 /// The number of types for which a copy has room beside its own: a rewrite seldom appends more.
 const SPARE: usize = 4;
 
@@ -29,7 +25,7 @@ pub fn read_types(
 ) -> Result<Vec<BtfType>, BtfError>
     ensures { MeetsOrNoMemory (λ v. v.items) result (ReadsTypes endianness «data».now) }
 {
-    let mut types = Vec::with_capacity(alloc, 1 + data.len() / RECORD_LEN)?;
+    let mut types = Vec::new(alloc);
     types.push(BtfType::Unknown)?;
     let mut rest = data;
     while !rest.is_empty() {
