@@ -3,7 +3,7 @@
 use crate::lookup::{name_at, name_or_none, resolved, type_at};
 use crate::name::essential_name;
 use btf_items::BtfMember;
-use btf_plain::{Fwd, Int};
+use btf_plain::Int;
 use btf_records::{BtfType, FuncProto};
 use btf_relocate_model::RelocationError;
 use btf_table::{Btf, WALK_LIMIT};
@@ -199,7 +199,7 @@ impl<'t> Comparison<'t> {
                 Ok(Next::Ends(self.enumerators_match(one, other)?))
             }
             _ if frame.at.is_pointee => Ok(Next::Ends(pointees_match(one, other))),
-            (BtfType::Fwd(t), BtfType::Fwd(u)) => Ok(Next::Ends(is_union(t) == is_union(u))),
+            (BtfType::Fwd(t), BtfType::Fwd(u)) => Ok(Next::Ends(t.is_union() == u.is_union())),
             (BtfType::Struct(t), BtfType::Struct(u)) => {
                 self.next_member(frame, answer, t.members(), u.members())
             }
@@ -367,18 +367,13 @@ fn next_compatible(frame: &Frame, one: &BtfType, other: &BtfType) -> Next {
 fn pointees_match(one: &BtfType, other: &BtfType) -> bool {
     match (one, other) {
         (BtfType::Struct(_), BtfType::Struct(_)) | (BtfType::Union(_), BtfType::Union(_)) => true,
-        (BtfType::Fwd(t), BtfType::Fwd(u)) => is_union(t) == is_union(u),
+        (BtfType::Fwd(t), BtfType::Fwd(u)) => t.is_union() == u.is_union(),
         (BtfType::Fwd(t), BtfType::Struct(_)) | (BtfType::Struct(_), BtfType::Fwd(t)) => {
-            !is_union(t)
+            !t.is_union()
         }
-        (BtfType::Fwd(t), BtfType::Union(_)) | (BtfType::Union(_), BtfType::Fwd(t)) => is_union(t),
+        (BtfType::Fwd(t), BtfType::Union(_)) | (BtfType::Union(_), BtfType::Fwd(t)) => t.is_union(),
         _ => false,
     }
-}
-
-/// Whether a FWD declares a UNION.
-fn is_union(forward: &Fwd) -> bool {
-    forward.info() >> 31 == 1
 }
 
 /// Whether an INT is signed.

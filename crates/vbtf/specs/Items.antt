@@ -1,15 +1,10 @@
 -- The items of a type, in the form that C reads.
 -- Source: the kernel's BTF documentation, "Type Encoding": what follows `struct btf_type` for each kind.
-use Rattle.std.specs.Prelude.{◌≡◌, ◌<◌, ◌≤◌, ◌*◌, ℕ, List, [], ◌∷◌, take, drop, length, Option, Some, None, Result, Ok, Err, slice_get}
+use Rattle.std.specs.Prelude.{◌≡◌, ◌<◌, ◌≤◌, ◌*◌, ℕ, List, take, drop, length, Option, Some, None, Result, Ok, Err, slice_get}
 use Rattle.btf_model.specs.Record.{Kind, Record, kind_of, tail_words, vlen}
 use Rattle.btf_model.specs.Refusal.{Refusal, UnknownBtfType}
-use Rattle.btf_plain.specs.declared.btf_array.BtfArray.{BtfArray}
 use Rattle.vbtf.specs.declared.items.Item.{Item}
-use Rattle.vbtf.specs.declared.item_words.Words.{Words}
-
--- the words of an ARRAY after the third
-abbrev pub array_words : BtfArray → List ℕ
-array_words a = a.element_type ∷ a.index_type ∷ a.len ∷ []
+use Rattle.vbtf.specs.declared.items.Words.{Words}
 
 -- The first words of an array, by their count, are the words of an item.
 abbrev pub HasWords : ℕ → List ℕ → List ℕ → Type 0

@@ -1,6 +1,6 @@
 //! The items of a type, as words.
 
-ghost use Rattle.std.specs.Prelude.{◌≡◌, ◌≢◌, ◌*◌, length};
+ghost use Rattle.std.specs.Prelude.{◌≡◌, ◌≢◌, ◌*◌, ◌≤◌, length, take};
 ghost use Rattle.std.specs.List.{flat_map};
 ghost use Rattle.btf_words.specs.Error.{Meets};
 ghost use Rattle.btf_records.specs.BtfType.{record_of, type_kind};
@@ -9,9 +9,8 @@ ghost use Rattle.vbtf.specs.Status.{EndsFinding, Keeps};
 
 use crate::fault::{CLOSED, Fault, NO_ITEM, report};
 use crate::handle::{Handle, lent};
-use crate::item_words::{ItemWords, Single, Words};
 use btf::{Btf, BtfError, BtfType};
-use std::slice::from_ref;
+use btf_items::Item as Listed;
 
 /// An item of a type: a member, a parameter, a variant, an entry, or the words that the record has after its head.
 #[repr(C)]
@@ -23,6 +22,15 @@ pub struct Item {
     pub count: u32,
     /// The words of the item, in the order of the record. Those after them are 0.
     pub words: [u32; 3],
+}
+
+/// At most three words.
+#[derive(Drop)]
+pub struct Words {
+    /// The number of words.
+    pub(crate) count: u32,
+    /// The words. Those after them are 0.
+    pub(crate) words: [u32; 3],
 }
 
 /// An item of a type, by its index from 0 on.
@@ -82,27 +90,55 @@ fn words_of(btf_type: &BtfType, index: usize) -> Option<Words>
     ensures { IsItem (type_kind btf_type.now) (record_of btf_type.now) index result }
 {
     match btf_type {
-        BtfType::Int(t) => nth(&[Single(t.word())], index),
-        BtfType::Array(t) => nth(from_ref(t.array()), index),
+        BtfType::Int(t) => only(1, [t.word(), 0, 0], index),
+        BtfType::Array(t) => {
+            let array = t.array();
+            only(3, [array.element_type, array.index_type, array.len], index)
+        }
         BtfType::Struct(t) => nth(t.members(), index),
         BtfType::Union(t) => nth(t.members(), index),
         BtfType::Enum(t) => nth(t.variants(), index),
         BtfType::FuncProto(t) => nth(t.params(), index),
-        BtfType::Var(t) => nth(&[Single(t.linkage() as u32)], index),
+        BtfType::Var(t) => only(1, [t.linkage() as u32, 0, 0], index),
         BtfType::DataSec(t) => nth(t.entries(), index),
-        BtfType::DeclTag(t) => nth(&[Single(t.component_index().cast_unsigned())], index),
+        BtfType::DeclTag(t) => only(1, [t.component_index().cast_unsigned(), 0, 0], index),
         BtfType::Enum64(t) => nth(t.variants(), index),
-        _ => None,
+        BtfType::Unknown
+        | BtfType::Ptr(_)
+        | BtfType::Fwd(_)
+        | BtfType::Typedef(_)
+        | BtfType::Volatile(_)
+        | BtfType::Const(_)
+        | BtfType::Restrict(_)
+        | BtfType::Func(_)
+        | BtfType::Float(_)
+        | BtfType::TypeTag(_) => None,
     }
 }
 
 /// The words of an item of a list.
-fn nth<T: ItemWords>(items: &[T], index: usize) -> Option<Words>
-    ensures { IsGroup T.width (T.width * length items.now) (flat_map T.item_words items.now)
+fn nth<T: Listed>(items: &[T], index: usize) -> Option<Words>
+    ensures { IsGroup T.WIDTH (T.WIDTH * length items.now) (flat_map T.item_words items.now)
         index result }
 {
     match items.get(index) {
-        Some(item) => Some(item.words()),
+        Some(item) => Some(Words {
+            count: T::WIDTH as u32,
+            words: item.words(),
+        }),
         None => None,
+    }
+}
+
+/// The words of the only item of a type.
+fn only(count: u32, words: [u32; 3], index: usize) -> Option<Words>
+    requires some { 1 ≤ count }
+    requires few { count ≤ 3 }
+    ensures { IsGroup count count (take count words) index result }
+{
+    if index == 0 {
+        Some(Words { count, words })
+    } else {
+        None
     }
 }

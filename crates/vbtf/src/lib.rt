@@ -27,7 +27,6 @@ mod ext;
 mod ext_read;
 mod fault;
 mod handle;
-mod item_words;
 mod items;
 mod kernel;
 mod loan;
