@@ -1,12 +1,14 @@
 -- A file that is read and rewritten.
-use Rattle.std.proofs.Common.{◌≡◌, ℕ, Bool, true, List, sym, ap, subst}
+use Rattle.std.proofs.Common.{◌≡◌, ℕ, true, false, List, sym, ap, subst}
 use Rattle.std.proofs.lemmas.Bool.{false≢true}
 use Rattle.btf_model.specs.declared.endianness.Endianness.{Endianness}
 use Rattle.btf_model.specs.declared.endianness.Endianness.TheVariants.{Little, Big}
+use Rattle.btf_model.specs.Blob as model
+use Rattle.btf_model.specs.Table.{Table}
 use Rattle.btf_elf_model.specs.Object as elf
 use Rattle.btf_rewrite_model.specs.declared.feature.FeatureAnswer.{FeatureAnswer}
-use Rattle.btfobj_cli.specs.Blob.{BeginsObject, BeginsTable, IsBlob, IsTable, is_object}
-use Rattle.btfobj_cli.specs.Rewrite.{chosen_target, RewritesAlone, RewritesObject, RewritesBlob, IsRewritten}
+use Rattle.btfobj_cli.specs.Blob.{BeginsObject, BeginsTable, HasTable, IsBlob, IsTable, is_object}
+use Rattle.btfobj_cli.specs.Rewrite.{chosen_target, RewritesAlone, RewritesTable, RewritesObject, RewritesBlob, IsRewritten}
 use Rattle.btfobj_cli.specs.declared.blob.Blob.{Blob}
 use Rattle.btfobj_cli.specs.declared.blob.Blob.TheVariants as blobs
 use Rattle.btfobj_cli.specs.declared.rewrite.Rewrite.{Rewrite}
@@ -25,3 +27,9 @@ rewritten_file bytes rewrite (blobs.Table own order) file answers is begins litt
       object = λ b. absurd (false≢true (begins b));
       table = λ o b. subst (λ (y : Endianness). RewritesAlone y bytes (chosen_target rewrite) file answers) (alone o b).1 (subst (λ (bs : List ℕ). RewritesAlone order bs (chosen_target rewrite) file answers) (alone o b).0 made);
     }
+
+-- the rewrite of the table of a file that is a table alone is the rewrite of the file
+pub rewritten_table : (blob : Blob) (rewrite : Rewrite) (old : Table) (file : List ℕ) (answers : List FeatureAnswer) → is_object blob ≡ false → HasTable blob old
+    → RewritesTable old (chosen_target rewrite) file answers → RewritesBlob blob rewrite file answers
+rewritten_table (blobs.Object object) rewrite old file answers is has made = absurd (false≢true (sym is))
+rewritten_table (blobs.Table own order) rewrite old file answers is has made = made order own.now (subst (λ (bs : List ℕ). model.IsTable order bs old) has.1 has.2)
