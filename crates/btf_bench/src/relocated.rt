@@ -130,5 +130,5 @@ pub fn hostile_relocations(alloc: Global, what: Relocated, size: u32) -> Result<
     }
     let Sketches { local, kernel } = both;
     let (local, kernel) = (local.parsed()?, kernel.parsed()?);
-    Ok(Relocations::new(alloc, local, kernel, &accesses)?)
+    Relocations::new(alloc, local, kernel, &accesses)
 }

@@ -4,7 +4,7 @@ use crate::timing::Timing;
 use crate::work::since;
 use btf_relocate::{CandidatePolicy, Target, candidates_of, relocate_section, resolve};
 use btf_types::Btf;
-use std::alloc::{AllocError, Global};
+use std::alloc::Global;
 use std::test::Fail;
 use std::time::Instant;
 
@@ -28,11 +28,11 @@ impl Relocations {
         local: Btf,
         kernel: Btf,
         accesses: &[[u32; 3]],
-    ) -> Result<Self, AllocError> {
+    ) -> Result<Self, Fail> {
         let mut records = Vec::with_capacity(alloc, accesses.len())?;
         let mut code = Vec::new(alloc);
         for &[type_id, access, kind] in accesses {
-            records.push([code.len() as u32, type_id, access, kind])?;
+            records.push([u32::try_from(code.len())?, type_id, access, kind])?;
             code.extend_from_slice(&INSTRUCTION)?;
         }
         Ok(Relocations {
@@ -68,7 +68,7 @@ impl Relocations {
             };
             let [opcode, registers, ..] = INSTRUCTION;
             code.extend_from_slice(&[opcode, registers, 0, 0])?;
-            code.extend_from_slice(&(value as u32).to_le_bytes())?;
+            code.extend_from_slice(&((value & 0xffff_ffff) as u32).to_le_bytes())?;
         }
         self.code = code;
         Ok(())
