@@ -3,3 +3,12 @@ mod Accesses
 mod Walks
 mod Sizes
 mod Compatibles
+mod Members
+mod Searches
+mod Paths
+mod Enumerators
+mod Errors
+mod Pointers
+mod Answering
+mod Resolves
+mod Sections

@@ -1,5 +1,12 @@
 pub mod Access
 pub mod Arrays
+pub mod Enumerators
 pub mod Extent
+pub mod Gives
+pub mod Matching
 pub mod Members
 pub mod Patch
+pub mod Paths
+pub mod Resolving
+pub mod Searching
+pub mod Sections

@@ -1,8 +1,15 @@
 //! Enumerators, by index and by name.
 
-use crate::lookup::{name_at, resolved, type_at};
+ghost use Rattle.std.specs.Prelude.{◌≡◌, Ok, Err, length, slice_get, MatchResult, map};
+ghost use Rattle.std.specs.Option.{option_map};
+ghost use Rattle.btf_records.specs.BtfType.{record_of};
+ghost use Rattle.btf_relocate_model.specs.Enumerator as model;
+ghost use Rattle.btf_relocate.specs.Enumerators.{variant_of, narrow, wide, enumerators_of};
+
+use crate::lookup::{name_at, resolved_type};
 use crate::name::essential_name;
-use btf_records::{BtfEnum, BtfEnum64, BtfType};
+use btf_items::{BtfEnum, BtfEnum64};
+use btf_records::BtfType;
 use btf_relocate_model::RelocationError;
 use btf_table::Btf;
 
@@ -17,7 +24,9 @@ pub struct Enumerator {
 
 impl Enumerator {
     /// An enumerator of an ENUM.
-    fn of_enum(enumerator: &BtfEnum) -> Enumerator {
+    fn of_enum(enumerator: &BtfEnum) -> Enumerator
+        ensures { variant_of result ≡ narrow enumerator.now }
+    {
         let value = u64::from(enumerator.value);
         Enumerator {
             name_offset: enumerator.name_offset,
@@ -30,7 +39,9 @@ impl Enumerator {
     }
 
     /// An enumerator of an ENUM64.
-    fn of_enum64(enumerator: &BtfEnum64) -> Enumerator {
+    fn of_enum64(enumerator: &BtfEnum64) -> Enumerator
+        ensures { variant_of result ≡ wide enumerator.now }
+    {
         Enumerator {
             name_offset: enumerator.name_offset,
             value: u64::from(enumerator.value_high) * 0x1_0000_0000
@@ -38,11 +49,38 @@ impl Enumerator {
         }
     }
 
+    /// The enumerator of an ENUM at an index; `None` if there is none.
+    fn of_enums(enumerators: &[BtfEnum], index: usize) -> Option<Enumerator>
+        ensures { option_map variant_of result ≡ slice_get (map narrow enumerators.now) index }
+    {
+        if index < enumerators.len() {
+            Some(Enumerator::of_enum(&enumerators[index]))
+        } else {
+            None
+        }
+    }
+
+    /// The enumerator of an ENUM64 at an index; `None` if there is none.
+    fn of_enums64(enumerators: &[BtfEnum64], index: usize) -> Option<Enumerator>
+        ensures { option_map variant_of result ≡ slice_get (map wide enumerators.now) index }
+    {
+        if index < enumerators.len() {
+            Some(Enumerator::of_enum64(&enumerators[index]))
+        } else {
+            None
+        }
+    }
+
     /// The enumerator of a type at an index; `None` if the type has none there.
-    fn at(btf_type: &BtfType, index: usize) -> Option<Enumerator> {
+    fn at(btf_type: &BtfType, index: usize) -> Option<Enumerator>
+        ensures { option_map variant_of result
+            ≡ slice_get (enumerators_of (record_of btf_type.now)) index }
+    {
+        // Only a use of the kind proves that the info word has it.
+        let _ = btf_type.kind();
         match btf_type {
-            BtfType::Enum(t) => t.variants().get(index).map(Enumerator::of_enum),
-            BtfType::Enum64(t) => t.variants().get(index).map(Enumerator::of_enum64),
+            BtfType::Enum(t) => Enumerator::of_enums(t.variants(), index),
+            BtfType::Enum64(t) => Enumerator::of_enums64(t.variants(), index),
             _ => None,
         }
     }
@@ -53,8 +91,12 @@ pub fn enumerator_at(
     table: &Btf,
     type_id: u32,
     index: u32,
-) -> Result<(Enumerator, &[u8]), RelocationError> {
-    let btf_type = type_at(table, resolved(table, type_id)?)?;
+) -> Result<(Enumerator, &[u8]), RelocationError>
+    ensures { MatchResult result
+        (λ p. model.enumerator_at table.now type_id index ≡ Ok (variant_of p.0, p.1.now))
+        (λ e. model.enumerator_at table.now type_id index ≡ Err e) }
+{
+    let btf_type = resolved_type(table, type_id)?;
     let Some(enumerator) = Enumerator::at(btf_type, index as usize) else {
         return Err(RelocationError::BadIndex);
     };
@@ -67,20 +109,33 @@ pub fn find_enumerator(
     table: &Btf,
     type_id: u32,
     name: &[u8],
-) -> Result<Option<Enumerator>, RelocationError> {
-    let btf_type = type_at(table, resolved(table, type_id)?)?;
-    let count = match btf_type {
-        BtfType::Enum(t) => t.variants().len(),
-        BtfType::Enum64(t) => t.variants().len(),
-        _ => 0,
-    };
-    for index in 0..count {
-        if let Some(enumerator) = Enumerator::at(btf_type, index) {
-            let other = name_at(table, enumerator.name_offset)?;
-            if essential_name(other) == essential_name(name) {
-                return Ok(Some(enumerator));
-            }
+) -> Result<Option<Enumerator>, RelocationError>
+    ensures { MatchResult result
+        (λ o. model.find_enumerator table.now type_id name.now ≡ Ok (option_map variant_of o))
+        (λ e. model.find_enumerator table.now type_id name.now ≡ Err e) }
+{
+    let btf_type = resolved_type(table, type_id)?;
+    for index in 0..count(btf_type) {
+        let Some(enumerator) = Enumerator::at(btf_type, index) else {
+            return Ok(None);
+        };
+        let other = name_at(table, enumerator.name_offset)?;
+        if essential_name(other) == essential_name(name) {
+            return Ok(Some(enumerator));
         }
     }
     Ok(None)
+}
+
+/// The number of enumerators of a type.
+pub fn count(btf_type: &BtfType) -> usize
+    ensures { result ≡ length (enumerators_of (record_of btf_type.now)) }
+{
+    // Only a use of the kind proves that the info word has it.
+    let _ = btf_type.kind();
+    match btf_type {
+        BtfType::Enum(t) => t.variants().len(),
+        BtfType::Enum64(t) => t.variants().len(),
+        _ => 0,
+    }
 }

@@ -1,13 +1,13 @@
 //! Places in a type that a path of indices leads to.
 
-ghost use Rattle.std.specs.Prelude.{◌≡◌, ◌*◌, Ok, Err, map, Some, None, MatchOption, length};
+ghost use Rattle.std.specs.Prelude.{◌≡◌, ◌*◌, Ok, Err, map, Some, None, MatchOption, length, []};
 ghost use Rattle.std.specs.Option.{option_map};
 ghost use Rattle.btf_model.specs.Record.{member_bit_offset, member_bit_field_size, is_composite};
 ghost use Rattle.btf_records.specs.BtfType.{record_of, type_kind};
 ghost use Rattle.btf_relocate_model.specs.Field as model;
 ghost use Rattle.btf_relocate.specs.Members.{member_of};
 
-use crate::lookup::{resolved, type_at};
+use crate::lookup::{resolved, resolved_type, type_at};
 use crate::size::size_of;
 use btf_items::BtfMember;
 use btf_records::BtfType;
@@ -15,7 +15,7 @@ use btf_relocate_model::{Field, RelocationError};
 use btf_table::Btf;
 
 /// The first bit after a number of bits.
-fn moved(bit: u32, by: u64) -> Result<u32, RelocationError>
+pub fn moved(bit: u32, by: u64) -> Result<u32, RelocationError>
     ensures { result ≡ model.moved bit by }
 {
     match u64::from(bit).checked_add(by) {
@@ -93,31 +93,36 @@ pub fn member(
     table: &Btf,
     field: &Field,
     index: u32,
-) -> Result<Option<(Field, u32)>, RelocationError> {
-    let btf_type = type_at(table, resolved(table, field.type_id)?)?;
-    let Some(members) = members(btf_type) else {
-        return Ok(None);
-    };
+) -> Result<Option<(Field, u32)>, RelocationError>
+    ensures { result ≡ model.member table.now field.now index }
+{
+    let btf_type = resolved_type(table, field.type_id)?;
+    let members = members(btf_type);
     let index = index as usize;
-    let Some(member) = members.get(index) else {
+    if index >= members.len() {
         return Ok(None);
-    };
-    let is_last = members.len() - index == 1;
+    }
+    let member = &members[index];
+    let is_last = index + 1 == members.len();
     let found = member_field(btf_type, member, field.bit, is_last)?;
     Ok(Some((found, member.name_offset)))
 }
 
-/// The members of a STRUCT or UNION; `None` for a type of another kind.
-pub fn members(btf_type: &BtfType) -> Option<&[BtfMember]> {
+/// The members of a STRUCT or UNION; none for a type of another kind.
+pub fn members(btf_type: &BtfType) -> &[BtfMember]
+    ensures { map member_of result.now ≡ model.members_of (record_of btf_type.now) }
+{
+    // Only a use of the kind proves that the info word has it.
+    let _ = btf_type.kind();
     match btf_type {
-        BtfType::Struct(t) => Some(t.members()),
-        BtfType::Union(t) => Some(t.members()),
-        _ => None,
+        BtfType::Struct(t) => t.members(),
+        BtfType::Union(t) => t.members(),
+        _ => &[],
     }
 }
 
 /// The bit of a STRUCT or UNION at which a member begins, and the number of bits of a bit-field, else 0.
-fn bits_of(btf_type: &BtfType, member: &BtfMember) -> (u32, u32)
+pub fn bits_of(btf_type: &BtfType, member: &BtfMember) -> (u32, u32)
     ensures { result ≡ (
       member_bit_offset (record_of btf_type.now).info member.now.offset,
       member_bit_field_size (record_of btf_type.now).info member.now.offset,

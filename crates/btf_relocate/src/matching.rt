@@ -1,9 +1,18 @@
 //! The place in a type of the target that a path of the program's table matches.
 
+ghost use Rattle.std.specs.Prelude.{◌≡◌, ◌+◌, ◌≤◌, map};
+ghost use Rattle.std.specs.Option.{option_map};
+ghost use Rattle.btf_relocate_model.specs.Match as model;
+ghost use Rattle.btf_relocate_model.specs.Types.{pointer_size};
+ghost use Rattle.btf_relocate.specs.Gives.{GivesBy};
+ghost use Rattle.btf_relocate.specs.Matching.{reached};
+ghost use Rattle.btf_relocate.specs.Paths.{step_of};
+ghost use Rattle.btf_relocate.specs.Searching.{found_of, size_of};
+
 use crate::compatible::are_compatible;
-use crate::field::{element, root};
+use crate::field::{element, moved, root};
 use crate::path::{Accessor, Path};
-use crate::search::{Found, Search};
+use crate::search::{Found, find_member};
 use crate::target::Target;
 use btf_relocate_model::{Field, RelocationError};
 use btf_table::Btf;
@@ -12,6 +21,15 @@ use std::alloc::Global;
 /// The maximum number of members and elements on the way to a field, members without a name included.
 const DEPTH_LIMIT: u32 = 64;
 
+/// A place in a type of the target.
+#[derive(Clone, Copy, Debug)]
+struct Reached {
+    /// The place.
+    field: Field,
+    /// The number of members and elements on the way to it.
+    count: u32,
+}
+
 /// The place in a candidate that a path matches; `None` if it does not match.
 pub fn matching_field(
     alloc: Global,
@@ -19,50 +37,86 @@ pub fn matching_field(
     path: &Path<'_>,
     target: &Target<'_>,
     candidate: u32,
-) -> Result<Option<Field>, RelocationError> {
-    let Some((Accessor::Element(first), rest)) = path.accessors.split_first() else {
+) -> Result<Option<Field>, RelocationError>
+    ensures { GivesBy (λ f. f) (model.match_path local.now (pointer_size target.now)
+        target.now (map step_of path.now.accessors.items) candidate) result }
+{
+    let accessors = path.accessors.as_slice();
+    let [Accessor::Element(first), rest @ ..] = accessors else {
         return Ok(None);
     };
-    let mut field = root(target.table(), target.pointer_size(), candidate, *first)?;
-    let mut depth: u32 = 1;
+    let field = root(target.table(), target.pointer_size(), candidate, *first)?;
+    let mut at = Reached { field, count: 1 };
     for accessor in rest {
-        let Some((next, count)) = matching_step(alloc, local, target, &field, accessor, depth)?
-        else {
-            return Ok(None);
-        };
-        field = next;
-        depth = depth.saturating_add(count);
+        match matching_step(alloc, local, target, &at, accessor)? {
+            Some(next) => at = next,
+            None => return Ok(None),
+        }
     }
-    Ok(Some(field))
+    Ok(Some(at.field))
 }
 
-/// The next place, and the number of members and elements on the way to it.
+/// The place that a step leads to from another place; `None` if the step does not match.
 fn matching_step(
     alloc: Global,
     local: &Btf,
     target: &Target<'_>,
-    field: &Field,
+    at: &Reached,
     accessor: &Accessor<'_>,
-    depth: u32,
-) -> Result<Option<(Field, u32)>, RelocationError> {
-    let room = DEPTH_LIMIT.saturating_sub(depth);
+) -> Result<Option<Reached>, RelocationError>
+    ensures { GivesBy (option_map reached) (model.match_step local.now (pointer_size target.now)
+        target.now (reached at.now) (step_of accessor.now)) result }
+{
     match accessor {
         Accessor::Element(index) => {
-            let next = element(target.table(), target.pointer_size(), field, *index)?;
-            if next.is_some() && room == 0 {
-                return Err(RelocationError::TooDeep);
-            }
-            Ok(next.map(|next| (next, 1)))
+            let next = element(target.table(), target.pointer_size(), &at.field, *index)?;
+            element_after(at.count, next)
         }
         Accessor::Member(name, type_id) => {
-            let mut search = Search::new(alloc, target.table(), *name);
-            let Found::Member(next, count) = search.run(field.type_id, field.bit, room)? else {
-                return Ok(None);
-            };
-            if !are_compatible(local, *type_id, target.table(), next.type_id)? {
-                return Ok(None);
-            }
-            Ok(Some((next, count)))
+            let room = DEPTH_LIMIT.saturating_sub(at.count);
+            let found = find_member(alloc, target.table(), *name, at.field.type_id, room)?;
+            member_after(local, target.table(), *type_id, at, found)
         }
     }
+}
+
+/// An element, after this number of members and elements.
+fn element_after(count: u32, field: Option<Field>) -> Result<Option<Reached>, RelocationError>
+    ensures { GivesBy (option_map reached) (model.element_after count field) result }
+{
+    let Some(field) = field else {
+        return Ok(None);
+    };
+    if count >= DEPTH_LIMIT {
+        return Err(RelocationError::TooDeep);
+    }
+    Ok(Some(Reached {
+        field,
+        count: count + 1,
+    }))
+}
+
+/// A member that was found in the type at a place; `None` if its type is not compatible with the local member's.
+fn member_after(
+    local: &Btf,
+    target: &Btf,
+    type_id: u32,
+    at: &Reached,
+    found: Found,
+) -> Result<Option<Reached>, RelocationError>
+    requires { at.now.count + size_of found ≤ u32.MAX }
+    ensures { GivesBy (option_map reached) (model.member_after local.now target.now type_id
+        (reached at.now) (found_of found)) result }
+{
+    let Found::Member(field, count) = found else {
+        return Ok(None);
+    };
+    let bit = moved(at.field.bit, u64::from(field.bit))?;
+    if !are_compatible(local, type_id, target, field.type_id)? {
+        return Ok(None);
+    }
+    Ok(Some(Reached {
+        field: Field { bit, ..field },
+        count: at.count + count,
+    }))
 }

@@ -1,5 +1,10 @@
 //! Paths in the program's own table.
 
+ghost use Rattle.std.specs.Prelude.{◌≡◌, Ok, Err, map, MatchResult};
+ghost use Rattle.btf_relocate_model.specs.Path as model;
+ghost use Rattle.btf_relocate.specs.Gives.{GivesBy};
+ghost use Rattle.btf_relocate.specs.Paths.{place_of, path_of};
+
 use crate::access::Access;
 use crate::field::{element, member, root};
 use crate::lookup::name_at;
@@ -19,6 +24,15 @@ pub enum Accessor<'t> {
     Member(&'t [u8], u32),
 }
 
+/// The place that an index leads to.
+#[derive(Clone, Copy, Debug)]
+struct Place<'t> {
+    /// The place.
+    field: Field,
+    /// The step to it; `None` for a member without a name.
+    step: Option<Accessor<'t>>,
+}
+
 /// A path in the program's own table.
 #[derive(Debug, Drop)]
 pub struct Path<'t> {
@@ -35,55 +49,75 @@ impl<'t> Path<'t> {
         table: &'t Btf,
         type_id: u32,
         access: &Access,
-    ) -> Result<Path<'t>, RelocationError> {
-        let Some((first, rest)) = access.indices().split_first() else {
-            return Err(RelocationError::BadAccess);
-        };
-        let mut accessors = Vec::with_capacity(alloc, 1)?;
-        accessors.push(Accessor::Element(*first))?;
-        let mut path = Path {
-            accessors,
-            field: root(table, LOCAL_POINTER_SIZE, type_id, *first)?,
-        };
-        let mut is_named = true;
-        for index in rest {
-            is_named = path.step(table, *index)?;
-        }
-        if !is_named {
+    ) -> Result<Path<'t>, RelocationError>
+        ensures { GivesBy path_of (model.path_of table.now type_id access.now) result }
+    {
+        let indices = access.indices();
+        if indices.is_empty() {
             return Err(RelocationError::BadAccess);
         }
-        Ok(path)
+        let mut field = root(table, LOCAL_POINTER_SIZE, type_id, indices[0])?;
+        let mut accessors = Vec::with_capacity(alloc, indices.len())?;
+        accessors.push(Accessor::Element(indices[0]))?;
+        let mut is_step = true;
+        for at in 1..indices.len() {
+            let place = place_at(table, &field, indices[at])?;
+            field = place.field;
+            is_step = place.step.is_some();
+            if let Some(step) = place.step {
+                accessors.push(step)?;
+            }
+        }
+        if !is_step {
+            return Err(RelocationError::BadAccess);
+        }
+        Ok(Path { accessors, field })
     }
+}
 
-    /// Goes on to the member or element at an index. Returns false for a member without a name.
-    fn step(&mut self, table: &'t Btf, index: u32) -> Result<bool, RelocationError> {
-        let Some((field, name_offset)) = member(table, &self.field, index)? else {
-            return self.element_step(table, index);
-        };
-        if name_offset == 0 {
-            self.field = Field {
-                is_member: self.field.is_member,
-                is_last: self.field.is_last,
-                ..field
-            };
-            return Ok(false);
-        }
-        let name = name_at(table, name_offset)?;
-        if name.is_empty() {
-            return Err(RelocationError::BadAccess);
-        }
-        self.accessors.push(Accessor::Member(name, field.type_id))?;
-        self.field = field;
-        Ok(true)
+/// The place that an index leads to from another place.
+fn place_at<'t>(table: &'t Btf, around: &Field, index: u32) -> Result<Place<'t>, RelocationError>
+    ensures { MatchResult result
+        (λ p. model.place_at table.now around.now index ≡ Ok (place_of p))
+        (λ e. model.place_at table.now around.now index ≡ Err e) }
+{
+    match member(table, around, index)? {
+        Some((field, name_offset)) => member_place(table, around, field, name_offset),
+        None => match element(table, LOCAL_POINTER_SIZE, around, index)? {
+            Some(field) => Ok(Place {
+                field,
+                step: Some(Accessor::Element(index)),
+            }),
+            None => Err(RelocationError::BadIndex),
+        },
     }
+}
 
-    /// Goes on to the element at an index.
-    fn element_step(&mut self, table: &'t Btf, index: u32) -> Result<bool, RelocationError> {
-        let Some(field) = element(table, LOCAL_POINTER_SIZE, &self.field, index)? else {
-            return Err(RelocationError::BadIndex);
+/// A member, as the place that an index leads to.
+fn member_place<'t>(
+    table: &'t Btf,
+    around: &Field,
+    field: Field,
+    name_offset: u32,
+) -> Result<Place<'t>, RelocationError>
+    ensures { MatchResult result
+        (λ p. model.member_place table.now around.now field name_offset ≡ Ok (place_of p))
+        (λ e. model.member_place table.now around.now field name_offset ≡ Err e) }
+{
+    if name_offset == 0 {
+        let field = Field {
+            is_member: around.is_member,
+            is_last: around.is_last,
+            ..field
         };
-        self.accessors.push(Accessor::Element(index))?;
-        self.field = field;
-        Ok(true)
+        return Ok(Place { field, step: None });
     }
+    let name = name_at(table, name_offset)?;
+    if name.is_empty() {
+        return Err(RelocationError::BadAccess);
+    }
+    Ok(Place {
+        field,
+        step: Some(Accessor::Member(name, field.type_id)),
+    })
 }

@@ -1,5 +1,14 @@
 //! The value of a record.
 
+ghost use Rattle.std.specs.Prelude.{◌≡◌, ℕ, Bool, Result, Ok, Err, true, false, None};
+ghost use Rattle.std.specs.Option.{option_map};
+ghost use Rattle.btf_relocate_model.specs.Resolution as model;
+ghost use Rattle.btf_relocate_model.specs.Types.{pointer_size};
+ghost use Rattle.btf_relocate_model.specs.declared.error.RelocationError.{RelocationError};
+ghost use Rattle.btf_relocate_model.specs.declared.kind.RelocationKind.{RelocationKind};
+ghost use Rattle.btf_relocate.specs.Gives.{GivesBy};
+ghost use Rattle.btf_relocate.specs.Resolving.{subject_view, question_view, answer_at, answers_view, Alike, HasResolved};
+
 use crate::access::Access;
 use crate::enumerator::{enumerator_at, find_enumerator};
 use crate::lookup::{name_at, type_at};
@@ -8,8 +17,9 @@ use crate::path::{LOCAL_POINTER_SIZE, Path};
 use crate::size::size_of;
 use crate::target::Target;
 use crate::types::{Comparison, Rule};
-use crate::value::{View, field_value, is_adjustable, plain};
-use btf_relocate_model::{Field, RelocationError, RelocationKind, Resolved, Value};
+use crate::value::{field_value, is_adjustable, plain};
+use btf_model::Endianness;
+use btf_relocate_model::{Answer, Match, RelocationError, RelocationKind, Resolved, Value};
 use btf_table::Btf;
 use std::alloc::Global;
 
@@ -17,29 +27,22 @@ use std::alloc::Global;
 #[derive(Debug, Drop)]
 enum Subject<'t> {
     /// A field.
-    Field(Path<'t>),
+    OfField(Path<'t>),
     /// The type itself.
-    Type(u32),
-    /// An enumerator: its essential name and its value.
-    Enumerator(&'t [u8], u64),
+    OfType(u32),
+    /// An enumerator: its name and its value.
+    OfEnumerator(&'t [u8], u64),
 }
 
-/// What a candidate has for the subject.
-#[derive(Clone, Copy, Debug)]
-enum Match {
-    /// A field.
-    Field(Field),
-    /// The candidate itself.
-    Type(u32),
-    /// The value of an enumerator.
-    Enumerator(u64),
-}
-
-/// The candidate's value, and the first bit of the field.
-#[derive(Clone, Copy, Debug)]
-struct Answer {
-    bit: u32,
-    value: Value,
+/// What a record asks.
+#[derive(Debug, Drop)]
+struct Question<'t> {
+    /// The kind.
+    kind: RelocationKind,
+    /// The name of the record's type.
+    name: &'t [u8],
+    /// What the record is about.
+    subject: Subject<'t>,
 }
 
 /// The value of a record for a target: the words of the record are the offset of its instruction, the id of a type,
@@ -53,39 +56,85 @@ pub fn resolve(
     target: &Target<'_>,
     record: &[u32; 4],
     candidates: &mut Vec<u32>,
-) -> Result<Resolved, RelocationError> {
-    let kind = RelocationKind::try_from(record[3])?;
-    if local.endianness() != target.table().endianness() {
-        return Err(RelocationError::OrderMismatch);
-    }
+) -> Result<Resolved, RelocationError>
+    ensures { (is_alike : Alike) → model.compares_types record.now ≡ false
+        → HasResolved candidates.old.items candidates.new.items
+        (model.resolution (record { local = local.now; target = target.now; is_alike = is_alike })
+        candidates.old.items record.now) result }
+{
     let type_id = record[1];
-    let name = name_at(local, type_at(local, type_id)?.name_offset())?;
-    let access = name_at(local, record[2])?;
-    let subject = subject_of(alloc, local, kind, type_id, access)?;
-    if kind == RelocationKind::TypeIdLocal {
-        return Ok(unvalidated(type_id, type_id));
+    let question = question_of(alloc, local, target.table().endianness(), record)?;
+    if is_local(question.kind) {
+        return Ok(local_id(type_id));
     }
-    if name.is_empty() {
+    if question.name.is_empty() {
         return Err(RelocationError::AnonymousType { type_id });
     }
-    let local_view = View {
-        table: local,
-        pointer_size: LOCAL_POINTER_SIZE,
-    };
-    let expected = value_of(local_view, kind, &local_match(&subject))?;
-    let answer = common_answer(alloc, local, target, kind, &subject, candidates)?;
-    let Some(answer) = answer else {
-        return Ok(unmatched(kind, &subject, &expected));
-    };
-    Ok(Resolved {
-        expected: expected.value,
-        value: answer.value.value,
-        is_poisoned: false,
-        validates: validates(kind, &subject),
-        local_size: expected.size,
-        target_size: answer.value.size,
-        is_adjustable: may_resize(local, &expected, target.table(), &answer.value),
+    let found = local_match(&question.subject);
+    let expected = value_of(local, LOCAL_POINTER_SIZE, question.kind, &found)?;
+    let (answer, matching) = answers(
+        alloc,
+        local,
+        target,
+        question.kind,
+        &question.subject,
+        candidates.as_slice(),
+    )?;
+    if answer.is_some() {
+        *candidates = matching;
+    }
+    let validates = validates(question.kind, &question.subject);
+    Ok(resolved_by(
+        local,
+        target.table(),
+        question.kind,
+        validates,
+        &expected,
+        answer,
+    ))
+}
+
+/// What a record asks, for a target of this byte order.
+fn question_of<'t>(
+    alloc: Global,
+    local: &'t Btf,
+    order: Endianness,
+    record: &[u32; 4],
+) -> Result<Question<'t>, RelocationError>
+    ensures { GivesBy question_view (model.question local.now order record.now) result }
+{
+    let kind = RelocationKind::try_from(record[3])?;
+    if !same_order(local.endianness(), order) {
+        return Err(RelocationError::OrderMismatch);
+    }
+    let name = name_at(local, type_at(local, record[1])?.name_offset())?;
+    let access = name_at(local, record[2])?;
+    let subject = subject_of(alloc, local, kind, record[1], access)?;
+    Ok(Question {
+        kind,
+        name,
+        subject,
     })
+}
+
+/// Whether a kind needs no search.
+fn is_local(kind: RelocationKind) -> bool
+    ensures { result ≡ model.is_local kind }
+{
+    match kind {
+        RelocationKind::TypeIdLocal => true,
+        _ => false,
+    }
+}
+
+/// Whether two byte orders are the same.
+fn same_order(one: Endianness, other: Endianness) -> bool
+    ensures { result ≡ model.same_order one other }
+{
+    match (one, other) {
+        (Endianness::Little, Endianness::Little) | (Endianness::Big, Endianness::Big) => true,
+        _ => false,
+    }
 }
 
 /// What a record of this kind is about.
@@ -95,7 +144,9 @@ fn subject_of<'t>(
     kind: RelocationKind,
     type_id: u32,
     access: &[u8],
-) -> Result<Subject<'t>, RelocationError> {
+) -> Result<Subject<'t>, RelocationError>
+    ensures { GivesBy subject_view (model.subject_of local.now kind type_id access.now) result }
+{
     match kind {
         RelocationKind::TypeIdLocal
         | RelocationKind::TypeIdTarget
@@ -103,32 +154,58 @@ fn subject_of<'t>(
         | RelocationKind::TypeSize
         | RelocationKind::TypeMatches => {
             if access == b"0".as_slice() {
-                Ok(Subject::Type(type_id))
+                Ok(Subject::OfType(type_id))
             } else {
                 Err(RelocationError::BadAccess)
             }
         }
         RelocationKind::EnumeratorExists | RelocationKind::EnumeratorValue => {
-            let access = Access::parse(access)?;
-            let [index] = access.indices() else {
-                return Err(RelocationError::BadIndex);
-            };
-            let (enumerator, name) = enumerator_at(local, type_id, *index)?;
-            Ok(Subject::Enumerator(name, enumerator.value))
+            enumerator_subject(local, type_id, access)
         }
-        _ => {
-            let access = Access::parse(access)?;
-            Ok(Subject::Field(Path::new(alloc, local, type_id, &access)?))
-        }
+        _ => field_subject(alloc, local, type_id, access),
     }
 }
 
+/// The enumerator that a record is about.
+fn enumerator_subject<'t>(
+    local: &'t Btf,
+    type_id: u32,
+    access: &[u8],
+) -> Result<Subject<'t>, RelocationError>
+    ensures { GivesBy subject_view (model.subject_by local.now model.Enumerators type_id access.now)
+        result }
+{
+    let access = Access::parse(access)?;
+    let [index] = access.indices() else {
+        return Err(RelocationError::BadIndex);
+    };
+    let (enumerator, name) = enumerator_at(local, type_id, *index)?;
+    Ok(Subject::OfEnumerator(name, enumerator.value))
+}
+
+/// The field that a record is about.
+fn field_subject<'t>(
+    alloc: Global,
+    local: &'t Btf,
+    type_id: u32,
+    access: &[u8],
+) -> Result<Subject<'t>, RelocationError>
+    ensures { GivesBy subject_view (model.subject_by local.now model.Fields type_id access.now)
+        result }
+{
+    let access = Access::parse(access)?;
+    let path = Path::new(alloc, local, type_id, &access)?;
+    Ok(Subject::OfField(path))
+}
+
 /// The subject itself, as a match in the program's own table.
-fn local_match(subject: &Subject<'_>) -> Match {
+fn local_match(subject: &Subject<'_>) -> Match
+    ensures { result ≡ model.local_match (subject_view subject.now) }
+{
     match subject {
-        Subject::Field(path) => Match::Field(path.field),
-        Subject::Type(type_id) => Match::Type(*type_id),
-        Subject::Enumerator(_, value) => Match::Enumerator(*value),
+        Subject::OfField(path) => Match::AtField(path.field),
+        Subject::OfType(type_id) => Match::AtType(*type_id),
+        Subject::OfEnumerator(_, value) => Match::AtEnumerator(*value),
     }
 }
 
@@ -140,13 +217,18 @@ fn matching(
     kind: RelocationKind,
     subject: &Subject<'_>,
     candidate: u32,
-) -> Result<Option<Match>, RelocationError> {
+) -> Result<Option<Match>, RelocationError>
+    ensures { (is_alike : ℕ → Result Bool RelocationError)
+        → model.is_of_type (subject_view subject.now) ≡ false
+        → GivesBy (λ o. o) (model.match_of is_alike local.now (pointer_size target.now) target.now
+        (subject_view subject.now) candidate) result }
+{
     match subject {
-        Subject::Field(path) => {
+        Subject::OfField(path) => {
             let field = matching_field(alloc, local, path, target, candidate)?;
-            Ok(field.map(Match::Field))
+            Ok(field.map(Match::AtField))
         }
-        Subject::Type(type_id) => {
+        Subject::OfType(type_id) => {
             let rule = if kind == RelocationKind::TypeMatches {
                 Rule::Matches
             } else {
@@ -154,28 +236,37 @@ fn matching(
             };
             let mut comparison = Comparison::new(alloc, rule, local, target.table());
             let is_match = comparison.run(*type_id, candidate)?;
-            Ok(is_match.then_some(Match::Type(candidate)))
+            Ok(is_match.then_some(Match::AtType(candidate)))
         }
-        Subject::Enumerator(name, _) => {
-            let enumerator = find_enumerator(target.table(), candidate, *name)?;
-            Ok(enumerator.map(|found| Match::Enumerator(found.value)))
+        Subject::OfEnumerator(name, _) => {
+            match find_enumerator(target.table(), candidate, *name)? {
+                Some(found) => Ok(Some(Match::AtEnumerator(found.value))),
+                None => Ok(None),
+            }
         }
     }
 }
 
-/// The value of a match for a kind.
-fn value_of(view: View<'_>, kind: RelocationKind, found: &Match) -> Result<Value, RelocationError> {
+/// The value of a match for a kind, in a table whose pointers have this size.
+fn value_of(
+    table: &Btf,
+    pointer_size: u32,
+    kind: RelocationKind,
+    found: &Match,
+) -> Result<Value, RelocationError>
+    ensures { result ≡ model.value_of pointer_size table.now kind found.now }
+{
     match found {
-        Match::Field(field) => field_value(view.table, view.pointer_size, kind, field),
-        Match::Type(type_id) => match kind {
+        Match::AtField(field) => field_value(table, pointer_size, kind, field),
+        Match::AtType(type_id) => match kind {
             RelocationKind::TypeIdTarget => Ok(plain(u64::from(*type_id))),
             RelocationKind::TypeSize => {
-                let size = size_of(view.table, view.pointer_size, *type_id)?;
+                let size = size_of(table, pointer_size, *type_id)?;
                 Ok(plain(u64::from(size)))
             }
             _ => Ok(plain(1)),
         },
-        Match::Enumerator(value) => match kind {
+        Match::AtEnumerator(value) => match kind {
             RelocationKind::EnumeratorValue => Ok(plain(*value)),
             _ => Ok(plain(1)),
         },
@@ -184,87 +275,123 @@ fn value_of(view: View<'_>, kind: RelocationKind, found: &Match) -> Result<Value
 
 /// The answer of a match: its value, and where a field begins.
 fn answer_of(
-    view: View<'_>,
+    target: &Target<'_>,
     kind: RelocationKind,
-    found: &Match,
-) -> Result<Answer, RelocationError> {
+    found: Option<Match>,
+) -> Result<Option<Answer>, RelocationError>
+    ensures { result ≡ model.answer_of (pointer_size target.now) target.now kind found }
+{
+    let Some(found) = found else {
+        return Ok(None);
+    };
     let bit = match found {
-        Match::Field(field) => field.bit,
+        Match::AtField(field) => field.bit,
         _ => 0,
     };
-    Ok(Answer {
-        bit,
-        value: value_of(view, kind, found)?,
-    })
+    let value = value_of(target.table(), target.pointer_size(), kind, &found)?;
+    Ok(Some(Answer { bit, value }))
 }
 
-/// The answer of all candidates that match; `None` if none does. The candidates that do not match are removed if
-/// another one matches.
-fn common_answer(
+/// The answer of all candidates that match, and these candidates.
+fn answers(
     alloc: Global,
     local: &Btf,
     target: &Target<'_>,
     kind: RelocationKind,
     subject: &Subject<'_>,
-    candidates: &mut Vec<u32>,
-) -> Result<Option<Answer>, RelocationError> {
-    let view = View {
-        table: target.table(),
-        pointer_size: target.pointer_size(),
-    };
+    candidates: &[u32],
+) -> Result<(Option<Answer>, Vec<u32>), RelocationError>
+    ensures { (is_alike : ℕ → Result Bool RelocationError)
+        → model.is_of_type (subject_view subject.now) ≡ false
+        → GivesBy answers_view (model.answers (answer_at is_alike local.now target.now kind
+        (subject_view subject.now)) None candidates.now) result }
+{
     let mut common: Option<Answer> = None;
     let mut kept = Vec::new(alloc);
-    for candidate in candidates.iter().copied() {
-        if let Some(found) = matching(alloc, local, target, kind, subject, candidate)? {
-            let answer = answer_of(view, kind, &found)?;
-            kept.push(candidate)?;
-            common = Some(joined(common, answer)?);
+    for candidate in candidates {
+        let found = matching(alloc, local, target, kind, subject, *candidate)?;
+        let answer = answer_of(target, kind, found)?;
+        common = joined(common, answer)?;
+        if answer.is_some() {
+            kept.push(*candidate)?;
         }
     }
-    if common.is_some() {
-        *candidates = kept;
-    }
-    Ok(common)
+    Ok((common, kept))
 }
 
-/// The first answer, if the next one is the same.
-fn joined(common: Option<Answer>, next: Answer) -> Result<Answer, RelocationError> {
-    match common {
-        Some(first) if first.bit != next.bit || first.value.value != next.value.value => {
-            Err(RelocationError::Ambiguous)
+/// The first answer, if the next one agrees with it.
+fn joined(first: Option<Answer>, next: Option<Answer>) -> Result<Option<Answer>, RelocationError>
+    ensures { result ≡ model.joined first next }
+{
+    match (first, next) {
+        (Some(first), Some(next)) => {
+            if first.bit == next.bit && first.value.value == next.value.value {
+                Ok(Some(first))
+            } else {
+                Err(RelocationError::Ambiguous)
+            }
         }
-        Some(first) => Ok(first),
-        None => Ok(next),
+        (Some(first), None) => Ok(Some(first)),
+        (None, next) => Ok(next),
     }
 }
 
-/// The value of a record for which no type of the target matches.
-fn unmatched(kind: RelocationKind, subject: &Subject<'_>, expected: &Value) -> Resolved {
-    let is_poisoned = matches!(
-        kind,
-        RelocationKind::FieldByteOffset
-            | RelocationKind::FieldByteSize
-            | RelocationKind::FieldSigned
-            | RelocationKind::FieldLShift64
-            | RelocationKind::FieldRShift64
-            | RelocationKind::EnumeratorValue
-    );
+/// What is written for the answer of the candidates, or if there is none.
+fn resolved_by(
+    local: &Btf,
+    target: &Btf,
+    kind: RelocationKind,
+    validates: bool,
+    expected: &Value,
+    answer: Option<Answer>,
+) -> Resolved
+    ensures { result ≡ model.resolved_by local.now target.now kind validates expected.now answer }
+{
+    if let Some(answer) = answer {
+        return Resolved {
+            expected: expected.value,
+            value: answer.value.value,
+            is_poisoned: false,
+            validates,
+            local_size: expected.size,
+            target_size: answer.value.size,
+            is_adjustable: may_resize(local, target, expected, &answer.value),
+        };
+    }
+    let is_poisoned = poisons(kind);
     Resolved {
         expected: expected.value,
         value: 0,
         is_poisoned,
-        validates: validates(kind, subject),
+        validates,
         local_size: expected.size,
         target_size: if is_poisoned { 0 } else { expected.size },
         is_adjustable: true,
     }
 }
 
-/// The value of a record that needs no search.
-fn unvalidated(expected: u32, value: u32) -> Resolved {
+/// Whether a record of this kind poisons its instruction if no type of the target matches.
+fn poisons(kind: RelocationKind) -> bool
+    ensures { result ≡ model.poisons kind }
+{
+    match kind {
+        RelocationKind::FieldByteOffset
+        | RelocationKind::FieldByteSize
+        | RelocationKind::FieldSigned
+        | RelocationKind::FieldLShift64
+        | RelocationKind::FieldRShift64
+        | RelocationKind::EnumeratorValue => true,
+        _ => false,
+    }
+}
+
+/// What is written for a record that asks for the id of the program's own type.
+fn local_id(type_id: u32) -> Resolved
+    ensures { result ≡ model.local_id type_id }
+{
     Resolved {
-        expected: u64::from(expected),
-        value: u64::from(value),
+        expected: u64::from(type_id),
+        value: u64::from(type_id),
         is_poisoned: false,
         validates: false,
         local_size: 0,
@@ -275,13 +402,15 @@ fn unvalidated(expected: u32, value: u32) -> Resolved {
 
 /// Whether an instruction must have the expected value before it is patched. Compilers write other values for
 /// bit-fields, and for the ids of types.
-fn validates(kind: RelocationKind, subject: &Subject<'_>) -> bool {
+fn validates(kind: RelocationKind, subject: &Subject<'_>) -> bool
+    ensures { result ≡ model.validates kind (subject_view subject.now) }
+{
     match kind {
         RelocationKind::TypeIdLocal | RelocationKind::TypeIdTarget => false,
         RelocationKind::FieldByteOffset
         | RelocationKind::FieldByteSize
         | RelocationKind::FieldLShift64 => match subject {
-            Subject::Field(path) => !path.field.is_member || path.field.bits == 0,
+            Subject::OfField(path) => !path.field.is_member || path.field.bits == 0,
             _ => true,
         },
         _ => true,
@@ -289,15 +418,17 @@ fn validates(kind: RelocationKind, subject: &Subject<'_>) -> bool {
 }
 
 /// Whether a load or store may get the size of the target's field.
-fn may_resize(local: &Btf, expected: &Value, target: &Btf, value: &Value) -> bool {
+fn may_resize(local: &Btf, target: &Btf, expected: &Value, value: &Value) -> bool
+    ensures { result ≡ model.may_resize local.now target.now expected.now value.now }
+{
     if expected.size == value.size {
         return true;
     }
-    match (
-        type_at(local, expected.type_id),
-        type_at(target, value.type_id),
-    ) {
-        (Ok(one), Ok(other)) => is_adjustable(one, other),
-        _ => false,
-    }
+    let Ok(one) = type_at(local, expected.type_id) else {
+        return false;
+    };
+    let Ok(other) = type_at(target, value.type_id) else {
+        return false;
+    };
+    is_adjustable(one, other)
 }

@@ -1,91 +1,139 @@
 //! The search for a member by its name, through members without a name.
 
-use crate::field::{member_field, members};
+ghost use Rattle.std.specs.Prelude.{◌≡◌, ◌+◌, ◌<◌, ◌≤◌, ◌∷◌, length, drop, IfOk};
+ghost use Rattle.std.specs.Result.{OnOk};
+ghost use Rattle.btf_records.specs.BtfType.{record_of};
+ghost use Rattle.btf_relocate_model.specs.Search as model;
+ghost use Rattle.btf_relocate.specs.Gives.{Gives, GivesBy};
+ghost use Rattle.btf_relocate.specs.Searching.{within, from_id, outward, found_of, size_of, Remembers};
+
+use crate::field::{bits_of, member_field, members, moved};
 use crate::lookup::{name_or_none, resolved, type_at};
+use btf_items::BtfMember;
 use btf_records::BtfType;
 use btf_relocate_model::{Field, RelocationError};
 use btf_table::Btf;
 use std::alloc::Global;
 use std::collections::BTreeMap;
 
-/// The result of a search.
+/// The result of a search in a type.
 #[derive(Clone, Copy, Debug)]
 pub enum Found {
-    /// The member, and the number of members on the way to it, with itself.
+    /// The member, whose bit counts from the beginning of the type, and the number of members on the way to it, with
+    /// itself.
     Member(Field, u32),
     /// There is no such member. The number of levels of members without a name that were searched.
     Nothing(u32),
 }
 
-/// A search for a member of this name. A type is searched once: the second search would find nothing either.
-#[derive(Debug, Drop)]
-pub struct Search<'t> {
-    table: &'t Btf,
-    name: &'t [u8],
-    /// The types that were searched in vain, with their number of levels.
-    searched: BTreeMap<u32, u32>,
+/// The member of this name in the STRUCT or UNION that an id resolves to, and the number of members on the way to it,
+/// with itself; `None` if there is none. At most `depth` members may be on the way.
+pub fn find_member(
+    alloc: Global,
+    table: &Btf,
+    name: &[u8],
+    type_id: u32,
+    depth: u32,
+) -> Result<Found, RelocationError>
+    ensures found { GivesBy found_of (model.search depth table.now name.now type_id) result }
+    ensures small { IfOk result (λ f. size_of f ≤ depth) }
+{
+    let mut searched = BTreeMap::new(alloc);
+    search(table, name, &mut searched, type_id, depth)
 }
 
-impl<'t> Search<'t> {
-    /// A search that begins.
-    pub fn new(alloc: Global, table: &'t Btf, name: &'t [u8]) -> Search<'t> {
-        Search {
-            table,
-            name,
-            searched: BTreeMap::new(alloc),
+/// Searches a STRUCT or UNION. `searched` has the types that were searched in vain, with their number of levels: the
+/// second search of a type would find nothing either, so each type is searched once.
+///
+/// Each call has a smaller depth than its caller, and the first has at most 64.
+#[cycle(search)]
+fn search(
+    table: &Btf,
+    name: &[u8],
+    searched: &mut BTreeMap<u32, u32>,
+    type_id: u32,
+    depth: u32,
+) -> Result<Found, RelocationError>
+    requires { Remembers table.now name.now searched.old }
+    ensures found { Gives (from_id depth table.now name.now type_id) result }
+    ensures small { IfOk result (λ f. size_of f ≤ depth) }
+    ensures remembers { OnOk result (Remembers table.now name.now searched.new) }
+{
+    let end = resolved(table, type_id)?;
+    let btf_type = type_at(table, end)?;
+    if let Some(levels) = searched.get(&end).copied() {
+        if levels > depth {
+            return Err(RelocationError::TooDeep);
         }
+        return Ok(Found::Nothing(levels));
     }
-
-    /// Searches a STRUCT or UNION that begins at a bit, before later members of the same type and after earlier ones,
-    /// with the members of a member without a name in its place. At most `depth` members may be on the way.
-    ///
-    /// Each call has a smaller depth than its caller, and the first has at most 64.
-    #[cycle(search)]
-    pub fn run(&mut self, type_id: u32, bit: u32, depth: u32) -> Result<Found, RelocationError> {
-        let type_id = resolved(self.table, type_id)?;
-        if let Some(levels) = self.searched.get(&type_id).copied() {
-            if levels > depth {
-                return Err(RelocationError::TooDeep);
-            }
-            return Ok(Found::Nothing(levels));
-        }
-        let found = self.run_members(type_at(self.table, type_id)?, bit, depth)?;
-        if let Found::Nothing(levels) = found {
-            self.searched.insert(type_id, levels)?;
-        }
-        Ok(found)
+    let found = search_members(table, name, searched, btf_type, depth)?;
+    if let Found::Nothing(levels) = found {
+        searched.insert(end, levels)?;
     }
+    Ok(found)
+}
 
-    /// Searches the members of a type.
-    #[cycle(search)]
-    fn run_members(
-        &mut self,
-        btf_type: &BtfType,
-        bit: u32,
-        depth: u32,
-    ) -> Result<Found, RelocationError> {
-        let mut levels = 0;
-        let members = members(btf_type).unwrap_or(&[]);
-        for (index, member) in members.iter().enumerate() {
-            let Some(below) = depth.checked_sub(1) else {
-                return Err(RelocationError::TooDeep);
-            };
-            let name = name_or_none(self.table, member.name_offset);
-            let is_last = members.len() - index == 1;
-            if name.is_empty() {
-                let inner = member_field(btf_type, member, bit, is_last)?;
-                match self.run(inner.type_id, inner.bit, below)? {
-                    Found::Member(field, count) => {
-                        return Ok(Found::Member(field, count.saturating_add(1)));
-                    }
-                    Found::Nothing(inner) => levels = levels.max(inner.saturating_add(1)),
+/// Searches the members of a type.
+#[cycle(search)]
+fn search_members(
+    table: &Btf,
+    name: &[u8],
+    searched: &mut BTreeMap<u32, u32>,
+    btf_type: &BtfType,
+    depth: u32,
+) -> Result<Found, RelocationError>
+    requires { Remembers table.now name.now searched.old }
+    ensures found { Gives (within depth table.now name.now (record_of btf_type.now)) result }
+    ensures small { IfOk result (λ f. size_of f ≤ depth) }
+    ensures remembers { OnOk result (Remembers table.now name.now searched.new) }
+{
+    let members = members(btf_type);
+    if members.is_empty() {
+        return Ok(Found::Nothing(0));
+    }
+    if depth == 0 {
+        return Err(RelocationError::TooDeep);
+    }
+    let mut levels: u32 = 0;
+    for index in 0..members.len() {
+        let member = member_at(members, index);
+        let here = name_or_none(table, member.name_offset);
+        if here.is_empty() {
+            match search(table, name, searched, member.btf_type, depth - 1)? {
+                Found::Member(field, count) => {
+                    return further_out(bits_of(btf_type, member).0, &field, count);
                 }
-            } else if name == self.name {
-                return Ok(Found::Member(member_field(btf_type, member, bit, is_last)?, 1));
-            } else {
-                levels = levels.max(1);
+                Found::Nothing(inner) => levels = levels.max(inner + 1),
             }
+        } else if here == name {
+            let is_last = index + 1 == members.len();
+            return Ok(Found::Member(member_field(btf_type, member, 0, is_last)?, 1));
+        } else {
+            levels = levels.max(1);
         }
-        Ok(Found::Nothing(levels))
     }
+    Ok(Found::Nothing(levels))
+}
+
+/// The member at an index.
+fn member_at(members: &[BtfMember], index: usize) -> &BtfMember
+    requires { index < length members.now }
+    ensures { drop index members.now ≡ result.now ∷ drop (index + 1) members.now }
+{
+    &members[index]
+}
+
+/// A member that was found in a member without a name, which begins at this bit.
+fn further_out(bit: u32, field: &Field, count: u32) -> Result<Found, RelocationError>
+    requires { count + 1 ≤ u32.MAX }
+    ensures found { result ≡ outward bit field.now count }
+    ensures small { IfOk result (λ f. size_of f ≤ count + 1) }
+{
+    let first = moved(bit, u64::from(field.bit))?;
+    let field = Field {
+        bit: first,
+        ..*field
+    };
+    Ok(Found::Member(field, count + 1))
 }

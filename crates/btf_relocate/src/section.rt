@@ -1,5 +1,8 @@
 //! The records of a section.
 
+ghost use Rattle.std.specs.Prelude.{◌≡◌, ◌+◌, ◌<◌, ◌∷◌, length, drop, IfOk};
+ghost use Rattle.btf_relocate.specs.Sections.{Relocated, Relocates, is_out_of_memory};
+
 use crate::instruction::patch;
 use crate::lookup::{name_or_none, type_at};
 use crate::resolving::resolve;
@@ -36,16 +39,20 @@ pub fn relocate_section(
     records: &[[u32; 4]],
     code: &mut [u8],
     policy: CandidatePolicy,
-) -> Result<Vec<Outcome>, AllocError> {
+) -> Result<Vec<Outcome>, AllocError>
+    ensures { IfOk result (λ outcomes. Relocates local.now target.now code.old records.now
+        outcomes.items code.new) }
+{
     let mut outcomes = Vec::with_capacity(alloc, records.len())?;
     let mut shared: BTreeMap<u32, Vec<u32>> = BTreeMap::new(alloc);
-    for record in records {
+    for index in 0..records.len() {
+        let record = record_at(records, index);
         let mut candidates = match shared.remove(&record[1]) {
             Some(candidates) => candidates,
             None => candidates_of(alloc, local, target, record[1])?,
         };
         let outcome = relocate(alloc, local, target, record, &mut candidates, code);
-        if outcome == Err(RelocationError::OutOfMemory) {
+        if is_out_of_memory(&outcome) {
             return Err(AllocError);
         }
         outcomes.push(outcome)?;
@@ -54,6 +61,24 @@ pub fn relocate_section(
         }
     }
     Ok(outcomes)
+}
+
+/// The record at an index.
+fn record_at(records: &[[u32; 4]], index: usize) -> &[u32; 4]
+    requires { index < length records.now }
+    ensures { drop index records.now ≡ result.now ∷ drop (index + 1) records.now }
+{
+    &records[index]
+}
+
+/// Whether an allocation failed.
+fn is_out_of_memory(outcome: &Outcome) -> bool
+    ensures { result ≡ is_out_of_memory outcome.now }
+{
+    match outcome {
+        Err(RelocationError::OutOfMemory) => true,
+        _ => false,
+    }
 }
 
 /// The candidates of a type of the program's table, in a list for [`resolve`]; none if the id has no type.
@@ -81,7 +106,9 @@ fn relocate(
     record: &[u32; 4],
     candidates: &mut Vec<u32>,
     code: &mut [u8],
-) -> Outcome {
+) -> Outcome
+    ensures { Relocated local.now target.now record.now code.old code.new result }
+{
     let resolved = resolve(alloc, local, target, record, candidates)?;
     patch(code, record[0] as usize, local.endianness(), &resolved)
 }

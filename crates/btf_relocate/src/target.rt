@@ -1,7 +1,11 @@
 //! The table that a program is relocated against.
 
-ghost use Rattle.std.specs.Prelude.{◌≡◌, ◌≤◌, length};
+ghost use Rattle.std.specs.Prelude.{◌≡◌, ◌≤◌, length, true, false, IfOk, MatchOption};
+ghost use Rattle.std.specs.List.{list_any};
+ghost use Rattle.std.specs.Str.{bytes_eq};
+ghost use Rattle.btf_records.specs.BtfType.{record_of};
 ghost use Rattle.btf_relocate_model.specs.Candidates.{compared_number};
+ghost use Rattle.btf_relocate_model.specs.Types as model;
 
 use crate::lookup::{kind_number, name_or_none};
 use crate::name::essential_name;
@@ -9,6 +13,7 @@ use btf_plain::{BtfError, BtfKind};
 use btf_records::BtfType;
 use btf_table::{Btf, type_count};
 use std::alloc::{AllocError, Global};
+use std::marker::Model;
 
 /// A named type of the target, as the index sorts it.
 #[derive(Clone, Copy, Debug, PartialEq, Eq, PartialOrd, Ord)]
@@ -27,9 +32,23 @@ pub struct Target<'t> {
     ids: Vec<u32>,
 }
 
+impl<'t> Model for Target<'t> {
+    ghost use Rattle.std.specs.Prelude.{◌≡◌};
+    ghost use Rattle.btf_model.specs.Table.{Table};
+    ghost use Rattle.btf_relocate_model.specs.Types as types;
+
+    ghost Value = { Table };
+
+    ghost view = { λ g. g.table.now };
+
+    ghost invariant = { λ g. g.pointer_size ≡ types.pointer_size g.table.now };
+}
+
 impl<'t> Target<'t> {
     /// The index of a table. `OutOfMemory` is the only error.
-    pub fn new(alloc: Global, table: &'t Btf) -> Result<Target<'t>, BtfError> {
+    pub fn new(alloc: Global, table: &'t Btf) -> Result<Target<'t>, BtfError>
+        ensures { IfOk result (λ target. target ≡ table.now) }
+    {
         let mut entries = named_types(alloc, table)?;
         entries.sort_unstable();
         let mut ids = Vec::with_capacity(alloc, entries.len())?;
@@ -44,13 +63,17 @@ impl<'t> Target<'t> {
     }
 
     /// The table.
-    pub fn table(&self) -> &'t Btf {
+    pub fn table(&self) -> &'t Btf
+        ensures { result.now ≡ self.now }
+    {
         self.table
     }
 
     /// The size of a pointer in bytes: the size of the first INT of 4 or 8 bytes with the name of the C type `long`, or
     /// 8 if there is none.
-    pub fn pointer_size(&self) -> u32 {
+    pub fn pointer_size(&self) -> u32
+        ensures { result ≡ model.pointer_size self.now }
+    {
         self.pointer_size
     }
 
@@ -58,31 +81,31 @@ impl<'t> Target<'t> {
     /// an ENUM.
     pub fn candidates(&self, name: &[u8], kind: BtfKind) -> &[u32] {
         let key = (essential_name(name), compared_number(kind as u32));
-        let start = self.first_from(|entry| entry >= key);
-        let end = self.first_from(|entry| entry > key);
+        let start = first_from(self.table, &self.ids, |entry| entry >= key);
+        let end = first_from(self.table, &self.ids, |entry| entry > key);
         if start < end {
             &self.ids[start..end]
         } else {
             &[]
         }
     }
+}
 
-    /// The first place of the index at which a test holds, which also holds at all later places.
-    fn first_from<F: Fn((&[u8], u32)) -> bool>(&self, test: F) -> usize
-        requires { F.IsAlwaysCallable test }
-        ensures { result ≤ length self.now.ids.items }
-    {
-        let (mut low, mut high) = (0, self.ids.len());
-        while low < high {
-            let middle = low + (high - low) / 2;
-            if test(key_of(self.table, self.ids[middle])) {
-                high = middle;
-            } else {
-                low = middle + 1;
-            }
+/// The first place of the index at which a test holds, which also holds at all later places.
+fn first_from<F: Fn((&[u8], u32)) -> bool>(table: &Btf, ids: &[u32], test: F) -> usize
+    requires { F.IsAlwaysCallable test }
+    ensures { result ≤ length ids.now }
+{
+    let (mut low, mut high) = (0, ids.len());
+    while low < high {
+        let middle = low + (high - low) / 2;
+        if test(key_of(table, ids[middle])) {
+            high = middle;
+        } else {
+            low = middle + 1;
         }
-        low
     }
+    low
 }
 
 /// The key of a type in the index.
@@ -120,35 +143,54 @@ fn named_types(alloc: Global, table: &Btf) -> Result<Vec<Entry<'_>>, AllocError>
 }
 
 /// The size of a pointer in the machine that a table describes.
-fn pointer_size(table: &Btf) -> u32 {
-    for btf_type in table.types() {
-        if let BtfType::Int(int) = btf_type {
-            let size = int.size();
-            if (size == 4 || size == 8) && is_long(name_or_none(table, int.name_offset())) {
-                return size;
-            }
+fn pointer_size(table: &Btf) -> u32
+    ensures { result ≡ model.pointer_size table.now }
+{
+    for type_id in 0..type_count(table) {
+        let Ok(btf_type) = table.type_by_id(type_id) else {
+            return 8;
+        };
+        if let Some(size) = long_size(table, btf_type) {
+            return size;
         }
     }
     8
 }
 
-/// Whether a name is one that compilers give to the C type `long`.
-fn is_long(name: &[u8]) -> bool {
-    match str::from_utf8(name) {
-        Ok(text) => matches!(
-            text,
-            "long"
-                | "long int"
-                | "int long"
-                | "unsigned long"
-                | "long unsigned"
-                | "unsigned long int"
-                | "unsigned int long"
-                | "long unsigned int"
-                | "long int unsigned"
-                | "int unsigned long"
-                | "int long unsigned"
-        ),
-        Err(_) => false,
+/// The size of an INT of 4 or 8 bytes with the name of the C type `long`; `None` for another type.
+fn long_size(table: &Btf, btf_type: &BtfType) -> Option<u32>
+    ensures { MatchOption result (model.is_long table.now (record_of btf_type.now) ≡ false)
+        (λ size. (model.is_long table.now (record_of btf_type.now) ≡ true)
+        × (size ≡ (record_of btf_type.now).third)) }
+{
+    // Only a use of the kind proves that the info word has it.
+    let _ = btf_type.kind();
+    match btf_type {
+        BtfType::Int(int) => {
+            let size = int.size();
+            if (size == 4 || size == 8) && is_long(name_or_none(table, btf_type.name_offset())) {
+                Some(size)
+            } else {
+                None
+            }
+        }
+        _ => None,
     }
+}
+
+/// Whether a name is one that compilers give to the C type `long`.
+fn is_long(name: &[u8]) -> bool
+    ensures { result ≡ list_any (bytes_eq name.now) model.long_names }
+{
+    name == b"long".as_slice()
+        || name == b"long int".as_slice()
+        || name == b"int long".as_slice()
+        || name == b"unsigned long".as_slice()
+        || name == b"long unsigned".as_slice()
+        || name == b"unsigned long int".as_slice()
+        || name == b"unsigned int long".as_slice()
+        || name == b"long unsigned int".as_slice()
+        || name == b"long int unsigned".as_slice()
+        || name == b"int unsigned long".as_slice()
+        || name == b"int long unsigned".as_slice()
 }

@@ -12,15 +12,6 @@ use btf_records::BtfType;
 use btf_relocate_model::{Field, Load, RelocationError, RelocationKind, Value};
 use btf_table::Btf;
 
-/// A table, as values depend on it.
-#[derive(Clone, Copy, Debug)]
-pub struct View<'t> {
-    /// The table.
-    pub table: &'t Btf,
-    /// The size of a pointer.
-    pub pointer_size: u32,
-}
-
 /// A value that sets no size of a load or store.
 pub fn plain(value: u64) -> Value
     ensures { result ≡ model.plain value }

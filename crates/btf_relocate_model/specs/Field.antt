@@ -1,10 +1,10 @@
 -- Places in a type: the type itself, elements of arrays, members.
 -- Source: libbpf's `bpf_core_parse_spec`, `bpf_core_spec_match` and `is_flex_arr`. libbpf wraps the number of a field's
 -- first bit at 2^32; here such a field is refused.
-use Rattle.std.specs.Prelude.{ℕ, ◌+◌, ◌*◌, ◌^◌, ◌==◌, ◌&&◌, ◌||◌, nat_lt, if◌then◌else◌, Bool, true, false, List, [], ◌∷◌, Option, Some, None, Result, Ok, Err}
-use Rattle.btf_model.specs.Record.{Kind, Array, Record, kind_of, member_bit_offset, member_bit_field_size}
+use Rattle.std.specs.Prelude.{ℕ, ◌+◌, ◌*◌, ◌^◌, ◌==◌, ◌&&◌, ◌||◌, nat_lt, if◌then◌else◌, Bool, true, false, List, [], ◌∷◌, length, slice_get, Option, Some, None, Result, Ok, Err}
+use Rattle.btf_model.specs.Record.{Kind, Array, Struct, Union, Record, kind_of, member_bit_offset, member_bit_field_size}
 use Rattle.btf_model.specs.Table.{Table}
-use Rattle.btf_relocate_model.specs.Types.{◌>>=◌, record_at, resolved, size_of}
+use Rattle.btf_relocate_model.specs.Types.{◌>>=◌, record_at, resolved, resolved_record, size_of}
 use Rattle.btf_relocate_model.specs.declared.error.RelocationError.{RelocationError}
 use Rattle.btf_relocate_model.specs.declared.error.RelocationError.TheVariants.{BitOffsetTooBig}
 use Rattle.btf_relocate_model.specs.declared.field.Field.{Field}
@@ -76,3 +76,24 @@ member_field info bit is_last m =
       is_member = true;
       is_last = is_last;
     })
+
+-- the members of a type, by its kind; none for a type that is no STRUCT or UNION
+abbrev pub members_by : Option Kind → List ℕ → List Member
+members_by (Some Struct) words = members_in words
+members_by (Some Union) words = members_in words
+members_by k words = []
+
+abbrev pub members_of : Record → List Member
+members_of r = members_by (kind_of r.info) r.tail
+
+-- a member of a type with this info word, with the string offset of its name
+abbrev pub member_or_none : ℕ → ℕ → Bool → Option Member → Result (Option (Field × ℕ)) RelocationError
+member_or_none info bit is_last (Some m) = member_field info bit is_last m >>= λ f. Ok (Some (f, m.name))
+member_or_none info bit is_last None = Ok None
+
+-- The member at an index of the STRUCT or UNION at a place, with the string offset of its name; none if there is no
+-- STRUCT or UNION, or no such member.
+abbrev pub member : Table → Field → ℕ → Result (Option (Field × ℕ)) RelocationError
+member t f index =
+    resolved_record t f.type_id >>= λ r.
+    member_or_none r.info f.bit (index + 1 == length (members_of r)) (slice_get (members_of r) index)

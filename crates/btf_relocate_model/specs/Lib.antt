@@ -5,8 +5,14 @@ pub mod Instruction
 pub mod Types
 pub mod Candidates
 pub mod Field
+pub mod Path
 pub mod Compatible
+pub mod Search
+pub mod Match
 pub mod Enumerator
 pub mod Value
+pub mod Resolution
+pub mod Section
 pub mod Laws
 pub mod Examples
+pub mod ResolutionExamples

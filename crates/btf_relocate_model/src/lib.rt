@@ -6,12 +6,14 @@
 
 ghost use Rattle.btf_relocate_model.specs.Laws.{WrittenReadsBack, WrittenKeepsTheRest, PoisonHasAReason};
 
+mod answer;
 mod error;
 mod field;
 mod instruction;
 mod kind;
 mod resolved;
 
+pub use answer::{Answer, Match};
 pub use error::RelocationError;
 pub use field::{Field, Load, Value};
 pub use instruction::{Instruction, Patched, Slot};

@@ -1,0 +1,66 @@
+use Rattle.std.proofs.Common.{◌≡◌, ◌∙◌, List, ℕ, Bool, Option, Ok, Err, None, sym, ap, inl, inr}
+use Rattle.std.specs.Prelude.{◌⊎◌}
+use Rattle.std.specs.Global.{Vec}
+use Rattle.btf_model.specs.Table.{Table}
+use Rattle.btf_model.specs.declared.endianness.Endianness.{Endianness}
+use Rattle.btf_relocate_model.specs.Path.{local_pointer}
+use Rattle.btf_relocate_model.specs.Resolution as model
+use Rattle.btf_relocate_model.specs.Resolution.{Setting, Question, question, answers, candidate_answer, resolution, resolved_by, remaining, type_word, is_of_type}
+use Rattle.btf_relocate_model.specs.declared.answer.Answer.{Answer}
+use Rattle.btf_relocate_model.specs.declared.answer.Match.{Match}
+use Rattle.btf_relocate_model.specs.declared.error.RelocationError.TheVariants.{OutOfMemory}
+use Rattle.btf_relocate_model.specs.declared.resolved.Resolved.{Resolved}
+use Rattle.btf_relocate.specs.Resolving.{question_view}
+use Rattle.btf_relocate.proofs.Resolves.{about_no_type, has_name, Asked, refused, answered_by, remain_some, remain_none, left_refused}
+use Rattle.btf_relocate.proofs.resolving.resolve.Goals as goal
+use Rattle.btf_relocate.proofs.resolving.resolve.Goals.{then-is_some, else-is_some}
+
+pub returns-in_err-answer : goal.returns-in_err-answer
+returns-in_err-answer c = λ is_alike other.
+    let g : Setting = record { local = c.args.local.now; target = c.args.target.now; is_alike = is_alike } in
+    let words = c.args.record.now in
+    let q : Question = question_view c.in_ok-question.question in
+    let e = c.in_err-answer.field-0.0 in
+    let order : c.endianness.result ≡ c.args.target.now.order = c.endianness.ensures ∙ ap (λ (t : Table). t.order) c.table.ensures in
+    let asks : question g.local g.target.order words ≡ Ok q = ap (λ (o : Endianness). question g.local o words) (sym order) ∙ c.in_ok-question.ensures in
+    let asked : Asked g c.args.candidates.now.items words q c.in_ok-expected.expected = record {
+      asks = asks;
+      searches = sym c.is_local.ensures ∙ c.if-is_local.false;
+      named = has_name q.name c.is_empty.result c.is_empty.ensures c.if-is_empty.false;
+      local_value = ap (λ (m : Match). model.value_of local_pointer g.local q.kind m) (sym c.local_match-found.ensures) ∙ sym c.in_ok-expected.ensures;
+    } in
+    let told = c.in_err-answer.ensures (is_alike q.kind (type_word words)) (about_no_type g.local g.target.order words q asks other (sym c.is_local.ensures ∙ c.if-is_local.false)) in
+    left_refused c.args.candidates.now.items (resolution g c.args.candidates.now.items words) c.from_residual-in_err-answer.result e c.from_residual-in_err-answer.ensures.1
+    (elim told as (λ x. (e ≡ OutOfMemory) ⊎ (resolution g c.args.candidates.now.items words ≡ Err e)) [
+      | inl memory ↦ inl memory
+      | inr is ↦ inr (refused g c.args.candidates.now.items words q c.in_ok-expected.expected asked e
+          (ap (λ (cs : List ℕ). answers (candidate_answer g q.kind (type_word words) q.subject) None cs) (sym c.as_slice.ensures.value) ∙ is))
+    ])
+
+pub returns : goal.returns
+returns c = λ is_alike other.
+    let g : Setting = record { local = c.args.local.now; target = c.args.target.now; is_alike = is_alike } in
+    let words = c.args.record.now in
+    let q : Question = question_view c.in_ok-question.question in
+    let order : c.endianness.result ≡ c.args.target.now.order = c.endianness.ensures ∙ ap (λ (t : Table). t.order) c.table.ensures in
+    let asks : question g.local g.target.order words ≡ Ok q = ap (λ (o : Endianness). question g.local o words) (sym order) ∙ c.in_ok-question.ensures in
+    let asked : Asked g c.args.candidates.now.items words q c.in_ok-expected.expected = record {
+      asks = asks;
+      searches = sym c.is_local.ensures ∙ c.if-is_local.false;
+      named = has_name q.name c.is_empty.result c.is_empty.ensures c.if-is_empty.false;
+      local_value = ap (λ (m : Match). model.value_of local_pointer g.local q.kind m) (sym c.local_match-found.ensures) ∙ sym c.in_ok-expected.ensures;
+    } in
+    let found : Option Answer × List ℕ = (c.in_ok-answer.answer, c.in_ok-answer.matching.items) in
+    let told : answers (candidate_answer g q.kind (type_word words) q.subject) None c.as_slice.result.now ≡ Ok found =
+    c.in_ok-answer.ensures (is_alike q.kind (type_word words)) (about_no_type g.local g.target.order words q asks other (sym c.is_local.ensures ∙ c.if-is_local.false)) in
+    let left : remaining c.args.candidates.now.items found.0 found.1 ≡ c.if-is_some.candidates.items = elim c.if-is_some.branch [
+      | then-is_some w ↦ remain_some found.0 c.is_some.result c.args.candidates.now.items found.1 c.if-is_some.candidates.items c.is_some.ensures w.if-is_some.true (ap (λ (v : Vec ℕ). v.items) w.candidates-is)
+      | else-is_some w ↦ remain_none found.0 c.is_some.result c.args.candidates.now.items found.1 c.if-is_some.candidates.items c.is_some.ensures w.if-is_some.false (ap (λ (v : Vec ℕ). v.items) w.candidates-is)
+    ] in
+    let result : resolved_by g.local g.target q.kind (model.validates q.kind q.subject) c.in_ok-expected.expected found.0 ≡ c.resolved_by.result = sym (c.resolved_by.ensures
+    ∙ ap (λ (t : Table). resolved_by g.local t q.kind c.validates-validates.result c.in_ok-expected.expected found.0) c.table-2.ensures
+    ∙ ap (λ (b : Bool). resolved_by g.local g.target q.kind b c.in_ok-expected.expected found.0) c.validates-validates.ensures) in
+    answered_by g c.args.candidates.now.items words q c.in_ok-expected.expected asked found
+    (ap (λ (cs : List ℕ). answers (candidate_answer g q.kind (type_word words) q.subject) None cs) (sym c.as_slice.ensures.value) ∙ told)
+    ∙ ap (λ (r : Resolved). let p : Resolved × List ℕ = (r, remaining c.args.candidates.now.items found.0 found.1) in Ok p) result
+    ∙ ap (λ (cs : List ℕ). let p : Resolved × List ℕ = (c.resolved_by.result, cs) in Ok p) left

@@ -1,0 +1,43 @@
+-- What `resolve` and its parts return, as the definitions see it.
+use Rattle.std.specs.Prelude.{◌≡◌, ◌⊎◌, ℕ, Bool, List, Option, Result, Ok, Err}
+use Rattle.std.specs.Global.{Vec}
+use Rattle.btf_model.specs.Table.{Table}
+use Rattle.btf_relocate_model.specs.Resolution as model
+use Rattle.btf_relocate_model.specs.Types.{◌>>=◌, pointer_size}
+use Rattle.btf_relocate_model.specs.declared.answer.Answer.{Answer}
+use Rattle.btf_relocate_model.specs.declared.error.RelocationError.{RelocationError}
+use Rattle.btf_relocate_model.specs.declared.error.RelocationError.TheVariants.{OutOfMemory}
+use Rattle.btf_relocate_model.specs.declared.kind.RelocationKind.{RelocationKind}
+use Rattle.btf_relocate_model.specs.declared.resolved.Resolved.{Resolved}
+use Rattle.btf_relocate.specs.Paths.{path_of}
+use Rattle.btf_relocate.specs.declared.resolving.Question.{Question}
+use Rattle.btf_relocate.specs.declared.resolving.Subject.{Subject}
+use Rattle.btf_relocate.specs.declared.resolving.Subject.TheVariants.{OfField, OfType, OfEnumerator}
+
+-- comparisons of two types, for each kind
+abbrev pub Alike : Type 0
+Alike = RelocationKind → ℕ → ℕ → Result Bool RelocationError
+
+abbrev pub subject_view : Subject → model.Subject
+subject_view (OfField path) = model.OfField (path_of path)
+subject_view (OfType id) = model.OfType id
+subject_view (OfEnumerator name value) = model.OfEnumerator name.now value
+
+abbrev pub question_view : Question → model.Question
+question_view q = record { kind = q.kind; name = q.name.now; subject = subject_view q.subject }
+
+abbrev pub answers_view : Option Answer × Vec ℕ → Option Answer × List ℕ
+answers_view p = (p.0, p.1.items)
+
+-- the answer that a candidate has for a subject
+abbrev pub answer_at : (ℕ → Result Bool RelocationError) → Table → Table → RelocationKind → model.Subject → ℕ
+    → Result (Option Answer) RelocationError
+answer_at is_alike local t k s c =
+    model.match_of is_alike local (pointer_size t) t s c >>= model.answer_of (pointer_size t) t k
+
+-- The result is the expected one, and the candidates are those that remain; or an allocation failed. The candidates are
+-- unchanged after an error.
+abbrev pub HasResolved : List ℕ → List ℕ → Result (Resolved × List ℕ) RelocationError → Result Resolved RelocationError
+    → Type 0
+HasResolved old new expected (Ok r) = expected ≡ Ok (r, new)
+HasResolved old new expected (Err e) = ((e ≡ OutOfMemory) ⊎ (expected ≡ Err e)) × (new ≡ old)
