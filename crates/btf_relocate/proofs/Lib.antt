@@ -12,3 +12,4 @@ mod Pointers
 mod Answering
 mod Resolves
 mod Sections
+mod Indexes

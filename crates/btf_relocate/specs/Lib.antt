@@ -1,8 +1,10 @@
 pub mod Access
 pub mod Arrays
+pub mod Entries
 pub mod Enumerators
 pub mod Extent
 pub mod Gives
+pub mod Index
 pub mod Matching
 pub mod Members
 pub mod Patch

@@ -1,10 +1,11 @@
 //! The records of a section.
 
 ghost use Rattle.std.specs.Prelude.{◌≡◌, ◌+◌, ◌<◌, ◌∷◌, length, drop, IfOk};
+ghost use Rattle.btf_relocate_model.specs.Section.{candidates_of};
 ghost use Rattle.btf_relocate.specs.Sections.{Relocated, Relocates, is_out_of_memory};
 
 use crate::instruction::patch;
-use crate::lookup::{name_or_none, type_at};
+use crate::lookup::{kind_number, name_or_none, type_at};
 use crate::resolving::resolve;
 use crate::target::Target;
 use btf_relocate_model::{Patched, RelocationError};
@@ -88,11 +89,16 @@ pub fn candidates_of(
     local: &Btf,
     target: &Target<'_>,
     type_id: u32,
-) -> Result<Vec<u32>, AllocError> {
+) -> Result<Vec<u32>, AllocError>
+    ensures { IfOk result (λ v. v.items ≡ candidates_of local.now target.now type_id) }
+{
     match type_at(local, type_id) {
         Ok(btf_type) => {
             let name = name_or_none(local, btf_type.name_offset());
-            Vec::from_slice(alloc, target.candidates(name, btf_type.kind()))
+            Vec::from_slice(
+                alloc,
+                target.candidates_of_kind(name, kind_number(btf_type)),
+            )
         }
         Err(_) => Ok(Vec::new(alloc)),
     }

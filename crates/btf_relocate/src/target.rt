@@ -1,10 +1,14 @@
 //! The table that a program is relocated against.
 
-ghost use Rattle.std.specs.Prelude.{◌≡◌, ◌≤◌, length, true, false, IfOk, MatchOption};
+ghost use Rattle.std.specs.Prelude.{◌≡◌, ◌≤◌, length, map, true, false, IfOk, MatchOption};
 ghost use Rattle.std.specs.List.{list_any};
+ghost use Rattle.std.specs.List.Sorted.{IsPartitionPoint};
+ghost use Rattle.std.specs.Ordering.{is_lt, is_le};
 ghost use Rattle.std.specs.Str.{bytes_eq};
 ghost use Rattle.btf_records.specs.BtfType.{record_of};
-ghost use Rattle.btf_relocate_model.specs.Candidates.{compared_number};
+ghost use Rattle.btf_relocate_model.specs.Candidates.{compared_number, candidates};
+ghost use Rattle.btf_relocate.specs.Index.{IsIndex, kind_code, key_of, key_cmp, named};
+ghost use Rattle.btf_relocate.specs.Entries.{AreEntries, id_of};
 ghost use Rattle.btf_relocate_model.specs.Types as model;
 
 use crate::lookup::{kind_number, name_or_none};
@@ -13,10 +17,11 @@ use btf_plain::{BtfError, BtfKind};
 use btf_records::BtfType;
 use btf_table::{Btf, type_count};
 use std::alloc::{AllocError, Global};
+use std::cmp::Ordering;
 use std::marker::Model;
 
 /// A named type of the target, as the index sorts it.
-#[derive(Clone, Copy, Debug, PartialEq, Eq, PartialOrd, Ord)]
+#[derive(Clone, Copy)]
 struct Entry<'t> {
     name: &'t [u8],
     kind: u32,
@@ -36,12 +41,14 @@ impl<'t> Model for Target<'t> {
     ghost use Rattle.std.specs.Prelude.{◌≡◌};
     ghost use Rattle.btf_model.specs.Table.{Table};
     ghost use Rattle.btf_relocate_model.specs.Types as types;
+    ghost use Rattle.btf_relocate.specs.Index.{IsIndex};
 
     ghost Value = { Table };
 
     ghost view = { λ g. g.table.now };
 
-    ghost invariant = { λ g. g.pointer_size ≡ types.pointer_size g.table.now };
+    ghost invariant = { λ g. (g.pointer_size ≡ types.pointer_size g.table.now)
+        × IsIndex g.table.now g.ids.items };
 }
 
 impl<'t> Target<'t> {
@@ -49,16 +56,10 @@ impl<'t> Target<'t> {
     pub fn new(alloc: Global, table: &'t Btf) -> Result<Target<'t>, BtfError>
         ensures { IfOk result (λ target. target ≡ table.now) }
     {
-        let mut entries = named_types(alloc, table)?;
-        entries.sort_unstable();
-        let mut ids = Vec::with_capacity(alloc, entries.len())?;
-        for entry in &entries {
-            ids.push(entry.type_id)?;
-        }
         Ok(Target {
             table,
             pointer_size: pointer_size(table),
-            ids,
+            ids: sorted_ids(alloc, table)?,
         })
     }
 
@@ -79,10 +80,20 @@ impl<'t> Target<'t> {
 
     /// The ids of the types of this kind whose names have the same essential name, in rising order. An ENUM64 counts as
     /// an ENUM.
-    pub fn candidates(&self, name: &[u8], kind: BtfKind) -> &[u32] {
-        let key = (essential_name(name), compared_number(kind as u32));
-        let start = first_from(self.table, &self.ids, |entry| entry >= key);
-        let end = first_from(self.table, &self.ids, |entry| entry > key);
+    pub fn candidates(&self, name: &[u8], kind: BtfKind) -> &[u32]
+        ensures { result.now ≡ candidates self.now name.now (kind_code kind) }
+    {
+        self.candidates_of_kind(name, kind_code(kind))
+    }
+
+    /// The candidates for the number of a kind.
+    pub(crate) fn candidates_of_kind(&self, name: &[u8], kind: u32) -> &[u32]
+        ensures { result.now ≡ candidates self.now name.now kind }
+    {
+        let name = essential_name(name);
+        let kind = compared_number(kind);
+        let start = first_from(self.table, &self.ids, name, kind);
+        let end = first_after(self.table, &self.ids, name, kind);
         if start < end {
             &self.ids[start..end]
         } else {
@@ -91,25 +102,47 @@ impl<'t> Target<'t> {
     }
 }
 
-/// The first place of the index at which a test holds, which also holds at all later places.
-fn first_from<F: Fn((&[u8], u32)) -> bool>(table: &Btf, ids: &[u32], test: F) -> usize
-    requires { F.IsAlwaysCallable test }
-    ensures { result ≤ length ids.now }
+/// The number of a kind.
+fn kind_code(kind: BtfKind) -> u32
+    ensures { result ≡ kind_code kind }
 {
-    let (mut low, mut high) = (0, ids.len());
-    while low < high {
-        let middle = low + (high - low) / 2;
-        if test(key_of(table, ids[middle])) {
-            high = middle;
-        } else {
-            low = middle + 1;
-        }
-    }
-    low
+    kind as u32
+}
+
+/// The first place of the index whose key is not less than this one.
+fn first_from(table: &Btf, ids: &[u32], name: &[u8], kind: u32) -> usize
+    requires { IsIndex table.now ids.now }
+    ensures bound { result ≤ length ids.now }
+    ensures point { IsPartitionPoint
+        (λ id. is_lt (key_cmp (key_of table.now id) (name.now, kind)) ≡ true)
+        (λ id. is_lt (key_cmp (key_of table.now id) (name.now, kind)) ≡ false) ids.now result }
+{
+    ids.partition_point(|id| compare(table, *id, name, kind).is_lt())
+}
+
+/// The first place of the index whose key is greater than this one.
+fn first_after(table: &Btf, ids: &[u32], name: &[u8], kind: u32) -> usize
+    requires { IsIndex table.now ids.now }
+    ensures bound { result ≤ length ids.now }
+    ensures point { IsPartitionPoint
+        (λ id. is_le (key_cmp (key_of table.now id) (name.now, kind)) ≡ true)
+        (λ id. is_le (key_cmp (key_of table.now id) (name.now, kind)) ≡ false) ids.now result }
+{
+    ids.partition_point(|id| compare(table, *id, name, kind).is_le())
+}
+
+/// The order of the key of a type and another key.
+fn compare(table: &Btf, type_id: u32, name: &[u8], kind: u32) -> Ordering
+    ensures { result ≡ key_cmp (key_of table.now type_id) (name.now, kind) }
+{
+    let (own_name, own_kind) = key_of(table, type_id);
+    own_name.cmp(name).then(own_kind.cmp(&kind))
 }
 
 /// The key of a type in the index.
-fn key_of(table: &Btf, type_id: u32) -> (&[u8], u32) {
+fn key_of(table: &Btf, type_id: u32) -> (&[u8], u32)
+    ensures { (result.0.now, result.1) ≡ key_of table.now type_id }
+{
     match table.type_by_id(type_id) {
         Ok(btf_type) => (
             essential_name(name_or_none(table, btf_type.name_offset())),
@@ -117,6 +150,26 @@ fn key_of(table: &Btf, type_id: u32) -> (&[u8], u32) {
         ),
         Err(_) => (&[], 0),
     }
+}
+
+/// The ids of the types that have a name, in the order of their keys.
+fn sorted_ids(alloc: Global, table: &Btf) -> Result<Vec<u32>, AllocError>
+    ensures { IfOk result (λ ids. IsIndex table.now ids.items) }
+{
+    let mut entries = named_types(alloc, table)?;
+    entries.sort_by_key(|entry| (entry.name, entry.kind))?;
+    ids_of(alloc, &entries)
+}
+
+/// The ids of entries.
+fn ids_of(alloc: Global, entries: &[Entry<'_>]) -> Result<Vec<u32>, AllocError>
+    ensures { IfOk result (λ ids. ids.items ≡ map id_of entries.now) }
+{
+    let mut ids = Vec::with_capacity(alloc, entries.len())?;
+    for entry in entries {
+        ids.push(entry.type_id)?;
+    }
+    Ok(ids)
 }
 
 /// The number of a kind when kinds are compared: ENUM64 counts as ENUM.
@@ -127,7 +180,9 @@ pub fn compared_number(kind: u32) -> u32
 }
 
 /// The types that have a name, in rising order of their ids.
-fn named_types(alloc: Global, table: &Btf) -> Result<Vec<Entry<'_>>, AllocError> {
+fn named_types(alloc: Global, table: &Btf) -> Result<Vec<Entry<'_>>, AllocError>
+    ensures { IfOk result (λ entries. AreEntries table.now entries.items (named table.now)) }
+{
     let mut entries = Vec::with_capacity(alloc, type_count(table) as usize)?;
     for type_id in 1..type_count(table) {
         let (name, kind) = key_of(table, type_id);
