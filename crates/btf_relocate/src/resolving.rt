@@ -57,10 +57,10 @@ pub fn resolve(
     record: &[u32; 4],
     candidates: &mut Vec<u32>,
 ) -> Result<Resolved, RelocationError>
-    ensures { (is_alike : Alike) → model.compares_types record.now ≡ false
+    ensures { (is_alike : Alike) → model.compares_types «record».now ≡ false
         → HasResolved candidates.old.items candidates.new.items
         (model.resolution (record { local = local.now; target = target.now; is_alike = is_alike })
-        candidates.old.items record.now) result }
+        candidates.old.items «record».now) result }
 {
     let type_id = record[1];
     let question = question_of(alloc, local, target.table().endianness(), record)?;
@@ -101,7 +101,7 @@ fn question_of<'t>(
     order: Endianness,
     record: &[u32; 4],
 ) -> Result<Question<'t>, RelocationError>
-    ensures { GivesBy question_view (model.question local.now order record.now) result }
+    ensures { GivesBy question_view (model.question local.now order «record».now) result }
 {
     let kind = RelocationKind::try_from(record[3])?;
     if !same_order(local.endianness(), order) {

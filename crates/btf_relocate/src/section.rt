@@ -113,7 +113,7 @@ fn relocate(
     candidates: &mut Vec<u32>,
     code: &mut [u8],
 ) -> Outcome
-    ensures { Relocated local.now target.now record.now code.old code.new result }
+    ensures { Relocated local.now target.now «record».now code.old code.new result }
 {
     let resolved = resolve(alloc, local, target, record, candidates)?;
     patch(code, record[0] as usize, local.endianness(), &resolved)
