@@ -2,7 +2,7 @@
 
 ghost use Rattle.std.specs.Prelude.{◌≡◌, ◌+◌, ◌<◌, ◌∷◌, length, drop, IfOk};
 ghost use Rattle.btf_relocate_model.specs.Section.{candidates_of};
-ghost use Rattle.btf_relocate.specs.Sections.{Relocated, Relocates, is_out_of_memory};
+ghost use Rattle.btf_relocate.specs.Sections.{IsFresh, Relocated, Relocates, is_out_of_memory};
 
 use crate::instruction::patch;
 use crate::lookup::{kind_number, name_or_none, type_at};
@@ -41,17 +41,14 @@ pub fn relocate_section(
     code: &mut [u8],
     policy: CandidatePolicy,
 ) -> Result<Vec<Outcome>, AllocError>
-    ensures { IfOk result (λ outcomes. Relocates local.now target.now code.old records.now
+    ensures { IfOk result (λ outcomes. Relocates policy local.now target.now code.old records.now
         outcomes.items code.new) }
 {
     let mut outcomes = Vec::with_capacity(alloc, records.len())?;
     let mut shared: BTreeMap<u32, Vec<u32>> = BTreeMap::new(alloc);
     for index in 0..records.len() {
         let record = record_at(records, index);
-        let mut candidates = match shared.remove(&record[1]) {
-            Some(candidates) => candidates,
-            None => candidates_of(alloc, local, target, record[1])?,
-        };
+        let mut candidates = candidates_for(alloc, local, target, record, policy, &mut shared)?;
         let outcome = relocate(alloc, local, target, record, &mut candidates, code);
         if is_out_of_memory(&outcome) {
             return Err(AllocError);
@@ -79,6 +76,27 @@ fn is_out_of_memory(outcome: &Outcome) -> bool
     match outcome {
         Err(RelocationError::OutOfMemory) => true,
         _ => false,
+    }
+}
+
+/// The candidates for a record. Under [`CandidatePolicy::Shared`] they are taken from the lists that records before it
+/// have left, if its type has one there.
+fn candidates_for(
+    alloc: Global,
+    local: &Btf,
+    target: &Target<'_>,
+    record: &[u32; 4],
+    policy: CandidatePolicy,
+    shared: &mut BTreeMap<u32, Vec<u32>>,
+) -> Result<Vec<u32>, AllocError>
+    ensures { IfOk result (λ v. IsFresh policy local.now target.now «record».now v.items) }
+{
+    match policy {
+        CandidatePolicy::Shared => match shared.remove(&record[1]) {
+            Some(candidates) => Ok(candidates),
+            None => candidates_of(alloc, local, target, record[1]),
+        },
+        CandidatePolicy::Fresh => candidates_of(alloc, local, target, record[1]),
     }
 }
 
@@ -113,7 +131,8 @@ fn relocate(
     candidates: &mut Vec<u32>,
     code: &mut [u8],
 ) -> Outcome
-    ensures { Relocated local.now target.now «record».now code.old code.new result }
+    ensures { Relocated local.now target.now «record».now candidates.old.items code.old code.new
+        result }
 {
     let resolved = resolve(alloc, local, target, record, candidates)?;
     patch(code, record[0] as usize, local.endianness(), &resolved)
