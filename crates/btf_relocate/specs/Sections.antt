@@ -1,26 +1,65 @@
 -- What `relocate_section` and its parts return.
-use Rattle.std.specs.Prelude.{◌≡◌, ◌⊎◌, ℕ, Bool, true, false, List, [], ◌∷◌, Result, Ok, Err}
+use Rattle.std.specs.Prelude.{◌≡◌, ◌⊎◌, ⊤, ℕ, if◌then◌else◌, cond, Bool, true, false, List, [], ◌∷◌, Option, Some, None, Result, Ok, Err}
+use Rattle.std.specs.BTreeMap.{BTreeMap, get, is_at}
+use Rattle.std.specs.Global.{Vec}
+use Rattle.std.specs.Ordering.{nat_cmp}
 use Rattle.btf_model.specs.Table.{Table}
 use Rattle.btf_model.specs.declared.endianness.Endianness.{Endianness}
 use Rattle.btf_relocate_model.specs.Instruction.{patched_code}
-use Rattle.btf_relocate_model.specs.Resolution.{resolution, compares_types, instruction_word}
-use Rattle.btf_relocate_model.specs.Section.{outcome_of, code_after}
+use Rattle.btf_relocate_model.specs.Resolution.{Setting, resolution, compares_types, type_word, instruction_word}
+use Rattle.btf_relocate_model.specs.Section.{outcome_of, code_after, candidates_of, candidates_after, changed_at}
 use Rattle.btf_relocate_model.specs.declared.error.RelocationError.{RelocationError}
 use Rattle.btf_relocate_model.specs.declared.error.RelocationError.TheVariants.{OutOfMemory}
 use Rattle.btf_relocate_model.specs.declared.instruction.Patched.{Patched}
 use Rattle.btf_relocate_model.specs.declared.resolved.Resolved.{Resolved}
 use Rattle.btf_relocate.specs.Resolving.{Alike}
+use Rattle.btf_relocate.specs.declared.section.CandidatePolicy.{CandidatePolicy}
+use Rattle.btf_relocate.specs.declared.section.CandidatePolicy.TheVariants.{Shared, Fresh}
 
 -- what is written, without the candidates that remain
 abbrev pub written_for : Result (Resolved × List ℕ) RelocationError → Result Resolved RelocationError
 written_for (Ok r) = Ok r.0
 written_for (Err e) = Err e
 
--- A record was resolved for some candidates. Of a record whose kind compares types this says nothing.
-abbrev pub ResolvedFor : Table → Table → List ℕ → Result Resolved RelocationError → Type 0
-ResolvedFor local target words r =
-    (candidates : List ℕ) × ((is_alike : Alike) → compares_types words ≡ false
-    → written_for (resolution (record { local = local; target = target; is_alike = is_alike }) candidates words) ≡ r)
+-- whether the records of a type share their candidates
+abbrev pub is_shared : CandidatePolicy → Bool
+is_shared Shared = true
+is_shared Fresh = false
+
+-- the candidates in a list of the map, and others if it has none
+abbrev pub items_or : List ℕ → Option (Vec ℕ) → List ℕ
+items_or others (Some v) = v.items
+items_or others None = others
+
+-- the candidates of each type, where records before have left these lists
+abbrev pub left_in : CandidatePolicy → Table → Table → BTreeMap ℕ (Vec ℕ) → ℕ → List ℕ
+left_in Shared local target m id = items_or (candidates_of local target id) (get nat_cmp m id)
+left_in Fresh local target m id = candidates_of local target id
+
+-- the lists of the types other than this one are as they were
+abbrev pub HasOthers : ℕ → BTreeMap ℕ (Vec ℕ) → BTreeMap ℕ (Vec ℕ) → Type 0
+HasOthers id old new = (q : ℕ) → is_at (nat_cmp id) q ≡ false → get nat_cmp new q ≡ get nat_cmp old q
+
+-- under `Shared` the type has this list, and the other types have theirs
+abbrev pub HasLeft : CandidatePolicy → ℕ → Vec ℕ → BTreeMap ℕ (Vec ℕ) → BTreeMap ℕ (Vec ℕ) → Type 0
+HasLeft policy id v old new =
+    policy ≡ Shared → (q : ℕ) → get nat_cmp new q ≡ cond (is_at (nat_cmp id) q) (Some v) (get nat_cmp old q)
+
+-- the candidates for later records, where `after` remain of those of a type
+abbrev pub left_with : Bool → ℕ → List ℕ → (ℕ → List ℕ) → ℕ → List ℕ
+left_with is_shared id after left = if is_shared then changed_at id after left else left
+
+-- two tables, with comparisons of types
+abbrev pub setting : Table → Table → Alike → Setting
+setting local target is_alike = record { local = local; target = target; is_alike = is_alike }
+
+-- A record was resolved for candidates of which `after` remain. Of a record whose kind compares types this says
+-- nothing.
+abbrev pub ResolvedFor : Table → Table → List ℕ → List ℕ → List ℕ → Result Resolved RelocationError → Type 0
+ResolvedFor local target words candidates after r =
+    (is_alike : Alike) → compares_types words ≡ false
+    → (written_for (resolution (setting local target is_alike) candidates words) ≡ r)
+    × (after ≡ candidates_after candidates (resolution (setting local target is_alike) candidates words))
 
 -- the patch of a record, by what it asks to be written
 abbrev pub patch_by : Endianness → List ℕ → List ℕ → Result Resolved RelocationError
@@ -28,21 +67,31 @@ abbrev pub patch_by : Endianness → List ℕ → List ℕ → Result Resolved R
 patch_by order code words (Ok r) = patched_code order r code (instruction_word words)
 patch_by order code words (Err e) = Err e
 
--- A record was resolved, and its instruction patched; or an allocation failed.
-abbrev pub Relocated : Table → Table → List ℕ → List ℕ → List ℕ → Result Patched RelocationError → Type 0
-Relocated local target words old new outcome =
-    (outcome ≡ Err OutOfMemory) ⊎ ((r : Result Resolved RelocationError) × ResolvedFor local target words r
-    × (outcome ≡ outcome_of (patch_by local.order old words r))
+-- A record was resolved for these candidates, and its instruction patched; or an allocation failed.
+abbrev pub Relocated : Table → Table → List ℕ → List ℕ → List ℕ → List ℕ → List ℕ → Result Patched RelocationError
+    → Type 0
+Relocated local target words candidates after old new outcome =
+    (outcome ≡ Err OutOfMemory) ⊎ ((r : Result Resolved RelocationError)
+    × ResolvedFor local target words candidates after r × (outcome ≡ outcome_of (patch_by local.order old words r))
     × (new ≡ code_after old (patch_by local.order old words r)))
 
--- Each record was resolved, and its instruction patched, one after another. A record with an error changes no byte.
-abbrev pub Relocates : Table → Table → List ℕ → List (List ℕ) → List (Result Patched RelocationError) → List ℕ → Type 0
-Relocates local target code [] outcomes new = (outcomes ≡ []) × (new ≡ code)
-Relocates local target code (words ∷ records) [] new = ⊥
-Relocates local target code (words ∷ records) (o ∷ outcomes) new =
-    (r : Result Resolved RelocationError) × ResolvedFor local target words r
+-- Each record was resolved for the candidates of its type, and its instruction patched, one after another, where `left`
+-- has the candidates of each type. A record with an error changes no byte.
+abbrev pub Relocates : Bool → Table → Table → (ℕ → List ℕ) → List ℕ → List (List ℕ)
+    → List (Result Patched RelocationError) → List ℕ → Type 0
+Relocates is_shared local target left code [] outcomes new = (outcomes ≡ []) × (new ≡ code)
+Relocates is_shared local target left code (words ∷ records) [] new = ⊥
+Relocates is_shared local target left code (words ∷ records) (o ∷ outcomes) new =
+    (after : List ℕ) × (r : Result Resolved RelocationError)
+    × ResolvedFor local target words (left (type_word words)) after r
     × (o ≡ outcome_of (patch_by local.order code words r))
-    × Relocates local target (code_after code (patch_by local.order code words r)) records outcomes new
+    × Relocates is_shared local target (left_with is_shared (type_word words) after left)
+    (code_after code (patch_by local.order code words r)) records outcomes new
+
+-- no record compares types
+abbrev pub CompareNone : List (List ℕ) → Type 0
+CompareNone [] = ⊤
+CompareNone (words ∷ records) = (compares_types words ≡ false) × CompareNone records
 
 -- an allocation failed
 abbrev pub is_memory : RelocationError → Bool

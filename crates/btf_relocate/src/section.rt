@@ -1,8 +1,10 @@
 //! The records of a section.
 
-ghost use Rattle.std.specs.Prelude.{◌≡◌, ◌+◌, ◌<◌, ◌∷◌, length, drop, IfOk};
-ghost use Rattle.btf_relocate_model.specs.Section.{candidates_of};
-ghost use Rattle.btf_relocate.specs.Sections.{Relocated, Relocates, is_out_of_memory};
+ghost use Rattle.std.specs.Prelude.{◌≡◌, ◌+◌, ◌<◌, ◌∷◌, length, drop, IfOk, OnOk};
+ghost use Rattle.btf_relocate_model.specs.Resolution.{type_word};
+ghost use Rattle.btf_relocate_model.specs.Section.{candidates_of, relocated_section};
+ghost use Rattle.btf_relocate.specs.Resolving.{Alike};
+ghost use Rattle.btf_relocate.specs.Sections.{CompareNone, HasOthers, HasLeft, Relocated, Relocates, is_out_of_memory, is_shared, left_in, setting};
 
 use crate::instruction::patch;
 use crate::lookup::{kind_number, name_or_none, type_at};
@@ -41,25 +43,23 @@ pub fn relocate_section(
     code: &mut [u8],
     policy: CandidatePolicy,
 ) -> Result<Vec<Outcome>, AllocError>
-    ensures { IfOk result (λ outcomes. Relocates local.now target.now code.old records.now
-        outcomes.items code.new) }
+    ensures records { IfOk result (λ outcomes. Relocates (is_shared policy) local.now target.now
+        (candidates_of local.now target.now) code.old records.now outcomes.items code.new) }
+    ensures defined { (is_alike : Alike) → CompareNone records.now → IfOk result (λ outcomes.
+        (outcomes.items, code.new) ≡ relocated_section (setting local.now target.now is_alike)
+        (is_shared policy) code.old records.now) }
 {
     let mut outcomes = Vec::with_capacity(alloc, records.len())?;
     let mut shared: BTreeMap<u32, Vec<u32>> = BTreeMap::new(alloc);
     for index in 0..records.len() {
         let record = record_at(records, index);
-        let mut candidates = match shared.remove(&record[1]) {
-            Some(candidates) => candidates,
-            None => candidates_of(alloc, local, target, record[1])?,
-        };
+        let mut candidates = candidates_for(alloc, local, target, record, policy, &mut shared)?;
         let outcome = relocate(alloc, local, target, record, &mut candidates, code);
         if is_out_of_memory(&outcome) {
             return Err(AllocError);
         }
         outcomes.push(outcome)?;
-        if policy == CandidatePolicy::Shared {
-            let _ = shared.insert(record[1], candidates)?;
-        }
+        leave(record, policy, candidates, &mut shared)?;
     }
     Ok(outcomes)
 }
@@ -79,6 +79,47 @@ fn is_out_of_memory(outcome: &Outcome) -> bool
     match outcome {
         Err(RelocationError::OutOfMemory) => true,
         _ => false,
+    }
+}
+
+/// The candidates for a record. Under [`CandidatePolicy::Shared`] they are taken from the lists that records before it
+/// have left, if its type has one there.
+fn candidates_for(
+    alloc: Global,
+    local: &Btf,
+    target: &Target<'_>,
+    record: &[u32; 4],
+    policy: CandidatePolicy,
+    shared: &mut BTreeMap<u32, Vec<u32>>,
+) -> Result<Vec<u32>, AllocError>
+    ensures items { IfOk result (λ v. v.items ≡ left_in policy local.now target.now shared.old
+        (type_word «record».now)) }
+    ensures others { HasOthers (type_word «record».now) shared.old shared.new }
+{
+    match policy {
+        CandidatePolicy::Shared => match shared.remove(&record[1]) {
+            Some(candidates) => Ok(candidates),
+            None => candidates_of(alloc, local, target, record[1]),
+        },
+        CandidatePolicy::Fresh => candidates_of(alloc, local, target, record[1]),
+    }
+}
+
+/// Leaves the candidates that remain to later records of the type, under [`CandidatePolicy::Shared`].
+fn leave(
+    record: &[u32; 4],
+    policy: CandidatePolicy,
+    candidates: Vec<u32>,
+    shared: &mut BTreeMap<u32, Vec<u32>>,
+) -> Result<(), AllocError>
+    ensures { OnOk result (HasLeft policy (type_word «record».now) candidates shared.old shared.new) }
+{
+    match policy {
+        CandidatePolicy::Shared => {
+            let _ = shared.insert(record[1], candidates)?;
+            Ok(())
+        }
+        CandidatePolicy::Fresh => Ok(()),
     }
 }
 
@@ -113,7 +154,8 @@ fn relocate(
     candidates: &mut Vec<u32>,
     code: &mut [u8],
 ) -> Outcome
-    ensures { Relocated local.now target.now «record».now code.old code.new result }
+    ensures { Relocated local.now target.now «record».now candidates.old.items candidates.new.items
+        code.old code.new result }
 {
     let resolved = resolve(alloc, local, target, record, candidates)?;
     patch(code, record[0] as usize, local.endianness(), &resolved)

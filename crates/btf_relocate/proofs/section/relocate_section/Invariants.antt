@@ -4,4 +4,4 @@ use Rattle.btf_relocate.proofs.Sections.{Continues}
 use Rattle.btf_relocate.proofs.section.relocate_section.Given as goal
 
 abbrev pub invariant-loop-index : goal.invariant-loop-index
-invariant-loop-index l = Continues l.local l.target l.fn.code l.records l.outcomes.items l.code (drop l.index l.records)
+invariant-loop-index l = Continues l.policy l.local l.target l.fn.code l.records l.outcomes.items l.shared l.code (drop l.index l.records)
