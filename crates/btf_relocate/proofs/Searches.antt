@@ -101,7 +101,7 @@ module _ (t : Table) (name : List ℕ) where
   abbrev Same : (ℕ → Result Found RelocationError) → ℕ → Result Found RelocationError → ℕ → Type 0
   Same inside e there id = (h : ℕ) → there ≡ Ok (code.Nothing h) → (h ≤ e → inside id ≡ Ok (code.Nothing h)) × (e < h → inside id ≡ Err TooDeep)
 
-  pub record Tells (e levels h : ℕ) (p : Result Found RelocationError) : Type 0 where
+  pub record Agrees (e levels h : ℕ) (p : Result Found RelocationError) : Type 0 where
     pub grows : levels ≤ h
     pub nothing : h ≤ suc e → p ≡ Ok (code.Nothing h)
     pub deep : suc e < h → levels ≤ suc e → p ≡ Err TooDeep
@@ -119,31 +119,31 @@ module _ (t : Table) (name : List ℕ) where
   -- a member without a name, and then the members after it
   vain_inside : (wider : ℕ → Result Found RelocationError) (e info levels h bit : ℕ) (later : ℕ → Result Found RelocationError) (ms : List Member) (o p : Result Found RelocationError)
       → ((k : ℕ) → o ≡ Ok (code.Nothing k) → (k ≤ e → p ≡ Ok (code.Nothing k)) × (e < k → p ≡ Err TooDeep))
-      → ((k : ℕ) → later (suc k) ≡ Ok (code.Nothing h) → Tells e (max levels (suc k)) h (among wider t name info (max levels (suc k)) ms))
+      → ((k : ℕ) → later (suc k) ≡ Ok (code.Nothing h) → Agrees e (max levels (suc k)) h (among wider t name info (max levels (suc k)) ms))
       → (o >>= or_later bit later) ≡ Ok (code.Nothing h)
-      → Tells e levels h (p >>= or_later bit (Later wider t name info levels ms))
+      → Agrees e levels h (p >>= or_later bit (Later wider t name info levels ms))
   vain_inside wider e info levels h bit later ms (Err x) p here rest is = absurd (cc)
   vain_inside wider e info levels h bit later ms (Ok (code.Member f n)) p here rest is = absurd (outward_found bit f n h is)
   vain_inside wider e info levels h bit later ms (Ok (code.Nothing k)) p here rest is =
-      let told : Tells e (max levels (suc k)) h (among wider t name info (max levels (suc k)) ms) = rest k is in
+      let known : Agrees e (max levels (suc k)) h (among wider t name info (max levels (suc k)) ms) = rest k is in
       let both : (k ≤ e → p ≡ Ok (code.Nothing k)) × (e < k → p ≡ Err TooDeep) = here k refl in
-      let grows : max levels (suc k) ≤ h = told.grows in
+      let grows : max levels (suc k) ≤ h = known.grows in
       record {
         grows = omega (arith, grows);
-        nothing = λ low. let found : p ≡ Ok (code.Nothing k) = both.0 (omega (arith, grows, low)) in rw found (told.nothing low);
+        nothing = λ low. let found : p ≡ Ok (code.Nothing k) = both.0 (omega (arith, grows, low)) in rw found (known.nothing low);
         deep = λ high few. elim (le_or_lt k e) [
-          | inl fits ↦ let found : p ≡ Ok (code.Nothing k) = both.0 fits in rw found (told.deep high (omega (arith, few, fits)))
+          | inl fits ↦ let found : p ≡ Ok (code.Nothing k) = both.0 fits in rw found (known.deep high (omega (arith, few, fits)))
           | inr over ↦ let found : p ≡ Err TooDeep = both.1 over in rw found refl
         ];
       }
 
-  vain_other : (e levels h : ℕ) (p : Result Found RelocationError) → Tells e (max levels 1) h p → Tells e levels h p
-  vain_other e levels h p told =
-      let grows : max levels 1 ≤ h = told.grows in
-      record { grows = omega (arith, grows); nothing = told.nothing; deep = λ high few. told.deep high (omega (arith, few)) }
+  vain_other : (e levels h : ℕ) (p : Result Found RelocationError) → Agrees e (max levels 1) h p → Agrees e levels h p
+  vain_other e levels h p known =
+      let grows : max levels 1 ≤ h = known.grows in
+      record { grows = omega (arith, grows); nothing = known.nothing; deep = λ high few. known.deep high (omega (arith, few)) }
 
   vain : (inside wider : ℕ → Result Found RelocationError) (e : ℕ) → ((id : ℕ) → Same wider e (inside id) id)
-      → (info levels h : ℕ) (ms : List Member) → among inside t name info levels ms ≡ Ok (code.Nothing h) → Tells e levels h (among wider t name info levels ms)
+      → (info levels h : ℕ) (ms : List Member) → among inside t name info levels ms ≡ Ok (code.Nothing h) → Agrees e levels h (among wider t name info levels ms)
   vain inside wider e same info levels h [] is =
       let all : levels ≡ h = cc in
       record { grows = omega (arith, all); nothing = λ low. ap (λ (n : ℕ). Ok (code.Nothing n)) all; deep = λ high few. absurd (omega (arith, all, high, few)) }
@@ -151,13 +151,13 @@ module _ (t : Table) (name : List ℕ) where
       elim (is_nameless (name_or_none t m.name)) as (λ b.
       cond b (inside m.type >>= or_later (member_bit_offset info m.offset) (Later inside t name info levels ms))
       (cond (bytes_eq (name_or_none t m.name) name) (member_field info 0 (is_end ms) m >>= λ f. Ok (code.Member f 1)) (among inside t name info (max levels 1) ms)) ≡ Ok (code.Nothing h)
-      → Tells e levels h (cond b (wider m.type >>= or_later (member_bit_offset info m.offset) (Later wider t name info levels ms))
+      → Agrees e levels h (cond b (wider m.type >>= or_later (member_bit_offset info m.offset) (Later wider t name info levels ms))
       (cond (bytes_eq (name_or_none t m.name) name) (member_field info 0 (is_end ms) m >>= λ f. Ok (code.Member f 1)) (among wider t name info (max levels 1) ms)))) [
         | true ↦ vain_inside wider e info levels h (member_bit_offset info m.offset) (Later inside t name info levels ms) ms (inside m.type) (wider m.type) (same m.type)
             (λ k. vain inside wider e same info (max levels (suc k)) h ms)
         | false ↦ elim (bytes_eq (name_or_none t m.name) name) as (λ b.
             cond b (member_field info 0 (is_end ms) m >>= λ f. Ok (code.Member f 1)) (among inside t name info (max levels 1) ms) ≡ Ok (code.Nothing h)
-            → Tells e levels h (cond b (member_field info 0 (is_end ms) m >>= λ f. Ok (code.Member f 1)) (among wider t name info (max levels 1) ms))) [
+            → Agrees e levels h (cond b (member_field info 0 (is_end ms) m >>= λ f. Ok (code.Member f 1)) (among wider t name info (max levels 1) ms))) [
               | true ↦ λ found. absurd (named_found (member_field info 0 (is_end ms) m) h found)
               | false ↦ λ rest. vain_other e levels h (among wider t name info (max levels 1) ms) (vain inside wider e same info (max levels 1) h ms rest)
             ]
@@ -222,9 +222,9 @@ module _ (t : Table) (name : List ℕ) where
       no_room_at (from_id d t name) r.info h (members_of r) (sym (within_suc d r) ∙ is) in
       (λ low. within_zero r ∙ both.0 low, λ high. within_zero r ∙ both.1 high)
   in_vain (suc d) r h is (suc e) =
-      let told : Tells e 0 h (among (from_id e t name) t name r.info 0 (members_of r)) =
+      let known : Agrees e 0 h (among (from_id e t name) t name r.info 0 (members_of r)) =
       vain (from_id d t name) (from_id e t name) e (λ id. same_from d e id (λ s k. in_vain d s k)) r.info 0 h (members_of r) (sym (within_suc d r) ∙ is) in
-      (λ low. within_suc e r ∙ told.nothing low, λ high. within_suc e r ∙ told.deep high (omega arith))
+      (λ low. within_suc e r ∙ known.nothing low, λ high. within_suc e r ∙ known.deep high (omega arith))
 
   -- ---- the steps of the code
 

@@ -35,8 +35,8 @@ module _ (local target : Table) (words candidates left old : List ℕ) where
 
   -- a record that cannot be resolved
   by_memory : (b : Bool) (e : RelocationError) → is_memory e ≡ b → Told (Err e) → Relocated local target words candidates left old old (Err e)
-  by_memory true e is told = inl (ap (λ (x : RelocationError). let r : Result Patched RelocationError = Err x in r) (memory_is e is))
-  by_memory false e is told = inr (Err e, (λ is_alike other. (without (told is_alike other).0, remains (told is_alike other).0 (told is_alike other).1)), refl, refl)
+  by_memory true e is known = inl (ap (λ (x : RelocationError). let r : Result Patched RelocationError = Err x in r) (memory_is e is))
+  by_memory false e is known = inr (Err e, (λ is_alike other. (without (known is_alike other).0, remains (known is_alike other).0 (known is_alike other).1)), refl, refl)
     where
       differs : e ≡ OutOfMemory → ⊥
       differs same = let wrong : is_memory OutOfMemory ≡ false = ap is_memory (sym same) ∙ is in cc
@@ -50,12 +50,12 @@ module _ (local target : Table) (words candidates left old : List ℕ) where
       remains (inr same) kept = kept ∙ sym (ap (candidates_after candidates) same)
 
   pub not_resolved : (o : Result Patched RelocationError) (e : RelocationError) → IsErrAnd o (λ x. x ≡ e) → Told (Err e) → Relocated local target words candidates left old old o
-  not_resolved o e same told = subst (λ (x : Result Patched RelocationError). Relocated local target words candidates left old old x) (sym (from_err o e same)) (by_memory (is_memory e) e refl told)
+  not_resolved o e same known = subst (λ (x : Result Patched RelocationError). Relocated local target words candidates left old old x) (sym (from_err o e same)) (by_memory (is_memory e) e refl known)
 
   -- a record that is resolved, and then patched
   pub patched_as : (new : List ℕ) (o : Result Patched RelocationError) (r : Resolved) → Told (Ok r) → HasPatched old new (patched_code local.order r old (instruction_word words)) o → Relocated local target words candidates left old new o
-  patched_as new (Ok p) r told is = inr (Ok r, (λ is_alike other. (ap written_for (told is_alike other), sym (ap (candidates_after candidates) (told is_alike other)))), sym (ap outcome_of is), sym (ap (code_after old) is))
-  patched_as new (Err e) r told is = inr (Ok r, (λ is_alike other. (ap written_for (told is_alike other), sym (ap (candidates_after candidates) (told is_alike other)))), sym (ap outcome_of is.0), is.1 ∙ sym (ap (code_after old) is.0))
+  patched_as new (Ok p) r known is = inr (Ok r, (λ is_alike other. (ap written_for (known is_alike other), sym (ap (candidates_after candidates) (known is_alike other)))), sym (ap outcome_of is), sym (ap (code_after old) is))
+  patched_as new (Err e) r known is = inr (Ok r, (λ is_alike other. (ap written_for (known is_alike other), sym (ap (candidates_after candidates) (known is_alike other)))), sym (ap outcome_of is.0), is.1 ∙ sym (ap (code_after old) is.0))
 
 -- the candidates of each type before the first record
 no_lists : (policy : CandidatePolicy) (local target : Table) (m : BTreeMap ℕ (Vec ℕ)) → IsEmpty m → left_in policy local target m ≡ candidates_of local target
@@ -128,9 +128,9 @@ module _ (shares : Bool) (local target : Table) (is_alike : Alike) where
   as_defined left code (words ∷ records) [] new done none = absurd done
   as_defined left code (words ∷ records) (o ∷ outcomes) new (after, r, resolved, patched, rest) none =
       let x = resolution (record { local = local; target = target; is_alike = is_alike }) (left (type_word words)) words in
-      let told = resolved is_alike none.0 in
-      let written : patch_by local.order code words r ≡ patch_of (record { local = local; target = target; is_alike = is_alike }) code words x = ap (patch_by local.order code words) (sym told.0) ∙ same_patch code words x in
+      let known = resolved is_alike none.0 in
+      let written : patch_by local.order code words r ≡ patch_of (record { local = local; target = target; is_alike = is_alike }) code words x = ap (patch_by local.order code words) (sym known.0) ∙ same_patch code words x in
       ap (then_outcomes o) (as_defined (left_with shares (type_word words) after left) (code_after code (patch_by local.order code words r)) records outcomes new rest none.1)
       ∙ ap (λ (p : Result Patched RelocationError). then_outcomes p (relocated_from (record { local = local; target = target; is_alike = is_alike }) shares (left_with shares (type_word words) after left) (code_after code (patch_by local.order code words r)) records)) patched
       ∙ ap (λ (p : Result (Patched × List ℕ) RelocationError). then_outcomes (outcome_of p) (relocated_from (record { local = local; target = target; is_alike = is_alike }) shares (left_with shares (type_word words) after left) (code_after code p) records)) written
-      ∙ ap (λ (cs : List ℕ). let p = patch_of (record { local = local; target = target; is_alike = is_alike }) code words x in then_outcomes (outcome_of p) (relocated_from (record { local = local; target = target; is_alike = is_alike }) shares (left_with shares (type_word words) cs left) (code_after code p) records)) told.1
+      ∙ ap (λ (cs : List ℕ). let p = patch_of (record { local = local; target = target; is_alike = is_alike }) code words x in then_outcomes (outcome_of p) (relocated_from (record { local = local; target = target; is_alike = is_alike }) shares (left_with shares (type_word words) cs left) (code_after code p) records)) known.1

@@ -29,9 +29,9 @@ returns-in_err-answer c = λ is_alike other.
       named = has_name q.name c.is_empty.result c.is_empty.ensures c.if-is_empty.false;
       local_value = ap (λ (m : Match). model.value_of local_pointer g.local q.kind m) (sym c.local_match-found.ensures) ∙ sym c.in_ok-expected.ensures;
     } in
-    let told = c.in_err-answer.ensures (is_alike q.kind (type_word words)) (about_no_type g.local g.target.order words q asks other (sym c.is_local.ensures ∙ c.if-is_local.false)) in
+    let known = c.in_err-answer.ensures (is_alike q.kind (type_word words)) (about_no_type g.local g.target.order words q asks other (sym c.is_local.ensures ∙ c.if-is_local.false)) in
     left_refused c.args.candidates.now.items (resolution g c.args.candidates.now.items words) c.from_residual-in_err-answer.result e c.from_residual-in_err-answer.ensures.1
-    (elim told as (λ x. (e ≡ OutOfMemory) ⊎ (resolution g c.args.candidates.now.items words ≡ Err e)) [
+    (elim known as (λ x. (e ≡ OutOfMemory) ⊎ (resolution g c.args.candidates.now.items words ≡ Err e)) [
       | inl memory ↦ inl memory
       | inr is ↦ inr (refused g c.args.candidates.now.items words q c.in_ok-expected.expected asked e
           (ap (λ (cs : List ℕ). answers (candidate_answer g q.kind (type_word words) q.subject) None cs) (sym c.as_slice.ensures.value) ∙ is))
@@ -51,7 +51,7 @@ returns c = λ is_alike other.
       local_value = ap (λ (m : Match). model.value_of local_pointer g.local q.kind m) (sym c.local_match-found.ensures) ∙ sym c.in_ok-expected.ensures;
     } in
     let found : Option Answer × List ℕ = (c.in_ok-answer.answer, c.in_ok-answer.matching.items) in
-    let told : answers (candidate_answer g q.kind (type_word words) q.subject) None c.as_slice.result.now ≡ Ok found =
+    let known : answers (candidate_answer g q.kind (type_word words) q.subject) None c.as_slice.result.now ≡ Ok found =
     c.in_ok-answer.ensures (is_alike q.kind (type_word words)) (about_no_type g.local g.target.order words q asks other (sym c.is_local.ensures ∙ c.if-is_local.false)) in
     let left : remaining c.args.candidates.now.items found.0 found.1 ≡ c.if-is_some.candidates.items = elim c.if-is_some.branch [
       | then-is_some w ↦ remain_some found.0 c.is_some.result c.args.candidates.now.items found.1 c.if-is_some.candidates.items c.is_some.ensures w.if-is_some.true (ap (λ (v : Vec ℕ). v.items) w.candidates-is)
@@ -61,6 +61,6 @@ returns c = λ is_alike other.
     ∙ ap (λ (t : Table). resolved_by g.local t q.kind c.validates-validates.result c.in_ok-expected.expected found.0) c.table-2.ensures
     ∙ ap (λ (b : Bool). resolved_by g.local g.target q.kind b c.in_ok-expected.expected found.0) c.validates-validates.ensures) in
     answered_by g c.args.candidates.now.items words q c.in_ok-expected.expected asked found
-    (ap (λ (cs : List ℕ). answers (candidate_answer g q.kind (type_word words) q.subject) None cs) (sym c.as_slice.ensures.value) ∙ told)
+    (ap (λ (cs : List ℕ). answers (candidate_answer g q.kind (type_word words) q.subject) None cs) (sym c.as_slice.ensures.value) ∙ known)
     ∙ ap (λ (r : Resolved). let p : Resolved × List ℕ = (r, remaining c.args.candidates.now.items found.0 found.1) in Ok p) result
     ∙ ap (λ (cs : List ℕ). let p : Resolved × List ℕ = (c.resolved_by.result, cs) in Ok p) left
