@@ -28,7 +28,7 @@ test:
 
 # Proves one crate, from what earlier checks cached.
 check:
-	cd crates/$(or $(NAME),btf_words) && rt check
+	cd crates/$(or $(NAME),btf_plain) && rt check
 
 # Tries the mutants of one crate, or without NAME those of all crates.
 mutants:

@@ -259,7 +259,7 @@ static void denied(void)
 #define AN_ERROR(number, id, offset, len, section_len) { number, id, offset, len, section_len, 0, { 0 } }
 #define NAMED_ERROR(number, name) { number, 0, 0, 0, 0, sizeof name - 1, name }
 
-/* The texts of errors, as crates/btf_words/src/error.rt declares them. */
+/* The texts of errors, as crates/btf_plain/src/error.rt declares them. */
 static const struct {
 	struct vbtf_error error;
 	const char *text;

@@ -18,8 +18,8 @@ use Rattle.btf_model.specs.Text.{bytes_at, text_at}
 use Rattle.btf_model.specs.RelocationWords.{RelocationSection, HaveNames, is_name, words_named, Words}
 use Rattle.btf_model.specs.Value.{HaveOtherNames, IsAfterOthers, FindsVariant}
 use Rattle.btf_model.proofs.Values.{one_words}
-use Rattle.btf_words.specs.Error.{MeetsOrNoMemory, IsOrNoMemory, Meets, refusal_of}
-use Rattle.btf_words.specs.declared.error.BtfError.{BtfError}
+use Rattle.btf_plain.specs.Error.{MeetsOrNoMemory, IsOrNoMemory, Meets, refusal_of}
+use Rattle.btf_plain.specs.declared.error.BtfError.{BtfError}
 use Rattle.btf_table.specs.BtfStr.{HasName}
 use Rattle.btf_above.specs.Variants.{HaveUtf8Names}
 

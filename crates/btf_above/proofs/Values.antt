@@ -12,14 +12,14 @@ use Rattle.btf_model.specs.Ext.{Then}
 use Rattle.btf_model.specs.Value.{enum_variants, enum64_variants, variants_by, HasVariants, FindsVariant, Value}
 use Rattle.btf_model.proofs.Values.{one_value}
 use Rattle.btf_model.proofs.Walks.{resolved_is_known}
-use Rattle.btf_words.specs.Error.{MeetsOrNoMemory, IsOrNoMemory, Meets, refusal_of}
-use Rattle.btf_words.specs.declared.error.BtfError.{BtfError}
+use Rattle.btf_plain.specs.Error.{MeetsOrNoMemory, IsOrNoMemory, Meets, refusal_of}
+use Rattle.btf_plain.specs.declared.error.BtfError.{BtfError}
 use Rattle.btf_records.specs.BtfType.{record_of, fallback_of, type_kind}
-use Rattle.btf_items.specs.Items.{enum_words, enum64_words}
+use Rattle.btf_plain.specs.Items.{enum_words, enum64_words}
 use Rattle.btf_records.specs.declared.btf_type.BtfType.{BtfType}
 use Rattle.btf_records.specs.declared.btf_type.BtfType.TheVariants as types
-use Rattle.btf_items.specs.declared.items.BtfEnum.{BtfEnum}
-use Rattle.btf_items.specs.declared.items.BtfEnum64.{BtfEnum64}
+use Rattle.btf_plain.specs.declared.items.BtfEnum.{BtfEnum}
+use Rattle.btf_plain.specs.declared.items.BtfEnum64.{BtfEnum64}
 use Rattle.btf_above.specs.Variants.{enum_variant, enum64_variant, HaveUtf8Names, TypeHasUtf8Names, NamesAreUtf8}
 
 -- ---- the variants of a type

@@ -3,4 +3,4 @@ pub use Rattle.btf_model.specs.Value
 pub use Rattle.btf_model.specs.RelocationWords
 pub use Rattle.btf_model.specs.Refusal
 pub use Rattle.btf_model.specs.Text
-pub use Rattle.btf_words.specs.Error
+pub use Rattle.btf_plain.specs.Error

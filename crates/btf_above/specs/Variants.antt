@@ -6,8 +6,8 @@ use Rattle.btf_model.specs.Table.{Table, Variant}
 use Rattle.btf_model.specs.Text.{bytes_at}
 use Rattle.btf_model.specs.Walk.{Resolves}
 use Rattle.btf_model.specs.Value.{HasVariants}
-use Rattle.btf_items.specs.declared.items.BtfEnum.{BtfEnum}
-use Rattle.btf_items.specs.declared.items.BtfEnum64.{BtfEnum64}
+use Rattle.btf_plain.specs.declared.items.BtfEnum.{BtfEnum}
+use Rattle.btf_plain.specs.declared.items.BtfEnum64.{BtfEnum64}
 
 -- a variant of an ENUM, in the model's terms
 abbrev pub enum_variant : BtfEnum → Variant

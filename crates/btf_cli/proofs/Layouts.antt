@@ -4,7 +4,7 @@ use Rattle.std.specs.Prelude.{if◌then◌else◌, string_bytes, option_map}
 use Rattle.std.specs.Option.{option_or}
 use Rattle.std.specs.Str.{bytes_eq}
 use Rattle.std.proofs.lemmas.List.{take_all}
-use Rattle.btf_words.specs.declared.section_index.SectionIndex.{SectionIndex}
+use Rattle.btf_plain.specs.declared.section_index.SectionIndex.{SectionIndex}
 use Rattle.btf_cli.specs.Setting.{Setting, SectionSize, SymbolOffset, Sets, texts}
 use Rattle.btf_cli.specs.Settings.{SetAll, last_set, size_set, offset_set}
 use Rattle.btf_cli.proofs.Told.{told_is}

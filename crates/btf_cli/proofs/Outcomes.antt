@@ -15,8 +15,8 @@ use Rattle.btf_model.proofs.Blobs.{same_table, table_not_refused}
 use Rattle.btf_rewrite_model.proofs.Kernels.{rewritten_not_refused}
 use Rattle.btf_model.proofs.OnePlain.{one_plain}
 use Rattle.btf_model.proofs.Walks.{one_answer, by_one}
-use Rattle.btf_words.specs.Error.{refusal_of}
-use Rattle.btf_words.specs.declared.error.BtfError.{BtfError}
+use Rattle.btf_plain.specs.Error.{refusal_of}
+use Rattle.btf_plain.specs.declared.error.BtfError.{BtfError}
 use Rattle.btf_compare.specs.Pairs.{pair}
 use Rattle.btf_cli.specs.Setting.{Setting}
 use Rattle.btf_cli.specs.Settings.{layout_set, kernel_set, policy_set}

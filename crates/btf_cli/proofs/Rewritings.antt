@@ -10,8 +10,8 @@ use Rattle.btf_rewrite_model.specs.declared.feature.FillPolicy.{FillPolicy}
 use Rattle.btf_rewrite_model.specs.Pass.{Layout, Asked}
 use Rattle.btf_rewrite_model.specs.Rewritten.{pass_of, Rewritten}
 use Rattle.btf_rewrite_model.proofs.Kernels.{AgreeWith, rewritten_alike, refused_alike}
-use Rattle.btf_words.specs.Error.{refusal_of}
-use Rattle.btf_words.specs.declared.error.BtfError.{BtfError}
+use Rattle.btf_plain.specs.Error.{refusal_of}
+use Rattle.btf_plain.specs.declared.error.BtfError.{BtfError}
 use Rattle.btf_model.specs.declared.endianness.Endianness.{Endianness}
 use Rattle.btf_table.specs.Rewrites.{features_asked, Refuses, RewritesBytes}
 use Rattle.btf_cli.specs.Setting.{Setting}

@@ -1,7 +1,7 @@
 -- The errors of a table behind the program's faults.
 use Rattle.std.specs.Prelude.{Option, None}
 use Rattle.btf_model.specs.Refusal.{Refusal}
-use Rattle.btf_words.specs.Error.{refusal_of}
+use Rattle.btf_plain.specs.Error.{refusal_of}
 use Rattle.btf_cli.specs.declared.fault.Fault.{Fault}
 use Rattle.btf_cli.specs.declared.fault.Fault.TheVariants.{Read, Write, Btf}
 

@@ -6,7 +6,7 @@ use Rattle.btf_model.specs.Record.{Kind, Record, kind_of}
 use Rattle.btf_model.specs.Refusal.{Refusal}
 use Rattle.btf_model.specs.Table.{Table}
 use Rattle.btf_model.specs.Text.{text_at}
-use Rattle.btf_words.specs.Kind.{kind_text}
+use Rattle.btf_plain.specs.Kind.{kind_text}
 
 -- a space, and a name that can be read and is not empty
 abbrev pub name_part : Result (List ℕ) Refusal → List ℕ

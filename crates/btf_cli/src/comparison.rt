@@ -1,6 +1,6 @@
 //! The comparison of two types of one table.
 
-ghost use Rattle.btf_words.specs.Error.{MeetsOrNoMemory};
+ghost use Rattle.btf_plain.specs.Error.{MeetsOrNoMemory};
 ghost use Rattle.btf_cli.specs.Answer.{Compares};
 
 use btf_compare::types_are_compatible_traced;

@@ -3,7 +3,7 @@
 ghost use Rattle.std.specs.Prelude.{map, Ok, IsOk, OnOk};
 ghost use Rattle.std.specs.Io.KnownBytes.{Appends};
 ghost use Rattle.btf_model.specs.Text.{lossy, text_at};
-ghost use Rattle.btf_words.specs.Error.{IsOrNoMemory};
+ghost use Rattle.btf_plain.specs.Error.{IsOrNoMemory};
 ghost use Rattle.btf_records.specs.BtfType.{record_of};
 ghost use Rattle.btf_cli.specs.Buffered.{Takes, HasRoom};
 ghost use Rattle.btf_cli.specs.Listing.{name_part, type_line, lines_from};

@@ -3,7 +3,7 @@
 ghost use Rattle.std.specs.Prelude.{◌≡◌, ◌≢◌, ◌≤◌, ℕ, List, ◌↔◌, None, Some, IfOk, IfErr, OnOk, OnErr, IfSome, IsOk, IsErr};
 ghost use Rattle.std.specs.Io.KnownBytes.{IsAtEnd, Keeps};
 ghost use Rattle.btf_model.specs.Refusal.{Refusal};
-ghost use Rattle.btf_words.specs.Error.{refusal_of};
+ghost use Rattle.btf_plain.specs.Error.{refusal_of};
 ghost use Rattle.btf_cli.specs.declared.line.Command.TheVariants.{Ask};
 ghost use Rattle.btf_cli.specs.declared.line.Line.{Line};
 ghost use Rattle.btf_cli.specs.declared.fault.Fault.TheVariants as faults;

@@ -1,7 +1,7 @@
 //! The rewrite of a table for a request.
 
 ghost use Rattle.std.specs.Prelude.{◌≡◌, ℕ, List, IfOk, IfErr, IfSome, IfNone};
-ghost use Rattle.btf_words.specs.Error.{refusal_of};
+ghost use Rattle.btf_plain.specs.Error.{refusal_of};
 ghost use Rattle.btf_rules.specs.Layout.{sizes_of, offsets_of};
 ghost use Rattle.btf_cli.specs.Answer.{rewriting, IsAnswer, IsDeclined};
 ghost use Rattle.btf_cli.specs.Request.{AreSet, names};

@@ -20,13 +20,13 @@ use Rattle.btf_model.proofs.RunStates as states
 use Rattle.btf_model.specs.Run.{Begins}
 use Rattle.btf_model.proofs.RunStates.{open_pairs, Outcome, BeginsWith, run_begun, run_on, run_compared, run_starts, run_fails, run_refused, run_differs, run_ends, run_begins, run_settles}
 use Rattle.btf_model.proofs.RunLengths.{widest, left_to_do, less_started}
-use Rattle.btf_words.specs.Error.{MeetsOrNoMemory, Meets, refusal_of}
-use Rattle.btf_words.specs.declared.error.BtfError.{BtfError}
-use Rattle.btf_words.specs.declared.error.BtfError.TheVariants as errors
+use Rattle.btf_plain.specs.Error.{MeetsOrNoMemory, Meets, refusal_of}
+use Rattle.btf_plain.specs.declared.error.BtfError.{BtfError}
+use Rattle.btf_plain.specs.declared.error.BtfError.TheVariants as errors
 use Rattle.btf_compare.specs.declared.frame.Frame.{Frame}
 use Rattle.btf_compare.specs.Compared.{frame_of, IsStarted, IsRefused, TracesBy}
 use Rattle.btf_compare.specs.Pairs.{pair_of, ids_of}
-use Rattle.btf_words.proofs.Refused.{known_refusal}
+use Rattle.btf_plain.proofs.Refused.{known_refusal}
 
 -- ---- what the call returns
 

@@ -6,8 +6,8 @@ use Rattle.btf_model.specs.Refusal.{Refusal}
 use Rattle.btf_model.specs.Table.{Table}
 use Rattle.btf_model.specs.Walk.{Finding, Ends, Resolves}
 use Rattle.btf_model.specs.Fields.{Pair, IsAt, FieldsFound, FieldsFind}
-use Rattle.btf_words.specs.Error.{MeetsOrNoMemory, refusal_of}
-use Rattle.btf_words.specs.declared.error.BtfError.{BtfError}
+use Rattle.btf_plain.specs.Error.{MeetsOrNoMemory, refusal_of}
+use Rattle.btf_plain.specs.declared.error.BtfError.{BtfError}
 use Rattle.btf_compare.specs.declared.fields.FieldStep.{FieldStep}
 use Rattle.btf_compare.specs.declared.fields.FieldStep.TheVariants as steps
 use Rattle.btf_compare.specs.FieldStep.{StepIs}

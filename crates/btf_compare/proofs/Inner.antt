@@ -9,8 +9,8 @@ use Rattle.btf_model.specs.Run as runs
 use Rattle.btf_model.specs.Run.{new_frame, IsNext}
 use Rattle.btf_model.proofs.Known.{known_pairs}
 use Rattle.btf_model.proofs.RunLengths.{widest, left_to_do, less_settled}
-use Rattle.btf_words.specs.declared.error.BtfError.{BtfError}
-use Rattle.btf_words.specs.declared.error.BtfError.TheVariants as errors
+use Rattle.btf_plain.specs.declared.error.BtfError.{BtfError}
+use Rattle.btf_plain.specs.declared.error.BtfError.TheVariants as errors
 use Rattle.btf_compare.specs.declared.frame.Frame.{Frame}
 use Rattle.btf_compare.specs.declared.progress.Progress.TheVariants.{Open, Compatible}
 use Rattle.btf_compare.specs.declared.pair_map.PairMap.{PairMap}

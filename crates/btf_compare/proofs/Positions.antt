@@ -15,10 +15,10 @@ use Rattle.btf_model.specs.Walk.{modified_type, unmodified_in, after_modifier}
 use Rattle.btf_model.specs.Compat as model
 use Rattle.btf_model.specs.Compat.{Decided, On, Pending, Finds, PositionFound, parameter_types, pairs, prototypes, ResolvesPair}
 use Rattle.btf_model.proofs.Comparisons.{same_pair}
-use Rattle.btf_words.specs.Error.{Meets}
-use Rattle.btf_words.specs.declared.error.BtfError.{BtfError}
-use Rattle.btf_items.specs.Items.{param_words}
-use Rattle.btf_items.specs.declared.items.BtfParam.{BtfParam}
+use Rattle.btf_plain.specs.Error.{Meets}
+use Rattle.btf_plain.specs.declared.error.BtfError.{BtfError}
+use Rattle.btf_plain.specs.Items.{param_words}
+use Rattle.btf_plain.specs.declared.items.BtfParam.{BtfParam}
 use Rattle.btf_compare.specs.declared.position.Position.{Position}
 use Rattle.btf_compare.specs.declared.position.Position.TheVariants as positions
 use Rattle.btf_compare.specs.Compared.{PositionIs, IfPrototypes, types_of}

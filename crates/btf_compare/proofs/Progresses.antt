@@ -8,8 +8,8 @@ use Rattle.btf_model.specs.Compat.{pair_eq}
 use Rattle.btf_compare.specs.declared.pair_map.PairMap.{PairMap}
 use Rattle.btf_compare.specs.declared.progress.Progress.{Progress}
 use Rattle.btf_compare.specs.declared.progress.Progress.TheVariants as progresses
-use Rattle.btf_words.specs.declared.error.BtfError.{BtfError}
-use Rattle.btf_words.specs.declared.error.BtfError.TheVariants as errors
+use Rattle.btf_plain.specs.declared.error.BtfError.{BtfError}
+use Rattle.btf_plain.specs.declared.error.BtfError.TheVariants as errors
 use Rattle.std.proofs.lemmas.Bool.{false≢true}
 use Rattle.btf_compare.specs.Entries.{is_ids}
 use Rattle.btf_compare.specs.PairMap.{known, Learns}

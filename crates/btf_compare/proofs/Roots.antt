@@ -7,8 +7,8 @@ use Rattle.btf_model.specs.Fields.{Pair, HaveKinds}
 use Rattle.btf_model.specs.Compat.{pair_eq}
 use Rattle.btf_model.specs.Run as runs
 use Rattle.btf_model.specs.Run.{new_frame, IsNext}
-use Rattle.btf_words.specs.declared.error.BtfError.{BtfError}
-use Rattle.btf_words.specs.declared.error.BtfError.TheVariants as errors
+use Rattle.btf_plain.specs.declared.error.BtfError.{BtfError}
+use Rattle.btf_plain.specs.declared.error.BtfError.TheVariants as errors
 use Rattle.btf_compare.specs.declared.frame.Frame.{Frame}
 use Rattle.btf_compare.specs.Compared.{WalksTo, ComesTo, IsStarted, frame_of, passed_in}
 use Rattle.btf_compare.specs.Pairs.{pair_of}

@@ -10,7 +10,7 @@ use Rattle.btf_model.specs.Compat.{Plain, pair_eq, firsts}
 use Rattle.btf_model.specs.Laws.{AreIds}
 use Rattle.btf_model.proofs.KnownStarts.{plain_known, firsts_distinct, firsts_few, all_known}
 use Rattle.btf_model.proofs.RunStates.{among_of_firsts}
-use Rattle.btf_words.specs.declared.error.BtfError.{BtfError}
+use Rattle.btf_plain.specs.declared.error.BtfError.{BtfError}
 use Rattle.btf_compare.specs.Compared.{Traces, AreStarts, GainsStarts}
 
 -- ---- a beginning of a list

@@ -9,8 +9,8 @@ use Rattle.btf_model.specs.Fields.{Pair}
 use Rattle.btf_model.specs.Compat.{Decided, On, Finds, ResolvesPair}
 use Rattle.btf_model.specs.Run as runs
 use Rattle.btf_model.specs.Run.{IsNext}
-use Rattle.btf_words.specs.Error.{Meets, refusal_of}
-use Rattle.btf_words.specs.declared.error.BtfError.{BtfError}
+use Rattle.btf_plain.specs.Error.{Meets, refusal_of}
+use Rattle.btf_plain.specs.declared.error.BtfError.{BtfError}
 use Rattle.btf_compare.specs.declared.frame.Frame.{Frame}
 use Rattle.btf_compare.specs.declared.frame.Place.{Place}
 use Rattle.btf_compare.specs.declared.position.ProtoPair.{ProtoPair}

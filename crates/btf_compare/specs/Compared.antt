@@ -18,10 +18,10 @@ use Rattle.btf_model.specs.Laws.{AreIds}
 use Rattle.btf_model.specs.Run as runs
 use Rattle.btf_model.specs.Run.{new_frame, IsNext}
 use Rattle.btf_model.specs.Run.{Begins}
-use Rattle.btf_words.specs.Error.{Meets}
-use Rattle.btf_words.specs.declared.error.BtfError.{BtfError}
-use Rattle.btf_words.specs.declared.error.BtfError.TheVariants as errors
-use Rattle.btf_items.specs.declared.items.BtfParam.{BtfParam}
+use Rattle.btf_plain.specs.Error.{Meets}
+use Rattle.btf_plain.specs.declared.error.BtfError.{BtfError}
+use Rattle.btf_plain.specs.declared.error.BtfError.TheVariants as errors
+use Rattle.btf_plain.specs.declared.items.BtfParam.{BtfParam}
 use Rattle.btf_compare.specs.declared.pair_map.PairMap.{PairMap}
 use Rattle.btf_compare.specs.declared.progress.Progress.{Progress}
 use Rattle.btf_compare.specs.declared.progress.Progress.TheVariants as progresses

@@ -2,7 +2,7 @@
 use Rattle.std.specs.Prelude.{Bool}
 use Rattle.btf_model.specs.Walk.{Finding, Ends, GoesOn}
 use Rattle.btf_model.specs.Fields.{Pair}
-use Rattle.btf_words.specs.Error.{MeetsOrNoMemory}
+use Rattle.btf_plain.specs.Error.{MeetsOrNoMemory}
 use Rattle.btf_compare.specs.declared.fields.FieldStep.{FieldStep}
 use Rattle.btf_compare.specs.declared.fields.FieldStep.TheVariants as steps
 use Rattle.btf_compare.specs.Pairs.{pair}

@@ -6,7 +6,7 @@ pub mod PairMap
 pub mod FieldStep
 pub mod Compared
 pub use Rattle.btf_model.specs.Text
-pub use Rattle.btf_words.specs.Error
+pub use Rattle.btf_plain.specs.Error
 pub use Rattle.btf_records.specs.BtfType
 pub use Rattle.btf_model.specs.Record
 pub use Rattle.btf_model.specs.Compat

@@ -3,7 +3,7 @@
 ghost use Rattle.std.specs.Prelude.{◌≡◌};
 ghost use Rattle.btf_model.specs.Fields.{Fields, FieldsFind, FieldsFound, field_by, before_flavor, same_names};
 ghost use Rattle.btf_model.specs.Text.{text_at};
-ghost use Rattle.btf_words.specs.Error.{MeetsOrNoMemory};
+ghost use Rattle.btf_plain.specs.Error.{MeetsOrNoMemory};
 ghost use Rattle.btf_records.specs.BtfType.{record_of, type_kind};
 ghost use Rattle.btf_compare.specs.FieldStep.{StepIs};
 ghost use Rattle.btf_compare.specs.Pairs.{pair};

@@ -7,7 +7,7 @@ ghost use Rattle.btf_model.specs.Compat.{ResolvesPair};
 ghost use Rattle.btf_model.specs.Fields.{IsAt};
 ghost use Rattle.btf_model.specs.Run.{new_frame};
 ghost use Rattle.btf_model.specs.Table.{Table};
-ghost use Rattle.btf_words.specs.Error.{Meets};
+ghost use Rattle.btf_plain.specs.Error.{Meets};
 ghost use Rattle.btf_records.specs.BtfType.{record_of, type_kind};
 ghost use Rattle.btf_compare.specs.Compared.{AreAt, WalksTo, ComesTo, IsFound, AfterStep, AfterSteps, NextParameterIs, frame_of, passed_in};
 ghost use Rattle.btf_compare.specs.Pairs.{pair_of};

@@ -2,7 +2,7 @@
 
 ghost use Rattle.std.specs.Prelude.{◌≡◌, is_some};
 ghost use Rattle.btf_model.specs.Walk.{modified_type};
-ghost use Rattle.btf_words.specs.Error.{Meets};
+ghost use Rattle.btf_plain.specs.Error.{Meets};
 ghost use Rattle.btf_records.specs.BtfType.{record_of, type_kind};
 ghost use Rattle.btf_compare.specs.Pairs.{IsResolved};
 

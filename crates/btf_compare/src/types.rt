@@ -4,7 +4,7 @@ ghost use Rattle.std.specs.Prelude.{[], List, Bool, Result};
 ghost use Rattle.btf_model.specs.Fields.{Pair};
 ghost use Rattle.btf_model.specs.Refusal.{Refusal};
 ghost use Rattle.btf_model.specs.Compat.{Plain, firsts};
-ghost use Rattle.btf_words.specs.Error.{MeetsOrNoMemory};
+ghost use Rattle.btf_plain.specs.Error.{MeetsOrNoMemory};
 ghost use Rattle.btf_compare.specs.Compared.{Traces, GainsStarts};
 ghost use Rattle.btf_compare.specs.Pairs.{pair};
 

@@ -23,8 +23,8 @@ use Rattle.btf_model.specs.Ext.{Section, SectionBytes, Part, Named, Records, IsS
 use Rattle.btf_model.specs.Refusal.{Refusal}
 use Rattle.btf_model.specs.Text.{text_at}
 use Rattle.btf_model.specs.declared.endianness.Endianness.{Endianness}
-use Rattle.btf_words.specs.declared.error.BtfError.{BtfError}
-use Rattle.btf_words.specs.Error.{refusal_of}
+use Rattle.btf_plain.specs.declared.error.BtfError.{BtfError}
+use Rattle.btf_plain.specs.Error.{refusal_of}
 use Rattle.btf_ext.specs.Info.{AreByName, GainsUnder}
 use Rattle.btf_ext.specs.SecInfo.{section_of, GivesSection, AreReadable}
 use Rattle.btf_ext.specs.declared.sections.SecInfo.{SecInfo}

@@ -6,11 +6,11 @@ use Rattle.btf_model.specs.declared.endianness.Endianness.{Endianness}
 use Rattle.btf_model.specs.Text.{text_at}
 use Rattle.btf_model.specs.Ext.{Section, SectionBytes, Named, Sections, BeginsWith, BeginsNoSection, IsSection, HaveNames, AreNamed, AreSections, sections_of, section_bytes, cut_refusal}
 use Rattle.btf_model.proofs.Sections.{begins_push, sections_from_none}
-use Rattle.btf_words.specs.declared.error.BtfError.{BtfError}
-use Rattle.btf_words.specs.Error.{refusal_of}
+use Rattle.btf_plain.specs.declared.error.BtfError.{BtfError}
+use Rattle.btf_plain.specs.Error.{refusal_of}
 use Rattle.btf_ext.specs.SecInfo.{section_of, GivesSection}
 use Rattle.btf_ext.specs.declared.sections.SecInfo.{SecInfo}
-use Rattle.btf_words.proofs.Refused.{known_refusal}
+use Rattle.btf_plain.proofs.Refused.{known_refusal}
 
 -- the bytes up to the rest are these sections
 pub record CutSoFar (order : Endianness) (size : ℕ) (bytes : List ℕ) (sections : List Section) (rest : SectionBytes) : Type 0 where

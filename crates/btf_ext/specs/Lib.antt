@@ -4,7 +4,7 @@ pub mod ExtHeader
 pub mod Relocation
 pub mod BtfExt
 pub use Rattle.btf_model.specs.Ext
-pub use Rattle.btf_words.specs.Error
+pub use Rattle.btf_plain.specs.Error
 pub use Rattle.btf_model.specs.Text
 pub use Rattle.btf_model.specs.Blob
 pub use Rattle.btf_model.specs.Word

@@ -3,8 +3,8 @@ use Rattle.std.specs.Prelude.{◌≡◌, ◌≢◌, ℕ, List, [], ◌++◌, Opt
 use Rattle.btf_model.specs.Ext.{Section, SectionBytes, Named, IsSection, BeginsNoSection, AreNamed, section_bytes, sections_of, cut_refusal}
 use Rattle.btf_model.specs.Refusal.{Refusal}
 use Rattle.btf_model.specs.declared.endianness.Endianness.{Endianness}
-use Rattle.btf_words.specs.declared.error.BtfError.{BtfError}
-use Rattle.btf_words.specs.Error.{refusal_of}
+use Rattle.btf_plain.specs.declared.error.BtfError.{BtfError}
+use Rattle.btf_plain.specs.Error.{refusal_of}
 use Rattle.btf_ext.specs.declared.sections.SecInfo.{SecInfo}
 
 -- a section of the code, in the model's terms

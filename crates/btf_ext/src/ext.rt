@@ -2,7 +2,7 @@
 
 ghost use Rattle.std.specs.Prelude.{◌≡◌, map, Ok};
 ghost use Rattle.btf_model.specs.Ext.{IsExt};
-ghost use Rattle.btf_words.specs.Error.{MeetsOrNoMemory, IsOrNoMemory};
+ghost use Rattle.btf_plain.specs.Error.{MeetsOrNoMemory, IsOrNoMemory};
 ghost use Rattle.btf_ext.specs.Info.{funcs_by_name, lines_by_name};
 ghost use Rattle.btf_ext.specs.Relocation.{relocation};
 

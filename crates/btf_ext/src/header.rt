@@ -2,7 +2,7 @@
 
 ghost use Rattle.std.specs.Prelude.{◌≡◌, ◌++◌, ◌-◌, ◌≤◌, length, replicate, MatchOption};
 ghost use Rattle.btf_model.specs.Ext.{HasHeader, HasPart, IsRange, part_of, header_words};
-ghost use Rattle.btf_words.specs.Error.{Meets};
+ghost use Rattle.btf_plain.specs.Error.{Meets};
 ghost use Rattle.btf_ext.specs.ExtHeader.{header, range, part};
 
 use crate::words::word_at;

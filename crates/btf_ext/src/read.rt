@@ -4,7 +4,7 @@ ghost use Rattle.std.specs.Prelude.{◌≡◌, ◌<◌, ◌≤◌, length, map, 
 ghost use Rattle.std.specs.List.{AllByRecursion};
 ghost use Rattle.btf_model.specs.Ext.{AreSections, IsSection, relocation_section};
 ghost use Rattle.btf_model.specs.Text.{text_at};
-ghost use Rattle.btf_words.specs.Error.{MeetsOrNoMemory, IsOrNoMemory};
+ghost use Rattle.btf_plain.specs.Error.{MeetsOrNoMemory, IsOrNoMemory};
 ghost use Rattle.btf_ext.specs.SecInfo.{section_of, AreReadable};
 ghost use Rattle.btf_ext.specs.Relocation.{relocation};
 

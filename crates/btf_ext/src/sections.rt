@@ -3,7 +3,7 @@
 ghost use Rattle.std.specs.Prelude.{◌≡◌, ◌<◌, ◌≤◌, ◌++◌, length, drop, Some, MatchOption, MatchResult};
 ghost use Rattle.btf_model.specs.Blob.{word_at};
 ghost use Rattle.btf_model.specs.Ext.{IsSection, BeginsNoSection, section_bytes, cut_refusal};
-ghost use Rattle.btf_words.specs.Error.{refusal_of};
+ghost use Rattle.btf_plain.specs.Error.{refusal_of};
 ghost use Rattle.btf_ext.specs.SecInfo.{section_of};
 
 use btf_plain::{BtfError, Endianness};

@@ -6,8 +6,7 @@ ghost use Rattle.btf_model.specs.Word.{word, word_of, words_at};
 ghost use Rattle.btf_model.specs.declared.endianness.Endianness.TheVariants.{Little};
 ghost use Rattle.btf_model.specs.Blob as blob;
 
-use btf_items::push_array;
-use btf_plain::Endianness;
+use btf_plain::{Endianness, push_array};
 use std::alloc::AllocError;
 
 /// The first word of bytes, and the bytes after it.

@@ -12,8 +12,8 @@ use Rattle.btf_model.specs.Record.{Kind, Record, unknown, kind_of, vlen}
 use Rattle.btf_model.specs.Table.{Table}
 use Rattle.btf_rewrite_model.specs.Made.{Entry, entries, record_at, kind_at}
 use Rattle.btf_rewrite_model.specs.Made as made
-use Rattle.btf_items.specs.Items.{entry_words}
-use Rattle.btf_items.specs.declared.items.DataSecEntry.{DataSecEntry}
+use Rattle.btf_plain.specs.Items.{entry_words}
+use Rattle.btf_plain.specs.declared.items.DataSecEntry.{DataSecEntry}
 use Rattle.btf_table.specs.KsymsStep.{entry}
 use Rattle.btf_table.proofs.KsymsEntries.{at, zero_entry}
 use Rattle.btf_object_model.specs.Kconfig as model

@@ -20,8 +20,8 @@ use Rattle.btf_rewrite_model.specs.declared.ksyms_ids.KsymsIds.{KsymsIds}
 use Rattle.btf_records.specs.BtfType.{record_of, type_kind}
 use Rattle.btf_records.specs.declared.btf_type.BtfType.{BtfType}
 use Rattle.btf_records.specs.declared.btf_type.BtfType.TheVariants.{DataSec as DataSecType}
-use Rattle.btf_items.specs.Items.{entry_words}
-use Rattle.btf_items.specs.declared.items.DataSecEntry.{DataSecEntry}
+use Rattle.btf_plain.specs.Items.{entry_words}
+use Rattle.btf_plain.specs.declared.items.DataSecEntry.{DataSecEntry}
 use Rattle.btf_table.specs.KsymsStep.{entry}
 use Rattle.btf_table.proofs.KsymsEntries.{at, zero_entry, entries_of_words}
 use Rattle.btf_object_model.specs.Finalized.{section_size, entry_offset, placed, AreInOrder, is_completed, final_size, IsFinal, has_functions, is_data_sec, with_ksyms_size}

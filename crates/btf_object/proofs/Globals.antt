@@ -13,8 +13,8 @@ use Rattle.btf_model.specs.Text.{FindsName}
 use Rattle.btf_rewrite_model.specs.Made.{Entry, entries, record_at, kind_at, data_sec}
 use Rattle.btf_rewrite_model.specs.Made as made
 use Rattle.btf_rewrite_model.proofs.Granted.{kind_made, vlen_small}
-use Rattle.btf_items.specs.Items.{entry_words}
-use Rattle.btf_items.specs.declared.items.DataSecEntry.{DataSecEntry}
+use Rattle.btf_plain.specs.Items.{entry_words}
+use Rattle.btf_plain.specs.declared.items.DataSecEntry.{DataSecEntry}
 use Rattle.btf_table.specs.Btf.{HasShapeOf}
 use Rattle.btf_table.specs.KsymsStep.{entry}
 use Rattle.btf_table.proofs.KsymsEntries.{at, zero_entry}

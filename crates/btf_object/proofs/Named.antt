@@ -15,7 +15,7 @@ use Rattle.btf_elf_model.specs.declared.symbol.Symbol.{Symbol}
 use Rattle.btf_object.specs.Names.{IsReadSection, IsSectionLeftOut, IsReadSymbol, IsSymbolLeftOut}
 use Rattle.btf_object_model.specs.Layout.{is_askable, last_named, is_read}
 use Rattle.btf_rewrite_model.specs.Pass.{Layout}
-use Rattle.btf_words.specs.declared.section_index.SectionIndex.{SectionIndex}
+use Rattle.btf_plain.specs.declared.section_index.SectionIndex.{SectionIndex}
 
 -- ---- the last of a name
 

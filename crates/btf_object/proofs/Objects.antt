@@ -17,9 +17,9 @@ use Rattle.btf_rewrite_model.specs.declared.feature.BtfFeature.{BtfFeature}
 use Rattle.btf_object_model.specs.Finalized.{with_ksyms_size, sized}
 use Rattle.btf_object_model.specs.Sanitized.{Target, HasSection, RewritesTable, IsSanitized, table_name}
 use Rattle.btf_object_model.specs.SanitizedFinalized.{RewritesFinalized, IsSanitizedFinalized}
-use Rattle.btf_words.specs.Error.{refusal_of}
-use Rattle.btf_words.specs.declared.error.BtfError.{BtfError}
-use Rattle.btf_words.specs.declared.error.BtfError.TheVariants as table
+use Rattle.btf_plain.specs.Error.{refusal_of}
+use Rattle.btf_plain.specs.declared.error.BtfError.{BtfError}
+use Rattle.btf_plain.specs.declared.error.BtfError.TheVariants as table
 use Rattle.btf_object.specs.Errors.{of_table, of_section, IsCauseBy}
 use Rattle.btf_object.specs.Names.{IsTableSection}
 use Rattle.btf_object.specs.declared.error.SanitizeError.{SanitizeError}

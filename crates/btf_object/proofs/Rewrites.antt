@@ -26,8 +26,8 @@ use Rattle.btf_object_model.specs.Layout as model
 use Rattle.btf_object_model.specs.Sanitized.{Target, AreAnswers, RewritesTable, RefusesTable}
 use Rattle.btf_object_model.specs.SanitizedFinalized.{kernel_target, IsOpened, RewritesFinalized, RefusesFinalized}
 use Rattle.btf_object_model.proofs.Opened.{opened_others}
-use Rattle.btf_words.specs.Error.{refusal_of}
-use Rattle.btf_words.specs.declared.error.BtfError.{BtfError}
+use Rattle.btf_plain.specs.Error.{refusal_of}
+use Rattle.btf_plain.specs.declared.error.BtfError.{BtfError}
 use Rattle.btf_object.proofs.Kernels.{AreOfKernel}
 
 module _ (o : Object) (bytes : List ℕ) (target : Target) (old : Table) (ids : Option KsymsIds) (layout : Layout) (same : layout ≡ model.layout_of o) (table : IsTable o.header.order bytes old) (ksyms : FindsKsyms old target.placeholder (Ok ids)) where

@@ -15,9 +15,9 @@ use Rattle.btf_rewrite_model.specs.declared.feature.FeatureAnswer.{FeatureAnswer
 use Rattle.btf_rewrite_model.specs.declared.feature.FillPolicy.{FillPolicy}
 use Rattle.btf_object_model.specs.Sanitized.{Target, HasSection, RewritesTable, RefusesTable, index_of, table_name}
 use Rattle.btf_object_model.specs.SanitizedFinalized.{RewritesFinalized, RefusesFinalized}
-use Rattle.btf_words.specs.Error.{refusal_of}
-use Rattle.btf_words.specs.declared.error.BtfError.{BtfError}
-use Rattle.btf_words.specs.declared.error.BtfError.TheVariants as table
+use Rattle.btf_plain.specs.Error.{refusal_of}
+use Rattle.btf_plain.specs.declared.error.BtfError.{BtfError}
+use Rattle.btf_plain.specs.declared.error.BtfError.TheVariants as table
 use Rattle.btf_object.specs.Kernel.{has}
 use Rattle.btf_object.specs.declared.kernel.Kernel.{Kernel}
 use Rattle.btf_object.specs.declared.error.SanitizeError.{SanitizeError}

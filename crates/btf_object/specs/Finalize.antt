@@ -10,7 +10,7 @@ use Rattle.btf_model.specs.Text.{text_at}
 use Rattle.btf_rewrite_model.specs.Checks.{in_a_word}
 use Rattle.btf_rewrite_model.specs.Made.{Entry, entries, record_at, kind_at, struct}
 use Rattle.btf_rewrite_model.specs.Pass.{Layout}
-use Rattle.btf_items.specs.declared.items.DataSecEntry.{DataSecEntry}
+use Rattle.btf_plain.specs.declared.items.DataSecEntry.{DataSecEntry}
 use Rattle.btf_table.specs.KsymsStep.{entry}
 use Rattle.btf_object_model.specs.Finalized.{section_size, placed, is_completed, final_size, final_entries, is_data_sec, is_struct, IsFinal}
 use Rattle.btf_object.specs.declared.finalize.known.KnownNames.{KnownNames}

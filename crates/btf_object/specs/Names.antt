@@ -7,7 +7,7 @@ use Rattle.btf_elf_model.specs.declared.section_header.SectionHeader.{SectionHea
 use Rattle.btf_elf_model.specs.declared.symbol.Symbol.{Symbol}
 use Rattle.btf_object_model.specs.Layout.{is_askable, is_read}
 use Rattle.btf_object_model.specs.Sanitized.{index_of, table_name}
-use Rattle.btf_words.specs.declared.section_index.SectionIndex.{SectionIndex}
+use Rattle.btf_plain.specs.declared.section_index.SectionIndex.{SectionIndex}
 
 -- the index that a map has for the section of a name
 abbrev pub indices_of : {Y S : Type 0} → HashMap (String Y) (SectionIndex × ℕ) S → List ℕ → Option ℕ

@@ -5,7 +5,7 @@ ghost use Rattle.btf_object.specs.Errors.{of_object, of_table, of_section};
 ghost use Rattle.btf_object.specs.declared.error.SanitizeError.TheVariants.{OutOfMemory};
 
 use btf_elf::{ObjectError, ReplaceError};
-use btf_words::BtfError;
+use btf_plain::BtfError;
 use std::alloc::AllocError;
 use thiserror::Error;
 

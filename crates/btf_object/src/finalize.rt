@@ -21,7 +21,7 @@ pub use crate::finalize::sized::{set_sizes, sizes_of};
 use crate::layout::ObjectLayout;
 use btf_records::BtfType;
 use btf_table::{Btf, set_type, type_count};
-use btf_words::BtfError;
+use btf_plain::BtfError;
 use std::alloc::Global;
 use std::hash::BuildHasher;
 

@@ -8,7 +8,7 @@ ghost use Rattle.btf_object.specs.Names.{indices_of, IsReadSection, IsSectionLef
 
 use crate::names::{askable, section_names, symbol_names};
 use btf_elf::{Object, Symbol};
-use btf_words::SectionIndex;
+use btf_plain::SectionIndex;
 use std::alloc::{AllocError, Global};
 use std::collections::HashMap;
 use std::hash::{BuildHasher, BuildHasherDefault, FoldHasher};

@@ -11,7 +11,7 @@ ghost use Rattle.btf_object_model.specs.Finalized.{with_ksyms_size, sized};
 ghost use Rattle.btf_object_model.specs.Kernel.{answers_of};
 ghost use Rattle.btf_object_model.specs.Sanitized.{RewritesTable, RefusesTable, AreAnswers};
 ghost use Rattle.btf_object_model.specs.SanitizedFinalized.{RewritesFinalized, RefusesFinalized};
-ghost use Rattle.btf_words.specs.Error.{refusal_of};
+ghost use Rattle.btf_plain.specs.Error.{refusal_of};
 ghost use Rattle.btf_object.specs.Errors.{target_of};
 ghost use Rattle.btf_object.specs.Kernel.{has};
 
@@ -24,7 +24,7 @@ use btf_elf::Object;
 use btf_rewrite_model::{BtfFeature, FeatureAnswer, FillPolicy, KsymsIds};
 use btf_rules::BtfFeatureResolver;
 use btf_table::Btf;
-use btf_words::BtfError;
+use btf_plain::BtfError;
 use std::alloc::Global;
 use std::hash::BuildHasher;
 

@@ -2,9 +2,9 @@
 use Rattle.std.proofs.Common.{◌≡◌, ℕ, suc, ◌+◌, ◌*◌, ◌<◌, List, [], ◌∷◌, ◌++◌, length, get_or, take, drop, set, refl, sym, ap, ◌∙◌, append_assoc, arith}
 use Rattle.std.specs.List.{flat_map}
 use Rattle.std.proofs.lemmas.List.{drop_more, drop-drop}
-use Rattle.btf_items.specs.declared.items.BtfParam.{BtfParam}
-use Rattle.btf_items.specs.Items.{param_words}
-use Rattle.btf_items.proofs.Lists.{words_of_set, words_after}
+use Rattle.btf_plain.specs.declared.items.BtfParam.{BtfParam}
+use Rattle.btf_plain.specs.Items.{param_words}
+use Rattle.btf_plain.proofs.Lists.{words_of_set, words_after}
 
 pub param_named : (ps : List BtfParam) (i n t : ℕ) (lt : i < length ps) → ((p : BtfParam) → t ≡ (get_or ps i p).btf_type) → flat_map param_words (set ps i (record { name_offset = n; btf_type = t })) ≡ take (2 * i) (flat_map param_words ps) ++ n ∷ drop (2 * i + 1) (flat_map param_words ps)
 param_named ps i n t lt same =

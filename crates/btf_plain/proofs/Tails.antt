@@ -2,7 +2,7 @@
 use Rattle.std.proofs.Common.{◌≡◌, ℕ, ◌*◌, ◌/◌, ◌<◌, List, length, sym, ap, ◌∙◌}
 use Rattle.std.specs.List.{flat_map}
 use Rattle.std.proofs.Math.Nat.{mul-div_cancel_left}
-use Rattle.btf_items.proofs.Lists.{length-items}
+use Rattle.btf_plain.proofs.Lists.{length-items}
 
 same_count : (w m n : ℕ) → 0 < w → w * m ≡ w * n → m ≡ n
 same_count w m n wide same = sym (mul-div_cancel_left m wide) ∙ ap (λ (x : ℕ). x / w) same ∙ mul-div_cancel_left n wide

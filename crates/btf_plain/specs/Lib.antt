@@ -1,5 +1,11 @@
 pub mod Encoding
+pub mod Error
+pub mod Fallback
 pub mod Head
+pub mod ItemList
+pub mod Items
+pub mod Kind
 pub mod Linkage
+pub mod ReadItems
 pub mod Third
 pub mod VarWord

@@ -2,14 +2,16 @@
 
 ghost use Rattle.std.specs.Prelude.{◌≡◌, [], ◌∷◌, refl};
 ghost use Rattle.btf_model.specs.Made as made;
-ghost use Rattle.btf_words.specs.declared.kind.BtfKind.TheVariants.{Array};
+ghost use Rattle.btf_plain.specs.declared.kind.BtfKind.TheVariants.{Array};
 
 use crate::btf_array::BtfArray;
+use crate::bytes::{push_array, split_word};
+use crate::error::BtfError;
 use crate::head::Head;
+use crate::kind::BtfKind;
 use crate::record::{Kind, Record};
 use crate::words::{Fixed, Words};
-use btf_items::{push_array, split_word};
-use btf_words::{BtfError, BtfKind, Endianness};
+use btf_model::Endianness;
 use std::alloc::{AllocError, Global};
 
 /// The kind ARRAY.

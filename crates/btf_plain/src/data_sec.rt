@@ -4,13 +4,14 @@ ghost use Rattle.std.specs.Prelude.{◌≡◌, ◌+◌, ◌*◌, ◌≤◌, leng
 ghost use Rattle.std.specs.List.{flat_map};
 ghost use Rattle.btf_model.specs.Record.{vlen};
 ghost use Rattle.btf_model.specs.Made as made;
-ghost use Rattle.btf_items.specs.Items.{entry_words};
-ghost use Rattle.btf_words.specs.declared.kind.BtfKind.TheVariants.{DataSec};
+ghost use Rattle.btf_plain.specs.Items.{entry_words};
+ghost use Rattle.btf_plain.specs.declared.kind.BtfKind.TheVariants.{DataSec};
 
+use crate::item_list::ItemList;
+use crate::items::DataSecEntry;
+use crate::kind::BtfKind;
 use crate::list::MAX_VLEN;
 use crate::record::{Kind, Measured, Record};
-use btf_items::{DataSecEntry, ItemList};
-use btf_words::BtfKind;
 
 /// The kind DATASEC.
 pub struct DataSecKind;

@@ -3,10 +3,10 @@
 ghost use Rattle.std.specs.Prelude.{◌≡◌, [], ◌∷◌, refl};
 ghost use Rattle.btf_model.specs.Made as made;
 ghost use Rattle.std.specs.Int.{cast_unsigned, w32};
-ghost use Rattle.btf_words.specs.declared.kind.BtfKind.TheVariants.{DeclTag};
+ghost use Rattle.btf_plain.specs.declared.kind.BtfKind.TheVariants.{DeclTag};
 
+use crate::kind::BtfKind;
 use crate::record::{Kind, Record, Refers};
-use btf_words::BtfKind;
 
 /// The kind DECL_TAG.
 pub struct DeclTagKind;

@@ -5,13 +5,14 @@ ghost use Rattle.std.specs.List.{flat_map};
 ghost use Rattle.btf_model.specs.Record.{vlen, kind_flag};
 ghost use Rattle.btf_model.specs.Info.{with_flag};
 ghost use Rattle.btf_model.specs.Made as made;
-ghost use Rattle.btf_items.specs.Items.{enum_words};
-ghost use Rattle.btf_words.specs.declared.kind.BtfKind.TheVariants.{Enum};
+ghost use Rattle.btf_plain.specs.Items.{enum_words};
+ghost use Rattle.btf_plain.specs.declared.kind.BtfKind.TheVariants.{Enum};
 
+use crate::item_list::ItemList;
+use crate::items::BtfEnum;
+use crate::kind::BtfKind;
 use crate::list::{MAX_VLEN, flag_word};
 use crate::record::{Kind, Measured, Record};
-use btf_items::{BtfEnum, ItemList};
-use btf_words::BtfKind;
 
 /// The kind ENUM.
 pub struct EnumKind;

@@ -4,13 +4,14 @@ ghost use Rattle.std.specs.Prelude.{◌≡◌, ◌≤◌, length, vec_len, ◌�
 ghost use Rattle.std.specs.List.{flat_map};
 ghost use Rattle.btf_model.specs.Record.{vlen, kind_flag};
 ghost use Rattle.btf_model.specs.Made as made;
-ghost use Rattle.btf_items.specs.Items.{enum64_words};
-ghost use Rattle.btf_words.specs.declared.kind.BtfKind.TheVariants.{Enum64};
+ghost use Rattle.btf_plain.specs.Items.{enum64_words};
+ghost use Rattle.btf_plain.specs.declared.kind.BtfKind.TheVariants.{Enum64};
 
+use crate::item_list::ItemList;
+use crate::items::BtfEnum64;
+use crate::kind::BtfKind;
 use crate::list::MAX_VLEN;
 use crate::record::{Kind, Measured, Record};
-use btf_items::{BtfEnum64, ItemList};
-use btf_words::BtfKind;
 
 /// The kind ENUM64.
 pub struct Enum64Kind;

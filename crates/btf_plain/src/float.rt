@@ -2,10 +2,10 @@
 
 ghost use Rattle.std.specs.Prelude.{◌≡◌, refl};
 ghost use Rattle.btf_model.specs.Made as made;
-ghost use Rattle.btf_words.specs.declared.kind.BtfKind.TheVariants.{Float};
+ghost use Rattle.btf_plain.specs.declared.kind.BtfKind.TheVariants.{Float};
 
+use crate::kind::BtfKind;
 use crate::record::{Kind, Measured, Record};
-use btf_words::BtfKind;
 
 /// The kind FLOAT.
 pub struct FloatKind;

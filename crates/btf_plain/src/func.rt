@@ -5,11 +5,11 @@ ghost use Rattle.btf_model.specs.Record.{vlen};
 ghost use Rattle.btf_model.specs.Info.{with_vlen};
 ghost use Rattle.btf_model.specs.Made as made;
 ghost use Rattle.btf_plain.specs.Linkage.{func_linkage_number, func_linkage_of};
-ghost use Rattle.btf_words.specs.declared.kind.BtfKind.TheVariants.{Func};
+ghost use Rattle.btf_plain.specs.declared.kind.BtfKind.TheVariants.{Func};
 
+use crate::kind::BtfKind;
 use crate::linkage::FuncLinkage;
 use crate::record::{Kind, Record, Refers};
-use btf_words::BtfKind;
 
 /// The kind FUNC.
 pub struct FuncKind;

@@ -4,15 +4,17 @@ ghost use Rattle.std.specs.Prelude.{◌≡◌, ◌+◌, ◌*◌, ◌≤◌, leng
 ghost use Rattle.std.specs.List.{flat_map};
 ghost use Rattle.btf_model.specs.Record.{vlen};
 ghost use Rattle.btf_model.specs.Made as made;
-ghost use Rattle.btf_words.specs.Error.{IsOrNoMemory};
-ghost use Rattle.btf_items.specs.Items.{param_words};
-ghost use Rattle.btf_words.specs.declared.kind.BtfKind.TheVariants.{FuncProto};
+ghost use Rattle.btf_plain.specs.Error.{IsOrNoMemory};
+ghost use Rattle.btf_plain.specs.Items.{param_words};
+ghost use Rattle.btf_plain.specs.declared.kind.BtfKind.TheVariants.{FuncProto};
 
 use crate::enumeration::Enum;
+use crate::error::BtfError;
+use crate::item_list::{ItemList, as_variants};
+use crate::items::BtfParam;
+use crate::kind::BtfKind;
 use crate::list::MAX_VLEN;
 use crate::record::{Kind, Record};
-use btf_items::{BtfParam, ItemList, as_variants};
-use btf_words::{BtfError, BtfKind};
 
 /// The kind FUNC_PROTO.
 pub struct FuncProtoKind;

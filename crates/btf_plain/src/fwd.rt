@@ -3,11 +3,11 @@
 ghost use Rattle.std.specs.Prelude.{◌≡◌, ◌↔◌, IsTrue, refl};
 ghost use Rattle.btf_model.specs.Record.{kind_flag};
 ghost use Rattle.btf_model.specs.Made as made;
-ghost use Rattle.btf_words.specs.declared.kind.BtfKind.TheVariants.{Fwd};
+ghost use Rattle.btf_plain.specs.declared.kind.BtfKind.TheVariants.{Fwd};
 
+use crate::kind::BtfKind;
 use crate::list::flag_word;
 use crate::record::{Kind, Record};
-use btf_words::BtfKind;
 
 /// The kind FWD.
 pub struct FwdKind;

@@ -4,8 +4,9 @@ ghost use Rattle.std.specs.Prelude.{◌≡◌, ◌<◌, ◌^◌, length, MatchRe
 ghost use Rattle.btf_model.specs.Record as model;
 ghost use Rattle.btf_model.specs.Record.{kind_number};
 
-use btf_items::split_word;
-use btf_words::{BtfError, Endianness};
+use crate::bytes::split_word;
+use crate::error::BtfError;
+use btf_model::Endianness;
 
 /// The length in bytes of the three words.
 const HEAD_LEN: usize = 12;

@@ -3,11 +3,11 @@
 ghost use Rattle.std.specs.Prelude.{◌≡◌, ◌*◌, ◌%◌, ◌^◌, [], ◌∷◌, slice_index, refl};
 ghost use Rattle.btf_model.specs.Made as made;
 ghost use Rattle.btf_plain.specs.Encoding.{encoding_number, encoding_of, int_data, encoding_bits, offset_bits, size_bits};
-ghost use Rattle.btf_words.specs.declared.kind.BtfKind.TheVariants.{Int};
+ghost use Rattle.btf_plain.specs.declared.kind.BtfKind.TheVariants.{Int};
 
 use crate::encoding::IntEncoding;
+use crate::kind::BtfKind;
 use crate::record::{Kind, Measured, Record};
-use btf_words::BtfKind;
 
 /// The kind INT.
 pub struct IntKind;

@@ -4,15 +4,18 @@ ghost use Rattle.std.specs.Prelude.{◌≡◌, ◌+◌, ◌*◌, ◌^◌, ◌<�
 ghost use Rattle.std.specs.List.{flat_map};
 ghost use Rattle.btf_model.specs.Info.{flag_bit};
 ghost use Rattle.btf_model.specs.Record.{vlen, kinds as all_kinds};
-ghost use Rattle.btf_words.specs.Kind as kinds;
+ghost use Rattle.btf_plain.specs.Kind as kinds;
 ghost use Rattle.btf_plain.specs.Third.{third_kept};
-ghost use Rattle.btf_items.specs.ItemList.{items_of};
+ghost use Rattle.btf_plain.specs.ItemList.{items_of};
 
+use crate::bytes::push_array;
+use crate::error::BtfError;
 use crate::head::Head;
+use crate::item::{Item, push_items};
+use crate::item_list::ItemList;
 use crate::record::{Kind, Record};
 use crate::words::Words;
-use btf_items::{Item, ItemList, push_array, push_items};
-use btf_words::{BtfError, Endianness};
+use btf_model::Endianness;
 use std::alloc::{AllocError, Global};
 use std::fmt;
 

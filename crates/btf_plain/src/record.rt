@@ -3,13 +3,15 @@
 ghost use Rattle.std.specs.Prelude.{◌≡◌, ◌+◌, ◌*◌, ◌++◌, length, Some, Ok, OnOk};
 ghost use Rattle.btf_model.specs.Record.{kind_of, vlen, tail_words};
 ghost use Rattle.btf_model.specs.Spelling.{spell, IsWhole};
-ghost use Rattle.btf_words.specs.Error.{IsOrNoMemory, MeetsOrNoMemory};
-ghost use Rattle.btf_words.specs.Kind as kinds;
+ghost use Rattle.btf_plain.specs.Error.{IsOrNoMemory, MeetsOrNoMemory};
+ghost use Rattle.btf_plain.specs.Kind as kinds;
 ghost use Rattle.btf_plain.specs.Third.{third_kept};
 
+use crate::error::BtfError;
 use crate::head::Head;
+use crate::kind::BtfKind;
 use crate::words::{Fixed, Words};
-use btf_words::{BtfError, BtfKind, Endianness};
+use btf_model::Endianness;
 use std::alloc::{AllocError, Global};
 use std::fmt;
 use std::marker::{Model, PhantomData};
@@ -17,8 +19,8 @@ use std::marker::{Model, PhantomData};
 /// A kind of records: what differs between records of two kinds.
 pub trait Kind {
     ghost use Rattle.std.specs.Prelude.{◌≡◌, ℕ};
-    ghost use Rattle.btf_words.specs.declared.kind.BtfKind.{BtfKind};
-    ghost use Rattle.btf_words.specs.Kind as kinds;
+    ghost use Rattle.btf_plain.specs.declared.kind.BtfKind.{BtfKind};
+    ghost use Rattle.btf_plain.specs.Kind as kinds;
     ghost use Rattle.btf_model.specs.Record.{Record, tail_words};
     ghost use Rattle.btf_model.specs.Spelling.{kept};
     ghost use Rattle.btf_plain.specs.Third.{third_kept};
@@ -58,7 +60,7 @@ pub struct Record<K: Kind> {
 impl<K: Kind> Model for Record<K> {
     ghost use Rattle.std.specs.Prelude.{◌≡◌, length, Some};
     ghost use Rattle.btf_model.specs.Record.{Record, kind_of, vlen, tail_words};
-    ghost use Rattle.btf_words.specs.Kind as kinds;
+    ghost use Rattle.btf_plain.specs.Kind as kinds;
     ghost use Rattle.btf_plain.specs.Head.{headed};
     ghost use Rattle.btf_plain.specs.Third.{third_kept};
 

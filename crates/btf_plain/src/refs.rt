@@ -2,10 +2,10 @@
 
 ghost use Rattle.std.specs.Prelude.{◌≡◌, refl};
 ghost use Rattle.btf_model.specs.Made as made;
-ghost use Rattle.btf_words.specs.declared.kind.BtfKind.TheVariants.{Ptr, Typedef, Volatile, Const, Restrict, TypeTag};
+ghost use Rattle.btf_plain.specs.declared.kind.BtfKind.TheVariants.{Ptr, Typedef, Volatile, Const, Restrict, TypeTag};
 
+use crate::kind::BtfKind;
 use crate::record::{Kind, Record, Refers};
-use btf_words::BtfKind;
 
 /// The kind PTR.
 pub struct PtrKind;

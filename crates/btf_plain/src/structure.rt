@@ -4,13 +4,14 @@ ghost use Rattle.std.specs.Prelude.{◌≡◌, ◌≤◌, length, vec_len, refl}
 ghost use Rattle.std.specs.List.{flat_map};
 ghost use Rattle.btf_model.specs.Record.{vlen, member_bit_offset, member_bit_field_size};
 ghost use Rattle.btf_model.specs.Made as made;
-ghost use Rattle.btf_items.specs.Items.{member_words};
-ghost use Rattle.btf_words.specs.declared.kind.BtfKind.TheVariants.{Struct};
+ghost use Rattle.btf_plain.specs.Items.{member_words};
+ghost use Rattle.btf_plain.specs.declared.kind.BtfKind.TheVariants.{Struct};
 
+use crate::item_list::ItemList;
+use crate::items::BtfMember;
+use crate::kind::BtfKind;
 use crate::list::MAX_VLEN;
 use crate::record::{Kind, Measured, Record};
-use btf_items::{BtfMember, ItemList};
-use btf_words::BtfKind;
 
 /// The kind STRUCT.
 pub struct StructKind;

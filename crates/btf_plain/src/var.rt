@@ -3,15 +3,17 @@
 ghost use Rattle.std.specs.Prelude.{◌≡◌, [], ◌∷◌, refl, map, min};
 ghost use Rattle.btf_model.specs.Made as made;
 ghost use Rattle.btf_plain.specs.Linkage.{var_linkage_number};
-ghost use Rattle.btf_words.specs.declared.kind.BtfKind.TheVariants.{Var};
+ghost use Rattle.btf_plain.specs.declared.kind.BtfKind.TheVariants.{Var};
 ghost use Rattle.btf_plain.specs.VarWord.{linkage_stays, length_stays};
 
+use crate::bytes::{push_array, split_word};
+use crate::error::BtfError;
 use crate::head::Head;
+use crate::kind::BtfKind;
 use crate::linkage::VarLinkage;
 use crate::record::{Kind, Record, Refers};
 use crate::words::{Fixed, Words};
-use btf_items::{push_array, split_word};
-use btf_words::{BtfError, BtfKind, Endianness};
+use btf_model::Endianness;
 use std::alloc::{AllocError, Global};
 
 /// The kind VAR.

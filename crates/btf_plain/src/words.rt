@@ -4,12 +4,13 @@ ghost use Rattle.std.specs.Prelude.{◌≡◌, ◌++◌, ◌<◌, ◌^◌, lengt
 ghost use Rattle.std.specs.List.{AllByRecursion};
 ghost use Rattle.btf_model.specs.Record as model;
 ghost use Rattle.btf_model.specs.Spelling.{spell};
-ghost use Rattle.btf_words.specs.Error.{MeetsOrNoMemory};
+ghost use Rattle.btf_plain.specs.Error.{MeetsOrNoMemory};
 ghost use Rattle.btf_plain.specs.Head.{ReadsWords, headed};
 
+use crate::bytes::{push_array, split_word};
+use crate::error::BtfError;
 use crate::head::Head;
-use btf_items::{push_array, split_word};
-use btf_words::{BtfError, Endianness};
+use btf_model::Endianness;
 use std::alloc::{AllocError, Global};
 use std::fmt;
 

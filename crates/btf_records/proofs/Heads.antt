@@ -13,10 +13,10 @@ use Rattle.btf_model.specs.Spelling.{kept, IsWhole}
 use Rattle.btf_model.specs.Blob.{ReadsFront}
 use Rattle.btf_model.proofs.Words.{IsBytes}
 use Rattle.btf_model.proofs.Reading.{reads, reads_other_kind, reads_cut, record_at}
-use Rattle.btf_words.specs.declared.error.BtfError.{BtfError}
-use Rattle.btf_words.specs.declared.error.BtfError.TheVariants.{InvalidTypeKind}
-use Rattle.btf_words.specs.Kind.{kind}
-use Rattle.btf_words.specs.Error.{refusal_of}
+use Rattle.btf_plain.specs.declared.error.BtfError.{BtfError}
+use Rattle.btf_plain.specs.declared.error.BtfError.TheVariants.{InvalidTypeKind}
+use Rattle.btf_plain.specs.Kind.{kind}
+use Rattle.btf_plain.specs.Error.{refusal_of}
 use Rattle.btf_records.specs.declared.btf_type.BtfType.{BtfType}
 use Rattle.btf_plain.specs.declared.head.Head.{Head}
 use Rattle.btf_plain.specs.Head.{IsHead, record_after, ReadsTail}

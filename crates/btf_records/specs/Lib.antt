@@ -6,7 +6,7 @@ pub use Rattle.btf_model.specs.Record
 pub use Rattle.btf_model.specs.Spelling
 pub use Rattle.btf_model.specs.Table
 pub use Rattle.btf_model.specs.Blob
-pub use Rattle.btf_words.specs.Error
+pub use Rattle.btf_plain.specs.Error
 pub use Rattle.btf_model.specs.Info
-pub use Rattle.btf_words.specs.Kind
+pub use Rattle.btf_plain.specs.Kind
 pub use Rattle.btf_plain.specs.Head

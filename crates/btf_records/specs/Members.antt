@@ -1,9 +1,9 @@
 -- What the private parts of a UNION represent: its members, and its fallback.
 use Rattle.std.specs.Prelude.{List, Option, Some, None}
 use Rattle.btf_model.specs.Table.{Fallback}
-use Rattle.btf_items.specs.declared.items.BtfMember.{BtfMember}
-use Rattle.btf_items.specs.Fallback.{fallback_value}
-use Rattle.btf_items.specs.ItemList.{items_of}
+use Rattle.btf_plain.specs.declared.items.BtfMember.{BtfMember}
+use Rattle.btf_plain.specs.Fallback.{fallback_value}
+use Rattle.btf_plain.specs.ItemList.{items_of}
 use Rattle.btf_records.specs.declared.union.Members.{Members}
 use Rattle.btf_records.specs.declared.union.Members.TheVariants.{Alone, InsteadOf}
 

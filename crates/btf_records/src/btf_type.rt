@@ -2,13 +2,12 @@
 
 ghost use Rattle.std.specs.Prelude.{◌≡◌};
 ghost use Rattle.btf_model.specs.Record.{compared_kind};
-ghost use Rattle.btf_words.specs.Kind as kinds;
+ghost use Rattle.btf_plain.specs.Kind as kinds;
 
 use crate::union::Union;
-use btf_items::{BtfMember, push_array};
 use btf_plain::{
-    Array, BtfError, BtfKind, Const, DataSec, DeclTag, Endianness, Enum, Enum64, Float, Func,
-    FuncProto, Fwd, Int, Ptr, Restrict, Struct, TypeTag, Typedef, Var, Volatile,
+    Array, BtfError, BtfKind, BtfMember, Const, DataSec, DeclTag, Endianness, Enum, Enum64, Float,
+    Func, FuncProto, Fwd, Int, Ptr, Restrict, Struct, TypeTag, Typedef, Var, Volatile, push_array,
 };
 use std::alloc::AllocError;
 use std::slice::Iter;
@@ -115,12 +114,12 @@ impl BtfType {
     ghost use Rattle.std.specs.Option.{option_map};
     ghost use Rattle.std.specs.List.{flat_map};
     ghost use Rattle.std.specs.Slice.Iter.{iter_rest};
-    ghost use Rattle.btf_items.specs.Items.{member_words};
+    ghost use Rattle.btf_plain.specs.Items.{member_words};
     ghost use Rattle.btf_model.specs.Record.{kind_of, vlen, tail_words, compared_kind, record_size, record_target, member_bit_offset, member_bit_field_size};
     ghost use Rattle.btf_model.specs.Record as model;
     ghost use Rattle.btf_model.specs.Spelling.{spell, IsWhole};
-    ghost use Rattle.btf_words.specs.Error.{IsOrNoMemory};
-    ghost use Rattle.btf_words.specs.Kind as kinds;
+    ghost use Rattle.btf_plain.specs.Error.{IsOrNoMemory};
+    ghost use Rattle.btf_plain.specs.Kind as kinds;
     ghost use Rattle.btf_records.specs.BtfType.{record_of, fallback_of, type_kind, has_no_third};
 
     /// The kind of the record, which is the one in its info word.

@@ -4,11 +4,11 @@ ghost use Rattle.std.specs.Prelude.{◌≡◌, ◌++◌, [], ◌∷◌, Some, No
 ghost use Rattle.btf_model.specs.Record.{kind_of};
 ghost use Rattle.btf_model.specs.Spelling.{spell, IsRecord};
 ghost use Rattle.btf_model.specs.Blob.{ReadsFront};
-ghost use Rattle.btf_words.specs.Error.{MeetsOrNoMemory, IsOrNoMemory};
+ghost use Rattle.btf_plain.specs.Error.{MeetsOrNoMemory, IsOrNoMemory};
 ghost use Rattle.btf_records.specs.BtfType.{record_of, fallback_of};
 ghost use Rattle.btf_plain.specs.Head.{ReadsTail};
 ghost use Rattle.btf_records.specs.Slot.{Puts, StaysOr};
-ghost use Rattle.btf_words.specs.Kind as kinds;
+ghost use Rattle.btf_plain.specs.Kind as kinds;
 
 use crate::btf_type::BtfType;
 use crate::lists::{put_data_sec, put_enum, put_enum64, put_func_proto, put_struct, put_union};

@@ -7,9 +7,9 @@ mod lists;
 mod slot;
 mod union;
 
-pub use btf_items::{
-    BtfEnum, BtfEnum64, BtfMember, BtfParam, DataSecEntry, Enum64Fallback, Enum64VariantFallback,
+pub use btf_plain::{
+    BtfEnum, BtfEnum64, BtfMember, BtfParam, DataSec, DataSecEntry, Enum, Enum64, Enum64Fallback,
+    Enum64VariantFallback, FuncProto, Struct, as_enum,
 };
-pub use btf_plain::{DataSec, Enum, Enum64, FuncProto, Struct, as_enum};
 pub use btf_type::BtfType;
 pub use union::Union;

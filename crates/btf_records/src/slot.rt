@@ -4,7 +4,7 @@ ghost use Rattle.std.specs.Prelude.{◌≡◌, ◌+◌, ◌*◌, length, OnOk, O
 ghost use Rattle.btf_records.specs.BtfType.{record_of};
 
 use crate::btf_type::BtfType;
-use btf_words::BtfError;
+use btf_plain::BtfError;
 use std::alloc::AllocError;
 
 /// A slot for a record.

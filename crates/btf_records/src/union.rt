@@ -7,13 +7,15 @@ ghost use Rattle.btf_model.specs.Record as model;
 ghost use Rattle.btf_model.specs.Record.{kind_of, vlen, member_bit_offset, member_bit_field_size};
 ghost use Rattle.btf_model.specs.Made.{union};
 ghost use Rattle.btf_model.specs.Spelling.{spell, IsWhole};
-ghost use Rattle.btf_words.specs.Error.{IsOrNoMemory, MeetsOrNoMemory};
+ghost use Rattle.btf_plain.specs.Error.{IsOrNoMemory, MeetsOrNoMemory};
 ghost use Rattle.btf_plain.specs.Head.{ReadsTail};
-ghost use Rattle.btf_items.specs.Fallback.{fallback_of_option};
-ghost use Rattle.btf_items.specs.Items.{member_words};
+ghost use Rattle.btf_plain.specs.Fallback.{fallback_of_option};
+ghost use Rattle.btf_plain.specs.Items.{member_words};
 
-use btf_items::{BtfMember, Enum64Fallback, ItemList, push_array, push_items};
-use btf_plain::{BtfError, BtfKind, Endianness, Head, MAX_VLEN, bit_field_size, bit_offset};
+use btf_plain::{
+    BtfError, BtfKind, BtfMember, Endianness, Enum64Fallback, Head, ItemList, MAX_VLEN,
+    bit_field_size, bit_offset, push_array, push_items,
+};
 use std::alloc::{AllocError, Global};
 use std::fmt;
 use std::marker::Model;
@@ -83,8 +85,8 @@ impl Model for Union {
     ghost use Rattle.std.specs.List.{flat_map};
     ghost use Rattle.btf_model.specs.Record.{kind_of, vlen, Union as UnionKind};
     ghost use Rattle.btf_model.specs.Table.{UnionRecord};
-    ghost use Rattle.btf_items.specs.Items.{member_words};
-    ghost use Rattle.btf_items.specs.ItemList.{items_of};
+    ghost use Rattle.btf_plain.specs.Items.{member_words};
+    ghost use Rattle.btf_plain.specs.ItemList.{items_of};
     ghost use Rattle.btf_records.specs.Members.{members_of, kept_of};
 
     ghost Value = { UnionRecord };

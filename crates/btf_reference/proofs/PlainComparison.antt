@@ -14,10 +14,10 @@ use Rattle.btf_model.specs.Compat as model
 use Rattle.btf_model.specs.Compat.{Decided, On, Pending, Finds, PositionFound, parameter_types, pairs, prototypes, ResolvesPair, Plain, Walked, ComparedInOrder, AreKnown, pair_eq}
 use Rattle.btf_model.proofs.Known.{Among, among_from_contains, contains_from_among}
 use Rattle.btf_model.proofs.Firsts.{eq_itself, eq_same}
-use Rattle.btf_words.specs.Error.{Meets, refusal_of}
-use Rattle.btf_words.specs.declared.error.BtfError.{BtfError}
-use Rattle.btf_words.specs.declared.error.BtfError.TheVariants as errors
-use Rattle.btf_items.specs.declared.items.BtfParam.{BtfParam}
+use Rattle.btf_plain.specs.Error.{Meets, refusal_of}
+use Rattle.btf_plain.specs.declared.error.BtfError.{BtfError}
+use Rattle.btf_plain.specs.declared.error.BtfError.TheVariants as errors
+use Rattle.btf_plain.specs.declared.items.BtfParam.{BtfParam}
 use Rattle.btf_reference.specs.declared.plain_comparison.Position.{Position}
 use Rattle.btf_reference.specs.declared.plain_comparison.Position.TheVariants as positions
 use Rattle.btf_types.specs.Pairs.{pair_of, ids_of, IsResolved}

@@ -5,7 +5,7 @@ ghost use Rattle.std.specs.Prelude.{◌≡◌, ◌∷◌, ◌≤◌, ◌↔◌, 
 ghost use Rattle.btf_model.specs.Record as model;
 ghost use Rattle.btf_model.specs.Walk.{walk_limit};
 ghost use Rattle.btf_model.specs.Compat.{Finds, Plain, Walked, ComparedInOrder, PositionFound, ResolvesPair, pairs, position_by};
-ghost use Rattle.btf_words.specs.Error.{Meets};
+ghost use Rattle.btf_plain.specs.Error.{Meets};
 ghost use Rattle.btf_records.specs.BtfType.{record_of, type_kind};
 ghost use Rattle.btf_types.specs.Compared.{types_of};
 ghost use Rattle.btf_types.specs.Pairs.{IsResolved, pair_of};

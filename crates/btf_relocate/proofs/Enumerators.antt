@@ -5,9 +5,9 @@ use Rattle.std.specs.List.{flat_map}
 use Rattle.std.specs.Str.{bytes_eq}
 use Rattle.std.proofs.lemmas.List.{drop_all}
 use Rattle.std.proofs.lemmas.Option.{slice_get_within, get_or_from_slice_get}
-use Rattle.btf_items.specs.Items.{enum_words, enum64_words}
-use Rattle.btf_items.specs.declared.items.BtfEnum.{BtfEnum}
-use Rattle.btf_items.specs.declared.items.BtfEnum64.{BtfEnum64}
+use Rattle.btf_plain.specs.Items.{enum_words, enum64_words}
+use Rattle.btf_plain.specs.declared.items.BtfEnum.{BtfEnum}
+use Rattle.btf_plain.specs.declared.items.BtfEnum64.{BtfEnum64}
 use Rattle.btf_model.specs.Record as model
 use Rattle.btf_model.specs.Record.{Record, kind_of}
 use Rattle.btf_model.specs.Table.{Table, Variant}

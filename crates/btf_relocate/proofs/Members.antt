@@ -2,8 +2,8 @@
 use Rattle.std.proofs.Common.{◌≡◌, List, [], ◌∷◌, Some, refl, ap, sym, subst}
 use Rattle.std.specs.Prelude.{map}
 use Rattle.std.specs.List.{flat_map}
-use Rattle.btf_items.specs.Items.{member_words}
-use Rattle.btf_items.specs.declared.items.BtfMember.{BtfMember}
+use Rattle.btf_plain.specs.Items.{member_words}
+use Rattle.btf_plain.specs.declared.items.BtfMember.{BtfMember}
 use Rattle.btf_relocate.specs.Members.{member_of}
 use Rattle.btf_relocate_model.specs.Field.{Member, members_in, members_of}
 use Rattle.btf_model.specs.Record as model

@@ -3,7 +3,7 @@ use Rattle.std.proofs.Common.{◌≡◌, ℕ, zero, suc, ◌+◌, ◌-◌, ◌<�
 use Rattle.std.specs.Prelude.{◌⊎◌, ◌==◌, max}
 use Rattle.std.specs.Str.{bytes_eq}
 use Rattle.std.proofs.lemmas.Bool.Decides.{nat_tests}
-use Rattle.btf_items.specs.declared.items.BtfMember.{BtfMember}
+use Rattle.btf_plain.specs.declared.items.BtfMember.{BtfMember}
 use Rattle.btf_model.specs.Record.{Record, member_bit_offset}
 use Rattle.btf_model.specs.Table.{Table}
 use Rattle.btf_relocate_model.specs.Candidates.{is_nameless}

@@ -1,7 +1,7 @@
 -- Enumerators, as the definitions see them.
 use Rattle.std.specs.Prelude.{List, ◌+◌, ◌*◌, ◌^◌}
-use Rattle.btf_items.specs.declared.items.BtfEnum.{BtfEnum}
-use Rattle.btf_items.specs.declared.items.BtfEnum64.{BtfEnum64}
+use Rattle.btf_plain.specs.declared.items.BtfEnum.{BtfEnum}
+use Rattle.btf_plain.specs.declared.items.BtfEnum64.{BtfEnum64}
 use Rattle.btf_model.specs.Record.{Record, kind_of}
 use Rattle.btf_model.specs.Table.{Variant}
 use Rattle.btf_relocate_model.specs.Enumerator.{enumerators_by}

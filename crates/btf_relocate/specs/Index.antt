@@ -6,8 +6,8 @@ use Rattle.std.specs.Ordering.{ordering_then, nat_cmp, is_lt}
 use Rattle.std.specs.declared.cmp.Ordering.{Ordering}
 use Rattle.btf_model.specs.Record.{Record, kind_number}
 use Rattle.btf_model.specs.Table.{Table}
-use Rattle.btf_words.specs.declared.kind.BtfKind.{BtfKind}
-use Rattle.btf_words.specs.declared.kind.BtfKind.TheVariants.{Unknown, Int, Ptr, Array, Struct, Union, Enum, Fwd, Typedef, Volatile, Const, Restrict, Func, FuncProto, Var, DataSec, Float, DeclTag, TypeTag, Enum64}
+use Rattle.btf_plain.specs.declared.kind.BtfKind.{BtfKind}
+use Rattle.btf_plain.specs.declared.kind.BtfKind.TheVariants.{Unknown, Int, Ptr, Array, Struct, Union, Enum, Fwd, Typedef, Volatile, Const, Restrict, Func, FuncProto, Var, DataSec, Float, DeclTag, TypeTag, Enum64}
 use Rattle.btf_relocate_model.specs.Candidates.{compared_number, is_nameless, ids_from}
 use Rattle.btf_relocate_model.specs.Name.{essential}
 use Rattle.btf_relocate_model.specs.Types.{name_or_none}

@@ -1,5 +1,5 @@
 -- Members, as the definitions see them.
-use Rattle.btf_items.specs.declared.items.BtfMember.{BtfMember}
+use Rattle.btf_plain.specs.declared.items.BtfMember.{BtfMember}
 use Rattle.btf_relocate_model.specs.Field.{Member}
 
 abbrev pub member_of : BtfMember → Member

@@ -8,7 +8,7 @@ ghost use Rattle.btf_relocate.specs.Enumerators.{variant_of, narrow, wide, enume
 
 use crate::lookup::{name_at, resolved_type};
 use crate::name::essential_name;
-use btf_items::{BtfEnum, BtfEnum64};
+use btf_plain::{BtfEnum, BtfEnum64};
 use btf_records::BtfType;
 use btf_relocate_model::RelocationError;
 use btf_table::Btf;

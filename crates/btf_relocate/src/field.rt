@@ -9,7 +9,7 @@ ghost use Rattle.btf_relocate.specs.Members.{member_of};
 
 use crate::lookup::{resolved, resolved_type, type_at};
 use crate::size::size_of;
-use btf_items::BtfMember;
+use btf_plain::BtfMember;
 use btf_records::BtfType;
 use btf_relocate_model::{Field, RelocationError};
 use btf_table::Btf;

@@ -4,7 +4,7 @@ ghost use Rattle.std.specs.Prelude.{◌≡◌, Ok, Err, Some, IfSome, MatchResul
 ghost use Rattle.std.specs.Option.{option_map};
 ghost use Rattle.btf_model.specs.Record.{kind_of, kind_number};
 ghost use Rattle.btf_model.specs.Text as text;
-ghost use Rattle.btf_words.specs.Error.{refusal_of};
+ghost use Rattle.btf_plain.specs.Error.{refusal_of};
 ghost use Rattle.btf_records.specs.BtfType.{record_of, type_kind};
 ghost use Rattle.btf_relocate_model.specs.Types as model;
 

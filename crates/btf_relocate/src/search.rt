@@ -9,7 +9,7 @@ ghost use Rattle.btf_relocate.specs.Searching.{within, from_id, outward, found_o
 
 use crate::field::{bits_of, member_field, members, moved};
 use crate::lookup::{name_or_none, resolved, type_at};
-use btf_items::BtfMember;
+use btf_plain::BtfMember;
 use btf_records::BtfType;
 use btf_relocate_model::{Field, RelocationError};
 use btf_table::Btf;

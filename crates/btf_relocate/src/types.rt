@@ -2,8 +2,7 @@
 
 use crate::lookup::{name_at, name_or_none, resolved, type_at};
 use crate::name::essential_name;
-use btf_items::BtfMember;
-use btf_plain::Int;
+use btf_plain::{BtfMember, Int};
 use btf_records::{BtfType, FuncProto};
 use btf_relocate_model::RelocationError;
 use btf_table::{Btf, WALK_LIMIT};

@@ -5,11 +5,11 @@ use Rattle.std.proofs.lemmas.List.{take_all}
 use Rattle.btf_model.specs.Table.{Variant}
 use Rattle.btf_rewrite_model.specs.Made.{variants}
 use Rattle.btf_rewrite_model.specs.Rule.{variant_members}
-use Rattle.btf_items.specs.Fallback.{variant_of}
-use Rattle.btf_items.specs.Items.{enum64_words, member_words}
-use Rattle.btf_items.specs.declared.items.BtfEnum64.{BtfEnum64}
-use Rattle.btf_items.specs.declared.items.BtfMember.{BtfMember}
-use Rattle.btf_items.specs.declared.fallback.Enum64VariantFallback.{Enum64VariantFallback}
+use Rattle.btf_plain.specs.Fallback.{variant_of}
+use Rattle.btf_plain.specs.Items.{enum64_words, member_words}
+use Rattle.btf_plain.specs.declared.items.BtfEnum64.{BtfEnum64}
+use Rattle.btf_plain.specs.declared.items.BtfMember.{BtfMember}
+use Rattle.btf_plain.specs.declared.fallback.Enum64VariantFallback.{Enum64VariantFallback}
 
 -- a variant with its 64-bit value in one number
 abbrev pub variant : BtfEnum64 → Variant

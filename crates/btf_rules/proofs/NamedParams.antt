@@ -6,8 +6,8 @@ use Rattle.std.proofs.lemmas.List.{length-append, length-take, append_assoc, app
 use Rattle.std.proofs.Math.Seq.{take-suc, drop-cons}
 use Rattle.btf_rewrite_model.specs.Made.{wants_name}
 use Rattle.btf_rewrite_model.specs.Ksyms.{named}
-use Rattle.btf_items.specs.Items.{param_words}
-use Rattle.btf_items.specs.declared.items.BtfParam.{BtfParam}
+use Rattle.btf_plain.specs.Items.{param_words}
+use Rattle.btf_plain.specs.declared.items.BtfParam.{BtfParam}
 
 -- words that replace others
 pub put_at : (before old rest new : List ℕ) (n m : ℕ) → length before ≡ n → n + length old ≡ m → take n (before ++ (old ++ rest)) ++ (new ++ drop m (before ++ (old ++ rest))) ≡ before ++ (new ++ rest)

@@ -2,7 +2,7 @@
 use Rattle.std.specs.Prelude.{ℕ, List, option_map, Option, String}
 use Rattle.std.specs.HashMap.{HashMap, get_by_text}
 use Rattle.btf_rewrite_model.specs.Pass.{Layout}
-use Rattle.btf_words.specs.declared.section_index.SectionIndex.{SectionIndex}
+use Rattle.btf_plain.specs.declared.section_index.SectionIndex.{SectionIndex}
 
 -- the size of each section; its index is not read
 abbrev pub sizes_of : {Y S : Type 0} → HashMap (String Y) (SectionIndex × ℕ) S → List ℕ → Option ℕ

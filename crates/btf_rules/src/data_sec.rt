@@ -5,7 +5,7 @@ ghost use Rattle.std.specs.Option.{unwrap_or};
 ghost use Rattle.btf_rewrite_model.specs.Checks.{in_a_word};
 ghost use Rattle.btf_rewrite_model.specs.Fault.{is_sized};
 ghost use Rattle.btf_rewrite_model.specs.Pass.{replaced, slash, dot, underscore};
-ghost use Rattle.btf_words.specs.Error.{IsOrNoMemory};
+ghost use Rattle.btf_plain.specs.Error.{IsOrNoMemory};
 ghost use Rattle.btf_records.specs.BtfType.{record_of, fallback_of};
 ghost use Rattle.btf_rules.specs.Checked.{checked};
 ghost use Rattle.btf_rules.specs.Layout.{sizes_of, offsets_of};

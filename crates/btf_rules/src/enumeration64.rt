@@ -6,9 +6,9 @@ ghost use Rattle.btf_model.specs.Record.{vlen};
 ghost use Rattle.btf_rewrite_model.specs.Made.{union, fallback_of};
 ghost use Rattle.btf_rewrite_model.specs.Made as model;
 ghost use Rattle.btf_rewrite_model.specs.Rule.{variant_members};
-ghost use Rattle.btf_words.specs.Error.{IsOrNoMemory};
-ghost use Rattle.btf_items.specs.Fallback.{variant_of};
-ghost use Rattle.btf_items.specs.Items.{enum64_words, member_words};
+ghost use Rattle.btf_plain.specs.Error.{IsOrNoMemory};
+ghost use Rattle.btf_plain.specs.Fallback.{variant_of};
+ghost use Rattle.btf_plain.specs.Items.{enum64_words, member_words};
 
 use btf_plain::BtfError;
 use btf_records::{BtfEnum64, BtfMember, Enum64, Enum64Fallback, Enum64VariantFallback, Union};

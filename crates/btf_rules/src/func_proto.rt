@@ -4,7 +4,7 @@ ghost use Rattle.std.specs.Prelude.{◌≡◌, if◌then◌else◌, string_bytes
 ghost use Rattle.btf_rewrite_model.specs.Ksyms.{named};
 ghost use Rattle.btf_rewrite_model.specs.Made.{wants_name};
 ghost use Rattle.btf_rewrite_model.specs.Pass as model;
-ghost use Rattle.btf_words.specs.Error.{IsOrNoMemory};
+ghost use Rattle.btf_plain.specs.Error.{IsOrNoMemory};
 
 use btf_plain::BtfError;
 use btf_records::{BtfParam, FuncProto};

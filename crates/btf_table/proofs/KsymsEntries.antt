@@ -11,8 +11,8 @@ use Rattle.btf_model.specs.Table.{Table}
 use Rattle.btf_rewrite_model.specs.Made.{Entry, entries, record_at, kind_at}
 use Rattle.btf_rewrite_model.specs.Checks.{Check, first_fault}
 use Rattle.btf_rewrite_model.specs.Ksyms.{is_func, ksyms_entry_checks}
-use Rattle.btf_items.specs.Items.{entry_words}
-use Rattle.btf_items.specs.declared.items.DataSecEntry.{DataSecEntry}
+use Rattle.btf_plain.specs.Items.{entry_words}
+use Rattle.btf_plain.specs.declared.items.DataSecEntry.{DataSecEntry}
 use Rattle.btf_table.specs.KsymsStep.{entry, has, is_this, prototype_of, HasSymbols, FindsSymbols}
 use Rattle.btf_table.specs.declared.sanitize.ksyms.Symbols.{Symbols}
 use Rattle.btf_rules.proofs.Checks.{fault_after, fault_before}

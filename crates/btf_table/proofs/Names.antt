@@ -8,8 +8,8 @@ use Rattle.std.proofs.lemmas.Slice.Eq.{bytes_eq-Decides}
 use Rattle.btf_model.specs.Record.{Kind, Record, kind_of}
 use Rattle.btf_model.specs.Refusal.{Refusal}
 use Rattle.btf_model.specs.Text.{text_at, IsPassed, ArePassed}
-use Rattle.btf_words.specs.Error.{MeetsOrNoMemory, refusal_of}
-use Rattle.btf_words.specs.declared.error.BtfError.{BtfError}
+use Rattle.btf_plain.specs.Error.{MeetsOrNoMemory, refusal_of}
+use Rattle.btf_plain.specs.declared.error.BtfError.{BtfError}
 use Rattle.btf_table.specs.BtfStr.{HasName, IsNamed}
 use Rattle.btf_table.specs.Readable.{IsReadableEnd, IsComparable, HasNameAt}
 use Rattle.btf_table.proofs.Readable.{text_is_name, name_at_text}

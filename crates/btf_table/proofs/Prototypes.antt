@@ -15,8 +15,8 @@ use Rattle.btf_rewrite_model.specs.Pass.{texts_len, param_text, param_texts}
 use Rattle.btf_rewrite_model.specs.Rule.{named_params}
 use Rattle.btf_rewrite_model.specs.Rewritten.{ended}
 use Rattle.btf_rewrite_model.proofs.Appending.{room_append, ended_len}
-use Rattle.btf_items.specs.Items.{param_words}
-use Rattle.btf_items.specs.declared.items.BtfParam.{BtfParam}
+use Rattle.btf_plain.specs.Items.{param_words}
+use Rattle.btf_plain.specs.declared.items.BtfParam.{BtfParam}
 use Rattle.btf_table.specs.declared.table.changes.Changes.{Changes}
 use Rattle.btf_table.specs.Adding.{strings_end, Adds}
 use Rattle.btf_table.specs.Params.{lack_a_name}

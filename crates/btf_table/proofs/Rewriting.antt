@@ -16,8 +16,8 @@ use Rattle.btf_rewrite_model.proofs.FewAdded.{few_in_a_rewrite}
 use Rattle.btf_rewrite_model.proofs.Kept as kept
 use Rattle.btf_rewrite_model.proofs.Values.{value_stays}
 use Rattle.btf_model.proofs.Blobs.{same_table}
-use Rattle.btf_words.specs.declared.error.BtfError.{BtfError}
-use Rattle.btf_words.specs.Error.{MeetsOrNoMemory, refusal_of}
+use Rattle.btf_plain.specs.declared.error.BtfError.{BtfError}
+use Rattle.btf_plain.specs.Error.{MeetsOrNoMemory, refusal_of}
 use Rattle.btf_table.specs.PassStep.{Given, pass_on}
 use Rattle.btf_table.specs.Rewrites.{Rewrites, Sanitizes, NeedsAreGranted, KeepsSizes, KeepsResolutions, KeepsValues, AppendsAtMost, OfTables}
 

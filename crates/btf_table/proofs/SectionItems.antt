@@ -11,8 +11,8 @@ use Rattle.btf_rewrite_model.specs.Made.{Entry, entries, byte_int, static_var}
 use Rattle.btf_rewrite_model.specs.Checks.{Check, first_fault}
 use Rattle.btf_rewrite_model.specs.Rewritten.{ended}
 use Rattle.btf_records.specs.BtfType.{record_of}
-use Rattle.btf_items.specs.Items.{entry_words}
-use Rattle.btf_items.specs.declared.items.DataSecEntry.{DataSecEntry}
+use Rattle.btf_plain.specs.Items.{entry_words}
+use Rattle.btf_plain.specs.declared.items.DataSecEntry.{DataSecEntry}
 use Rattle.btf_table.specs.Adding.{strings_end, next_id, Adds}
 use Rattle.btf_table.specs.KsymsStep.{entry}
 use Rattle.btf_table.specs.declared.table.changes.Changes.{Changes}

@@ -30,8 +30,8 @@ use Rattle.btf_rewrite_model.specs.Passing.{MadeBelow}
 use Rattle.btf_rewrite_model.proofs.FirstMade.{makes_first, made_first, makes_no_second, made_next, made_is}
 use Rattle.btf_rewrite_model.specs.Passing.{AreAnswersTo}
 use Rattle.btf_rewrite_model.proofs.Passing.{NextAnswers}
-use Rattle.btf_words.specs.Error.{MeetsOrNoMemory, IsOrNoMemory, refusal_of}
-use Rattle.btf_words.specs.declared.error.BtfError.{BtfError}
+use Rattle.btf_plain.specs.Error.{MeetsOrNoMemory, IsOrNoMemory, refusal_of}
+use Rattle.btf_plain.specs.declared.error.BtfError.{BtfError}
 use Rattle.btf_records.specs.BtfType.{record_of, fallback_of}
 use Rattle.btf_records.specs.declared.btf_type.BtfType.{BtfType}
 use Rattle.btf_records.specs.declared.btf_type.BtfType.TheVariants.{DataSec}
@@ -44,7 +44,7 @@ use Rattle.btf_table.specs.declared.sanitize.made.Made.{Made}
 use Rattle.btf_table.proofs.Adding.{adds_none, adds_then}
 use Rattle.btf_rules.proofs.Checks.{fault_after, fault_before, fault_third, checked_ok, checked_err}
 use Rattle.btf_table.proofs.Prototypes.{end_after}
-use Rattle.btf_words.proofs.Refused.{handed_on}
+use Rattle.btf_plain.proofs.Refused.{handed_on}
 use Rattle.btf_table.proofs.SectionItems.{id_stays}
 use Rattle.btf_rules.specs.Features.{Asks, Called, IsFurther}
 use Rattle.btf_table.proofs.PassAsking.{asks_called, asks_further, further_none, asked_none, asked_more, asked_kept}

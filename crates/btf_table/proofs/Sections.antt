@@ -10,8 +10,8 @@ use Rattle.btf_model.specs.Table.{Fallback, no_fallbacks}
 use Rattle.btf_model.specs.Blob.{AreRecords, ReadsFront}
 use Rattle.btf_model.proofs.Records.{AreRecords-push, length-spelling}
 use Rattle.btf_model.proofs.Blobs.{rest_from_none}
-use Rattle.btf_words.specs.declared.error.BtfError.{BtfError}
-use Rattle.btf_words.specs.Error.{MeetsOrNoMemory, refusal_of}
+use Rattle.btf_plain.specs.declared.error.BtfError.{BtfError}
+use Rattle.btf_plain.specs.Error.{MeetsOrNoMemory, refusal_of}
 use Rattle.btf_records.specs.BtfType.{record_of, fallback_of}
 use Rattle.btf_records.specs.declared.btf_type.BtfType.{BtfType}
 use Rattle.btf_table.specs.Records.{ReadsTypes}

@@ -16,8 +16,8 @@ use Rattle.btf_model.specs.Blob.{header_of, slice, AreRecords, IsTable, IsRefusa
 use Rattle.btf_model.proofs.Words.{IsBytes, IsBytes-take, IsBytes-drop, half_of_below, word_of_below}
 use Rattle.btf_model.proofs.Records.{length-spell, length-records, records_are_long}
 use Rattle.btf_model.proofs.Blobs.{same_table, same_refusal, table_not_refused}
-use Rattle.btf_words.specs.declared.error.BtfError.{BtfError}
-use Rattle.btf_words.specs.Error.{MeetsOrNoMemory, IsOrNoMemory, refusal_of}
+use Rattle.btf_plain.specs.declared.error.BtfError.{BtfError}
+use Rattle.btf_plain.specs.Error.{MeetsOrNoMemory, IsOrNoMemory, refusal_of}
 use Rattle.btf_rewrite_model.specs.Checks.{fits}
 use Rattle.btf_rules.specs.Checked.{checked}
 use Rattle.btf_rules.proofs.Checks.{checked_ok}

@@ -9,9 +9,9 @@ use Rattle.std.proofs.lemmas.Result.{err_from_is_err_and}
 use Rattle.btf_model.specs.Record.{kind_of}
 use Rattle.btf_model.specs.Refusal.{InvalidTypeInfo}
 use Rattle.btf_model.specs.Walk.{Finding, Ends, GoesOn, Leads, By, walk_limit, Extent, Bytes, Times, extent, Elements, size_by, size_in, HasSize}
-use Rattle.btf_words.specs.Error.{Meets, refusal_of}
-use Rattle.btf_words.specs.declared.error.BtfError.{BtfError}
-use Rattle.btf_words.specs.declared.error.BtfError.TheVariants as errors
+use Rattle.btf_plain.specs.Error.{Meets, refusal_of}
+use Rattle.btf_plain.specs.declared.error.BtfError.{BtfError}
+use Rattle.btf_plain.specs.declared.error.BtfError.TheVariants as errors
 use Rattle.btf_records.specs.BtfType.{record_of}
 use Rattle.btf_records.specs.declared.btf_type.BtfType.{BtfType}
 

@@ -12,7 +12,7 @@ use Rattle.btf_rewrite_model.specs.Checks.{first_fault}
 use Rattle.btf_rewrite_model.specs.Made.{Entry, entries, entry_words, record_at, kind_at}
 use Rattle.btf_rewrite_model.specs.Ksyms.{is_func, symbol_type, appends_int, ksyms_entry_checks, laid_out, symbols, stepped, ksyms_fault, ksyms_table}
 use Rattle.btf_rewrite_model.specs.declared.ksyms_ids.KsymsIds.{KsymsIds}
-use Rattle.btf_items.specs.declared.items.DataSecEntry.{DataSecEntry}
+use Rattle.btf_plain.specs.declared.items.DataSecEntry.{DataSecEntry}
 use Rattle.btf_records.specs.BtfType.{record_of, fallback_of}
 use Rattle.btf_records.specs.declared.btf_type.BtfType.{BtfType}
 use Rattle.btf_table.specs.Changes.{put_all, each, AreInside, AreOf, changed}

@@ -20,7 +20,7 @@ pub use Rattle.btf_rewrite_model.specs.Made
 pub use Rattle.btf_model.specs.Record
 pub use Rattle.btf_rewrite_model.specs.Rewritten
 pub use Rattle.btf_rewrite_model.specs.RewriteLaws
-pub use Rattle.btf_words.specs.Error
+pub use Rattle.btf_plain.specs.Error
 pub use Rattle.btf_rules.specs.Checked
 pub use Rattle.btf_rules.specs.Features
 pub use Rattle.btf_rules.specs.Layout
@@ -30,13 +30,13 @@ pub use Rattle.btf_rewrite_model.specs.Pass
 pub use Rattle.btf_rewrite_model.specs.Rule
 pub use Rattle.btf_rewrite_model.specs.Fault
 pub use Rattle.btf_records.specs.BtfType
-pub use Rattle.btf_items.specs.Fallback
-pub use Rattle.btf_items.specs.Items
+pub use Rattle.btf_plain.specs.Fallback
+pub use Rattle.btf_plain.specs.Items
 pub use Rattle.btf_model.specs.Table
 pub use Rattle.btf_model.specs.Refusal
 pub use Rattle.btf_model.specs.Fields
 pub use Rattle.btf_model.specs.Blob
-pub use Rattle.btf_words.specs.Kind
+pub use Rattle.btf_plain.specs.Kind
 pub use Rattle.btf_model.specs.Spelling
 pub use Rattle.btf_model.specs.Text
 pub use Rattle.btf_model.specs.Walk

@@ -13,8 +13,8 @@ use Rattle.btf_rewrite_model.specs.Fault.{fault}
 use Rattle.btf_rewrite_model.specs.Rewritten.{ended, AreRuled, rewritten}
 use Rattle.btf_rewrite_model.specs.Passing.{AreAnswersTo, IsAt, HasMade}
 use Rattle.btf_rewrite_model.specs.Passing.{MadeBelow}
-use Rattle.btf_words.specs.Error.{MeetsOrNoMemory}
-use Rattle.btf_words.specs.declared.error.BtfError.{BtfError}
+use Rattle.btf_plain.specs.Error.{MeetsOrNoMemory}
+use Rattle.btf_plain.specs.declared.error.BtfError.{BtfError}
 use Rattle.btf_records.specs.BtfType.{record_of, fallback_of}
 use Rattle.btf_records.specs.declared.btf_type.BtfType.{BtfType}
 use Rattle.btf_table.specs.Btf.{IsType}

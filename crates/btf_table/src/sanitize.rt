@@ -17,7 +17,7 @@ ghost use Rattle.btf_rewrite_model.specs.declared.feature.BtfFeature.{BtfFeature
 ghost use Rattle.btf_rewrite_model.specs.declared.feature.FillPolicy.TheVariants.{KeepSized};
 ghost use Rattle.btf_rewrite_model.specs.Ksyms.{ksyms_fault, ksyms_table};
 ghost use Rattle.btf_rewrite_model.specs.Rewritten.{pass_of};
-ghost use Rattle.btf_words.specs.Error.{MeetsOrNoMemory, IsOrNoMemory};
+ghost use Rattle.btf_plain.specs.Error.{MeetsOrNoMemory, IsOrNoMemory};
 ghost use Rattle.btf_rules.specs.Checked.{checked};
 ghost use Rattle.btf_rules.specs.Features.{Called};
 ghost use Rattle.btf_table.specs.KsymsStep.{ksyms_ids};

@@ -6,8 +6,8 @@ use Rattle.std.proofs.lemmas.Option.{IfSome_then}
 use Rattle.std.proofs.lemmas.Result.{err_from_is_err_and}
 use Rattle.btf_model.specs.Ext.{Then}
 use Rattle.btf_model.specs.Refusal.{Refusal, UnknownBtfTypeName}
-use Rattle.btf_words.specs.Error.{MeetsOrNoMemory, refusal_of}
-use Rattle.btf_words.specs.declared.error.BtfError.{BtfError}
+use Rattle.btf_plain.specs.Error.{MeetsOrNoMemory, refusal_of}
+use Rattle.btf_plain.specs.declared.error.BtfError.{BtfError}
 use Rattle.btf_text.specs.Layout.{OrElse}
 
 -- after a search that found no type of the name, the answer of the second search is the answer of both

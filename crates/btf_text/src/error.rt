@@ -3,7 +3,7 @@
 ghost use Rattle.std.specs.Prelude.{◌≡◌};
 ghost use Rattle.btf_text.specs.declared.error.TextError.TheVariants.{Write};
 
-use btf_words::BtfError;
+use btf_plain::BtfError;
 use std::alloc::{AllocError, AllocFailed};
 use std::fmt;
 use thiserror::Error;

@@ -1,7 +1,7 @@
 //! The layout of a structure or a union, as `pahole -F btf -C NAME FILE` of pahole 1.24 writes it.
 
 ghost use Rattle.std.specs.Prelude.{◌≡◌, true, IfOk};
-ghost use Rattle.btf_words.specs.Error.{MeetsOrNoMemory};
+ghost use Rattle.btf_plain.specs.Error.{MeetsOrNoMemory};
 ghost use Rattle.btf_model.specs.Record.{Union};
 ghost use Rattle.btf_text.specs.Layout.{is_composite_at, OrElse, Finds, MeansTypedef, Means, FindsLayout};
 
@@ -25,7 +25,7 @@ use crate::layout::type_text::keyword;
 use crate::word::text_at;
 use btf_records::BtfType;
 use btf_table::Btf;
-use btf_words::{BtfError, BtfKind};
+use btf_plain::{BtfError, BtfKind};
 use std::alloc::Global;
 use std::fmt::Write;
 

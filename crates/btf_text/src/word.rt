@@ -2,7 +2,7 @@
 
 use crate::error::TextError;
 use btf_table::{Btf, BtfStr};
-use btf_words::BtfError;
+use btf_plain::BtfError;
 use std::fmt::Write;
 
 /// The text at a string offset; None if it can't be read. `OutOfMemory` is the only error.

@@ -5,8 +5,8 @@ use Rattle.std.specs.List.{AllByRecursion}
 use Rattle.std.proofs.Math.Seq.{drop-cons}
 use Rattle.std.proofs.lemmas.List.{map-append}
 use Rattle.btf_model.specs.Table.{Table}
-use Rattle.btf_words.specs.declared.kind.BtfKind.{BtfKind}
-use Rattle.btf_words.specs.declared.kind.BtfKind.TheVariants.{Unknown}
+use Rattle.btf_plain.specs.declared.kind.BtfKind.{BtfKind}
+use Rattle.btf_plain.specs.declared.kind.BtfKind.TheVariants.{Unknown}
 use Rattle.btfobj_cli.specs.Compat.{FindsOrNone, FindsFirst, Finds, AreFindings, is_compatible, are_compatible}
 use Rattle.btfobj_cli.specs.declared.compatibility.Finding.{Finding}
 

@@ -4,8 +4,8 @@ use Rattle.std.proofs.lemmas.Result.{err_from_is_err_and}
 use Rattle.std.specs.Prelude.{IfSome, IsErrAnd, MatchResult}
 use Rattle.btf_model.specs.Blob.{IsRefusal}
 use Rattle.btf_model.specs.Refusal.{Refusal}
-use Rattle.btf_words.specs.Error.{refusal_of}
-use Rattle.btf_words.specs.declared.error.BtfError.{BtfError}
+use Rattle.btf_plain.specs.Error.{refusal_of}
+use Rattle.btf_plain.specs.declared.error.BtfError.{BtfError}
 use Rattle.btfobj_cli.specs.Blob.{HasTableBytes, order_of}
 use Rattle.btfobj_cli.specs.Fault.{ReportsTable, fault_by, table_fault}
 use Rattle.btfobj_cli.specs.declared.blob.Blob.{Blob}

@@ -8,9 +8,9 @@ use Rattle.btf_model.specs.Refusal.{UnknownBtfTypeName}
 use Rattle.btf_model.specs.Table.{Table}
 use Rattle.btf_model.specs.Text.{FindsName}
 use Rattle.btf_compare.specs.Pairs.{pair}
-use Rattle.btf_words.specs.Kind.{kind}
-use Rattle.btf_words.specs.declared.kind.BtfKind.{BtfKind}
-use Rattle.btf_words.specs.declared.kind.BtfKind.TheVariants.{Struct, Union, Enum, Enum64, Typedef, Int, Float, Fwd, Func}
+use Rattle.btf_plain.specs.Kind.{kind}
+use Rattle.btf_plain.specs.declared.kind.BtfKind.{BtfKind}
+use Rattle.btf_plain.specs.declared.kind.BtfKind.TheVariants.{Struct, Union, Enum, Enum64, Typedef, Int, Float, Fwd, Func}
 use Rattle.btfobj_cli.specs.declared.compatibility.Finding.{Finding}
 use Rattle.btfobj_cli.specs.declared.compatibility.Finding.TheVariants.{Compatible, Incompatible, NoLocal, NoTarget}
 

@@ -2,8 +2,8 @@
 use Rattle.std.specs.Prelude.{◌≡◌, ℕ, List, Option, Some, None}
 use Rattle.btf_model.specs.Blob.{IsRefusal}
 use Rattle.btf_model.specs.Refusal.{Refusal}
-use Rattle.btf_words.specs.Error.{refusal_of}
-use Rattle.btf_words.specs.declared.error.BtfError.{BtfError}
+use Rattle.btf_plain.specs.Error.{refusal_of}
+use Rattle.btf_plain.specs.declared.error.BtfError.{BtfError}
 use Rattle.btf_elf.specs.declared.error.ObjectError.{ObjectError}
 use Rattle.btf_elf.specs.declared.error.ObjectError.TheVariants as errors
 use Rattle.btf_elf.specs.Results.{IsReason}

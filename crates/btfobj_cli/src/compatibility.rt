@@ -8,7 +8,7 @@ use crate::fault::Fault;
 use btf_compare::types_are_compatible;
 use btf_table::Btf;
 use btf_text::TextBuffer;
-use btf_words::{BtfError, BtfKind};
+use btf_plain::{BtfError, BtfKind};
 use std::fmt::Write;
 use std::io;
 

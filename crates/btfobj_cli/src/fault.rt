@@ -3,7 +3,7 @@
 use btf_elf::ObjectError;
 use btf_object::SanitizeError;
 use btf_text::TextError;
-use btf_words::BtfError;
+use btf_plain::BtfError;
 use std::alloc::{AllocError, AllocFailed};
 use std::fmt;
 use thiserror::Error;

@@ -7,7 +7,7 @@ use btf_table::Btf;
 use btf_text::{
     Selection, TextBuffer, find_layout, kind_name, write_dump, write_ext, write_layout,
 };
-use btf_words::{BtfError, BtfKind};
+use btf_plain::{BtfError, BtfKind};
 use std::alloc::Global;
 use std::io::Write;
 

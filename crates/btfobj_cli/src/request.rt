@@ -5,7 +5,7 @@ use crate::rewrite::Rewrite;
 use btf_object::Kernel;
 use btf_rewrite_model::{BtfFeature, FillPolicy};
 use btf_text::Selection;
-use btf_words::BtfKind;
+use btf_plain::BtfKind;
 use clap::error::ErrorKind;
 use clap::{ArgMatches, Command, Error};
 use std::alloc::Global;

@@ -14,7 +14,7 @@ use btf_object::{Kernel, ksyms_of, sanitize_parsed, sanitize_parsed_finalized};
 use btf_rewrite_model::{BtfFeature, FeatureAnswer, FillPolicy};
 use btf_rules::BtfFeatureResolver;
 use btf_table::Btf;
-use btf_words::SectionIndex;
+use btf_plain::SectionIndex;
 use std::alloc::Global;
 use std::collections::HashMap;
 use std::hash::BuildHasher;

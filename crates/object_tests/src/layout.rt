@@ -3,7 +3,7 @@
 use crate::sample::{big, fixed_keys, little};
 use btf_elf::Object;
 use btf_object::ObjectLayout;
-use btf_words::SectionIndex;
+use btf_plain::SectionIndex;
 use std::alloc::Global;
 use std::test::Fail;
 

@@ -5,7 +5,7 @@ use btf_elf::{Object, SectionHeader};
 use btf_object::{FillPolicy, Kernel, KsymsIds, ksyms_of, sanitize_object, sanitize_object_with};
 use btf_records::BtfType;
 use btf_table::Btf;
-use btf_words::BtfKind;
+use btf_plain::BtfKind;
 use std::alloc::Global;
 use std::test::Fail;
 

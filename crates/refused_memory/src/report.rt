@@ -1,7 +1,6 @@
 //! The report of a work, with a line for each name.
 
-use btf_items::Enum64VariantFallback;
-use btf_plain::{BtfError, Endianness};
+use btf_plain::{BtfError, Endianness, Enum64VariantFallback};
 use btf_records::BtfType;
 use btf_types::{Btf, BtfExt, BtfFeature, BtfStr, FeatureAnswer};
 use std::alloc::{AllocError, Global};

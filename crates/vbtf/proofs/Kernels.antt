@@ -18,8 +18,8 @@ use Rattle.btf_rewrite_model.specs.declared.feature.BtfFeature.{BtfFeature}
 use Rattle.btf_rewrite_model.specs.declared.feature.FeatureAnswer.{FeatureAnswer}
 use Rattle.btf_table.specs.Rewrites.{Rewrites, NeedsAreGranted}
 use Rattle.btf_types.specs.Features.{Called}
-use Rattle.btf_words.specs.declared.error.BtfError.{BtfError}
-use Rattle.btf_words.specs.Error.{MeetsOrNoMemory, refusal_of}
+use Rattle.btf_plain.specs.declared.error.BtfError.{BtfError}
+use Rattle.btf_plain.specs.Error.{MeetsOrNoMemory, refusal_of}
 use Rattle.vbtf.specs.Kernel.{has_bit, AreOf, RewritesFor}
 
 -- a predicate that gives these answers for every feature

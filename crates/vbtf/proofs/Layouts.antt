@@ -6,7 +6,7 @@ use Rattle.std.specs.Option.{option_or}
 use Rattle.std.specs.Str.{bytes_eq}
 use Rattle.std.proofs.Math.Path.{fun_ext}
 use Rattle.std.proofs.Math.Seq.{take-suc}
-use Rattle.btf_words.specs.declared.section_index.SectionIndex.{SectionIndex}
+use Rattle.btf_plain.specs.declared.section_index.SectionIndex.{SectionIndex}
 use Rattle.vbtf.specs.declared.program.Named.{Named}
 use Rattle.btf_rewrite_model.specs.Pass.{Layout}
 use Rattle.vbtf.specs.Program.{name_in, number_named, layout_named, IsReadable, AreReadable}

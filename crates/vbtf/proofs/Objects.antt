@@ -12,7 +12,7 @@ use Rattle.btf_object.specs.Kernel.{has}
 use Rattle.btf_object.specs.declared.error.SanitizeError.{SanitizeError}
 use Rattle.btf_object.specs.declared.error.SanitizeError.TheVariants.{Object, NoTable, Table, Section, OutOfMemory}
 use Rattle.btf_object.specs.declared.kernel.Kernel as object
-use Rattle.btf_words.specs.Error.{refusal_of}
+use Rattle.btf_plain.specs.Error.{refusal_of}
 use Rattle.vbtf.specs.Kernel.{has_bit, policy_chosen}
 use Rattle.vbtf.specs.Object.{name_or_none, target_chosen, ReportsCause}
 use Rattle.vbtf.specs.declared.fault.Fault.{Fault}

@@ -14,8 +14,8 @@ use Rattle.std.proofs.lemmas.Map.Made.{is_some-lookup}
 use Rattle.std.proofs.lemmas.Option.{IfSome_then}
 use Rattle.std.proofs.lemmas.Map.Text.{is_text}
 use Rattle.btf_model.specs.Refusal.{Refusal}
-use Rattle.btf_words.specs.declared.error.BtfError.{BtfError}
-use Rattle.btf_words.specs.Error.{MeetsOrNoMemory, refusal_of}
+use Rattle.btf_plain.specs.declared.error.BtfError.{BtfError}
+use Rattle.btf_plain.specs.Error.{MeetsOrNoMemory, refusal_of}
 use Rattle.vbtf.specs.Ext.{AreNames, CountsNames}
 use Rattle.vbtf.specs.ExtRead.{ListsNames}
 

@@ -9,7 +9,7 @@ use Rattle.btf_object.specs.Errors.{IsCause}
 use Rattle.btf_object.specs.declared.error.SanitizeError.{SanitizeError}
 use Rattle.btf_object.specs.declared.error.SanitizeError.TheVariants.{Object, NoTable, Table, Section, OutOfMemory}
 use Rattle.btf_rewrite_model.specs.declared.feature.FeatureAnswer.{FeatureAnswer}
-use Rattle.btf_words.specs.Error.{refusal_of}
+use Rattle.btf_plain.specs.Error.{refusal_of}
 use Rattle.vbtf.specs.Kernel.{has_bit, policy_chosen, ListsAnswers}
 use Rattle.vbtf.specs.Status.{Details, no_details, HasDetails, Fills, ReportsError, ReportsNoMemory}
 use Rattle.vbtf.specs.declared.fault.Fault.{Fault}

@@ -2,7 +2,7 @@
 
 ghost use Rattle.std.specs.Prelude.{◌≡◌, ◌≢◌, ◌<◌, ◌≤◌, Some, None, OnErr};
 ghost use Rattle.std.specs.Option.{MatchOption};
-ghost use Rattle.btf_words.specs.Error.{MeetsOrNoMemory};
+ghost use Rattle.btf_plain.specs.Error.{MeetsOrNoMemory};
 ghost use Rattle.vbtf.specs.Ext.{OpenedExt, AddsExt, EndsOpeningExt, HasSizes};
 ghost use Rattle.vbtf.specs.Orders.{order_chosen};
 ghost use Rattle.vbtf.specs.Status.{Keeps};

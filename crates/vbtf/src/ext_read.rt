@@ -5,7 +5,7 @@ ghost use Rattle.std.specs.HashMap.{get_by_text};
 ghost use Rattle.std.specs.Option.{MatchOption};
 ghost use Rattle.std.specs.Str.{IsUtf8};
 ghost use Rattle.btf_ext.specs.BtfExt.{ext as said};
-ghost use Rattle.btf_words.specs.Error.{MeetsOrNoMemory, IsOrNoMemory};
+ghost use Rattle.btf_plain.specs.Error.{MeetsOrNoMemory, IsOrNoMemory};
 ghost use Rattle.vbtf.specs.Ext.{OpenedExt};
 ghost use Rattle.vbtf.specs.ExtRead.{NamesOf, ListsNames, HasSectionName, RecordsOf, RelocationsOf, record_bytes};
 ghost use Rattle.vbtf.specs.Status.{EndsFilling, Keeps};

@@ -1,7 +1,7 @@
 //! Statuses, and the details of an error for C.
 
 ghost use Rattle.std.specs.Prelude.{◌≡◌, length, min};
-ghost use Rattle.btf_words.specs.Error.{refusal_of};
+ghost use Rattle.btf_plain.specs.Error.{refusal_of};
 ghost use Rattle.vbtf.specs.Status.{ReportsError, HasDetails, no_details, a_name, name_room};
 
 use btf::BtfError;

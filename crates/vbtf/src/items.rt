@@ -2,7 +2,7 @@
 
 ghost use Rattle.std.specs.Prelude.{◌≡◌, ◌≢◌, ◌*◌, ◌≤◌, length, take};
 ghost use Rattle.std.specs.List.{flat_map};
-ghost use Rattle.btf_words.specs.Error.{Meets};
+ghost use Rattle.btf_plain.specs.Error.{Meets};
 ghost use Rattle.btf_records.specs.BtfType.{record_of, type_kind};
 ghost use Rattle.vbtf.specs.Items.{IsGroup, IsItem, ItemOf};
 ghost use Rattle.vbtf.specs.Status.{EndsFinding, Keeps};
@@ -10,7 +10,7 @@ ghost use Rattle.vbtf.specs.Status.{EndsFinding, Keeps};
 use crate::fault::{CLOSED, Fault, NO_ITEM, report};
 use crate::handle::{Handle, lent};
 use btf::{Btf, BtfError, BtfType};
-use btf_items::Item as Listed;
+use btf_plain::Item as Listed;
 
 /// An item of a type: a member, a parameter, a variant, an entry, or the words that the record has after its head.
 #[repr(C)]

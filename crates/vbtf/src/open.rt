@@ -3,7 +3,7 @@
 ghost use Rattle.std.specs.Prelude.{◌≡◌, ◌≢◌, ◌⊎◌, ◌<◌, ◌≤◌, None, Ok, Err, MatchResult};
 ghost use Rattle.btf_model.specs.Table.{Table, empty_table};
 ghost use Rattle.btf_model.specs.Blob.{IsTable, Parses};
-ghost use Rattle.btf_words.specs.declared.error.BtfError.TheVariants.{OutOfMemory};
+ghost use Rattle.btf_plain.specs.declared.error.BtfError.TheVariants.{OutOfMemory};
 ghost use Rattle.vbtf.specs.Orders.{order_chosen};
 ghost use Rattle.vbtf.specs.Status.{Opens};
 

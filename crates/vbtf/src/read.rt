@@ -5,7 +5,7 @@ ghost use Rattle.std.specs.Option.{MatchOption};
 ghost use Rattle.std.specs.Str.{IsUtf8};
 ghost use Rattle.btf_model.specs.Record.{Kind, kinds};
 ghost use Rattle.btf_model.specs.Text.{FindsName};
-ghost use Rattle.btf_words.specs.Error.{Meets, MeetsOrNoMemory};
+ghost use Rattle.btf_plain.specs.Error.{Meets, MeetsOrNoMemory};
 ghost use Rattle.btf_records.specs.BtfType.{record_of, type_kind, has_no_third};
 ghost use Rattle.vbtf.specs.Status.{Ends, EndsOrNoMemory, Keeps};
 ghost use Rattle.vbtf.specs.TypeWords.{WordsOf};

@@ -4,7 +4,7 @@ ghost use Rattle.std.specs.Prelude.{◌≡◌, ◌≢◌, ◌⊎◌, List, IfOk,
 ghost use Rattle.btf_rewrite_model.specs.declared.feature.FeatureAnswer.{FeatureAnswer};
 ghost use Rattle.btf_types.specs.Layout.{layout_of};
 ghost use Rattle.btf_table.specs.Rewrites.{NeedsAreGranted, KeepsSizes, KeepsResolutions, KeepsValues, AppendsAtMost};
-ghost use Rattle.btf_words.specs.Error.{MeetsOrNoMemory};
+ghost use Rattle.btf_plain.specs.Error.{MeetsOrNoMemory};
 ghost use Rattle.btf_rewrite_model.specs.Rewritten.{pass_of};
 ghost use Rattle.btf_table.specs.PassStep.{BeginsAsked};
 ghost use Rattle.vbtf.specs.Kernel.{AreOf, has_bit, policy_chosen, ids_chosen, ListsAnswers, RewritesFor, EndsRewriting};

@@ -2,7 +2,7 @@
 
 use vbtf::{Error, Kind, Table};
 
-/// Errors, and their texts as `crates/btf_words/src/error.rt` declares them.
+/// Errors, and their texts as `crates/btf_plain/src/error.rt` declares them.
 #[test]
 fn errors_have_the_library_s_texts() {
     let name = || "pair".to_string();

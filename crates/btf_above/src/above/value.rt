@@ -4,7 +4,7 @@ ghost use Rattle.std.specs.Prelude.{◌<◌, ℕ, length, Option, Result};
 ghost use Rattle.btf_model.specs.Refusal.{Refusal};
 ghost use Rattle.btf_model.specs.Ext.{Then};
 ghost use Rattle.btf_model.specs.Value.{HasVariants, FindsVariant, Value};
-ghost use Rattle.btf_words.specs.Error.{MeetsOrNoMemory, IsOrNoMemory, Meets};
+ghost use Rattle.btf_plain.specs.Error.{MeetsOrNoMemory, IsOrNoMemory, Meets};
 ghost use Rattle.btf_above.specs.Variants.{TypeHasUtf8Names, NamesAreUtf8};
 
 use crate::above::variant::find_value;

@@ -3,7 +3,7 @@
 ghost use Rattle.std.specs.Prelude.{◌≡◌, ℕ, ◌*◌, ◌<◌, ◌≤◌, List, None, Ok, Err, IfOk, OnOk, IfErr, IfSome, unwrap_or};
 ghost use Rattle.btf_model.specs.Ext.{Records, IsSection, instruction_records, no_records};
 ghost use Rattle.btf_model.specs.Text.{text_at};
-ghost use Rattle.btf_words.specs.Error.{MeetsOrNoMemory, IsOrNoMemory, refusal_of};
+ghost use Rattle.btf_plain.specs.Error.{MeetsOrNoMemory, IsOrNoMemory, refusal_of};
 ghost use Rattle.btf_ext.specs.SecInfo.{section_of};
 ghost use Rattle.btf_ext.specs.ExtHeader.{part as part_of};
 ghost use Rattle.btf_ext.specs.Info.{by_name, AreByName, GainsUnder};

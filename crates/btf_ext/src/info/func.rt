@@ -2,7 +2,7 @@
 
 ghost use Rattle.std.specs.Prelude.{◌≡◌, length, map, Ok};
 ghost use Rattle.btf_model.specs.Ext.{little_bytes, no_records};
-ghost use Rattle.btf_words.specs.Error.{IsOrNoMemory};
+ghost use Rattle.btf_plain.specs.Error.{IsOrNoMemory};
 ghost use Rattle.btf_ext.specs.Info.{func_words, func_records};
 
 use crate::info::by_section::{BySection, SectionRecords};

@@ -12,11 +12,9 @@ ghost use Rattle.btf_object_model.specs.Finalized.{is_data_sec};
 ghost use Rattle.btf_object.specs.Kconfig.{value_of, extern_of, is_var, IsVariable, IsDataSec, LaysOutSection, MakesGlobal, FindsKconfig, HasDataSecOf, PutsSection};
 
 use crate::names::NAME_LIMIT;
-use btf_items::DataSecEntry;
-use btf_plain::{BtfArray, Var, VarLinkage};
+use btf_plain::{BtfArray, BtfError, BtfKind, DataSecEntry, Var, VarLinkage};
 use btf_records::{BtfType, DataSec};
 use btf_table::{Btf, set_type, short_name};
-use btf_words::{BtfError, BtfKind};
 use std::alloc::{AllocError, Global};
 use std::cmp::Reverse;
 

@@ -5,18 +5,17 @@ ghost use Rattle.btf_rewrite_model.specs.Checks.{first_fault, has_room, fits, re
 ghost use Rattle.btf_rewrite_model.specs.Ksyms.{int_of_4, is_func, placeholder_checks};
 ghost use Rattle.btf_rewrite_model.specs.Made.{kind_at};
 ghost use Rattle.btf_model.specs.Table.{type_bytes};
-ghost use Rattle.btf_words.specs.Error.{IsOrNoMemory};
+ghost use Rattle.btf_plain.specs.Error.{IsOrNoMemory};
 ghost use Rattle.btf_rules.specs.Checked.{checked};
 ghost use Rattle.btf_object_model.specs.Finalized as model;
 ghost use Rattle.btf_object_model.specs.Finalized.{placeholder_text, placeholder, with_int, with_variable, with_placeholder, with_placeholder_id, placeholder_fault};
 ghost use Rattle.btf_object_model.specs.Ksyms.{FindsKsyms};
 
-use btf_plain::{Int, IntEncoding, Var, VarLinkage};
+use btf_plain::{BtfError, Int, IntEncoding, Var, VarLinkage};
 use btf_records::BtfType;
 use btf_rewrite_model::KsymsIds;
 use btf_rules::int_of_4;
 use btf_table::{Btf, type_count};
-use btf_words::BtfError;
 
 /// Whether the type of an id is a FUNC.
 fn is_function(btf: &Btf, type_id: u32) -> bool

@@ -13,11 +13,9 @@ ghost use Rattle.btf_object.specs.Finalize.{AreRead, parts_of, completed_parts, 
 
 use crate::finalize::known::KnownNames;
 use crate::layout::ObjectLayout;
-use btf_items::DataSecEntry;
-use btf_plain::VarLinkage;
+use btf_plain::{BtfError, DataSecEntry, VarLinkage};
 use btf_records::{BtfType, DataSec};
 use btf_table::Btf;
-use btf_words::BtfError;
 use std::alloc::{AllocError, Global};
 use std::hash::BuildHasher;
 

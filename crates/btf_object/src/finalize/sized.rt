@@ -7,11 +7,10 @@ ghost use Rattle.btf_object_model.specs.Finalized.{with_ksyms_size, sized};
 ghost use Rattle.btf_object_model.specs.Ksyms.{FindsKsyms};
 ghost use Rattle.btf_object.specs.Finalize.{data_sec_size, ResizesAt};
 
-use btf_items::BtfMember;
+use btf_plain::{BtfError, BtfKind, BtfMember};
 use btf_records::{BtfType, Struct};
 use btf_rewrite_model::KsymsIds;
 use btf_table::{Btf, set_type, type_count};
-use btf_words::{BtfError, BtfKind};
 use std::alloc::{AllocError, Global};
 
 /// The size of a DATASEC; None for another type.

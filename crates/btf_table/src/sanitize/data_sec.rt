@@ -16,7 +16,7 @@ ghost use Rattle.btf_rewrite_model.specs.Pass.{Pass, gets_filler, size_by_name};
 ghost use Rattle.btf_rewrite_model.specs.Rule.{entry_members, placed};
 ghost use Rattle.btf_rewrite_model.specs.Fault.{member_checks, entry_checks, is_sized};
 ghost use Rattle.btf_model.specs.Text.{text_at};
-ghost use Rattle.btf_words.specs.Error.{MeetsOrNoMemory, IsOrNoMemory};
+ghost use Rattle.btf_plain.specs.Error.{MeetsOrNoMemory, IsOrNoMemory};
 ghost use Rattle.btf_records.specs.BtfType.{record_of, fallback_of};
 ghost use Rattle.btf_table.specs.Adding.{HasRoom};
 ghost use Rattle.btf_rules.specs.Checked.{checked};

@@ -5,7 +5,7 @@ ghost use Rattle.btf_rewrite_model.specs.Made.{byte_int};
 ghost use Rattle.btf_rewrite_model.specs.Checks.{first_fault};
 ghost use Rattle.btf_rewrite_model.specs.Pass.{member_type_text, filler_type_text, filler_text, filler};
 ghost use Rattle.btf_model.specs.Table.{type_bytes};
-ghost use Rattle.btf_words.specs.Error.{IsOrNoMemory};
+ghost use Rattle.btf_plain.specs.Error.{IsOrNoMemory};
 ghost use Rattle.btf_records.specs.BtfType.{record_of};
 ghost use Rattle.btf_table.specs.Adding.{strings_end, next_id, HasRoom, Adds};
 ghost use Rattle.btf_rules.specs.Checked.{checked};

@@ -4,7 +4,7 @@ ghost use Rattle.std.specs.Prelude.{[], ◌∷◌, OnOk};
 ghost use Rattle.btf_rewrite_model.specs.Made.{byte_int};
 ghost use Rattle.btf_rewrite_model.specs.Checks.{first_fault};
 ghost use Rattle.btf_rewrite_model.specs.Pass.{member_type_text};
-ghost use Rattle.btf_words.specs.Error.{IsOrNoMemory};
+ghost use Rattle.btf_plain.specs.Error.{IsOrNoMemory};
 ghost use Rattle.btf_table.specs.Adding.{strings_end, next_id, HasRoom, Adds};
 ghost use Rattle.btf_rules.specs.Checked.{checked};
 ghost use Rattle.btf_rewrite_model.specs.Fault.{member_type_has_room};

@@ -32,7 +32,7 @@ impl Changes {
     ghost use Rattle.btf_records.specs.BtfType.{record_of, fallback_of};
     ghost use Rattle.std.specs.Prelude.{None};
     ghost use Rattle.btf_rewrite_model.specs.Checks.{has_room, fits, record_len};
-    ghost use Rattle.btf_words.specs.Error.{IsOrNoMemory};
+    ghost use Rattle.btf_plain.specs.Error.{IsOrNoMemory};
     ghost use Rattle.btf_table.specs.Adding.{strings_end, next_id, HasRoom, Adds};
     ghost use Rattle.btf_rules.specs.Checked.{checked};
 

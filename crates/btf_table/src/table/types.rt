@@ -3,7 +3,7 @@
 ghost use Rattle.std.specs.Prelude.{◌≡◌, ◌++◌, map, Ok, OnOk};
 ghost use Rattle.std.specs.List.{flat_map, AllByRecursion};
 ghost use Rattle.btf_model.specs.Spelling.{spell, IsWhole};
-ghost use Rattle.btf_words.specs.Error.{MeetsOrNoMemory, IsOrNoMemory};
+ghost use Rattle.btf_plain.specs.Error.{MeetsOrNoMemory, IsOrNoMemory};
 ghost use Rattle.btf_records.specs.BtfType.{record_of, fallback_of};
 ghost use Rattle.btf_table.specs.Records.{ReadsTypes};
 

@@ -4,7 +4,7 @@ ghost use Rattle.std.specs.Prelude.{◌≡◌, ◌*◌, ◌<◌, ◌≤◌, ◌^
 ghost use Rattle.btf_model.specs.Record.{kind_of};
 ghost use Rattle.btf_model.specs.Walk as model;
 ghost use Rattle.btf_model.specs.Walk.{modified_type, Resolves, HasSize};
-ghost use Rattle.btf_words.specs.Error.{Meets};
+ghost use Rattle.btf_plain.specs.Error.{Meets};
 ghost use Rattle.btf_records.specs.BtfType.{record_of, type_kind};
 ghost use Rattle.btf_table.specs.Extent.{extent_of};
 

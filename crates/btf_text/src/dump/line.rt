@@ -5,10 +5,9 @@ use crate::dump::list::{
 };
 use crate::error::TextError;
 use crate::word::write_quoted;
-use btf_plain::{FuncLinkage, Int, IntEncoding, VarLinkage};
+use btf_plain::{BtfKind, FuncLinkage, Int, IntEncoding, VarLinkage};
 use btf_records::BtfType;
 use btf_table::Btf;
-use btf_words::BtfKind;
 use std::fmt;
 use std::fmt::Write;
 

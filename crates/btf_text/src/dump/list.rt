@@ -3,7 +3,7 @@
 use crate::dump::line::kind_name;
 use crate::error::TextError;
 use crate::word::write_quoted;
-use btf_items::{BtfEnum, BtfEnum64, BtfParam, DataSecEntry};
+use btf_plain::{BtfEnum, BtfEnum64, BtfParam, DataSecEntry};
 use btf_records::BtfType;
 use btf_table::Btf;
 use std::fmt::Write;

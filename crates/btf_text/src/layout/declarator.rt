@@ -3,7 +3,7 @@
 use crate::error::TextError;
 use btf_records::{BtfType, FuncProto};
 use btf_table::{Btf, WALK_LIMIT};
-use btf_words::BtfError;
+use btf_plain::BtfError;
 use std::alloc::Global;
 
 /// The qualifiers of a type.

@@ -1,9 +1,8 @@
 //! Structures and unions, and the positions of their members.
 
-use btf_items::BtfMember;
+use btf_plain::{BtfError, BtfMember};
 use btf_records::BtfType;
 use btf_table::Btf;
-use btf_words::BtfError;
 
 /// A structure or a union.
 #[derive(Clone, Copy)]

@@ -7,7 +7,7 @@ use crate::layout::members::Level;
 use crate::layout::page::Page;
 use crate::layout::type_text::{PROTOTYPE_LIMIT, add_base, add_declared, add_stars};
 use crate::word::text_at;
-use btf_items::BtfMember;
+use btf_plain::BtfMember;
 use btf_records::{BtfType, Enum, Enum64};
 use btf_table::{Btf, BtfStr};
 use std::alloc::{AllocError, Global};

@@ -10,7 +10,7 @@ use crate::layout::member::{
 use crate::layout::page::Page;
 use crate::layout::progress::Progress;
 use crate::layout::type_text::keyword;
-use btf_items::BtfMember;
+use btf_plain::BtfMember;
 use btf_records::BtfType;
 use std::fmt::Write;
 

@@ -4,7 +4,7 @@ use crate::error::TextError;
 use crate::layout::group::Group;
 use crate::layout::hole::Pass;
 use btf_table::Btf;
-use btf_words::BtfError;
+use btf_plain::BtfError;
 use std::alloc::Global;
 use std::collections::BTreeMap;
 use std::fmt;

@@ -3,7 +3,7 @@
 use crate::error::TextError;
 use crate::layout::declarator::{Declarator, Qualifiers, Step};
 use crate::word::text_at;
-use btf_items::BtfParam;
+use btf_plain::BtfParam;
 use btf_records::BtfType;
 use btf_table::Btf;
 

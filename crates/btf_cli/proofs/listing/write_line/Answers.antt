@@ -3,7 +3,7 @@ use Rattle.std.proofs.lemmas.List.{append_assoc}
 use Rattle.std.proofs.lemmas.Result.{on_ok_weaker}
 use Rattle.btf_model.specs.Record.{kind_of}
 use Rattle.btf_model.specs.Text.{text_at}
-use Rattle.btf_words.specs.Kind.{kind, kind_text}
+use Rattle.btf_plain.specs.Kind.{kind, kind_text}
 use Rattle.btf_records.specs.BtfType.{record_of}
 use Rattle.btf_cli.specs.Buffered.{Takes}
 use Rattle.btf_cli.specs.Listing.{kind_part, name_part}

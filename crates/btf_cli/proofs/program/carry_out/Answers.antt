@@ -1,7 +1,7 @@
 use Rattle.std.proofs.Common.{◌≡◌, ◌∙◌, ℕ, List, sym, subst}
 use Rattle.std.proofs.lemmas.Bool.{false≢true}
 use Rattle.std.specs.Prelude.{Option, IfSome}
-use Rattle.btf_words.specs.Error.{refusal_of}
+use Rattle.btf_plain.specs.Error.{refusal_of}
 use Rattle.btf_cli.specs.Answer.{IsDeclined}
 use Rattle.btf_cli.proofs.Outcomes.{fault_told}
 use Rattle.btf_cli.proofs.program.carry_out.Goals as goal

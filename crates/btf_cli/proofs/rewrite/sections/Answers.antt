@@ -3,7 +3,7 @@ use Rattle.std.specs.Prelude.{if◌then◌else◌, option_map, string_bytes}
 use Rattle.std.specs.HashMap.{get_by_text}
 use Rattle.std.specs.Str.{bytes_eq}
 use Rattle.std.proofs.lemmas.Map.Text.{hash_map_updates_text}
-use Rattle.btf_words.specs.declared.section_index.SectionIndex.{SectionIndex}
+use Rattle.btf_plain.specs.declared.section_index.SectionIndex.{SectionIndex}
 use Rattle.btf_rules.specs.Layout.{sizes_of}
 use Rattle.btf_cli.specs.Settings.{last_set, size_set}
 use Rattle.btf_cli.proofs.Layouts.{next_set, settings_whole, no_section, one_section, section_kept}

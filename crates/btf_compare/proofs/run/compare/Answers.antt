@@ -1,7 +1,7 @@
 use Rattle.std.proofs.Common.{◌≡◌, ℕ, [], Bool, true, false, Ok, ◌∷◌, Err, Result, refl, sym, ap, subst, inl, inr}
 use Rattle.std.proofs.lemmas.Bool.{false≢true}
 use Rattle.btf_model.specs.Run.{new_frame}
-use Rattle.btf_words.specs.declared.error.BtfError.{BtfError}
+use Rattle.btf_plain.specs.declared.error.BtfError.{BtfError}
 use Rattle.btf_compare.specs.declared.frame.Place.{Place}
 use Rattle.btf_compare.specs.declared.frame.Place.TheVariants.{Ends, Pending}
 use Rattle.btf_compare.specs.Compared.{HasStarted, IsStarted, WalksTo, frame_of, passed_in}

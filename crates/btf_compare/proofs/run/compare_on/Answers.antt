@@ -1,8 +1,8 @@
 use Rattle.std.proofs.Common.{◌≡◌, ◌∷◌, ◌++◌, ◌+◌, ◌≤◌, [], ℕ, List, Option, Bool, true, false, Result, Ok, Err, ◌∙◌, refl, sym, ap, subst, length, inl, inr}
 use Rattle.btf_model.proofs.RunLengths.{less_compared}
 use Rattle.btf_model.proofs.Known.{known_pairs}
-use Rattle.btf_words.specs.declared.error.BtfError.{BtfError}
-use Rattle.btf_words.specs.declared.error.BtfError.TheVariants.{OutOfMemory}
+use Rattle.btf_plain.specs.declared.error.BtfError.{BtfError}
+use Rattle.btf_plain.specs.declared.error.BtfError.TheVariants.{OutOfMemory}
 use Rattle.btf_compare.specs.declared.frame.Frame.{Frame}
 use Rattle.btf_compare.specs.declared.frame.Place.{Place}
 use Rattle.btf_compare.specs.declared.frame.Place.TheVariants.{Ends, Pending}

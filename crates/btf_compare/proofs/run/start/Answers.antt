@@ -1,7 +1,7 @@
 use Rattle.std.proofs.Common.{refl, subst, ◌∙◌, inl, inr}
 use Rattle.std.proofs.lemmas.Option.{slice_get_past}
 use Rattle.btf_model.specs.Run as runs
-use Rattle.btf_words.specs.declared.error.BtfError.TheVariants.{OutOfMemory}
+use Rattle.btf_plain.specs.declared.error.BtfError.TheVariants.{OutOfMemory}
 use Rattle.btf_records.specs.declared.btf_type.BtfType.{BtfType}
 use Rattle.btf_records.specs.BtfType.{record_of, type_kind}
 use Rattle.btf_compare.specs.Compared.{IsRefused, WalksTo, frame_of, passed_in}

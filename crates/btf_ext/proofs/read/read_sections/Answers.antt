@@ -2,7 +2,7 @@ use Rattle.std.proofs.Common.{Some, subst, map}
 use Rattle.btf_model.specs.Ext.{AreSections}
 use Rattle.btf_ext.specs.SecInfo.{section_of, GivesSection}
 use Rattle.btf_ext.proofs.Parts.{sections_refused}
-use Rattle.btf_words.proofs.Refused.{handed_on}
+use Rattle.btf_plain.proofs.Refused.{handed_on}
 use Rattle.btf_ext.proofs.read.read_sections.Goals as goal
 
 pub returns-in_err-section : goal.returns-in_err-section

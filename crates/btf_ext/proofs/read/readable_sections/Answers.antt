@@ -3,7 +3,7 @@ use Rattle.std.proofs.lemmas.List.{map-append}
 use Rattle.btf_ext.specs.SecInfo.{section_of, GivesSection, AreReadable}
 use Rattle.btf_ext.proofs.NamedSections.{one_more_met, was_met}
 use Rattle.btf_ext.proofs.Parts.{named_refused, unnamed_refused}
-use Rattle.btf_words.proofs.Refused.{handed_on}
+use Rattle.btf_plain.proofs.Refused.{handed_on}
 use Rattle.btf_ext.proofs.read.readable_sections.Goals as goal
 use Rattle.btf_ext.proofs.read.readable_sections.Goals.{then-is_new+in_ok-string_at+in-Owned-1, then-is_new+in_ok-string_at+in-Borrowed-1, else-is_new}
 

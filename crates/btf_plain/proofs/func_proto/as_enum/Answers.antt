@@ -4,9 +4,9 @@ use Rattle.std.proofs.lemmas.List.{length-map}
 use Rattle.std.proofs.lemmas.List.Folds.{flat_map-map}
 use Rattle.btf_model.specs.Info.{flag_bit}
 use Rattle.btf_model.specs.Record.{Record, vlen}
-use Rattle.btf_items.specs.declared.items.BtfParam.{BtfParam}
-use Rattle.btf_items.specs.ItemList.{items_of}
-use Rattle.btf_items.specs.Items.{enum_words, param_words, variant_of_param}
+use Rattle.btf_plain.specs.declared.items.BtfParam.{BtfParam}
+use Rattle.btf_plain.specs.ItemList.{items_of}
+use Rattle.btf_plain.specs.Items.{enum_words, param_words, variant_of_param}
 use Rattle.btf_plain.proofs.Tails.{items_counted}
 use Rattle.btf_plain.proofs.func_proto.as_enum.Goals as goal
 

@@ -1,7 +1,7 @@
 use Rattle.std.proofs.Common.{sym, ap, ◌∙◌, arith}
 use Rattle.std.specs.Prelude.{slice_get}
 use Rattle.btf_model.specs.Record.{kinds}
-use Rattle.btf_words.specs.Kind.{kind}
+use Rattle.btf_plain.specs.Kind.{kind}
 use Rattle.btf_records.specs.Slot.{StaysOr}
 use Rattle.btf_records.proofs.Heads.{front_put, kind_refused}
 use Rattle.btf_records.proofs.codec.read_to.Goals as goal

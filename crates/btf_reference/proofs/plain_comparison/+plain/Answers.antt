@@ -1,7 +1,7 @@
 use Rattle.std.proofs.Common.{◌-◌, sym, ap, subst, ◌∙◌, map, arith, Ok, Result, Bool}
 use Rattle.std.proofs.lemmas.Bool.{false≢true}
 use Rattle.btf_model.specs.Compat.{Plain, ComparedInOrder, pairs}
-use Rattle.btf_words.specs.declared.error.BtfError.{BtfError}
+use Rattle.btf_plain.specs.declared.error.BtfError.{BtfError}
 use Rattle.btf_types.specs.Pairs.{pair_of}
 use Rattle.btf_types.specs.Compared.{types_of}
 use Rattle.btf_reference.specs.PlainComparison.{AreStarted, Lists}

@@ -2,7 +2,7 @@ use Rattle.std.proofs.Common.{refl, sym, ap, ◌∙◌, inl, inr}
 use Rattle.std.proofs.lemmas.Option.{slice_get_past}
 use Rattle.btf_model.specs.Record.{kind_of}
 use Rattle.btf_model.specs.Refusal.{UnknownBtfType}
-use Rattle.btf_words.specs.Error.{refusal_of}
+use Rattle.btf_plain.specs.Error.{refusal_of}
 use Rattle.btf_records.specs.BtfType.{record_of, type_kind}
 use Rattle.btf_types.specs.Pairs.{pair_of}
 use Rattle.btf_reference.specs.PlainComparison.{AreStarted}

@@ -1,5 +1,5 @@
 use Rattle.std.proofs.Common.{◌≡◌, take, map}
-use Rattle.btf_items.specs.Fallback.{variant_of}
+use Rattle.btf_plain.specs.Fallback.{variant_of}
 use Rattle.btf_rules.proofs.Enum64s.{variant}
 use Rattle.btf_rules.proofs.enumeration64.kept_variants.Given as goal
 

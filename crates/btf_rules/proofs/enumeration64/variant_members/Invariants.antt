@@ -1,7 +1,7 @@
 use Rattle.std.proofs.Common.{◌≡◌, take, map, length}
 use Rattle.std.specs.List.{flat_map}
 use Rattle.btf_rewrite_model.specs.Rule.{variant_members}
-use Rattle.btf_items.specs.Items.{member_words}
+use Rattle.btf_plain.specs.Items.{member_words}
 use Rattle.btf_rules.proofs.Enum64s.{variant}
 use Rattle.btf_rules.proofs.enumeration64.variant_members.Given as goal
 

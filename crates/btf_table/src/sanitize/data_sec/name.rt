@@ -8,7 +8,7 @@ ghost use Rattle.btf_model.specs.Text.{text_at};
 ghost use Rattle.btf_rewrite_model.specs.Checks.{first_fault, is_read, have_room};
 ghost use Rattle.btf_rewrite_model.specs.Pass.{Pass, has, renaming};
 ghost use Rattle.btf_rewrite_model.specs.Rule.{name_or};
-ghost use Rattle.btf_words.specs.Error.{IsOrNoMemory};
+ghost use Rattle.btf_plain.specs.Error.{IsOrNoMemory};
 ghost use Rattle.btf_table.specs.Adding.{strings_end, HasRoom, Adds};
 ghost use Rattle.btf_rules.specs.Checked.{checked};
 ghost use Rattle.btf_table.specs.ReadNames.{AreUnchanged};

@@ -2,8 +2,8 @@ use Rattle.std.proofs.Common.{◌≡◌, ℕ, Result, Err, subst, sym, ap}
 use Rattle.std.specs.Prelude.{IfSome, slice_get}
 use Rattle.std.proofs.lemmas.Option.{slice_get_past}
 use Rattle.btf_model.specs.Refusal.{Refusal}
-use Rattle.btf_words.specs.Error.{refusal_of}
-use Rattle.btf_words.specs.declared.error.BtfError.{BtfError}
+use Rattle.btf_plain.specs.Error.{refusal_of}
+use Rattle.btf_plain.specs.declared.error.BtfError.{BtfError}
 use Rattle.btf_text.specs.Layout.{Means, composite}
 use Rattle.btf_text.proofs.Searches.{refused_first, refused_second}
 use Rattle.btf_text.proofs.layout.find_layout.Goals as goal

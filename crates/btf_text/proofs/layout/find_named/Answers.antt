@@ -1,5 +1,5 @@
 use Rattle.std.proofs.Common.{ap}
-use Rattle.btf_words.specs.Error.{refusal_of}
+use Rattle.btf_plain.specs.Error.{refusal_of}
 use Rattle.btf_model.specs.Record.{Struct}
 use Rattle.btf_text.specs.Layout.{Finds}
 use Rattle.btf_text.proofs.Searches.{searched_on}

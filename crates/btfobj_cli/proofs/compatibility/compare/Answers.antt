@@ -2,7 +2,7 @@ use Rattle.std.proofs.Common.{ℕ, List, [], Bool, Option, None, Some, Ok, subst
 use Rattle.btf_compare.specs.Pairs.{pair}
 use Rattle.btf_model.specs.Compat.{Plain}
 use Rattle.btf_model.specs.Fields.{Pair}
-use Rattle.btf_words.specs.declared.kind.BtfKind.{BtfKind}
+use Rattle.btf_plain.specs.declared.kind.BtfKind.{BtfKind}
 use Rattle.btfobj_cli.specs.Compat.{FindsFirst, compared_kinds, like_kinds}
 use Rattle.btfobj_cli.proofs.compatibility.compare.Goals as goal
 

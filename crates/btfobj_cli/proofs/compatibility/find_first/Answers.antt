@@ -1,7 +1,7 @@
 use Rattle.std.proofs.Common.{ℕ, List, get_or, Option, None, Some, subst}
 use Rattle.std.proofs.Math.ListN.{drop_of_length-le}
-use Rattle.btf_words.specs.declared.kind.BtfKind.{BtfKind}
-use Rattle.btf_words.specs.declared.kind.BtfKind.TheVariants.{Unknown}
+use Rattle.btf_plain.specs.declared.kind.BtfKind.{BtfKind}
+use Rattle.btf_plain.specs.declared.kind.BtfKind.TheVariants.{Unknown}
 use Rattle.btfobj_cli.specs.Compat.{FindsOrNone}
 use Rattle.btfobj_cli.proofs.Compared.{kind_passed, kind_found, no_kind}
 use Rattle.btfobj_cli.proofs.compatibility.find_first.Goals as goal

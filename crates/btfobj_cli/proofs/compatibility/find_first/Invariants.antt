@@ -1,5 +1,5 @@
 use Rattle.std.proofs.Common.{ℕ, drop, Option}
-use Rattle.btf_words.specs.declared.kind.BtfKind.{BtfKind}
+use Rattle.btf_plain.specs.declared.kind.BtfKind.{BtfKind}
 use Rattle.btfobj_cli.specs.Compat.{FindsFirst}
 use Rattle.btfobj_cli.proofs.compatibility.find_first.Given as goal
 

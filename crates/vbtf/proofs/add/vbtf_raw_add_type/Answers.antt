@@ -1,7 +1,7 @@
 use Rattle.std.proofs.Common.{◌≡◌, ◌∙◌, ap, subst, sym, inl, inr, ℕ, Option, Err}
 use Rattle.btf_model.specs.Table.{Table}
 use Rattle.btf_model.specs.declared.endianness.Endianness.{Endianness}
-use Rattle.btf_words.specs.Error.{refusal_of}
+use Rattle.btf_plain.specs.Error.{refusal_of}
 use Rattle.vbtf.specs.Adding.{AddsRecord}
 use Rattle.vbtf.specs.Orders.{order_named}
 use Rattle.vbtf.proofs.Ending.{refused}

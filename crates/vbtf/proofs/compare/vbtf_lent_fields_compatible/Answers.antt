@@ -1,7 +1,7 @@
 use Rattle.std.proofs.Common.{◌≡◌, ◌∙◌, refl, subst, inl}
 use Rattle.std.specs.Prelude.{IfSome, Ok, Err}
 use Rattle.btf_model.specs.Fields.{Fields}
-use Rattle.btf_words.specs.Error.{refusal_of}
+use Rattle.btf_plain.specs.Error.{refusal_of}
 use Rattle.vbtf.specs.declared.opened.Opened.{Opened}
 use Rattle.vbtf.proofs.Ending.{ends_refused}
 use Rattle.vbtf.proofs.compare.vbtf_lent_fields_compatible.Goals as goal

@@ -1,7 +1,7 @@
 use Rattle.std.proofs.Common.{◌∙◌, refl, sym}
 use Rattle.std.proofs.lemmas.Option.{IfSome_then}
-use Rattle.btf_words.proofs.Refused.{handed_on}
-use Rattle.btf_words.specs.Error.{refusal_of}
+use Rattle.btf_plain.proofs.Refused.{handed_on}
+use Rattle.btf_plain.specs.Error.{refusal_of}
 use Rattle.vbtf.specs.Ext.{AddsExt}
 use Rattle.vbtf.proofs.ExtOpening.{some_by_test, none_by_test}
 use Rattle.vbtf.proofs.ext.add_ext.Goals as goal

@@ -1,5 +1,5 @@
 use Rattle.std.proofs.Common.{◌≡◌, ◌∙◌, Ok, Err, refl, subst, inl, inr}
-use Rattle.btf_words.specs.Error.{refusal_of}
+use Rattle.btf_plain.specs.Error.{refusal_of}
 use Rattle.vbtf.specs.Ext.{AddsExt}
 use Rattle.vbtf.specs.Orders.{order_chosen}
 use Rattle.vbtf.proofs.Ending.{refused}

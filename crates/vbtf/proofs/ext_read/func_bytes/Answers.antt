@@ -5,7 +5,7 @@ use Rattle.std.proofs.lemmas.Option.{same_Some}
 use Rattle.btf_ext.specs.BtfExt.{ext as said}
 use Rattle.btf_ext.specs.Info.{func_records}
 use Rattle.btf_model.specs.Ext.{Records, little_bytes, no_records}
-use Rattle.btf_words.specs.Error.{IsOrNoMemory}
+use Rattle.btf_plain.specs.Error.{IsOrNoMemory}
 use Rattle.vbtf.proofs.ext_read.func_bytes.Goals as goal
 
 pub returns : goal.returns

@@ -2,7 +2,7 @@ use Rattle.std.proofs.Common.{arith, sym, ap, subst, ℕ}
 use Rattle.std.specs.HashMap.{get_by_text}
 use Rattle.btf_ext.specs.BtfExt.{ext as said}
 use Rattle.btf_ext.specs.Info.{func_records, line_records}
-use Rattle.btf_words.specs.Error.{MeetsOrNoMemory}
+use Rattle.btf_plain.specs.Error.{MeetsOrNoMemory}
 use Rattle.vbtf.specs.ExtRead.{NamesOf}
 use Rattle.vbtf.proofs.SectionNames.{lists_seen}
 use Rattle.vbtf.proofs.ext_read.names_of_part.Goals as goal

@@ -1,7 +1,7 @@
 use Rattle.std.proofs.Common.{◌≡◌, ◌∙◌, Err, refl, sym, subst, inr}
 use Rattle.std.specs.Prelude.{IfSome}
 use Rattle.std.proofs.lemmas.Option.{same_Some}
-use Rattle.btf_words.specs.Error.{refusal_of}
+use Rattle.btf_plain.specs.Error.{refusal_of}
 use Rattle.vbtf.specs.Ext.{OpenedExt}
 use Rattle.vbtf.specs.ExtRead.{RelocationsOf}
 use Rattle.vbtf.proofs.Ending.{refused}

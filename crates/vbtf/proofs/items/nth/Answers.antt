@@ -1,7 +1,7 @@
 use Rattle.std.proofs.Common.{◌∙◌, ℕ, ◌<◌, length, take, ap, sym, refl}
 use Rattle.std.proofs.Math.Nat.{mul-lt-mul_of_pos_left}
 use Rattle.std.proofs.lemmas.Option.{slice_get_read}
-use Rattle.btf_items.proofs.Padded.{first_words, some_word}
+use Rattle.btf_plain.proofs.Padded.{first_words, some_word}
 use Rattle.vbtf.proofs.Groups.{group_at}
 use Rattle.vbtf.proofs.items.nth.Goals as goal
 

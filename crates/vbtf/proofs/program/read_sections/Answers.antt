@@ -3,7 +3,7 @@ use Rattle.std.specs.Prelude.{if◌then◌else◌, option_map, string_bytes}
 use Rattle.std.specs.HashMap.{get_by_text}
 use Rattle.std.specs.Str.{bytes_eq}
 use Rattle.std.proofs.lemmas.Map.Text.{hash_map_updates_text}
-use Rattle.btf_words.specs.declared.section_index.SectionIndex.{SectionIndex}
+use Rattle.btf_plain.specs.declared.section_index.SectionIndex.{SectionIndex}
 use Rattle.vbtf.specs.Program.{number_named}
 use Rattle.vbtf.proofs.Layouts.{no_entry, next_entry, next_readable, section_kept}
 use Rattle.vbtf.proofs.program.read_sections.Goals as goal

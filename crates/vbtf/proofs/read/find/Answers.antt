@@ -1,7 +1,7 @@
 use Rattle.std.proofs.Common.{subst, ℕ, List}
 use Rattle.btf_model.specs.Text.{FindsName}
-use Rattle.btf_words.specs.Error.{MeetsOrNoMemory}
-use Rattle.btf_words.specs.Kind.{kind}
+use Rattle.btf_plain.specs.Error.{MeetsOrNoMemory}
+use Rattle.btf_plain.specs.Kind.{kind}
 use Rattle.vbtf.proofs.read.find.Goals as goal
 
 pub returns : goal.returns

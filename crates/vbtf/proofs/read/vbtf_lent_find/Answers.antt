@@ -2,8 +2,8 @@ use Rattle.std.proofs.Common.{◌≡◌, ◌∙◌, refl, sym, subst, inl, ℕ}
 use Rattle.std.specs.Prelude.{Result}
 use Rattle.btf_model.specs.Record.{Kind}
 use Rattle.btf_model.specs.Text.{FindsName}
-use Rattle.btf_words.specs.declared.error.BtfError.{BtfError}
-use Rattle.btf_words.specs.Error.{MeetsOrNoMemory, refusal_of}
+use Rattle.btf_plain.specs.declared.error.BtfError.{BtfError}
+use Rattle.btf_plain.specs.Error.{MeetsOrNoMemory, refusal_of}
 use Rattle.vbtf.specs.declared.opened.Opened.{Opened}
 use Rattle.vbtf.proofs.Ending.{ends_refused}
 use Rattle.vbtf.proofs.SameKind.{same_kind}

@@ -5,7 +5,7 @@ use Rattle.btf_rewrite_model.specs.declared.feature.FillPolicy.{FillPolicy}
 use Rattle.btf_rewrite_model.specs.declared.ksyms_ids.KsymsIds.{KsymsIds}
 use Rattle.btf_table.specs.PassStep.{BeginsAsked}
 use Rattle.btf_types.specs.Layout.{layout_of}
-use Rattle.btf_words.specs.Error.{MeetsOrNoMemory}
+use Rattle.btf_plain.specs.Error.{MeetsOrNoMemory}
 use Rattle.vbtf.specs.Kernel.{AreOf, ListsAnswers, RewritesFor, policy_chosen, ids_chosen}
 use Rattle.vbtf.proofs.Kernels.{all_of, few_answers, for_kernel, granted_for}
 use Rattle.vbtf.proofs.rewrite.rewritten.Goals as goal

@@ -1,8 +1,8 @@
 use Rattle.std.proofs.Common.{◌≡◌, ◌∙◌, refl, sym, ap, subst, inl, inr, ℕ, List, Option, Some, None, Result, Ok, Err}
 use Rattle.btf_model.specs.Value.{Value}
-use Rattle.btf_words.specs.declared.error.BtfError.{BtfError}
+use Rattle.btf_plain.specs.declared.error.BtfError.{BtfError}
 use Rattle.btf_above.specs.Variants.{NamesAreUtf8}
-use Rattle.btf_words.specs.Error.{Meets, MeetsOrNoMemory, refusal_of}
+use Rattle.btf_plain.specs.Error.{Meets, MeetsOrNoMemory, refusal_of}
 use Rattle.vbtf.specs.declared.opened.Opened.{Opened}
 use Rattle.vbtf.specs.Status.{ReportsError}
 use Rattle.vbtf.proofs.Ending.{finding_refused}

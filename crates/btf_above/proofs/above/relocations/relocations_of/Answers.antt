@@ -3,7 +3,7 @@ use Rattle.std.specs.Option.{option_map}
 use Rattle.std.proofs.lemmas.Option.{slice_get-map, slice_get_read}
 use Rattle.std.proofs.lemmas.List.{length-map}
 use Rattle.btf_model.specs.RelocationWords.{RelocationSection, Words}
-use Rattle.btf_words.specs.Error.{MeetsOrNoMemory}
+use Rattle.btf_plain.specs.Error.{MeetsOrNoMemory}
 use Rattle.btf_ext.specs.Relocation.{relocation}
 use Rattle.btf_above.proofs.Finding.{handed, section_error, only_words, all_read, names_more, words_joined, words_passed}
 use Rattle.btf_above.proofs.above.relocations.relocations_of.Goals as goal

@@ -1,9 +1,9 @@
 use Rattle.std.proofs.Common.{map, Err, refl, subst, inl}
 use Rattle.btf_model.specs.Refusal.{UnexpectedBtfType}
 use Rattle.btf_model.specs.Value.{HasVariants, FindsVariant}
-use Rattle.btf_words.specs.Error.{MeetsOrNoMemory, Meets}
+use Rattle.btf_plain.specs.Error.{MeetsOrNoMemory, Meets}
 use Rattle.btf_above.specs.Variants.{enum_variant, enum64_variant, HaveUtf8Names}
-use Rattle.btf_items.specs.Fallback.{variant_of, fallback_value}
+use Rattle.btf_plain.specs.Fallback.{variant_of, fallback_value}
 use Rattle.btf_above.proofs.Values.{enum_has, enum64_has, union_has, plain_union, other_has, found_among, told_of}
 use Rattle.btf_above.proofs.above.value.value_at.Goals as goal
 

@@ -1,5 +1,5 @@
 use Rattle.std.proofs.Common.{sym, subst, Some, None, Option, Result}
-use Rattle.btf_words.specs.declared.error.BtfError.{BtfError}
+use Rattle.btf_plain.specs.declared.error.BtfError.{BtfError}
 use Rattle.btf_compare.specs.declared.frame.Frame.{Frame}
 use Rattle.btf_compare.specs.declared.frame.Place.{Place}
 use Rattle.btf_compare.specs.Compared.{AfterSteps, WalksTo, frame_of, passed_in}

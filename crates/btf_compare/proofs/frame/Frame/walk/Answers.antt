@@ -1,5 +1,5 @@
 use Rattle.std.proofs.Common.{refl, subst, ◌∙◌, None, Option, Result}
-use Rattle.btf_words.specs.declared.error.BtfError.{BtfError}
+use Rattle.btf_plain.specs.declared.error.BtfError.{BtfError}
 use Rattle.btf_compare.specs.declared.frame.Place.{Place}
 use Rattle.btf_compare.specs.Compared.{AfterStep, IsFound, WalksTo, frame_of, passed_in}
 use Rattle.btf_compare.proofs.Steps.{too_deep, walks_more}

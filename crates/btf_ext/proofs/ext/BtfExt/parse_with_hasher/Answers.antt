@@ -1,13 +1,13 @@
 use Rattle.std.proofs.Common.{◌≡◌, ◌∙◌, List, Err, length, map, refl, ap, arith}
 use Rattle.std.proofs.lemmas.Option.{IfSome_then}
 use Rattle.btf_model.specs.Ext.{IsExt, relocation_section}
-use Rattle.btf_words.specs.Error.{refusal_of}
+use Rattle.btf_plain.specs.Error.{refusal_of}
 use Rattle.btf_ext.specs.BtfExt.{ext}
 use Rattle.btf_ext.specs.ExtHeader.{header, range, part}
 use Rattle.btf_ext.specs.SecInfo.{section_of}
 use Rattle.btf_ext.specs.declared.sections.SecInfo.{SecInfo}
 use Rattle.btf_ext.proofs.Exts.{HasParts, line_refused, core_refused, funcs_refused, lines_refused, relocations_refused, whole_ext, some_sections, wide_part}
-use Rattle.btf_words.proofs.Refused.{handed_on, known_refusal}
+use Rattle.btf_plain.proofs.Refused.{handed_on, known_refusal}
 use Rattle.btf_ext.proofs.ext.BtfExt.parse_with_hasher.Goals as goal
 
 pub returns-in_err-line : goal.returns-in_err-line

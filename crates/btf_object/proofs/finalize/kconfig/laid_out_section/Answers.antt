@@ -5,7 +5,7 @@ use Rattle.std.proofs.lemmas.List.Sorted.{answers_always}
 use Rattle.btf_model.specs.Record.{vlen}
 use Rattle.btf_rewrite_model.specs.Made.{entries}
 use Rattle.btf_rewrite_model.proofs.Granted.{vlen_small}
-use Rattle.btf_items.specs.Items.{entry_words}
+use Rattle.btf_plain.specs.Items.{entry_words}
 use Rattle.btf_object_model.specs.Kconfig.{total}
 use Rattle.btf_object.specs.Kconfig.{extern_of, HasExterns}
 use Rattle.btf_object.specs.declared.finalize.kconfig.Extern.{Extern}

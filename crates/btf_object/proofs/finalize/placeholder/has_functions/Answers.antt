@@ -4,7 +4,7 @@ use Rattle.std.proofs.lemmas.List.{take_all}
 use Rattle.std.proofs.lemmas.List.Folds.{list_any_at}
 use Rattle.btf_rewrite_model.specs.Ksyms.{is_func}
 use Rattle.btf_rewrite_model.specs.Made.{kind_at}
-use Rattle.btf_items.specs.declared.items.DataSecEntry.{DataSecEntry}
+use Rattle.btf_plain.specs.declared.items.DataSecEntry.{DataSecEntry}
 use Rattle.btf_table.proofs.KsymsEntries.{zero_entry}
 use Rattle.btf_object_model.specs.Finalized as model
 use Rattle.btf_object.proofs.FinalSections.{functions_are}

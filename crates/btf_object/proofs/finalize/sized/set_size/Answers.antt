@@ -2,8 +2,8 @@ use Rattle.std.proofs.Common.{◌≡◌, List, ℕ, length, sym, ap, ◌∙◌}
 use Rattle.std.specs.List.{flat_map}
 use Rattle.btf_model.specs.Record.{Record}
 use Rattle.btf_rewrite_model.specs.Made.{struct}
-use Rattle.btf_items.specs.Items.{member_words}
-use Rattle.btf_items.specs.declared.items.BtfMember.{BtfMember}
+use Rattle.btf_plain.specs.Items.{member_words}
+use Rattle.btf_plain.specs.declared.items.BtfMember.{BtfMember}
 use Rattle.btf_object.proofs.Finalizing.{struct_sized}
 use Rattle.btf_object.proofs.finalize.sized.set_size.Goals as goal
 

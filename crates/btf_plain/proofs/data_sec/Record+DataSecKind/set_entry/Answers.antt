@@ -2,10 +2,10 @@ use Rattle.std.proofs.Common.{◌≡◌, ℕ, suc, ◌+◌, ◌*◌, ◌<◌, Li
 use Rattle.std.specs.List.{flat_map}
 use Rattle.std.proofs.lemmas.List.{length-set}
 use Rattle.btf_model.specs.Record.{Record, vlen}
-use Rattle.btf_items.specs.Items.{entry_words}
-use Rattle.btf_items.specs.ItemList.{items_of}
-use Rattle.btf_items.specs.declared.items.DataSecEntry.{DataSecEntry}
-use Rattle.btf_items.proofs.Lists.{length-items, words_of_set}
+use Rattle.btf_plain.specs.Items.{entry_words}
+use Rattle.btf_plain.specs.ItemList.{items_of}
+use Rattle.btf_plain.specs.declared.items.DataSecEntry.{DataSecEntry}
+use Rattle.btf_plain.proofs.Lists.{length-items, words_of_set}
 use Rattle.btf_plain.proofs.Tails.{items_counted}
 use Rattle.btf_plain.proofs.data_sec.Record+DataSecKind.set_entry.Goals as goal
 

@@ -3,8 +3,8 @@ use Rattle.std.specs.Prelude.{slice_get}
 use Rattle.btf_model.specs.Record.{Record, kinds, kind_of, vlen}
 use Rattle.std.specs.List.{flat_map}
 use Rattle.btf_model.specs.Info.{with_flag}
-use Rattle.btf_items.specs.Items.{enum_words}
-use Rattle.btf_items.specs.ItemList.{items_of}
+use Rattle.btf_plain.specs.Items.{enum_words}
+use Rattle.btf_plain.specs.ItemList.{items_of}
 use Rattle.btf_plain.proofs.Infos.{new_flag, same_kind, same_vlen}
 use Rattle.btf_plain.proofs.enumeration.Record+EnumKind.set_signed.Goals as goal
 

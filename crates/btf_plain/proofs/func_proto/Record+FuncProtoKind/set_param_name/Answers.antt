@@ -2,10 +2,10 @@ use Rattle.std.proofs.Common.{ℕ, ◌+◌, ◌*◌, ◌<◌, List, ◌∷◌, �
 use Rattle.std.specs.List.{flat_map}
 use Rattle.std.proofs.lemmas.List.{get_or_default, length-set}
 use Rattle.btf_model.specs.Record.{Record, vlen}
-use Rattle.btf_items.specs.declared.items.BtfParam.{BtfParam}
-use Rattle.btf_items.specs.Items.{param_words}
-use Rattle.btf_items.specs.ItemList.{items_of}
-use Rattle.btf_items.proofs.Lists.{length-items}
+use Rattle.btf_plain.specs.declared.items.BtfParam.{BtfParam}
+use Rattle.btf_plain.specs.Items.{param_words}
+use Rattle.btf_plain.specs.ItemList.{items_of}
+use Rattle.btf_plain.proofs.Lists.{length-items}
 use Rattle.btf_plain.proofs.Params.{param_named}
 use Rattle.btf_plain.proofs.Tails.{items_counted}
 use Rattle.btf_plain.proofs.func_proto.Record+FuncProtoKind.set_param_name.Goals as goal

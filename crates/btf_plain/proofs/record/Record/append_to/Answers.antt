@@ -2,7 +2,7 @@ use Rattle.std.proofs.Common.{subst, ◌∙◌}
 use Rattle.std.specs.Prelude.{OnOk}
 use Rattle.std.proofs.lemmas.Result.{on_ok_weaker}
 use Rattle.btf_model.specs.Spelling.{IsWhole}
-use Rattle.btf_words.specs.Kind as kinds
+use Rattle.btf_plain.specs.Kind as kinds
 use Rattle.btf_plain.specs.Head.{headed}
 use Rattle.btf_plain.proofs.record.Record.append_to.Goals as goal
 

@@ -1,6 +1,6 @@
 use Rattle.std.proofs.Common.{ℕ, length, ap, sym, ◌∙◌}
 use Rattle.btf_model.specs.Record.{vlen}
-use Rattle.btf_items.proofs.Padded.{some_word}
+use Rattle.btf_plain.proofs.Padded.{some_word}
 use Rattle.btf_plain.proofs.Tails.{items_counted}
 use Rattle.btf_plain.proofs.record.Record.items.Goals as goal
 

@@ -2,8 +2,8 @@ use Rattle.std.proofs.Common.{ℕ, ◌<◌, ◌+◌, ◌*◌, ◌^◌, length, a
 use Rattle.std.specs.Prelude.{slice_get}
 use Rattle.btf_model.specs.Info.{flag_bit}
 use Rattle.btf_model.specs.Record.{kinds as all_kinds, kind_of, vlen, tail_words}
-use Rattle.btf_words.specs.Kind as kinds
-use Rattle.btf_items.proofs.Lists.{length-items}
+use Rattle.btf_plain.specs.Kind as kinds
+use Rattle.btf_plain.proofs.Lists.{length-items}
 use Rattle.btf_plain.proofs.Infos.{new_kind, new_vlen, listed_info}
 use Rattle.btf_plain.proofs.record.Record.listing.Goals as goal
 

@@ -2,7 +2,7 @@ use Rattle.std.proofs.Common.{ℕ, ◌≡◌, length, ap, sym, ◌∙◌, arith}
 use Rattle.btf_model.specs.Record.{vlen, tail_words}
 use Rattle.btf_model.specs.Word.{words_at}
 use Rattle.btf_model.proofs.Words.{length-words_at}
-use Rattle.btf_words.specs.Kind as kinds
+use Rattle.btf_plain.specs.Kind as kinds
 use Rattle.btf_plain.specs.Head.{record_after}
 use Rattle.btf_plain.specs.Third.{third_kept}
 use Rattle.btf_plain.proofs.record.Record.read.Goals as goal

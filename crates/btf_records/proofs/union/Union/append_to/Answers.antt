@@ -2,8 +2,8 @@ use Rattle.std.proofs.Common.{◌≡◌, ℕ, ◌*◌, length, ap, sym, refl, �
 use Rattle.std.proofs.lemmas.Result.{on_ok_weaker}
 use Rattle.btf_model.specs.Record as model
 use Rattle.btf_model.specs.Record.{vlen}
-use Rattle.btf_items.specs.Items.{member_words}
-use Rattle.btf_items.proofs.Lists.{length-items, list_is_whole}
+use Rattle.btf_plain.specs.Items.{member_words}
+use Rattle.btf_plain.proofs.Lists.{length-items, list_is_whole}
 use Rattle.btf_records.proofs.union.Union.append_to.Goals as goal
 
 pub returns-clause-whole : goal.returns-clause-whole

@@ -1,8 +1,8 @@
 use Rattle.std.proofs.Common.{length, ap, arith, refl}
 use Rattle.btf_model.specs.Record.{vlen}
-use Rattle.btf_items.specs.Items.{member_words}
+use Rattle.btf_plain.specs.Items.{member_words}
 use Rattle.btf_records.specs.Members.{members_of}
-use Rattle.btf_items.proofs.Lists.{length-items}
+use Rattle.btf_plain.proofs.Lists.{length-items}
 use Rattle.btf_records.proofs.union.Union.info.Goals as goal
 
 pub returns-clause-tail : goal.returns-clause-tail

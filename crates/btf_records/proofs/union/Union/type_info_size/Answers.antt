@@ -1,6 +1,6 @@
 use Rattle.std.proofs.Common.{length, ap, arith, refl}
-use Rattle.btf_items.specs.Items.{member_words}
-use Rattle.btf_items.proofs.Lists.{length-items}
+use Rattle.btf_plain.specs.Items.{member_words}
+use Rattle.btf_plain.proofs.Lists.{length-items}
 use Rattle.btf_records.proofs.union.Union.type_info_size.Goals as goal
 
 pub returns-clause-len : goal.returns-clause-len

@@ -6,16 +6,16 @@ use Rattle.std.proofs.lemmas.Option.{none-some, IfSome_then}
 use Rattle.btf_model.specs.Record.{Record}
 use Rattle.btf_rewrite_model.specs.Pass.{Pass}
 use Rattle.btf_model.proofs.Comparisons.{same_ok}
-use Rattle.btf_words.specs.Error.{MeetsOrNoMemory}
-use Rattle.btf_words.specs.declared.error.BtfError.{BtfError}
+use Rattle.btf_plain.specs.Error.{MeetsOrNoMemory}
+use Rattle.btf_plain.specs.declared.error.BtfError.{BtfError}
 use Rattle.btf_rewrite_model.specs.Made.{data_sec}
-use Rattle.btf_items.specs.Items.{entry_words}
-use Rattle.btf_items.specs.declared.items.DataSecEntry.{DataSecEntry}
+use Rattle.btf_plain.specs.Items.{entry_words}
+use Rattle.btf_plain.specs.declared.items.DataSecEntry.{DataSecEntry}
 use Rattle.btf_records.specs.declared.btf_type.BtfType.TheVariants.{DataSec}
 use Rattle.btf_table.specs.PassStep.{pass_on, Rules}
 use Rattle.btf_table.specs.SectionStep.{filled}
 use Rattle.btf_rules.proofs.Checks.{checked_ok, checked_err}
-use Rattle.btf_words.proofs.Refused.{handed_on, known_refusal}
+use Rattle.btf_plain.proofs.Refused.{handed_on, known_refusal}
 use Rattle.btf_table.proofs.SectionRules.{filler_is, filler_fault, growth_fault, filled_ruled}
 use Rattle.btf_table.proofs.sanitize.data_sec.filled.Goals as goal
 

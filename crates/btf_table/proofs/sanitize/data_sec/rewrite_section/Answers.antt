@@ -23,11 +23,11 @@ use Rattle.btf_table.specs.SectionStep.{HasNewName, final_size, is_fillable, ask
 use Rattle.btf_table.specs.declared.sanitize.made.Made.{Made}
 use Rattle.btf_rules.proofs.Checks.{checked_err}
 use Rattle.btf_table.proofs.PassAsking.{asks_called, asks_next, asks_further, further_then}
-use Rattle.btf_words.proofs.Refused.{handed_on, with_fact}
+use Rattle.btf_plain.proofs.Refused.{handed_on, with_fact}
 use Rattle.btf_table.proofs.SectionRules.{zero_further, name_refused, has_new_name, size_refused, size_is, fills_by, asks_by_size, granted_one, asks_some, asks_one, granted_two, asks_two, fills_two, denied_asks, struct_answer, renamed_answer, laid_answer, zero_called}
 use Rattle.btf_table.specs.contracts.sanitize.data_sec.rewrite_section.F-FnMut.{words}
 use Rattle.btf_model.proofs.Comparisons.{same_ok}
-use Rattle.btf_words.specs.declared.error.BtfError.{BtfError}
+use Rattle.btf_plain.specs.declared.error.BtfError.{BtfError}
 use Rattle.btf_table.proofs.sanitize.data_sec.rewrite_section.Given.{Over}
 use Rattle.btf_table.proofs.sanitize.data_sec.rewrite_section.Goals as goal
 use Rattle.btf_table.proofs.sanitize.data_sec.rewrite_section.Goals.{After-new_name, After-final_size}

@@ -8,7 +8,7 @@ use Rattle.btf_rewrite_model.proofs.Passing.{NextAnswers}
 use Rattle.btf_table.specs.PassStep.{pass_on, made_of, Steps}
 use Rattle.btf_records.specs.declared.btf_type.BtfType.TheVariants.{Func, Typedef}
 use Rattle.std.proofs.lemmas.Option.{IfSome_then}
-use Rattle.btf_words.proofs.Refused.{handed_on}
+use Rattle.btf_plain.proofs.Refused.{handed_on}
 use Rattle.btf_records.specs.declared.btf_type.BtfType.{BtfType}
 use Rattle.btf_table.proofs.PassAsking.{asked_none, asks_called, asks_next, asks_further, further_then, further_none}
 use Rattle.btf_table.proofs.FuncRules.{func_unread, func_denied, func_static, func_stays, none_asked, one_granted, one_asked, both_asked, linkage_global, linkage_other, and_first, and_second, and_third, not_if, changes_if, changes_else, stays_if, read_name, unread_name, is_known}

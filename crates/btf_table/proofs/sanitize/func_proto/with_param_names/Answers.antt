@@ -7,14 +7,14 @@ use Rattle.btf_rewrite_model.specs.Made.{wants_name}
 use Rattle.btf_rewrite_model.specs.Checks.{first_fault, have_room}
 use Rattle.btf_rewrite_model.specs.Pass.{texts_len, param_texts}
 use Rattle.btf_rewrite_model.specs.Rule.{named_params}
-use Rattle.btf_items.specs.Items.{param_words}
-use Rattle.btf_items.specs.declared.items.BtfParam.{BtfParam}
+use Rattle.btf_plain.specs.Items.{param_words}
+use Rattle.btf_plain.specs.declared.items.BtfParam.{BtfParam}
 use Rattle.btf_table.specs.Adding.{strings_end, Adds}
 use Rattle.btf_rules.specs.Checked.{checked}
 use Rattle.btf_table.proofs.Adding.{adds_then}
 use Rattle.btf_rules.proofs.Checks.{checked_ok, checked_err}
 use Rattle.btf_table.proofs.Prototypes.{at, texts_to, end_after, room_next, room_fault, texts_next, named_next}
-use Rattle.btf_words.proofs.Refused.{handed_on}
+use Rattle.btf_plain.proofs.Refused.{handed_on}
 use Rattle.btf_table.proofs.sanitize.func_proto.with_param_names.Goals as goal
 
 pub returns-in_err-name_offset-clause-answer : goal.returns-in_err-name_offset-clause-answer

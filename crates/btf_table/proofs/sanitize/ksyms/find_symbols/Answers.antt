@@ -4,7 +4,7 @@ use Rattle.btf_rewrite_model.specs.Made.{entries}
 use Rattle.btf_table.specs.KsymsStep.{entry, FindsSymbols}
 use Rattle.btf_rules.proofs.Checks.{checked_err, checked_ok}
 use Rattle.btf_table.proofs.KsymsEntries.{at, fault_found, passes_up_to, symbols_up_to, found_symbols}
-use Rattle.btf_words.proofs.Refused.{handed_on}
+use Rattle.btf_plain.proofs.Refused.{handed_on}
 use Rattle.btf_table.proofs.sanitize.ksyms.find_symbols.Goals as goal
 
 pub returns-in_err-prototype : goal.returns-in_err-prototype

@@ -10,7 +10,7 @@ use Rattle.btf_records.specs.declared.btf_type.BtfType.{BtfType}
 use Rattle.btf_records.specs.declared.btf_type.BtfType.TheVariants.{Int}
 use Rattle.btf_table.specs.Changes.{AreOf, changed}
 use Rattle.btf_table.specs.KsymsStep.{ksyms_ids, MakesKsyms, AreStepped}
-use Rattle.btf_words.proofs.Refused.{handed_on}
+use Rattle.btf_plain.proofs.Refused.{handed_on}
 use Rattle.btf_table.proofs.KsymsSteps.{stays_as_stepped, grows_by_int, int_has_room}
 use Rattle.btf_table.proofs.sanitize.ksyms.ksyms_changes.Goals.{then-step+in_ok-push_text+in_ok-push_type, else-step}
 use Rattle.btf_table.proofs.sanitize.ksyms.ksyms_changes.Goals as goal

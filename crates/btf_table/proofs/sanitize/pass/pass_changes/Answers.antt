@@ -13,7 +13,7 @@ use Rattle.btf_table.specs.Btf.{IsType}
 use Rattle.btf_table.specs.PassStep.{Given, pass_on, under, IsHere, Comes, IsMade, Passes, BeginsAsked}
 use Rattle.btf_table.specs.declared.sanitize.outcome.Outcome.{Outcome}
 use Rattle.btf_records.specs.declared.btf_type.BtfType.TheVariants.{Unknown}
-use Rattle.btf_words.proofs.Refused.{handed_on}
+use Rattle.btf_plain.proofs.Refused.{handed_on}
 use Rattle.btf_table.proofs.PassAsking.{begins_at, begins_all, begins_none, further_answers}
 use Rattle.btf_table.proofs.PassStates.{here_of_made, steps_on, refused_at, passes_whole, made_at_start, fallback_there}
 use Rattle.btf_table.specs.contracts.sanitize.pass.pass_changes.F-FnMut.{words}

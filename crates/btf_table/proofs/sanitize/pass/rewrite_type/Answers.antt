@@ -1,13 +1,13 @@
 use Rattle.std.proofs.Common.{◌≡◌, ℕ, true, [], sym, ap, subst, ◌∙◌}
 use Rattle.btf_model.specs.Record.{kind_of}
-use Rattle.btf_words.specs.Error.{MeetsOrNoMemory}
+use Rattle.btf_plain.specs.Error.{MeetsOrNoMemory}
 use Rattle.btf_records.specs.BtfType.{record_of}
 use Rattle.btf_records.specs.declared.btf_type.BtfType.{BtfType}
 use Rattle.btf_table.specs.Btf.{IsType}
 use Rattle.btf_table.specs.PassStep.{Given, pass_on, made_of, Comes, AsksUpTo, Steps, Rules}
 use Rattle.btf_rules.specs.SoleFeature.{asks_one}
 use Rattle.btf_table.proofs.PassOne.{one_type}
-use Rattle.btf_words.proofs.Refused.{with_fact}
+use Rattle.btf_plain.proofs.Refused.{with_fact}
 use Rattle.btf_table.proofs.sanitize.pass.rewrite_type.Given.{Over}
 use Rattle.btf_table.proofs.sanitize.pass.rewrite_type.Goals as goal
 use Rattle.btf_table.proofs.sanitize.pass.rewrite_type.Goals.{After-rewrite_by}

@@ -4,13 +4,13 @@ use Rattle.std.proofs.lemmas.Option.{none-some, IfSome_then}
 use Rattle.btf_model.specs.Refusal.{Refusal}
 use Rattle.btf_rewrite_model.specs.Pass.{Pass}
 use Rattle.btf_model.proofs.Comparisons.{same_ok}
-use Rattle.btf_words.specs.Error.{MeetsOrNoMemory}
-use Rattle.btf_words.specs.declared.error.BtfError.{BtfError}
+use Rattle.btf_plain.specs.Error.{MeetsOrNoMemory}
+use Rattle.btf_plain.specs.declared.error.BtfError.{BtfError}
 use Rattle.btf_records.specs.declared.btf_type.BtfType.{BtfType}
 use Rattle.btf_records.specs.declared.btf_type.BtfType.TheVariants.{Enum64, Union}
 use Rattle.btf_table.specs.PassStep.{pass_on, Rules}
 use Rattle.btf_rules.proofs.Checks.{checked_ok, checked_err}
-use Rattle.btf_words.proofs.Refused.{handed_on}
+use Rattle.btf_plain.proofs.Refused.{handed_on}
 use Rattle.btf_table.proofs.PassRules.{HasMemberType, member_type_there, member_type_new, wants_one, enum64_as_union, enum64_fault}
 use Rattle.btf_table.proofs.sanitize.single.rewrite_enum64.Goals as goal
 

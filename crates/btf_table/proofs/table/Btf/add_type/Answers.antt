@@ -3,7 +3,7 @@ use Rattle.std.specs.Prelude.{◌≡◌, ℕ, Option}
 use Rattle.std.proofs.lemmas.List.{length-map}
 use Rattle.btf_model.specs.Refusal.{Refusal}
 use Rattle.btf_model.specs.Table.{Table, type_bytes, type_place}
-use Rattle.btf_words.proofs.Refused.{handed_on, known_refusal}
+use Rattle.btf_plain.proofs.Refused.{handed_on, known_refusal}
 use Rattle.btf_records.specs.BtfType.{record_of, type_kind}
 use Rattle.btf_rewrite_model.specs.Checks.{fits}
 use Rattle.btf_rules.specs.Checked.{checked}

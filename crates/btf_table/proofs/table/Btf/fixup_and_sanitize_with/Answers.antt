@@ -3,7 +3,7 @@ use Rattle.std.proofs.lemmas.Option.{IfSome_then}
 use Rattle.std.specs.Prelude.{OnOk}
 use Rattle.btf_model.specs.Table.{Table}
 use Rattle.btf_rewrite_model.specs.Rewritten.{begun, pass_of}
-use Rattle.btf_words.specs.Error.{refusal_of, MeetsOrNoMemory}
+use Rattle.btf_plain.specs.Error.{refusal_of, MeetsOrNoMemory}
 use Rattle.btf_table.specs.KsymsStep.{ksyms_ids}
 use Rattle.btf_rules.specs.Layout.{layout_of}
 use Rattle.btf_table.specs.PassStep.{Given, under}

@@ -2,8 +2,8 @@ use Rattle.std.proofs.Common.{◌≡◌, ◌∙◌, ℕ, List, ap, subst, map, a
 use Rattle.btf_model.specs.Record.{Record}
 use Rattle.btf_model.specs.Table.{Table}
 use Rattle.btf_model.specs.Text.{FindsName}
-use Rattle.btf_words.specs.Error.{MeetsOrNoMemory}
-use Rattle.btf_words.specs.Kind as kinds
+use Rattle.btf_plain.specs.Error.{MeetsOrNoMemory}
+use Rattle.btf_plain.specs.Kind as kinds
 use Rattle.btf_records.specs.BtfType.{record_of}
 use Rattle.btf_table.proofs.Tables.{few_types}
 use Rattle.btf_table.proofs.table.Btf.id_by_type_name_kind.Goals as goal

@@ -2,7 +2,7 @@ use Rattle.std.proofs.Common.{◌≡◌, ◌∙◌, List, ap, subst, map}
 use Rattle.btf_model.specs.Record.{Record}
 use Rattle.btf_model.specs.Walk.{Resolves}
 use Rattle.btf_model.specs.Table.{Table}
-use Rattle.btf_words.specs.Error.{Meets}
+use Rattle.btf_plain.specs.Error.{Meets}
 use Rattle.btf_records.specs.BtfType.{record_of}
 use Rattle.btf_table.proofs.table.Btf.resolve_type.Goals as goal
 

@@ -2,7 +2,7 @@ use Rattle.std.proofs.Common.{ℕ, List, Err, length, sym, subst}
 use Rattle.btf_model.specs.Table.{Table}
 use Rattle.std.proofs.lemmas.Option.{IfSome_then}
 use Rattle.btf_rewrite_model.specs.Pass.{Pass}
-use Rattle.btf_words.proofs.Refused.{handed_on}
+use Rattle.btf_plain.proofs.Refused.{handed_on}
 use Rattle.btf_rules.specs.Layout.{layout_of}
 use Rattle.btf_rewrite_model.specs.declared.feature.FeatureAnswer.{FeatureAnswer}
 use Rattle.btf_table.specs.PassStep.{pass_on, under}

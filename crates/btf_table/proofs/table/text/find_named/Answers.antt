@@ -2,7 +2,7 @@ use Rattle.std.proofs.Common.{Bool, Ok, refl, ap, subst, ◌∙◌, length}
 use Rattle.std.specs.Prelude.{map}
 use Rattle.std.specs.Option.{option_map}
 use Rattle.std.proofs.lemmas.Option.{slice_get-map, slice_get_read}
-use Rattle.btf_words.specs.Kind as kinds
+use Rattle.btf_plain.specs.Kind as kinds
 use Rattle.btf_records.specs.BtfType.{record_of}
 use Rattle.btf_table.specs.BtfStr.{IsNamed}
 use Rattle.btf_table.proofs.Names.{passed_one}

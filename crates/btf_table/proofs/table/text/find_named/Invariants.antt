@@ -1,6 +1,6 @@
 use Rattle.std.specs.Prelude.{map}
 use Rattle.btf_model.specs.Text.{ArePassed}
-use Rattle.btf_words.specs.Kind as kinds
+use Rattle.btf_plain.specs.Kind as kinds
 use Rattle.btf_records.specs.BtfType.{record_of}
 use Rattle.btf_table.proofs.table.text.find_named.Given as goal
 

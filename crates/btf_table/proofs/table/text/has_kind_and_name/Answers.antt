@@ -1,6 +1,6 @@
 use Rattle.std.proofs.Common.{inl, refl, sym}
 use Rattle.std.proofs.lemmas.Bool.{true≢false}
-use Rattle.btf_words.specs.Kind as kinds
+use Rattle.btf_plain.specs.Kind as kinds
 use Rattle.btf_records.specs.BtfType.{record_of}
 use Rattle.btf_table.proofs.Names.{named_by}
 use Rattle.btf_table.proofs.table.text.has_kind_and_name.Goals as goal

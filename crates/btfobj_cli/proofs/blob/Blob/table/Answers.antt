@@ -2,7 +2,7 @@ use Rattle.std.proofs.Common.{subst}
 use Rattle.std.specs.Prelude.{IfSome}
 use Rattle.btf_model.specs.Blob.{IsRefusal}
 use Rattle.btf_model.specs.declared.endianness.Endianness.{Endianness}
-use Rattle.btf_words.specs.Error.{refusal_of}
+use Rattle.btf_plain.specs.Error.{refusal_of}
 use Rattle.btfobj_cli.specs.Blob.{HasTable}
 use Rattle.btfobj_cli.proofs.Reports.{reports}
 use Rattle.btfobj_cli.proofs.blob.Blob.table.Goals as goal

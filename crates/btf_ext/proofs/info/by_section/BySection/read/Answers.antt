@@ -4,7 +4,7 @@ use Rattle.std.specs.Iterator.Adapters.{rev_source}
 use Rattle.btf_ext.specs.ExtHeader.{part}
 use Rattle.btf_ext.specs.Info.{by_name, AreByName}
 use Rattle.btf_ext.proofs.NamedSections.{none_taken, turn_of, one_added, one_passed, not_refused, all_taken, was_met}
-use Rattle.btf_words.proofs.Refused.{handed_on}
+use Rattle.btf_plain.proofs.Refused.{handed_on}
 use Rattle.btf_ext.proofs.info.by_section.BySection.read.Goals as goal
 
 pub loop-section-init : goal.loop-section-init

@@ -5,7 +5,7 @@ use Rattle.btf_rewrite_model.specs.Checks.{first_fault}
 use Rattle.btf_rewrite_model.specs.Pass.{Pass}
 use Rattle.btf_rewrite_model.specs.Rule.{entry_members}
 use Rattle.btf_rewrite_model.specs.Fault.{member_checks}
-use Rattle.btf_items.specs.Items.{member_words}
+use Rattle.btf_plain.specs.Items.{member_words}
 use Rattle.btf_table.specs.KsymsStep.{entry}
 use Rattle.btf_table.proofs.sanitize.data_sec.entries.members.Given as goal
 

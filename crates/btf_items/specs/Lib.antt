@@ -1,4 +1,0 @@
-pub mod Items
-pub mod Fallback
-pub mod ReadItems
-pub mod ItemList

@@ -1,2 +1,0 @@
-pub mod Error
-pub mod Kind
