@@ -99,9 +99,7 @@ impl Words for BtfArray {
         push_array(out, endianness, &words)
     }
 
-    fn try_clone(&self) -> Result<Self, AllocError> {
-        Ok(self.copied())
-    }
+    ghost cloned = { λ x y h i. h.0 i ∷ h.1.0 i ∷ h.1.1 i ∷ [] };
 
     ghost words_kept = { λ _. refl };
 
@@ -109,13 +107,7 @@ impl Words for BtfArray {
 }
 
 impl Fixed for BtfArray {
-    fn copied(&self) -> Self {
-        BtfArray {
-            element_type: self.element_type,
-            index_type: self.index_type,
-            len: self.len,
-        }
-    }
+    ghost is_copied = { λ x. (tt, (tt, tt)) };
 
     ghost same_number = { λ _ _. refl };
 }

@@ -1,8 +1,8 @@
 //! ENUM: an enumeration of 32-bit values.
 
-ghost use Rattle.std.specs.Prelude.{◌≡◌, ◌≤◌, length, vec_len, ◌↔◌, IsTrue, refl};
+ghost use Rattle.std.specs.Prelude.{◌≡◌, ◌≤◌, length, vec_len, refl};
 ghost use Rattle.std.specs.List.{flat_map};
-ghost use Rattle.btf_model.specs.Record.{vlen, kind_flag};
+ghost use Rattle.btf_model.specs.Record.{vlen};
 ghost use Rattle.btf_model.specs.Info.{with_flag};
 ghost use Rattle.btf_model.specs.Made as made;
 ghost use Rattle.btf_plain.specs.Items.{enum_words};
@@ -12,7 +12,7 @@ use crate::item_list::ItemList;
 use crate::items::BtfEnum;
 use crate::kind::BtfKind;
 use crate::list::{MAX_VLEN, flag_word};
-use crate::record::{Kind, Measured, Record};
+use crate::record::{Enumerates, Kind, Measured, Record};
 
 /// The kind ENUM.
 pub struct EnumKind;
@@ -30,6 +30,8 @@ impl Kind for EnumKind {
 }
 
 impl Measured for EnumKind {}
+
+impl Enumerates for EnumKind {}
 
 /// An enumeration of 32-bit values (the kernel's documentation, "BTF_KIND_ENUM").
 pub type Enum = Record<EnumKind>;
@@ -51,13 +53,6 @@ impl Record<EnumKind> {
         ensures count { vlen self.now.info ≡ length result.now }
     {
         self.items()
-    }
-
-    /// Whether the values have a sign: the kind flag of info.
-    pub fn is_signed(&self) -> bool
-        ensures { IsTrue result ↔ (kind_flag self.now.info ≡ 1) }
-    {
-        self.head.info >> 31 == 1
     }
 
     /// Sets whether the values have a sign, and changes nothing else.

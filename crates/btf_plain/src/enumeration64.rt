@@ -1,8 +1,8 @@
 //! ENUM64: an enumeration of 64-bit values.
 
-ghost use Rattle.std.specs.Prelude.{◌≡◌, ◌≤◌, length, vec_len, ◌↔◌, IsTrue, refl};
+ghost use Rattle.std.specs.Prelude.{◌≡◌, ◌≤◌, length, vec_len, refl};
 ghost use Rattle.std.specs.List.{flat_map};
-ghost use Rattle.btf_model.specs.Record.{vlen, kind_flag};
+ghost use Rattle.btf_model.specs.Record.{vlen};
 ghost use Rattle.btf_model.specs.Made as made;
 ghost use Rattle.btf_plain.specs.Items.{enum64_words};
 ghost use Rattle.btf_plain.specs.declared.kind.BtfKind.TheVariants.{Enum64};
@@ -11,7 +11,7 @@ use crate::item_list::ItemList;
 use crate::items::BtfEnum64;
 use crate::kind::BtfKind;
 use crate::list::MAX_VLEN;
-use crate::record::{Kind, Measured, Record};
+use crate::record::{Enumerates, Kind, Measured, Record};
 
 /// The kind ENUM64.
 pub struct Enum64Kind;
@@ -29,6 +29,8 @@ impl Kind for Enum64Kind {
 }
 
 impl Measured for Enum64Kind {}
+
+impl Enumerates for Enum64Kind {}
 
 /// An enumeration of 64-bit values (the kernel's documentation, "BTF_KIND_ENUM64").
 pub type Enum64 = Record<Enum64Kind>;
@@ -50,12 +52,5 @@ impl Record<Enum64Kind> {
         ensures count { vlen self.now.info ≡ length result.now }
     {
         self.items()
-    }
-
-    /// Whether the values have a sign: the kind flag of info.
-    pub fn is_signed(&self) -> bool
-        ensures { IsTrue result ↔ (kind_flag self.now.info ≡ 1) }
-    {
-        self.head.info >> 31 == 1
     }
 }

@@ -12,7 +12,7 @@ use btf_model::Endianness;
 const HEAD_LEN: usize = 12;
 
 /// The three words that each record begins with (the kernel's documentation, "Type Encoding", `struct btf_type`).
-#[derive(Clone, Copy, Debug)]
+#[derive(Clone, Copy)]
 pub struct Head {
     /// The string offset of the name.
     pub name: u32,

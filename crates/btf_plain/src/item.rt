@@ -1,6 +1,6 @@
 //! Lists of items: the code that all kinds with a list share.
 
-ghost use Rattle.std.specs.Prelude.{◌≡◌, ◌⊎◌, ℕ, ◌*◌, ◌<◌, ◌≤◌, ◌^◌, ◌++◌, List, length, take, drop, Ok, IfOk, OnOk, MatchResult};
+ghost use Rattle.std.specs.Prelude.{◌≡◌, ◌⊎◌, ℕ, ◌*◌, ◌<◌, ◌≤◌, ◌^◌, ◌++◌, List, length, take, drop, Ok, OnOk, MatchResult};
 ghost use Rattle.std.specs.List.{flat_map, AllByRecursion};
 ghost use Rattle.btf_model.specs.Word.{word, words_at};
 ghost use Rattle.btf_plain.specs.Error.{MeetsOrNoMemory};
@@ -99,14 +99,6 @@ pub fn push_items<T: Item>(
         push_item(out, endianness, item)?;
     }
     Ok(())
-}
-
-/// Copies of items, in a vector whose capacity is their number.
-pub fn clone_items<T: Item>(items: &Vec<T>) -> Result<Vec<T>, AllocError>
-    ensures { IfOk result (λ v. (flat_map T.item_words v.items
-        ≡ flat_map T.item_words items.now.items) × (length v.items ≡ length items.now.items)) }
-{
-    items.clone()
 }
 
 /// Reads `count` items from the front of bytes, into a vector whose capacity is `count`. Fails with `InvalidTypeInfo`

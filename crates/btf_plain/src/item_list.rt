@@ -8,7 +8,7 @@ ghost use Rattle.btf_plain.specs.ItemList.{items_of};
 ghost use Rattle.btf_plain.specs.Items.{variant_of_param};
 
 use crate::error::BtfError;
-use crate::item::{Item, clone_items, copied, read_item, read_items};
+use crate::item::{Item, copied, read_item, read_items};
 use crate::items::{BtfEnum, BtfParam};
 use btf_model::Endianness;
 use std::{array, fmt};
@@ -80,18 +80,6 @@ impl<T: Item, const N: usize> ItemList<T, N> {
         ItemList::Few(items.len(), few)
     }
 
-    /// A copy of the items.
-    pub fn try_clone(&self) -> Result<Self, AllocError>
-        ensures { IfOk result (λ v. (flat_map T.item_words (items_of v)
-            ≡ flat_map T.item_words (items_of self.now))
-            × (length (items_of v) ≡ length (items_of self.now))) }
-    {
-        match self {
-            ItemList::Few(count, items) => Ok(ItemList::Few(*count, copy_few(items))),
-            ItemList::Many(items) => Ok(ItemList::Many(clone_items(items)?)),
-        }
-    }
-
     /// Replaces the item at an index.
     pub fn set(&mut self, index: usize, item: T)
         requires { index < length (items_of self.old) }
@@ -100,6 +88,23 @@ impl<T: Item, const N: usize> ItemList<T, N> {
         match self {
             ItemList::Few(_, items) => items.as_mut_slice()[index] = item,
             ItemList::Many(items) => items[index] = item,
+        }
+    }
+}
+
+impl<T: Item, const N: usize> Clone for ItemList<T, N> {
+    ghost use Rattle.std.specs.Prelude.{◌≡◌, length};
+    ghost use Rattle.std.specs.List.{flat_map};
+
+    ghost is_clone = { λ xs ys. (flat_map T.item_words (items_of ys)
+        ≡ flat_map T.item_words (items_of xs)) × (length (items_of ys) ≡ length (items_of xs)) };
+
+    ghost is_infallible = { λ _. ⊥ };
+
+    fn clone(&self) -> Result<Self, AllocError> {
+        match self {
+            ItemList::Few(count, items) => Ok(ItemList::Few(*count, copy_few(items))),
+            ItemList::Many(items) => Ok(ItemList::Many(items.clone()?)),
         }
     }
 }

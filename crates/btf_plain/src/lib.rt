@@ -47,13 +47,13 @@ pub use func_proto::{FuncProto, FuncProtoKind, as_enum};
 pub use fwd::{Fwd, FwdKind};
 pub use head::Head;
 pub use int::{Int, IntKind};
-pub use item::{Item, clone_items, push_items, read_items};
+pub use item::{Item, push_items, read_items};
 pub use item_list::{ItemList, as_variants};
 pub use items::{BtfEnum, BtfEnum64, BtfMember, BtfParam, DataSecEntry};
 pub use kind::BtfKind;
 pub use linkage::{FuncLinkage, VarLinkage};
 pub use list::{Items, MAX_VLEN};
-pub use record::{Kind, Measured, Record, Refers};
+pub use record::{Enumerates, Kind, Measured, Record, Refers};
 pub use refs::{
     Const, ConstKind, Ptr, PtrKind, Restrict, RestrictKind, TypeTag, TypeTagKind, Typedef,
     TypedefKind, Volatile, VolatileKind,

@@ -75,9 +75,7 @@ impl<T: Item + fmt::Debug, const N: usize> Words for ItemList<T, N> {
         push_items(out, endianness, self.as_slice())
     }
 
-    fn try_clone(&self) -> Result<Self, AllocError> {
-        ItemList::try_clone(self)
-    }
+    ghost cloned = { λ xs ys same. same.0 };
 
     ghost words_kept = { λ _. refl };
 

@@ -1,7 +1,7 @@
 //! A record: three words, and the words after them, whose form depends on the kind.
 
-ghost use Rattle.std.specs.Prelude.{◌≡◌, ◌+◌, ◌*◌, ◌++◌, length, Some, Ok, OnOk};
-ghost use Rattle.btf_model.specs.Record.{kind_of, vlen, tail_words};
+ghost use Rattle.std.specs.Prelude.{◌≡◌, ◌+◌, ◌*◌, ◌++◌, ◌↔◌, IsTrue, length, Some, Ok, OnOk};
+ghost use Rattle.btf_model.specs.Record.{kind_of, kind_flag, vlen, tail_words};
 ghost use Rattle.btf_model.specs.Spelling.{spell, IsWhole};
 ghost use Rattle.btf_plain.specs.Error.{IsOrNoMemory, MeetsOrNoMemory};
 ghost use Rattle.btf_plain.specs.Kind as kinds;
@@ -48,6 +48,9 @@ pub trait Refers: Kind {}
 
 /// A kind whose third word is a size in bytes.
 pub trait Measured: Kind {}
+
+/// A kind that lists values; its kind flag says whether they have a sign.
+pub trait Enumerates: Kind {}
 
 /// A record of a kind (the kernel's documentation, "Type Encoding"). In contracts it is the record of its words.
 #[derive(Drop)]
@@ -192,7 +195,7 @@ impl<K: Kind> Record<K> {
     pub fn try_clone(&self) -> Result<Self, BtfError>
         ensures { IsOrNoMemory (λ r. r) result (Ok self.now) }
     {
-        let tail = self.tail.try_clone()?;
+        let tail = self.tail.clone()?;
         // Word by word: with a copy of the whole head, cloning a `BtfType` clears a head for each kind on the stack.
         let head = Head {
             name: self.head.name,
@@ -240,6 +243,15 @@ impl<K: Measured> Record<K> {
     }
 }
 
+impl<K: Enumerates> Record<K> {
+    /// Whether the values have a sign: the kind flag of info.
+    pub fn is_signed(&self) -> bool
+        ensures { IsTrue result ↔ (kind_flag self.now.info ≡ 1) }
+    {
+        self.head.info >> 31 == 1
+    }
+}
+
 impl<K: Kind> Clone for Record<K>
 where
     K::Tail: Fixed,
@@ -253,7 +265,7 @@ where
     fn clone(&self) -> Result<Self, AllocError> {
         Ok(Record {
             head: self.head,
-            tail: self.tail.copied(),
+            tail: self.tail.clone()?,
             kind: PhantomData,
         })
     }

@@ -48,7 +48,12 @@ impl Record<VarKind> {
     pub fn linkage(&self) -> VarLinkage
         ensures { self.now.tail ≡ var_linkage_number result ∷ [] }
     {
-        self.tail.copied()
+        match self.tail {
+            VarLinkage::Static => VarLinkage::Static,
+            VarLinkage::Global => VarLinkage::Global,
+            VarLinkage::Extern => VarLinkage::Extern,
+            VarLinkage::Unknown => VarLinkage::Unknown,
+        }
     }
 
     /// Sets the type and the linkage. The name and info do not change.
@@ -91,13 +96,11 @@ impl Words for VarLinkage {
         out: &mut Vec<u8>,
         endianness: Endianness,
     ) -> Result<(), AllocError> {
-        let number = self.copied().number();
+        let number = self.clone()?.number();
         push_array(out, endianness, &[head.name, head.info, head.third, number])
     }
 
-    fn try_clone(&self) -> Result<Self, AllocError> {
-        Ok(self.copied())
-    }
+    ghost cloned = { λ x y h i. var_linkage_number (h i) ∷ [] };
 
     ghost words_kept = { linkage_stays };
 
@@ -105,14 +108,7 @@ impl Words for VarLinkage {
 }
 
 impl Fixed for VarLinkage {
-    fn copied(&self) -> Self {
-        match self {
-            VarLinkage::Static => VarLinkage::Static,
-            VarLinkage::Global => VarLinkage::Global,
-            VarLinkage::Extern => VarLinkage::Extern,
-            VarLinkage::Unknown => VarLinkage::Unknown,
-        }
-    }
+    ghost is_copied = { λ x. tt };
 
     ghost same_number = { λ _ _. refl };
 }

@@ -15,7 +15,7 @@ use std::alloc::{AllocError, Global};
 use std::fmt;
 
 /// The words of a record after the third, in the form in which the record stores them.
-pub trait Words: Sized + Drop + fmt::Debug {
+pub trait Words: Sized + Clone + Drop + fmt::Debug {
     ghost use Rattle.std.specs.Prelude.{ℕ, List};
 
     /// The words, in order.
@@ -55,9 +55,8 @@ pub trait Words: Sized + Drop + fmt::Debug {
         ensures words_fit { OnOk result (AllByRecursion (λ w. w < 2 ^ 32)
             (model.words (headed head.now (words self.now)))) };
 
-    /// A copy of the words.
-    fn try_clone(&self) -> Result<Self, AllocError>
-        ensures { IfOk result (λ x. words x ≡ words self.now) };
+    /// A clone has the same words.
+    ghost cloned: { (x y : Self) → Self.is_clone x y → words y ≡ words x };
 
     /// Reading does not change the words of a value.
     ghost words_kept: { (x : Self) → kept (words x) ≡ words x };
@@ -70,9 +69,8 @@ pub trait Words: Sized + Drop + fmt::Debug {
 pub trait Fixed: Words {
     ghost use Rattle.std.specs.Prelude.{◌≡◌, ℕ};
 
-    /// A copy of the words.
-    fn copied(&self) -> Self
-        ensures { result ≡ self.now };
+    /// They are cloned without an allocation.
+    ghost is_copied: { (x : Self) → Self.is_infallible x };
 
     /// The number is the same for each vlen.
     ghost same_number: { (m n : ℕ) → Self.number m ≡ Self.number n };
@@ -108,9 +106,7 @@ impl Words for () {
         push_array(out, endianness, &[head.name, head.info, head.third])
     }
 
-    fn try_clone(&self) -> Result<Self, AllocError> {
-        Ok(())
-    }
+    ghost cloned = { λ x y h. refl };
 
     ghost words_kept = { λ _. refl };
 
@@ -118,9 +114,7 @@ impl Words for () {
 }
 
 impl Fixed for () {
-    fn copied(&self) -> Self {
-        ()
-    }
+    ghost is_copied = { λ x. tt };
 
     ghost same_number = { λ _ _. refl };
 }
@@ -156,9 +150,7 @@ impl Words for u32 {
         push_array(out, endianness, &[head.name, head.info, head.third, *self])
     }
 
-    fn try_clone(&self) -> Result<Self, AllocError> {
-        Ok(*self)
-    }
+    ghost cloned = { λ x y h i. h i ∷ [] };
 
     ghost words_kept = { λ _. refl };
 
@@ -166,9 +158,7 @@ impl Words for u32 {
 }
 
 impl Fixed for u32 {
-    fn copied(&self) -> Self {
-        *self
-    }
+    ghost is_copied = { λ x. tt };
 
     ghost same_number = { λ _ _. refl };
 }

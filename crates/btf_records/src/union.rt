@@ -53,16 +53,6 @@ impl Members {
         }
     }
 
-    /// The members, in order.
-    fn as_slice(&self) -> &[BtfMember]
-        ensures { result.now ≡ members_of self.now }
-    {
-        match self {
-            Members::Alone(members) => members.as_slice(),
-            Members::InsteadOf(_, members) => members.as_slice(),
-        }
-    }
-
     /// A copy of the members and the fallback.
     fn try_clone(&self) -> Result<Self, BtfError>
         ensures members { IsOrNoMemory (λ m. flat_map member_words (members_of m)) result
@@ -72,7 +62,7 @@ impl Members {
         ensures fallback { IsOrNoMemory kept_of result (Ok (kept_of self.now)) }
     {
         match self {
-            Members::Alone(members) => Ok(Members::Alone(members.try_clone()?)),
+            Members::Alone(members) => Ok(Members::Alone(members.clone()?)),
             Members::InsteadOf(fallback, members) => {
                 Ok(Members::InsteadOf(fallback.try_clone()?, members.clone()?))
             }
@@ -201,7 +191,10 @@ impl Union {
         ensures words { self.now.words.tail ≡ flat_map member_words result.now }
         ensures count { vlen self.now.words.info ≡ length result.now }
     {
-        self.members.as_slice()
+        match &self.members {
+            Members::Alone(members) => members.as_slice(),
+            Members::InsteadOf(_, members) => members.as_slice(),
+        }
     }
 
     /// The bit at which a member of this record begins.
