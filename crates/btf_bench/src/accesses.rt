@@ -106,8 +106,8 @@ fn access(
     }
 }
 
-/// Random accesses of a table, to which their access strings are added: the id of a type, the string offset of the access
-/// string, and the number of the kind of each.
+/// Random accesses of a table, to which their access strings are added: the id of a type, the string offset of the
+/// access string, and the number of the kind of each.
 pub fn accesses(alloc: Global, table: &mut Btf, seed: u64) -> Result<Vec<[u32; 3]>, Fail> {
     let mut random = Xoshiro256PlusPlus::seed_from_u64(seed);
     let ids = named_ids(alloc, table)?;

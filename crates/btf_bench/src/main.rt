@@ -4,10 +4,11 @@
 //! prints the least and the median time of REPS runs, and the least time by record. With `--csv` it prints them in
 //! nanoseconds, separated by commas; with `--names` it prints the names of the works without times.
 //!
-//! `btf_bench FAMILY N [REPS] [--csv|--names]` measures a table that an attacker could make, at the sizes N, 2 N and
-//! 4 N: a step that is not linear shows in the time of a unit. FAMILY is `collide`, `fan`, `rings`, `nest`, `flood`,
+//! `btf_bench FAMILY N [REPS] [--csv|--names]` measures a table that an attacker could make, at the sizes N, 2 N and 4
+//! N: a step that is not linear shows in the time of a unit. FAMILY is `collide`, `fan`, `rings`, `nest`, `flood`,
 //! `floodrings`, `longname`, `listing`, `sections`, `collidedsections`, `keyedsections`, `entries`, `symbols`,
-//! `datasecs`, `twins`, `namesakes`, `fields`, `levels` or `loops`; the modules `hostile` and `relocated` describe these.
+//! `datasecs`, `twins`, `namesakes`, `fields`, `levels` or `loops`; the modules `hostile` and `relocated` describe
+//! these.
 //!
 //! `btf_bench relocate LOCAL TARGET [REPS] [--csv|--names]` measures 20,000 relocations of random accesses of one table
 //! against another, the index of the other included. With `--names` it prints the records: type, access, kind.

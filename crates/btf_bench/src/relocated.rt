@@ -9,8 +9,8 @@ use std::test::Fail;
 /// What is relocated.
 #[derive(Clone, Copy)]
 pub enum Relocated {
-    /// N fields that the kernel lacks, each searched in a STRUCT of 40 levels, of which each has two members without a name
-    /// of the level below: 2 to the power of 40 members.
+    /// N fields that the kernel lacks, each searched in a STRUCT of 40 levels, of which each has two members without a
+    /// name of the level below: 2 to the power of 40 members.
     Twins,
     /// One field, with N STRUCTs of its type's name in the kernel, which lack it.
     Namesakes,

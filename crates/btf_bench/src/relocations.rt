@@ -21,8 +21,8 @@ pub struct Relocations {
 }
 
 impl Relocations {
-    /// The section of these records, each given by the id of a type, the string offset of an access string, and the number
-    /// of a kind.
+    /// The section of these records, each given by the id of a type, the string offset of an access string, and the
+    /// number of a kind.
     pub fn new(
         alloc: Global,
         local: Btf,
@@ -54,8 +54,8 @@ impl Relocations {
         Ok(String::from_str(alloc, text.as_str())?)
     }
 
-    /// Writes into each instruction what a compiler writes: the value for the program's own table. Errors are left to the
-    /// timed call.
+    /// Writes into each instruction what a compiler writes: the value for the program's own table. Errors are left to
+    /// the timed call.
     pub fn compile(&mut self, alloc: Global) -> Result<(), Fail> {
         let target = Target::new(alloc, &self.kernel)?;
         let mut code = Vec::with_capacity(alloc, self.code.len())?;

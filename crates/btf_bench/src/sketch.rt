@@ -55,8 +55,8 @@ impl Sketch {
         self.record(&[0, 0x0300_0000, 0, element, index, count])
     }
 
-    /// A STRUCT of 8 bytes with the name at this offset, whose members all begin at bit 0: the string offset of the name,
-    /// and the type, of each.
+    /// A STRUCT of 8 bytes with the name at this offset, whose members all begin at bit 0: the string offset of the
+    /// name, and the type, of each.
     pub fn structure(&mut self, name_offset: u32, members: &[(u32, u32)]) -> Result<u32, Fail> {
         let vlen = u32::from(u16::try_from(members.len())?);
         let id = self.record(&[name_offset, 0x0400_0000 | vlen, 8])?;

@@ -119,8 +119,9 @@ impl Frame {
         self.step(types_at(self.at, local_type, target_type), passed)
     }
 
-    /// Takes the step that follows from what is at the position. Returns the end of the walk, or None if the walk goes on.
-    /// The `passed` prototypes are known to have compatible parameters, so the walk continues with their return types.
+    /// Takes the step that follows from what is at the position. Returns the end of the walk, or None if the walk goes
+    /// on. The `passed` prototypes are known to have compatible parameters, so the walk continues with their return
+    /// types.
     #[inline(always)]
     fn step<'a>(
         &mut self,

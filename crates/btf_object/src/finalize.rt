@@ -51,8 +51,8 @@ fn finalize_type<H: BuildHasher>(
 }
 
 /// Finalizes a table from its object: a DATASEC of size 0 gets the size of its section, and its entries get the offsets
-/// of their variables, if all are known; and the entries of each DATASEC are sorted by offset. `OutOfMemory` is the only
-/// error.
+/// of their variables, if all are known; and the entries of each DATASEC are sorted by offset. `OutOfMemory` is the
+/// only error.
 fn finalize<H: BuildHasher>(
     alloc: Global,
     btf: &mut Btf,

@@ -21,8 +21,9 @@ use std::hash::{BuildHasher, BuildHasherDefault, FoldHasher};
 /// are included, with the value 0. libbpf uses only symbols of type `STT_OBJECT` that are global or weak. No section of
 /// an object is named `.kconfig`; libbpf and `sanitize_finalized` give this DATASEC a size of its own.
 ///
-/// Names are hashed by an `H`. The default has a fixed seed, so an attacker can choose names that collide, and n of them
-/// take time in proportion to n squared. For an untrusted object, pass a hasher with random keys, as `RandomState`.
+/// Names are hashed by an `H`. The default has a fixed seed, so an attacker can choose names that collide, and n of
+/// them take time in proportion to n squared. For an untrusted object, pass a hasher with random keys, as
+/// `RandomState`.
 #[derive(Drop)]
 pub struct ObjectLayout<H: BuildHasher = BuildHasherDefault<FoldHasher>> {
     /// The index and `sh_size` of the last section of each name.

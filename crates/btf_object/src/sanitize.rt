@@ -121,8 +121,8 @@ pub fn sanitize_parsed<H: BuildHasher + Clone + Drop>(
 }
 
 /// The object with its table finalized as by libbpf, and then rewritten for a kernel; and the features that the rewrite
-/// asked for, each with whether the kernel has it. The first section named `.BTF` has the bytes of the new table, and no
-/// other section changes.
+/// asked for, each with whether the kernel has it. The first section named `.BTF` has the bytes of the new table, and
+/// no other section changes.
 ///
 /// Before the rewrite, the variables of `.kconfig` are laid out, DATASECs get the sizes of their sections, and their
 /// entries get the offsets of their variables and are sorted by them. If functions are in `.ksyms`, a variable

@@ -426,8 +426,8 @@ pub fn name_bytes<'a>(table: &'a Btf, btf_type: &BtfType) -> Option<&'a [u8]>
     bytes_at(&table.strings, btf_type.name_offset(), 0)
 }
 
-/// The bytes of the name at a string offset, from the offset up to the first zero byte, if it is among the first `limit`
-/// bytes; they need not be UTF-8. Reads at most `limit` bytes.
+/// The bytes of the name at a string offset, from the offset up to the first zero byte, if it is among the first
+/// `limit` bytes; they need not be UTF-8. Reads at most `limit` bytes.
 pub fn short_name(table: &Btf, offset: u32, limit: usize) -> Option<&[u8]>
     ensures { option_map (λ b. b.now) result
         ≡ model.bytes_at (take limit (drop offset table.now.strings)) 0 }
@@ -437,8 +437,8 @@ pub fn short_name(table: &Btf, offset: u32, limit: usize) -> Option<&[u8]>
     bytes_at(front, 0, 0)
 }
 
-/// The end of the offsets at which a text of the table can be read, for `is_named`, if a name can be compared with bytes;
-/// else None. A search for a name asks for it once.
+/// The end of the offsets at which a text of the table can be read, for `is_named`, if a name can be compared with
+/// bytes; else None. A search for a name asks for it once.
 pub fn comparable_end(table: &Btf, name: &str) -> Option<usize>
     ensures { IfSome result (λ end. IsReadableEnd table.now.strings end × IsComparable name.now) }
 {

@@ -10,9 +10,10 @@ const UNFINISHED: &str = ".btfobj-";
 
 /// Writes these bytes to a file.
 ///
-/// A regular file never has a part of them: they are written to a new file beside it, `NAME.btfobj-PID`, which takes the
-/// name at the end, and the mode of the file that had it. What an interrupted run left under such a name is removed. A
-/// device, a pipe and a symbolic link keep their names: they are opened, and the bytes are written to what they are.
+/// A regular file never has a part of them: they are written to a new file beside it, `NAME.btfobj-PID`, which takes
+/// the name at the end, and the mode of the file that had it. What an interrupted run left under such a name is
+/// removed. A device, a pipe and a symbolic link keep their names: they are opened, and the bytes are written to what
+/// they are.
 pub fn write_file(rt: &HostRuntime, name: &str, bytes: &[u8]) -> io::Result<()> {
     match fs::symlink_metadata(rt, name) {
         Ok(found) if found.is_file() => replace(rt, name, bytes, Some(found.permissions())),

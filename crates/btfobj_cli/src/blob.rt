@@ -86,7 +86,8 @@ impl<'a> Blob<'a> {
         Ok(Btf::parse(alloc, bytes, self.endianness())?)
     }
 
-    /// The table, as `table` returns it, with its errors. The error is `Split` if names or ids of its types are not in it.
+    /// The table, as `table` returns it, with its errors. The error is `Split` if names or ids of its types are not in
+    /// it.
     pub fn whole_table(&self, alloc: Global) -> Result<Btf, Fault>
         ensures { IfOk result (HasTable self.now) }
     {

@@ -26,8 +26,8 @@ pub struct Checked {
 }
 
 /// Writes a line for each feature that a file's table needs, with whether the kernel has the feature, and a line for
-/// each type that a rewrite for the kernel changes or adds. Returns whether there is a feature that the kernel lacks, and
-/// whether there is such a type. The errors are those of `sanitize` and of `Blob::whole_table`, and `Write`.
+/// each type that a rewrite for the kernel changes or adds. Returns whether there is a feature that the kernel lacks,
+/// and whether there is such a type. The errors are those of `sanitize` and of `Blob::whole_table`, and `Write`.
 pub fn check<W: io::Write, H: BuildHasher + Clone + Drop>(
     alloc: Global,
     bytes: &[u8],

@@ -28,14 +28,14 @@ pub struct Rewrite<'a> {
     pub policy: FillPolicy,
     /// The name of the variable that replaces functions in `.ksyms`.
     pub placeholder: Option<&'a str>,
-    /// Whether the table of an object is finalized before the rewrite, as `sanitize_finalized` does, whatever the policy
-    /// and the placeholder are.
+    /// Whether the table of an object is finalized before the rewrite, as `sanitize_finalized` does, whatever the
+    /// policy and the placeholder are.
     pub is_finalized: bool,
 }
 
 /// Rewrites the table of a file for a kernel. Returns the bytes of the new file, and the answers for the features that
-/// the rewrite asked about. An object is rewritten as by `sanitize_finalized` or `sanitize_object_with`, with this hasher.
-/// A table alone has no sections and no symbols.
+/// the rewrite asked about. An object is rewritten as by `sanitize_finalized` or `sanitize_object_with`, with this
+/// hasher. A table alone has no sections and no symbols.
 ///
 /// The errors are `UnknownFormat`, `Rewrite` with the error of these calls, `Table` with the error of `Btf::parse`, of
 /// `ksyms_of` or of `Btf::fixup_and_sanitize_with`, and `OutOfMemory`.

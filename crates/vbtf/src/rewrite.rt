@@ -22,8 +22,8 @@ use std::alloc::Global;
 
 /// Rewrites the table that a handle owns for a kernel, and reports the features that the rewrite asked about.
 /// `sections` has the sizes of the program's sections, and `symbols` the offsets of its symbols. Their names are in
-/// `section_names` and `symbol_names`, which can be the string tables of an object. `seed` is a random number, with which
-/// the names are hashed.
+/// `section_names` and `symbol_names`, which can be the string tables of an object. `seed` is a random number, with
+/// which the names are hashed.
 ///
 /// Status 2, 6, 9, 10, 13, 14 or 15 with the first error, 20 if an allocation fails, 101 if the
 /// handle's state is not 1, and 102 if a name is not in its buffer, or is not UTF-8; the table is then unchanged, and

@@ -163,7 +163,8 @@ fn laid_out(
     Ok(Some((entries, size)))
 }
 
-/// A DATASEC with its externs in order, or None if it has a size or cannot be laid out. `OutOfMemory` is the only error.
+/// A DATASEC with its externs in order, or None if it has a size or cannot be laid out. `OutOfMemory` is the only
+/// error.
 fn laid_out_section(
     alloc: Global,
     btf: &Btf,

@@ -19,8 +19,8 @@ use btf_table::Btf;
 use std::alloc::{AllocError, Global};
 use std::hash::BuildHasher;
 
-/// The offset of an entry, if it is known: its own if its variable is Static or Extern, else the offset of its variable's
-/// symbol. `OutOfMemory` is the only error.
+/// The offset of an entry, if it is known: its own if its variable is Static or Extern, else the offset of its
+/// variable's symbol. `OutOfMemory` is the only error.
 fn entry_offset<H: BuildHasher>(
     btf: &Btf,
     layout: &ObjectLayout<H>,

@@ -184,8 +184,8 @@ fn has_name_at(strings: &[u8], offset: u32, name: &str) -> bool
     }
 }
 
-/// Whether the text at an offset is this name, or `InvalidStringOffset` if there is no text. With a readable end the bytes
-/// are compared, and no text is read to its end. Otherwise the text is read, and bytes that are not UTF-8 need an
+/// Whether the text at an offset is this name, or `InvalidStringOffset` if there is no text. With a readable end the
+/// bytes are compared, and no text is read to its end. Otherwise the text is read, and bytes that are not UTF-8 need an
 /// allocation.
 pub fn has_name(
     alloc: Global,
