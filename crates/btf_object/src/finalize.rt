@@ -19,9 +19,9 @@ pub use crate::finalize::placeholder::add_placeholder;
 use crate::finalize::section::final_section;
 pub use crate::finalize::sized::{set_sizes, sizes_of};
 use crate::layout::ObjectLayout;
+use btf_plain::BtfError;
 use btf_records::BtfType;
 use btf_table::{Btf, set_type, type_count};
-use btf_plain::BtfError;
 use std::alloc::Global;
 use std::hash::BuildHasher;
 

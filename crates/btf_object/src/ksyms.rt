@@ -6,9 +6,9 @@ ghost use Rattle.btf_plain.specs.Error.{MeetsOrNoMemory};
 ghost use Rattle.btf_object_model.specs.Ksyms.{FindsKsyms, FindsPlaceholder};
 ghost use Rattle.btf_object.specs.Ksyms.{FindsDataSecOrNone};
 
+use btf_plain::{BtfError, BtfKind};
 use btf_rewrite_model::KsymsIds;
 use btf_table::Btf;
-use btf_plain::{BtfError, BtfKind};
 
 /// The name of the DATASEC of the kernel's symbols.
 const KSYMS: &str = ".ksyms";

@@ -21,10 +21,10 @@ use crate::ksyms::ksyms_of;
 use crate::layout::ObjectLayout;
 use arrayvec::ArrayVec;
 use btf_elf::Object;
+use btf_plain::BtfError;
 use btf_rewrite_model::{BtfFeature, FeatureAnswer, FillPolicy, KsymsIds};
 use btf_rules::BtfFeatureResolver;
 use btf_table::Btf;
-use btf_plain::BtfError;
 use std::alloc::Global;
 use std::hash::BuildHasher;
 

@@ -11,8 +11,8 @@ use crate::error::BtfError;
 use crate::item::{Item, copied, read_item, read_items};
 use crate::items::{BtfEnum, BtfParam};
 use btf_model::Endianness;
-use std::{array, fmt};
 use std::alloc::{AllocError, Global};
+use std::{array, fmt};
 
 /// The length in bytes of an item of three words, which is the longest item.
 const LONGEST_ITEM: usize = 12;

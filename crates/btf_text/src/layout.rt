@@ -23,9 +23,9 @@ use crate::layout::page::Page;
 use crate::layout::stats::write_stats;
 use crate::layout::type_text::keyword;
 use crate::word::text_at;
+use btf_plain::{BtfError, BtfKind};
 use btf_records::BtfType;
 use btf_table::Btf;
-use btf_plain::{BtfError, BtfKind};
 use std::alloc::Global;
 use std::fmt::Write;
 

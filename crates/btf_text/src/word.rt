@@ -1,8 +1,8 @@
 //! Names of a table.
 
 use crate::error::TextError;
-use btf_table::{Btf, BtfStr};
 use btf_plain::BtfError;
+use btf_table::{Btf, BtfStr};
 use std::fmt::Write;
 
 /// The text at a string offset; None if it can't be read. `OutOfMemory` is the only error.

@@ -6,9 +6,9 @@ ghost use Rattle.btfobj_cli.specs.declared.compatibility.Finding.{Finding};
 
 use crate::fault::Fault;
 use btf_compare::types_are_compatible;
+use btf_plain::{BtfError, BtfKind};
 use btf_table::Btf;
 use btf_text::TextBuffer;
-use btf_plain::{BtfError, BtfKind};
 use std::fmt::Write;
 use std::io;
 

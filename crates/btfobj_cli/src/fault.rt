@@ -2,8 +2,8 @@
 
 use btf_elf::ObjectError;
 use btf_object::SanitizeError;
-use btf_text::TextError;
 use btf_plain::BtfError;
+use btf_text::TextError;
 use std::alloc::{AllocError, AllocFailed};
 use std::fmt;
 use thiserror::Error;

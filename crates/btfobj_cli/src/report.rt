@@ -3,11 +3,11 @@
 use crate::blob::Blob;
 use crate::fault::Fault;
 use crate::split::continues_base;
+use btf_plain::{BtfError, BtfKind};
 use btf_table::Btf;
 use btf_text::{
     Selection, TextBuffer, find_layout, kind_name, write_dump, write_ext, write_layout,
 };
-use btf_plain::{BtfError, BtfKind};
 use std::alloc::Global;
 use std::io::Write;
 

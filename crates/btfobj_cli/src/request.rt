@@ -3,9 +3,9 @@
 use crate::command::command;
 use crate::rewrite::Rewrite;
 use btf_object::Kernel;
+use btf_plain::BtfKind;
 use btf_rewrite_model::{BtfFeature, FillPolicy};
 use btf_text::Selection;
-use btf_plain::BtfKind;
 use clap::error::ErrorKind;
 use clap::{ArgMatches, Command, Error};
 use std::alloc::Global;

@@ -3,9 +3,9 @@
 use crate::sample::{big, fixed_keys, little};
 use btf_elf::{Object, SectionHeader};
 use btf_object::{FillPolicy, Kernel, KsymsIds, ksyms_of, sanitize_object, sanitize_object_with};
+use btf_plain::BtfKind;
 use btf_records::BtfType;
 use btf_table::Btf;
-use btf_plain::BtfKind;
 use std::alloc::Global;
 use std::test::Fail;
 

@@ -9,9 +9,9 @@ ghost use Rattle.btf_object_model.specs.Finalized.{is_of_externs, if_positive, s
 ghost use Rattle.btf_object.specs.Finalize.{symbol_of, AreRead};
 
 use crate::layout::ObjectLayout;
+use btf_plain::{BtfError, SectionIndex};
 use btf_rules::known_offset;
 use btf_table::Btf;
-use btf_plain::{BtfError, SectionIndex};
 use std::alloc::Global;
 use std::collections::{BTreeMap, HashMap};
 use std::hash::BuildHasher;

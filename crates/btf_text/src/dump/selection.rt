@@ -2,9 +2,9 @@
 
 use crate::error::TextError;
 use crate::word::text_at;
+use btf_plain::BtfKind;
 use btf_records::BtfType;
 use btf_table::Btf;
-use btf_plain::BtfKind;
 
 /// A selection of types of a table: the types that meet all of the given conditions.
 #[derive(Clone, Copy, Debug, Default)]

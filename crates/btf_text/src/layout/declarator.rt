@@ -1,9 +1,9 @@
 //! The parts of a type of C: its base, and the pointers, arrays and prototypes around the base.
 
 use crate::error::TextError;
+use btf_plain::BtfError;
 use btf_records::{BtfType, FuncProto};
 use btf_table::{Btf, WALK_LIMIT};
-use btf_plain::BtfError;
 use std::alloc::Global;
 
 /// The qualifiers of a type.

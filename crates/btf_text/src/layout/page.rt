@@ -3,8 +3,8 @@
 use crate::error::TextError;
 use crate::layout::group::Group;
 use crate::layout::hole::Pass;
-use btf_table::Btf;
 use btf_plain::BtfError;
+use btf_table::Btf;
 use std::alloc::Global;
 use std::collections::BTreeMap;
 use std::fmt;
