@@ -6,7 +6,9 @@ use crate::output::Output;
 use btf_rewrite_model::{BtfFeature, FeatureAnswer};
 use btf_table::Btf;
 use btf_text::Selection;
-use btfobj_cli::{Blob, Fault, Request, Rewrite, check, compat, dump, ext, layout, sanitize};
+use btfobj_cli::{
+    Blob, Fault, Request, Rewrite, check, compat, dump, ext, layout, sanitize, table_alone,
+};
 use std::alloc::Global;
 use std::hash::RandomState;
 use std::io::{ErrorKind, Write};
@@ -195,12 +197,6 @@ fn sanitized<'a>(
         let _ = eprintln!(rt; "btfobj: {file}: {NO_SECTIONS}");
     }
     Ok(written)
-}
-
-/// The bytes of the table of a file.
-fn table_alone(alloc: Global, file: &[u8]) -> Result<Vec<u8>, Fault> {
-    let blob = Blob::read(alloc, file)?;
-    Ok(Vec::from_slice(alloc, blob.table_bytes()?)?)
 }
 
 /// Whether a rewrite took the DATASECs out of a table.

@@ -55,6 +55,10 @@ abbrev pub HasTableBytes : Blob → List ℕ → Type 0
 HasTableBytes (Object object) bytes = IsSection object table_name bytes
 HasTableBytes (Table own order) bytes = bytes ≡ own.now
 
+-- The bytes are those of the table of a file.
+abbrev pub IsTableOf : List ℕ → List ℕ → Type 0
+IsTableOf file bytes = (blob : Blob) × IsBlob file blob × HasTableBytes blob bytes
+
 -- The file has this table.
 abbrev pub HasTable : Blob → tables.Table → Type 0
 HasTable blob t = (bytes : List ℕ) × HasTableBytes blob bytes × model.IsTable (order_of blob) bytes t

@@ -17,4 +17,4 @@ pub use compatibility::compat;
 pub use fault::Fault;
 pub use report::{dump, ext, layout};
 pub use request::{Request, read_request};
-pub use rewrite::{Rewrite, sanitize};
+pub use rewrite::{Rewrite, sanitize, table_alone};

@@ -3,7 +3,7 @@
 ghost use Rattle.std.specs.Prelude.{◌≡◌, ℕ, List, None, IfOk};
 ghost use Rattle.btf_object.specs.Kernel.{has};
 ghost use Rattle.btf_rules.specs.Layout.{sizes_of, offsets_of};
-ghost use Rattle.btfobj_cli.specs.Blob.{HasTable};
+ghost use Rattle.btfobj_cli.specs.Blob.{HasTable, IsTableOf};
 ghost use Rattle.btfobj_cli.specs.Rewrite.{chosen_target, RewritesTable, RewritesObject, RewritesBlob, IsRewritten};
 
 use crate::blob::Blob;
@@ -51,6 +51,15 @@ pub fn sanitize<H: BuildHasher + Clone + Drop>(
 {
     let blob = Blob::read(alloc, bytes)?;
     sanitize_blob(alloc, &blob, rewrite, hash_builder)
+}
+
+/// The bytes of the table of a file: of the section `.BTF` of an object, or of the file. The errors are `UnknownFormat`,
+/// `Object`, `NoSection` and `OutOfMemory`.
+pub fn table_alone(alloc: Global, file: &[u8]) -> Result<Vec<u8>, Fault>
+    ensures { IfOk result (λ table. IsTableOf file.now table.items) }
+{
+    let blob = Blob::read(alloc, file)?;
+    Ok(Vec::from_slice(alloc, blob.table_bytes()?)?)
 }
 
 /// `sanitize` of a file that is already read, with its errors but `UnknownFormat`.
