@@ -1,6 +1,6 @@
 //! Texts of the string section, and the type of a name.
 
-ghost use Rattle.std.specs.Prelude.{◌≡◌, ◌≢◌, ◌↔◌, ◌<◌, ◌^◌, ◌++◌, ℕ, List, length, drop, map, Some, Ok, IfSome, IsTrue, MatchOption, false};
+ghost use Rattle.std.specs.Prelude.{◌≡◌, ◌≢◌, ◌↔◌, ◌<◌, ◌^◌, ◌++◌, ℕ, List, length, drop, map, Some, IfSome, IsTrue, MatchOption};
 ghost use Rattle.std.specs.Option.{option_map};
 ghost use Rattle.std.specs.Str.{IsUtf8};
 ghost use Rattle.btf_model.specs.Record.{kind_of};
@@ -211,18 +211,6 @@ pub fn has_name(
     Ok(has_name_at(strings, offset, name))
 }
 
-/// Whether the text at an offset can be read and begins with another byte than this name. False without a readable end.
-#[inline(always)]
-fn is_other_name(strings: &[u8], offset: u32, name: &str, readable_end: Option<usize>) -> bool
-    requires { IfSome readable_end (λ end. IsReadableEnd strings.now end × IsComparable name.now) }
-    ensures { IsTrue result → HasName strings.now offset name.now (Ok false) }
-{
-    let Some(end) = readable_end else {
-        return false;
-    };
-    (offset as usize) < end && begins_otherwise(strings_from(strings, offset), name.as_bytes())
-}
-
 /// Whether a type has this kind and this name, or why the name of a type of this kind can't be read. With a readable
 /// end the bytes are compared, and otherwise the text that they are read as.
 fn has_kind_and_name(
@@ -237,16 +225,10 @@ fn has_kind_and_name(
     ensures { MeetsOrNoMemory (λ b. b) result
         (IsNamed strings.now (kinds.kind kind) name.now (record_of btf_type.now)) }
 {
-    let offset = btf_type.name_offset();
-    // Before the kind: most names of a table begin otherwise, so a processor predicts this branch, but not that of the
-    // kind.
-    if is_other_name(strings, offset, name, readable_end) {
-        return Ok(false);
-    }
     if !has_kind(btf_type, kind) {
         return Ok(false);
     }
-    has_name(alloc, strings, offset, name, readable_end)
+    has_name(alloc, strings, btf_type.name_offset(), name, readable_end)
 }
 
 /// The id of the first type of this kind and name. The number of types fits in 32 bits. Names of the table are not read
