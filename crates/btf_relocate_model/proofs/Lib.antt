@@ -1,1 +1,2 @@
 mod Patches
+mod Existence

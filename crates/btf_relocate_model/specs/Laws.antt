@@ -1,11 +1,20 @@
 -- The laws of the definitions. Each is the contract of a public function of this crate.
-use Rattle.std.specs.Prelude.{◌≡◌, ◌≢◌, ◌⊎◌, ℕ, ◌/◌, ◌%◌, ◌<◌, ◌≤◌, true, false, Ok}
+use Rattle.std.specs.Prelude.{◌≡◌, ◌≢◌, ◌⊎◌, ℕ, ◌/◌, ◌%◌, ◌<◌, ◌≤◌, not, true, false, List, [], ◌∷◌, slice_get, Some, Result, Ok, Err}
 use Rattle.btf_model.specs.declared.endianness.Endianness.{Endianness}
 use Rattle.btf_relocate_model.specs.Instruction.{relocated, poisoned, sign_extended, wide_immediate}
+use Rattle.btf_relocate_model.specs.Kind.{relocation_kinds}
+use Rattle.btf_relocate_model.specs.Path.{local_pointer}
+use Rattle.btf_relocate_model.specs.Resolution.{Setting, Fields, topic_of, poisons, resolution}
+use Rattle.btf_relocate_model.specs.Types.{pointer_size}
+use Rattle.btf_relocate_model.specs.Value.{field_value, number_of}
+use Rattle.btf_relocate_model.specs.declared.error.RelocationError.{RelocationError}
+use Rattle.btf_relocate_model.specs.declared.error.RelocationError.TheVariants.{Ambiguous}
+use Rattle.btf_relocate_model.specs.declared.field.Field.{Field}
 use Rattle.btf_relocate_model.specs.declared.instruction.Slot.{Slot}
 use Rattle.btf_relocate_model.specs.declared.instruction.Instruction.{Instruction}
 use Rattle.btf_relocate_model.specs.declared.instruction.Instruction.TheVariants.{Narrow, Wide}
 use Rattle.btf_relocate_model.specs.declared.instruction.Patched.TheVariants.{Written, Poisoned}
+use Rattle.btf_relocate_model.specs.declared.kind.RelocationKind.{RelocationKind}
 use Rattle.btf_relocate_model.specs.declared.resolved.Resolved.{Resolved}
 
 -- The field of a slot reads as a value: the offset of a load or store, the immediate of another instruction, which is
@@ -50,3 +59,31 @@ abbrev pub PoisonHasAReason : Type 0
 PoisonHasAReason =
     (order : Endianness) (r : Resolved) (i j : Instruction) → relocated order r i ≡ Ok (Poisoned, j)
     → (j ≡ poisoned i) × ((r.is_poisoned ≡ true) ⊎ ((r.local_size ≢ r.target_size) × (r.is_adjustable ≡ false)))
+
+-- ---- a field and its existence
+
+-- The error of a value: candidates give different values, or a field of one of the tables has no value for a kind.
+abbrev pub IsOfValue : Setting → RelocationKind → RelocationError → Type 0
+IsOfValue g k e =
+    (e ≡ Ambiguous) ⊎ (((f : Field) × (field_value local_pointer g.local k f ≡ Err e))
+    ⊎ ((f : Field) × (field_value (pointer_size g.target) g.target k f ≡ Err e)))
+
+-- What a record about a field gives agrees with what the record about its existence gives. The same candidates remain,
+-- and the existence is 0 if the other record poisons, and 1 if it does not. The other record has the same error, or the
+-- error of a value; it gives no result if the record about the existence gives none.
+abbrev pub AgreesWith : (RelocationError → Type 0) → Result (Resolved × List ℕ) RelocationError
+    → Result (Resolved × List ℕ) RelocationError → Type 0
+AgreesWith of_value (Ok exists) (Ok r) =
+    (exists.0.value ≡ number_of (not r.0.is_poisoned)) × (exists.0.is_poisoned ≡ false) × (exists.1 ≡ r.1)
+AgreesWith of_value (Ok exists) (Err e) = of_value e
+AgreesWith of_value (Err e) (Ok r) = ⊥
+AgreesWith of_value (Err e) (Err other) = (other ≡ e) ⊎ of_value other
+
+-- A record about a field, of a kind that poisons, agrees with the record about the existence of the field: of the same
+-- type, access string and candidates.
+abbrev pub ExistenceAgrees : Type 0
+ExistenceAgrees =
+    (g : Setting) (candidates : List ℕ) (at type access n : ℕ) (k : RelocationKind)
+    → slice_get relocation_kinds n ≡ Some k → topic_of k ≡ Fields → poisons k ≡ true
+    → AgreesWith (IsOfValue g k) (resolution g candidates (at ∷ type ∷ access ∷ 2 ∷ []))
+    (resolution g candidates (at ∷ type ∷ access ∷ n ∷ []))

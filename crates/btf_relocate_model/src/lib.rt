@@ -4,7 +4,7 @@
 //! contract of a function that does nothing.
 #![tactic(auto)]
 
-ghost use Rattle.btf_relocate_model.specs.Laws.{WrittenReadsBack, WrittenKeepsTheRest, PoisonHasAReason};
+ghost use Rattle.btf_relocate_model.specs.Laws.{WrittenReadsBack, WrittenKeepsTheRest, PoisonHasAReason, ExistenceAgrees};
 
 mod answer;
 mod error;
@@ -34,4 +34,10 @@ pub fn written_keeps_the_rest()
 /// change and may not. Then each slot of the instruction is the poison.
 pub fn poison_has_a_reason()
     ensures { PoisonHasAReason }
+{}
+
+/// A record about a field, of a kind that poisons, such as the offset of the field, agrees with the record about its
+/// existence: the field exists just if the other record does not poison. Errors of values are apart.
+pub fn existence_agrees()
+    ensures { ExistenceAgrees }
 {}
