@@ -1,2 +1,3 @@
 mod Patches
 mod Existence
+mod Exchanges

@@ -1,10 +1,11 @@
 -- The laws of the definitions. Each is the contract of a public function of this crate.
-use Rattle.std.specs.Prelude.{◌≡◌, ◌≢◌, ◌⊎◌, ℕ, ◌/◌, ◌%◌, ◌<◌, ◌≤◌, not, true, false, List, [], ◌∷◌, slice_get, Some, Result, Ok, Err}
+use Rattle.std.specs.Prelude.{◌≡◌, ◌≢◌, ◌⊎◌, ℕ, ◌+◌, ◌*◌, ◌/◌, ◌%◌, ◌<◌, ◌≤◌, ◌==◌, not, if◌then◌else◌, true, false, List, [], ◌∷◌, ◌++◌, slice_get, slice_index, Some, Result, Ok, Err}
 use Rattle.btf_model.specs.declared.endianness.Endianness.{Endianness}
-use Rattle.btf_relocate_model.specs.Instruction.{relocated, poisoned, sign_extended, wide_immediate}
+use Rattle.btf_relocate_model.specs.Instruction.{relocated, poisoned, sign_extended, wide_immediate, slot_len, ld_imm64, patched_code}
 use Rattle.btf_relocate_model.specs.Kind.{relocation_kinds}
 use Rattle.btf_relocate_model.specs.Path.{local_pointer}
-use Rattle.btf_relocate_model.specs.Resolution.{Setting, Fields, topic_of, poisons, resolution}
+use Rattle.btf_relocate_model.specs.Resolution.{Setting, Fields, topic_of, poisons, resolution, instruction_word}
+use Rattle.btf_relocate_model.specs.Section.{code_after, outcome_of, relocated_section}
 use Rattle.btf_relocate_model.specs.Types.{pointer_size}
 use Rattle.btf_relocate_model.specs.Value.{field_value, number_of}
 use Rattle.btf_relocate_model.specs.declared.error.RelocationError.{RelocationError}
@@ -13,6 +14,7 @@ use Rattle.btf_relocate_model.specs.declared.field.Field.{Field}
 use Rattle.btf_relocate_model.specs.declared.instruction.Slot.{Slot}
 use Rattle.btf_relocate_model.specs.declared.instruction.Instruction.{Instruction}
 use Rattle.btf_relocate_model.specs.declared.instruction.Instruction.TheVariants.{Narrow, Wide}
+use Rattle.btf_relocate_model.specs.declared.instruction.Patched.{Patched}
 use Rattle.btf_relocate_model.specs.declared.instruction.Patched.TheVariants.{Written, Poisoned}
 use Rattle.btf_relocate_model.specs.declared.kind.RelocationKind.{RelocationKind}
 use Rattle.btf_relocate_model.specs.declared.resolved.Resolved.{Resolved}
@@ -87,3 +89,41 @@ ExistenceAgrees =
     → slice_get relocation_kinds n ≡ Some k → topic_of k ≡ Fields → poisons k ≡ true
     → AgreesWith (IsOfValue g k) (resolution g candidates (at ∷ type ∷ access ∷ 2 ∷ []))
     (resolution g candidates (at ∷ type ∷ access ∷ n ∷ []))
+
+-- ---- the order of records
+
+-- the number of bytes of the instruction at a place: two slots if it is the load of a 64-bit immediate
+abbrev pub instruction_len : List ℕ → ℕ → ℕ
+instruction_len code at = if slice_index code at == ld_imm64 then 2 * slot_len else slot_len
+
+-- The instructions at two places do not overlap.
+abbrev pub AreApart : List ℕ → ℕ → ℕ → Type 0
+AreApart code at other = (at + instruction_len code at ≤ other) ⊎ (other + instruction_len code other ≤ at)
+
+-- the code after the patch of an instruction
+abbrev pub code_with : Endianness → Resolved → ℕ → List ℕ → List ℕ
+code_with order r at code = code_after code (patched_code order r code at)
+
+-- Two instructions that do not overlap are patched in either order: the outcome of each is the one that it has alone,
+-- and the code is the same.
+abbrev pub PatchesCommute : Type 0
+PatchesCommute =
+    (order : Endianness) (r s : Resolved) (code : List ℕ) (at other : ℕ) → AreApart code at other
+    → (outcome_of (patched_code order s (code_with order r at code) other) ≡ outcome_of (patched_code order s code other))
+    × (code_with order s other (code_with order r at code) ≡ code_with order r at (code_with order s other code))
+
+-- the outcomes and the code of a section whose records have all candidates
+abbrev pub freshly : Setting → List ℕ → List (List ℕ) → List (Result Patched RelocationError) × List ℕ
+freshly g code records = relocated_section g false code records
+
+-- Where each record has all candidates, two neighbouring records change places, if their instructions do not overlap in
+-- the code that the records before them leave: then their outcomes change places, and all else is the same.
+abbrev pub NeighboursExchange : Type 0
+NeighboursExchange =
+    (g : Setting) (code : List ℕ) (before after : List (List ℕ)) (words others : List ℕ)
+    → AreApart (freshly g code before).1 (instruction_word words) (instruction_word others)
+    → (o p : Result Patched RelocationError) × (os : List (Result Patched RelocationError))
+    × ((freshly g code (before ++ words ∷ others ∷ after)).0 ≡ (freshly g code before).0 ++ o ∷ p ∷ os)
+    × ((freshly g code (before ++ others ∷ words ∷ after)).0 ≡ (freshly g code before).0 ++ p ∷ o ∷ os)
+    × ((freshly g code (before ++ words ∷ others ∷ after)).1
+    ≡ (freshly g code (before ++ others ∷ words ∷ after)).1)

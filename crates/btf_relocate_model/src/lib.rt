@@ -4,7 +4,7 @@
 //! contract of a function that does nothing.
 #![tactic(auto)]
 
-ghost use Rattle.btf_relocate_model.specs.Laws.{WrittenReadsBack, WrittenKeepsTheRest, PoisonHasAReason, ExistenceAgrees};
+ghost use Rattle.btf_relocate_model.specs.Laws.{WrittenReadsBack, WrittenKeepsTheRest, PoisonHasAReason, ExistenceAgrees, PatchesCommute, NeighboursExchange};
 
 mod answer;
 mod error;
@@ -40,4 +40,15 @@ pub fn poison_has_a_reason()
 /// existence: the field exists just if the other record does not poison. Errors of values are apart.
 pub fn existence_agrees()
     ensures { ExistenceAgrees }
+{}
+
+/// Patches of two instructions that do not overlap have the same outcomes and leave the same code in either order.
+pub fn patches_commute()
+    ensures { PatchesCommute }
+{}
+
+/// Where each record has all candidates, two neighbouring records whose instructions do not overlap change places: their
+/// outcomes change places, and all other outcomes and the code are the same.
+pub fn neighbours_exchange()
+    ensures { NeighboursExchange }
 {}
