@@ -1,3 +1,4 @@
 mod Patches
 mod Existence
 mod Exchanges
+mod Appended

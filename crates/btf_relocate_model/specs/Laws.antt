@@ -1,5 +1,7 @@
 -- The laws of the definitions. Each is the contract of a public function of this crate.
-use Rattle.std.specs.Prelude.{◌≡◌, ◌≢◌, ◌⊎◌, ℕ, ◌+◌, ◌*◌, ◌/◌, ◌%◌, ◌<◌, ◌≤◌, ◌==◌, not, if◌then◌else◌, true, false, List, [], ◌∷◌, ◌++◌, slice_get, slice_index, Some, Result, Ok, Err}
+use Rattle.std.specs.Prelude.{◌≡◌, ◌≢◌, ◌⊎◌, ℕ, ◌+◌, ◌*◌, ◌/◌, ◌%◌, ◌<◌, ◌≤◌, ◌==◌, not, if◌then◌else◌, Bool, true, false, List, [], ◌∷◌, ◌++◌, slice_get, slice_index, Some, None, Result, Ok, Err}
+use Rattle.btf_model.specs.Table.{Table}
+use Rattle.btf_model.specs.Text.{bytes_at}
 use Rattle.btf_model.specs.declared.endianness.Endianness.{Endianness}
 use Rattle.btf_relocate_model.specs.Instruction.{relocated, poisoned, sign_extended, wide_immediate, slot_len, ld_imm64, patched_code}
 use Rattle.btf_relocate_model.specs.Kind.{relocation_kinds}
@@ -9,7 +11,7 @@ use Rattle.btf_relocate_model.specs.Section.{code_after, outcome_of, relocated_s
 use Rattle.btf_relocate_model.specs.Types.{pointer_size}
 use Rattle.btf_relocate_model.specs.Value.{field_value, number_of}
 use Rattle.btf_relocate_model.specs.declared.error.RelocationError.{RelocationError}
-use Rattle.btf_relocate_model.specs.declared.error.RelocationError.TheVariants.{Ambiguous}
+use Rattle.btf_relocate_model.specs.declared.error.RelocationError.TheVariants.{Ambiguous, InvalidStringOffset}
 use Rattle.btf_relocate_model.specs.declared.field.Field.{Field}
 use Rattle.btf_relocate_model.specs.declared.instruction.Slot.{Slot}
 use Rattle.btf_relocate_model.specs.declared.instruction.Instruction.{Instruction}
@@ -127,3 +129,30 @@ NeighboursExchange =
     × ((freshly g code (before ++ others ∷ words ∷ after)).0 ≡ (freshly g code before).0 ++ p ∷ o ∷ os)
     × ((freshly g code (before ++ words ∷ others ∷ after)).1
     ≡ (freshly g code (before ++ others ∷ words ∷ after)).1)
+
+-- ---- more strings
+
+-- The new result is the old one, or the old one is the error of a name at an offset at which the old strings have no
+-- text.
+abbrev pub SameOrUnread : {A : Type 0} → List ℕ → Result A RelocationError → Result A RelocationError → Type 0
+SameOrUnread strings old new =
+    (new ≡ old)
+    ⊎ ((offset : ℕ) × (bytes_at strings offset ≡ None) × (old ≡ Err (InvalidStringOffset offset)))
+
+-- a table with more strings after its own
+abbrev pub with_strings : List ℕ → Table → Table
+with_strings more t = record t { strings = t.strings ++ more }
+
+-- A comparison of types that the old and the new table of the program give.
+abbrev pub ComparesAlike : List ℕ → (RelocationKind → ℕ → ℕ → Result Bool RelocationError)
+    → (RelocationKind → ℕ → ℕ → Result Bool RelocationError) → Type 0
+ComparesAlike strings old new =
+    (k : RelocationKind) (id c : ℕ) → SameOrUnread strings (old k id c) (new k id c)
+
+-- Strings that are appended to the program's table change no resolution, except where a name had no text before them.
+abbrev pub StringsMayBeAppended : Type 0
+StringsMayBeAppended =
+    (g : Setting) (more : List ℕ) (is_alike : RelocationKind → ℕ → ℕ → Result Bool RelocationError)
+    (candidates words : List ℕ) → ComparesAlike g.local.strings g.is_alike is_alike
+    → SameOrUnread g.local.strings (resolution g candidates words)
+    (resolution (record g { local = with_strings more g.local; is_alike = is_alike }) candidates words)

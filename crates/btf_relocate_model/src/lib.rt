@@ -4,7 +4,7 @@
 //! contract of a function that does nothing.
 #![tactic(auto)]
 
-ghost use Rattle.btf_relocate_model.specs.Laws.{WrittenReadsBack, WrittenKeepsTheRest, PoisonHasAReason, ExistenceAgrees, PatchesCommute, NeighboursExchange};
+ghost use Rattle.btf_relocate_model.specs.Laws.{WrittenReadsBack, WrittenKeepsTheRest, PoisonHasAReason, ExistenceAgrees, PatchesCommute, NeighboursExchange, StringsMayBeAppended};
 
 mod answer;
 mod error;
@@ -51,4 +51,9 @@ pub fn patches_commute()
 /// outcomes change places, and all other outcomes and the code are the same.
 pub fn neighbours_exchange()
     ensures { NeighboursExchange }
+{}
+
+/// Strings that are appended to the program's table change no resolution, except where a name had no text before.
+pub fn strings_may_be_appended()
+    ensures { StringsMayBeAppended }
 {}
