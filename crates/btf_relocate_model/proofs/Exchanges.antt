@@ -106,7 +106,7 @@ instruction_same order code new at same len =
 
 -- ---- what an instruction becomes
 
-size : Instruction → ℕ
+unfoldable pub size : Instruction → ℕ
 size (Narrow s) = slot_len
 size (Wide s t) = 2 * slot_len
 
@@ -122,7 +122,7 @@ same_ok : {A : Type 0} (x z : A) → ◌≡◌ {A = Result A RelocationError} (O
 same_ok x z is = cc
 
 -- an instruction that is read, by the tests before it
-read_by : (apart short wide cut : Bool) (w n i : Instruction)
+pub read_by : (apart short wide cut : Bool) (w n i : Instruction)
     → ◌≡◌ {A = Result Instruction RelocationError} (if apart then Err Misaligned else (if short then Err NoInstruction else (if wide then (if cut then Err NoSecondSlot else Ok w) else Ok n))) (Ok i)
     → ((wide ≡ true) × (cut ≡ false) × (i ≡ w)) ⊎ ((wide ≡ false) × (short ≡ false) × (i ≡ n))
 read_by true short wide cut w n i is = absurd (cc)

@@ -2,3 +2,4 @@ mod Patches
 mod Existence
 mod Exchanges
 mod Appended
+mod OwnTable

@@ -1,17 +1,17 @@
 -- The laws of the definitions. Each is the contract of a public function of this crate.
-use Rattle.std.specs.Prelude.{◌≡◌, ◌≢◌, ◌⊎◌, ℕ, ◌+◌, ◌*◌, ◌/◌, ◌%◌, ◌<◌, ◌≤◌, ◌==◌, not, if◌then◌else◌, Bool, true, false, List, [], ◌∷◌, ◌++◌, slice_get, slice_index, Some, None, Result, Ok, Err}
+use Rattle.std.specs.Prelude.{◌≡◌, ◌≢◌, ◌⊎◌, ℕ, ◌+◌, ◌*◌, ◌/◌, ◌%◌, ◌^◌, ◌<◌, ◌≤◌, ◌==◌, not, if◌then◌else◌, Bool, true, false, List, All, [], ◌∷◌, ◌++◌, slice_get, slice_index, Some, None, Result, Ok, Err}
 use Rattle.btf_model.specs.Table.{Table}
 use Rattle.btf_model.specs.Text.{bytes_at}
 use Rattle.btf_model.specs.declared.endianness.Endianness.{Endianness}
 use Rattle.btf_relocate_model.specs.Instruction.{relocated, poisoned, sign_extended, wide_immediate, slot_len, ld_imm64, patched_code}
 use Rattle.btf_relocate_model.specs.Kind.{relocation_kinds}
 use Rattle.btf_relocate_model.specs.Path.{local_pointer}
-use Rattle.btf_relocate_model.specs.Resolution.{Setting, Fields, topic_of, poisons, resolution, instruction_word}
-use Rattle.btf_relocate_model.specs.Section.{code_after, outcome_of, relocated_section}
+use Rattle.btf_relocate_model.specs.Resolution.{Setting, Question, Fields, topic_of, poisons, resolution, question, instruction_word, type_word, match_of, local_match, value_of, validates}
+use Rattle.btf_relocate_model.specs.Section.{code_after, outcome_of, patch_of, relocated_section}
 use Rattle.btf_relocate_model.specs.Types.{pointer_size}
 use Rattle.btf_relocate_model.specs.Value.{field_value, number_of}
 use Rattle.btf_relocate_model.specs.declared.error.RelocationError.{RelocationError}
-use Rattle.btf_relocate_model.specs.declared.error.RelocationError.TheVariants.{Ambiguous, InvalidStringOffset}
+use Rattle.btf_relocate_model.specs.declared.error.RelocationError.TheVariants.{Ambiguous, AnonymousType, InvalidStringOffset}
 use Rattle.btf_relocate_model.specs.declared.field.Field.{Field}
 use Rattle.btf_relocate_model.specs.declared.instruction.Slot.{Slot}
 use Rattle.btf_relocate_model.specs.declared.instruction.Instruction.{Instruction}
@@ -156,3 +156,61 @@ StringsMayBeAppended =
     (candidates words : List ℕ) → ComparesAlike g.local.strings g.is_alike is_alike
     → SameOrUnread g.local.strings (resolution g candidates words)
     (resolution (record g { local = with_strings more g.local; is_alike = is_alike }) candidates words)
+
+-- ---- the program's own table as the target
+
+-- The target is the program's own table, and its pointers have the size that they have in the program.
+pub record IsOwn (g : Setting) : Type 0 where
+  pub table : g.target ≡ g.local
+  pub pointer : pointer_size g.target ≡ local_pointer
+
+-- A type of the target has just what the program's table has for a record. For a type this asks that the comparison of
+-- the kind holds; libbpf's comparison of `TypeExists` does not hold for a FLOAT and itself. For an enumerator it asks
+-- that no enumerator before it has its essential name, and for a field that no member before one on the way has its
+-- name, that the type of each member on the way is compatible with itself, and that the way has at most 64 places.
+abbrev pub FindsItself : Setting → Question → ℕ → Type 0
+FindsItself g q id =
+    match_of (g.is_alike q.kind id) g.local (pointer_size g.target) g.target q.subject id
+    ≡ Ok (Some (local_match q.subject))
+
+-- The value for the target is the value for the program's own table, of the same size, and the one candidate remains.
+pub record GivesTheExpected (q : Question) (id : ℕ) (r : Resolved × List ℕ) : Type 0 where
+  pub value : r.0.value ≡ r.0.expected
+  pub is_not_poisoned : r.0.is_poisoned ≡ false
+  pub size : r.0.target_size ≡ r.0.local_size
+  pub validates : r.0.validates ≡ validates q.kind q.subject
+  pub remaining : r.1 ≡ id ∷ []
+
+-- The same for a result. An error is that the type has no name, or the error of the value.
+abbrev pub IsExpected : Setting → Question → ℕ → Result (Resolved × List ℕ) RelocationError → Type 0
+IsExpected g q id (Ok r) = GivesTheExpected q id r
+IsExpected g q id (Err e) =
+    (e ≡ AnonymousType id) ⊎ (value_of local_pointer g.local q.kind (local_match q.subject) ≡ Err e)
+
+-- Against the program's own table, with its own type as the one candidate, a record gives the expected value.
+abbrev pub OwnTableGivesTheExpected : Type 0
+OwnTableGivesTheExpected =
+    (g : Setting) (words : List ℕ) (q : Question) → IsOwn g → question g.local g.target.order words ≡ Ok q
+    → FindsItself g q (type_word words)
+    → IsExpected g q (type_word words) (resolution g (type_word words ∷ []) words)
+
+-- each element is a byte
+abbrev pub AreBytes : List ℕ → Type 0
+AreBytes code = All (λ byte. byte < 2 ^ 8) code
+
+-- A patch that validates the instruction, and whose value and size are the expected ones, writes the bytes that are
+-- there.
+abbrev pub ExpectedKeepsTheCode : Type 0
+ExpectedKeepsTheCode =
+    (order : Endianness) (r : Resolved) (code : List ℕ) (at : ℕ) (p : Patched × List ℕ) → AreBytes code
+    → r.value ≡ r.expected → r.is_poisoned ≡ false → r.target_size ≡ r.local_size → r.validates ≡ true
+    → patched_code order r code at ≡ Ok p → p ≡ (Written, code)
+
+-- Against the program's own table, with its own type as the one candidate, a record that validates its instruction
+-- leaves the code as it is.
+abbrev pub OwnTableKeepsTheCode : Type 0
+OwnTableKeepsTheCode =
+    (g : Setting) (words code : List ℕ) (q : Question) (p : Patched × List ℕ) → AreBytes code → IsOwn g
+    → question g.local g.target.order words ≡ Ok q → FindsItself g q (type_word words)
+    → validates q.kind q.subject ≡ true
+    → patch_of g code words (resolution g (type_word words ∷ []) words) ≡ Ok p → p ≡ (Written, code)

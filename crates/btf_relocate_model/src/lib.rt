@@ -4,7 +4,7 @@
 //! contract of a function that does nothing.
 #![tactic(auto)]
 
-ghost use Rattle.btf_relocate_model.specs.Laws.{WrittenReadsBack, WrittenKeepsTheRest, PoisonHasAReason, ExistenceAgrees, PatchesCommute, NeighboursExchange, StringsMayBeAppended};
+ghost use Rattle.btf_relocate_model.specs.Laws.{WrittenReadsBack, WrittenKeepsTheRest, PoisonHasAReason, ExistenceAgrees, PatchesCommute, NeighboursExchange, StringsMayBeAppended, OwnTableGivesTheExpected, ExpectedKeepsTheCode, OwnTableKeepsTheCode};
 
 mod answer;
 mod error;
@@ -56,4 +56,22 @@ pub fn neighbours_exchange()
 /// Strings that are appended to the program's table change no resolution, except where a name had no text before.
 pub fn strings_may_be_appended()
     ensures { StringsMayBeAppended }
+{}
+
+/// Against the program's own table, with its own type as the one candidate, a record gives the expected value and poisons
+/// nothing, if the type has what the record asks for.
+pub fn own_table_gives_the_expected()
+    ensures { OwnTableGivesTheExpected }
+{}
+
+/// A patch that validates the instruction, and whose value and size are the expected ones, writes the bytes that are
+/// there.
+pub fn expected_keeps_the_code()
+    ensures { ExpectedKeepsTheCode }
+{}
+
+/// Against the program's own table, with its own type as the one candidate, a record that validates its instruction
+/// leaves the code as it is, if the type has what the record asks for.
+pub fn own_table_keeps_the_code()
+    ensures { OwnTableKeepsTheCode }
 {}
