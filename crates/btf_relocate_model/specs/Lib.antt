@@ -16,3 +16,4 @@ pub mod Section
 pub mod Laws
 pub mod Examples
 pub mod ResolutionExamples
+pub mod SectionExamples
