@@ -2,4 +2,6 @@ mod Patches
 mod Existence
 mod Exchanges
 mod Appended
+mod OwnPaths
+mod OwnSubjects
 mod OwnTable

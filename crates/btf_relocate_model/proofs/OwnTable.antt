@@ -12,10 +12,11 @@ use Rattle.btf_model.specs.Table.{Table}
 use Rattle.btf_model.specs.Word.{half, half_of, word}
 use Rattle.btf_model.specs.declared.endianness.Endianness.{Endianness}
 use Rattle.btf_relocate_model.proofs.Exchanges.{size, read_by}
+use Rattle.btf_relocate_model.proofs.OwnSubjects.{record_finds_itself}
 use Rattle.btf_relocate_model.proofs.Patches.{slot_class}
 use Rattle.btf_relocate_model.specs.Candidates.{is_nameless}
 use Rattle.btf_relocate_model.specs.Instruction.{slot_at, slot_len, ld_imm64, slot_bytes, instruction_bytes, instruction_at, relocated, relocated_from, patched, patched_slot, patched_offset, patched_immediate, is_unexpected, sign_extended, wide_immediate, is_ld_imm64, narrow, fits_immediate, is_register_source, overwritten, written_back}
-use Rattle.btf_relocate_model.specs.Laws.{IsOwn, FindsItself, IsExpected, AreBytes, OwnTableGivesTheExpected, ExpectedKeepsTheCode, OwnTableKeepsTheCode}
+use Rattle.btf_relocate_model.specs.Laws.{IsOwn, IsExpected, AreBytes, OwnTableGivesTheExpected, ExpectedKeepsTheCode, OwnTableKeepsTheCode}
 use Rattle.btf_relocate_model.specs.Path.{local_pointer}
 use Rattle.btf_relocate_model.specs.Resolution.{Setting, Question, Subject, is_local, local_match, local_id, match_of, value_of, bit_of, answer_of, answers, candidate_answer, searched, answered, resolution, resolved_by, remaining, validates, instruction_word, type_word}
 use Rattle.btf_relocate_model.specs.Section.{patch_of}
@@ -51,14 +52,30 @@ own_answer g k id s v own finds is =
 one_answer : (f : ℕ → Result (Option Answer) RelocationError) (id : ℕ) (a : Answer) → f id ≡ Ok (Some a) → answers f None (id ∷ []) ≡ Ok (Some a, id ∷ [])
 one_answer f id a is = rw is
 
-own_searched : (g : Setting) (q : Question) (id : ℕ) (x : Result Value RelocationError) → IsOwn g → FindsItself g q id → value_of local_pointer g.local q.kind (local_match q.subject) ≡ x
-    → IsExpected g q id (x >>= searched g q.kind id q.subject (id ∷ []))
-own_searched g q id (Ok v) own finds is =
+one_error : (f : ℕ → Result (Option Answer) RelocationError) (id : ℕ) (e : RelocationError) → f id ≡ Err e → answers f None (id ∷ []) ≡ Err e
+one_error f id e is = rw is
+
+-- what the one candidate has
+abbrev matched : Setting → Question → ℕ → Result (Option Match) RelocationError
+matched g q id = match_of (g.is_alike q.kind id) g.local (pointer_size g.target) g.target q.subject id
+
+own_matched : (g : Setting) (q : Question) (id : ℕ) (v : Value) (x : Result (Option Match) RelocationError) → IsOwn g → ((m : Option Match) → x ≡ Ok m → m ≡ Some (local_match q.subject)) → matched g q id ≡ x
+    → value_of local_pointer g.local q.kind (local_match q.subject) ≡ Ok v → IsExpected g q id (searched g q.kind id q.subject (id ∷ []) v)
+own_matched g q id v (Ok m) own finds found is =
     let a : Answer = record { bit = bit_of (local_match q.subject); value = v } in
-    let e : answers (candidate_answer g q.kind id q.subject) None (id ∷ []) ≡ Ok (Some a, id ∷ []) = one_answer (candidate_answer g q.kind id q.subject) id a (own_answer g q.kind id q.subject v own finds is) in
+    let here : matched g q id ≡ Ok (Some (local_match q.subject)) = found ∙ ap {B = Result (Option Match) RelocationError} (λ (o : Option Match). Ok o) (finds m refl) in
+    let e : answers (candidate_answer g q.kind id q.subject) None (id ∷ []) ≡ Ok (Some a, id ∷ []) = one_answer (candidate_answer g q.kind id q.subject) id a (own_answer g q.kind id q.subject v own here is) in
     subst (λ (found : Result (Option Answer × List ℕ) RelocationError). IsExpected g q id (found >>= λ f. Ok (resolved_by g.local g.target q.kind (validates q.kind q.subject) v f.0, remaining (id ∷ []) f.0 f.1))) (sym e)
     (record { value = refl; is_not_poisoned = refl; size = refl; validates = refl; remaining = refl })
-own_searched g q id (Err e) own finds is = inr is
+own_matched g q id v (Err e) own finds found is =
+    let none : answers (candidate_answer g q.kind id q.subject) None (id ∷ []) ≡ Err e = one_error (candidate_answer g q.kind id q.subject) id e (ap (λ (m : Result (Option Match) RelocationError). m >>= answer_of (pointer_size g.target) g.target q.kind) found) in
+    subst (λ (found : Result (Option Answer × List ℕ) RelocationError). IsExpected g q id (found >>= λ f. Ok (resolved_by g.local g.target q.kind (validates q.kind q.subject) v f.0, remaining (id ∷ []) f.0 f.1))) (sym none)
+    (inr (inr found))
+
+own_searched : (g : Setting) (q : Question) (id : ℕ) (x : Result Value RelocationError) → IsOwn g → ((m : Option Match) → matched g q id ≡ Ok m → m ≡ Some (local_match q.subject)) → value_of local_pointer g.local q.kind (local_match q.subject) ≡ x
+    → IsExpected g q id (x >>= searched g q.kind id q.subject (id ∷ []))
+own_searched g q id (Ok v) own finds is = own_matched g q id v (matched g q id) own finds refl is
+own_searched g q id (Err e) own finds is = inr (inl is)
 
 local_unvalidated : (k : RelocationKind) (s : Subject) → is_local k ≡ true → false ≡ validates k s
 local_unvalidated TypeIdLocal s is = refl
@@ -71,12 +88,12 @@ own_answered g q id false true rest unvalidated is = inl refl
 own_answered g q id false false rest unvalidated is = is
 
 pub own_table_gives_the_expected : OwnTableGivesTheExpected
-own_table_gives_the_expected g words q own asked finds =
+own_table_gives_the_expected g words q own asked plain =
     let id = type_word words in
     subst (λ (x : Result Question RelocationError). IsExpected g q id (x >>= answered g id (id ∷ []))) (sym asked)
     (own_answered g q id (is_local q.kind) (is_nameless q.name) (value_of local_pointer g.local q.kind (local_match q.subject) >>= searched g q.kind id q.subject (id ∷ []))
     (local_unvalidated q.kind q.subject)
-    (own_searched g q id (value_of local_pointer g.local q.kind (local_match q.subject)) own finds refl))
+    (own_searched g q id (value_of local_pointer g.local q.kind (local_match q.subject)) own (λ m found. record_finds_itself g words q m own asked plain found) refl))
 
 -- ---- one slot
 
@@ -286,5 +303,5 @@ by_result g words code q p (Ok r) bytes gives validated is =
 by_result g words code q p (Err e) bytes gives validated is = absurd (cc)
 
 pub own_table_keeps_the_code : OwnTableKeepsTheCode
-own_table_keeps_the_code g words code q p bytes own asked finds validated is =
-    by_result g words code q p (resolution g (type_word words ∷ []) words) bytes (own_table_gives_the_expected g words q own asked finds) validated is
+own_table_keeps_the_code g words code q p bytes own asked plain validated is =
+    by_result g words code q p (resolution g (type_word words ∷ []) words) bytes (own_table_gives_the_expected g words q own asked plain) validated is

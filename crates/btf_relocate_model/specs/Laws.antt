@@ -1,14 +1,21 @@
 -- The laws of the definitions. Each is the contract of a public function of this crate.
-use Rattle.std.specs.Prelude.{◌≡◌, ◌≢◌, ◌⊎◌, ℕ, ◌+◌, ◌*◌, ◌/◌, ◌%◌, ◌^◌, ◌<◌, ◌≤◌, ◌==◌, not, if◌then◌else◌, Bool, true, false, List, All, [], ◌∷◌, ◌++◌, slice_get, slice_index, Some, None, Result, Ok, Err}
-use Rattle.btf_model.specs.Table.{Table}
+use Rattle.std.specs.Prelude.{◌≡◌, ◌≢◌, ◌⊎◌, ℕ, ◌+◌, ◌*◌, ◌/◌, ◌%◌, ◌^◌, ◌<◌, ◌≤◌, ◌==◌, not, if◌then◌else◌, Bool, true, false, List, All, [], ◌∷◌, ◌++◌, slice_get, slice_index, Option, Some, None, Result, Ok, Err}
+use Rattle.btf_model.specs.Record.{Record, kind_of}
+use Rattle.btf_model.specs.Table.{Table, Variant}
 use Rattle.btf_model.specs.Text.{bytes_at}
 use Rattle.btf_model.specs.declared.endianness.Endianness.{Endianness}
+use Rattle.btf_relocate_model.specs.Candidates.{is_nameless}
+use Rattle.btf_relocate_model.specs.Compatible.{is_composite_kind, compatible}
+use Rattle.btf_relocate_model.specs.Enumerator.{enumerators}
+use Rattle.btf_relocate_model.specs.Field.{Member, members_of}
 use Rattle.btf_relocate_model.specs.Instruction.{relocated, poisoned, sign_extended, wide_immediate, slot_len, ld_imm64, patched_code}
 use Rattle.btf_relocate_model.specs.Kind.{relocation_kinds}
-use Rattle.btf_relocate_model.specs.Path.{local_pointer}
-use Rattle.btf_relocate_model.specs.Resolution.{Setting, Question, Fields, topic_of, poisons, resolution, question, instruction_word, type_word, match_of, local_match, value_of, validates}
+use Rattle.btf_relocate_model.specs.Match.{match_path}
+use Rattle.btf_relocate_model.specs.Name.{essential}
+use Rattle.btf_relocate_model.specs.Path.{Path, path_of, local_pointer}
+use Rattle.btf_relocate_model.specs.Resolution.{Setting, Question, Subject, Fields, OfField, OfType, OfEnumerator, topic_of, poisons, resolution, question, instruction_word, type_word, match_of, local_match, value_of, validates}
 use Rattle.btf_relocate_model.specs.Section.{code_after, outcome_of, patch_of, relocated_section}
-use Rattle.btf_relocate_model.specs.Types.{pointer_size}
+use Rattle.btf_relocate_model.specs.Types.{pointer_size, name_at, name_or_none, resolved_record}
 use Rattle.btf_relocate_model.specs.Value.{field_value, number_of}
 use Rattle.btf_relocate_model.specs.declared.error.RelocationError.{RelocationError}
 use Rattle.btf_relocate_model.specs.declared.error.RelocationError.TheVariants.{Ambiguous, AnonymousType, InvalidStringOffset}
@@ -157,6 +164,42 @@ StringsMayBeAppended =
     → SameOrUnread g.local.strings (resolution g candidates words)
     (resolution (record g { local = with_strings more g.local; is_alike = is_alike }) candidates words)
 
+-- ---- members of different names
+
+-- The STRUCT or UNION that an id resolves to has a member of a name: one with this name, or one without a name whose
+-- type has such a member.
+pub data HasMember (t : Table) (name : List ℕ) : ℕ → Type 0 where
+  WithName : (id i : ℕ) (r : Record) (m : Member) → resolved_record t id ≡ Ok r → slice_get (members_of r) i ≡ Some m
+      → name_or_none t m.name ≡ name → HasMember t name id
+  WithinOne : (id i : ℕ) (r : Record) (m : Member) → resolved_record t id ≡ Ok r → slice_get (members_of r) i ≡ Some m
+      → is_nameless (name_or_none t m.name) ≡ true → HasMember t name m.type → HasMember t name id
+
+-- a name leads to a member: the member has it, or the member has no name and its type has a member of the name
+abbrev pub LeadsTo : Table → List ℕ → Member → Type 0
+LeadsTo t name m =
+    (name_or_none t m.name ≡ name) ⊎ ((is_nameless (name_or_none t m.name) ≡ true) × HasMember t name m.type)
+
+-- Members as compilers write them. The string offset 0 is the empty name. No name leads to two members of a type. A
+-- member without a name is a STRUCT or UNION. The type of a member is compatible with itself, which it is not as an INT
+-- with a bit offset, or as a FUNC, FUNC_PROTO, VAR, DATASEC or DECL_TAG.
+pub record HasPlainMembers (t : Table) : Type 0 where
+  pub no_name : name_or_none t 0 ≡ []
+  pub distinct : (k i j : ℕ) (r : Record) (m n : Member) (name : List ℕ) → slice_get t.records k ≡ Some r
+      → slice_get (members_of r) i ≡ Some m → slice_get (members_of r) j ≡ Some n → is_nameless name ≡ false
+      → LeadsTo t name m → LeadsTo t name n → i ≡ j
+  pub composite : (k i : ℕ) (r s : Record) (m : Member) → slice_get t.records k ≡ Some r
+      → slice_get (members_of r) i ≡ Some m → m.name ≡ 0 → resolved_record t m.type ≡ Ok s
+      → is_composite_kind (kind_of s.info) ≡ true
+  pub alike : (k i : ℕ) (r : Record) (m : Member) (b : Bool) → slice_get t.records k ≡ Some r
+      → slice_get (members_of r) i ≡ Some m → compatible t t m.type m.type ≡ Ok b → b ≡ true
+
+-- In a table with such members, the path of an access leads in its own type to its own field, if the match is not
+-- refused.
+abbrev pub PathsMatchThemselves : Type 0
+PathsMatchThemselves =
+    (t : Table) (id : ℕ) (is : List ℕ) (path : Path) (o : Option Field) → HasPlainMembers t
+    → path_of t id is ≡ Ok path → match_path t local_pointer t path.steps id ≡ Ok o → o ≡ Some path.field
+
 -- ---- the program's own table as the target
 
 -- The target is the program's own table, and its pointers have the size that they have in the program.
@@ -164,14 +207,19 @@ pub record IsOwn (g : Setting) : Type 0 where
   pub table : g.target ≡ g.local
   pub pointer : pointer_size g.target ≡ local_pointer
 
--- A type of the target has just what the program's table has for a record. For a type this asks that the comparison of
--- the kind holds; libbpf's comparison of `TypeExists` does not hold for a FLOAT and itself. For an enumerator it asks
--- that no enumerator before it has its essential name, and for a field that no member before one on the way has its
--- name, that the type of each member on the way is compatible with itself, and that the way has at most 64 places.
-abbrev pub FindsItself : Setting → Question → ℕ → Type 0
-FindsItself g q id =
-    match_of (g.is_alike q.kind id) g.local (pointer_size g.target) g.target q.subject id
-    ≡ Ok (Some (local_match q.subject))
+-- Enumerators of a type that have the same essential name have the same value.
+abbrev pub HasPlainEnumerators : Table → ℕ → Type 0
+HasPlainEnumerators t id =
+    (vs : List Variant) (i j : ℕ) (v w : Variant) (name other : List ℕ) → enumerators t id ≡ Ok vs
+    → slice_get vs i ≡ Some v → slice_get vs j ≡ Some w → name_at t v.name ≡ Ok name → name_at t w.name ≡ Ok other
+    → essential other ≡ essential name → w.value ≡ v.value
+
+-- What makes a type match itself, for a subject. A kind that compares types asks that its comparison holds for the type
+-- and itself, if it is not refused. That of libbpf does not hold for a FLOAT, for which it has no case.
+abbrev pub MatchesItself : Setting → RelocationKind → ℕ → Subject → Type 0
+MatchesItself g k id (OfField path) = HasPlainMembers g.local
+MatchesItself g k id (OfType other) = (b : Bool) → g.is_alike k id id ≡ Ok b → b ≡ true
+MatchesItself g k id (OfEnumerator name value) = HasPlainEnumerators g.local id
 
 -- The value for the target is the value for the program's own table, of the same size, and the one candidate remains.
 pub record GivesTheExpected (q : Question) (id : ℕ) (r : Resolved × List ℕ) : Type 0 where
@@ -181,17 +229,18 @@ pub record GivesTheExpected (q : Question) (id : ℕ) (r : Resolved × List ℕ)
   pub validates : r.0.validates ≡ validates q.kind q.subject
   pub remaining : r.1 ≡ id ∷ []
 
--- The same for a result. An error is that the type has no name, or the error of the value.
+-- The same for a result. An error is that the type has no name, or the error of the value, or of the match.
 abbrev pub IsExpected : Setting → Question → ℕ → Result (Resolved × List ℕ) RelocationError → Type 0
 IsExpected g q id (Ok r) = GivesTheExpected q id r
 IsExpected g q id (Err e) =
-    (e ≡ AnonymousType id) ⊎ (value_of local_pointer g.local q.kind (local_match q.subject) ≡ Err e)
+    (e ≡ AnonymousType id) ⊎ ((value_of local_pointer g.local q.kind (local_match q.subject) ≡ Err e)
+    ⊎ (match_of (g.is_alike q.kind id) g.local (pointer_size g.target) g.target q.subject id ≡ Err e))
 
 -- Against the program's own table, with its own type as the one candidate, a record gives the expected value.
 abbrev pub OwnTableGivesTheExpected : Type 0
 OwnTableGivesTheExpected =
     (g : Setting) (words : List ℕ) (q : Question) → IsOwn g → question g.local g.target.order words ≡ Ok q
-    → FindsItself g q (type_word words)
+    → MatchesItself g q.kind (type_word words) q.subject
     → IsExpected g q (type_word words) (resolution g (type_word words ∷ []) words)
 
 -- each element is a byte
@@ -211,6 +260,6 @@ ExpectedKeepsTheCode =
 abbrev pub OwnTableKeepsTheCode : Type 0
 OwnTableKeepsTheCode =
     (g : Setting) (words code : List ℕ) (q : Question) (p : Patched × List ℕ) → AreBytes code → IsOwn g
-    → question g.local g.target.order words ≡ Ok q → FindsItself g q (type_word words)
+    → question g.local g.target.order words ≡ Ok q → MatchesItself g q.kind (type_word words) q.subject
     → validates q.kind q.subject ≡ true
     → patch_of g code words (resolution g (type_word words ∷ []) words) ≡ Ok p → p ≡ (Written, code)

@@ -4,7 +4,7 @@
 //! contract of a function that does nothing.
 #![tactic(auto)]
 
-ghost use Rattle.btf_relocate_model.specs.Laws.{WrittenReadsBack, WrittenKeepsTheRest, PoisonHasAReason, ExistenceAgrees, PatchesCommute, NeighboursExchange, StringsMayBeAppended, OwnTableGivesTheExpected, ExpectedKeepsTheCode, OwnTableKeepsTheCode};
+ghost use Rattle.btf_relocate_model.specs.Laws.{WrittenReadsBack, WrittenKeepsTheRest, PoisonHasAReason, ExistenceAgrees, PatchesCommute, NeighboursExchange, StringsMayBeAppended, OwnTableGivesTheExpected, ExpectedKeepsTheCode, OwnTableKeepsTheCode, PathsMatchThemselves};
 
 mod answer;
 mod error;
@@ -74,4 +74,9 @@ pub fn expected_keeps_the_code()
 /// leaves the code as it is, if the type has what the record asks for.
 pub fn own_table_keeps_the_code()
     ensures { OwnTableKeepsTheCode }
+{}
+
+/// In a table whose members have different names, a path that matches a candidate for its own type leads to its own field.
+pub fn paths_match_themselves()
+    ensures { PathsMatchThemselves }
 {}
