@@ -118,7 +118,8 @@ code_with order r at code = code_after code (patched_code order r code at)
 abbrev pub PatchesCommute : Type 0
 PatchesCommute =
     (order : Endianness) (r s : Resolved) (code : List ℕ) (at other : ℕ) → AreApart code at other
-    → (outcome_of (patched_code order s (code_with order r at code) other) ≡ outcome_of (patched_code order s code other))
+    → (outcome_of (patched_code order s (code_with order r at code) other)
+    ≡ outcome_of (patched_code order s code other))
     × (code_with order s other (code_with order r at code) ≡ code_with order r at (code_with order s other code))
 
 -- the outcomes and the code of a section whose records have all candidates
@@ -180,8 +181,8 @@ LeadsTo t name m =
     (name_or_none t m.name ≡ name) ⊎ ((is_nameless (name_or_none t m.name) ≡ true) × HasMember t name m.type)
 
 -- Members as compilers write them. The string offset 0 is the empty name. No name leads to two members of a type. A
--- member without a name is a STRUCT or UNION. The type of a member is compatible with itself, which it is not as an INT
--- with a bit offset, or as a FUNC, FUNC_PROTO, VAR, DATASEC or DECL_TAG.
+-- member without a name is a STRUCT or UNION. The type of a member is compatible with itself, which type 0, an INT with
+-- a bit offset, a FUNC, a FUNC_PROTO, a VAR, a DATASEC and a DECL_TAG are not.
 pub record HasPlainMembers (t : Table) : Type 0 where
   pub no_name : name_or_none t 0 ≡ []
   pub distinct : (k i j : ℕ) (r : Record) (m n : Member) (name : List ℕ) → slice_get t.records k ≡ Some r

@@ -59,21 +59,21 @@ neither : Setting
 neither = setting (int ∷ [])
 
 -- a load of 4 bytes at an offset
-load : ℕ → List ℕ
+abbrev load : ℕ → List ℕ
 load offset = 0x61 ∷ 0x12 ∷ offset ∷ 0 ∷ 0 ∷ 0 ∷ 0 ∷ 0 ∷ []
 
 -- the records of the offsets of `b` and of `a`, whose instruction is at a place
-offset_of_b : ℕ → List ℕ
+abbrev offset_of_b : ℕ → List ℕ
 offset_of_b at = at ∷ 2 ∷ 17 ∷ 0 ∷ []
 
-offset_of_a : ℕ → List ℕ
+abbrev offset_of_a : ℕ → List ℕ
 offset_of_a at = at ∷ 2 ∷ 21 ∷ 0 ∷ []
 
 -- `b` is in `s___2` alone, which is then the one candidate for `a`
 shared :
     relocated_section both true (load 4 ++ load 0) (offset_of_b 0 ∷ offset_of_a 8 ∷ [])
     ≡ (Ok Written ∷ Ok Written ∷ [], load 0 ++ load 4)
-unfolding both setting table local_texts target_texts int structure load offset_of_b offset_of_a walk search compatible_within
+unfolding both setting table local_texts target_texts int structure walk search compatible_within
 shared = refl
 
 -- With all candidates `a` is ambiguous, and so it is if its record comes first.
@@ -82,12 +82,12 @@ fresh :
     ≡ (Ok Written ∷ Err Ambiguous ∷ [], load 0 ++ load 0))
     × (relocated_section both true (load 0 ++ load 4) (offset_of_a 0 ∷ offset_of_b 8 ∷ [])
     ≡ (Err Ambiguous ∷ Ok Written ∷ [], load 0 ++ load 0))
-unfolding both setting table local_texts target_texts int structure load offset_of_b offset_of_a walk search compatible_within
+unfolding both setting table local_texts target_texts int structure walk search compatible_within
 fresh = (refl, refl)
 
 -- no type of the target is a candidate
 missing :
     relocated_section neither true (load 4) (offset_of_b 0 ∷ [])
     ≡ (Ok Poisoned ∷ [], 0x85 ∷ 0 ∷ 0 ∷ 0 ∷ 0x10 ∷ 0x23 ∷ 0xad ∷ 0x0b ∷ [])
-unfolding neither setting table local_texts target_texts int structure load offset_of_b walk
+unfolding neither setting table local_texts target_texts int structure walk
 missing = refl

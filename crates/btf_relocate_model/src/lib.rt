@@ -47,8 +47,8 @@ pub fn patches_commute()
     ensures { PatchesCommute }
 {}
 
-/// Where each record has all candidates, two neighbouring records whose instructions do not overlap change places: their
-/// outcomes change places, and all other outcomes and the code are the same.
+/// Where each record has all candidates, two neighbouring records whose instructions do not overlap may change places.
+/// Their outcomes change places, and all other outcomes and the code are the same.
 pub fn neighbours_exchange()
     ensures { NeighboursExchange }
 {}
@@ -58,8 +58,8 @@ pub fn strings_may_be_appended()
     ensures { StringsMayBeAppended }
 {}
 
-/// Against the program's own table, with its own type as the one candidate, a record gives the expected value and poisons
-/// nothing, if the type has what the record asks for.
+/// Against the program's own table, with its own type as the one candidate, a record gives the expected value and does
+/// not poison.
 pub fn own_table_gives_the_expected()
     ensures { OwnTableGivesTheExpected }
 {}
@@ -71,12 +71,12 @@ pub fn expected_keeps_the_code()
 {}
 
 /// Against the program's own table, with its own type as the one candidate, a record that validates its instruction
-/// leaves the code as it is, if the type has what the record asks for.
+/// leaves the code as it is.
 pub fn own_table_keeps_the_code()
     ensures { OwnTableKeepsTheCode }
 {}
 
-/// In a table whose members have different names, a path that matches a candidate for its own type leads to its own field.
+/// In a table whose members have different names, the path of an access leads in its own type to its own field.
 pub fn paths_match_themselves()
     ensures { PathsMatchThemselves }
 {}
