@@ -5,3 +5,4 @@ mod Appended
 mod OwnPaths
 mod OwnSubjects
 mod OwnTable
+mod PlainExample

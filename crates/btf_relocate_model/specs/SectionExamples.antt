@@ -58,6 +58,10 @@ both = setting (int ∷ structure 5 1 (7 ∷ 1 ∷ 0 ∷ []) ∷ structure 9 2 (
 neither : Setting
 neither = setting (int ∷ [])
 
+-- the program's own table as the target
+own : Setting
+own = record neither { target = table local_texts (int ∷ structure 5 2 (7 ∷ 1 ∷ 0 ∷ 9 ∷ 1 ∷ 32 ∷ []) ∷ []) }
+
 -- a load of 4 bytes at an offset
 abbrev load : ℕ → List ℕ
 load offset = 0x61 ∷ 0x12 ∷ offset ∷ 0 ∷ 0 ∷ 0 ∷ 0 ∷ 0 ∷ []
@@ -91,3 +95,10 @@ missing :
     ≡ (Ok Poisoned ∷ [], 0x85 ∷ 0 ∷ 0 ∷ 0 ∷ 0x10 ∷ 0x23 ∷ 0xad ∷ 0x0b ∷ [])
 unfolding neither setting table local_texts target_texts int structure walk
 missing = refl
+
+-- against its own table the program is not changed
+unchanged :
+    relocated_section own true (load 4 ++ load 0) (offset_of_b 0 ∷ offset_of_a 8 ∷ [])
+    ≡ (Ok Written ∷ Ok Written ∷ [], load 4 ++ load 0)
+unfolding own neither setting table local_texts target_texts int structure walk search compatible_within
+unchanged = refl
