@@ -1,6 +1,7 @@
 -- Two patches in either order, and two records of a section in either order.
 use Rattle.std.proofs.Common.{◌≡◌, ℕ, ◌+◌, ◌*◌, ◌/◌, ◌%◌, ◌^◌, ◌<◌, ◌≤◌, List, [], ◌∷◌, ◌++◌, length, get_or, Bool, true, false, Result, Ok, Err, refl, sym, ap, ◌∙◌, arith, inl, inr}
-use Rattle.std.specs.Prelude.{◌⊎◌, ◌==◌, not, nat_lt, if◌then◌else◌, slice_index}
+use Rattle.std.proofs.Math.Path.{fun_ext}
+use Rattle.std.specs.Prelude.{◌≢◌, ◌⊎◌, ◌==◌, not, nat_lt, if◌then◌else◌, slice_index}
 use Rattle.std.proofs.lemmas.Bool.Decides.{nat_tests}
 use Rattle.std.proofs.lemmas.List.{ext_get_or, same_lists, places, length-append, get_or-take, get_or-drop}
 use Rattle.btf_model.proofs.Words.{length-word, length-half}
@@ -8,7 +9,7 @@ use Rattle.btf_model.specs.Blob.{slice}
 use Rattle.btf_model.specs.Word.{half, half_of, word, word_of}
 use Rattle.btf_model.specs.declared.endianness.Endianness.{Endianness}
 use Rattle.btf_relocate_model.specs.Instruction.{slot_at, slot_len, slot_bytes, instruction_bytes, instruction_at, instruction_with, ld_imm64, relocated, relocated_from, patched_slot, poison, narrow, is_ld_imm64, is_unexpected, wide_immediate, overwritten, written_back}
-use Rattle.btf_relocate_model.specs.Laws.{instruction_len, AreApart, PatchesCommute, NeighboursExchange}
+use Rattle.btf_relocate_model.specs.Laws.{instruction_len, AreApart, ShareNone, PatchesCommute, NeighboursExchange}
 use Rattle.btf_relocate_model.specs.Resolution.{Setting, resolution, instruction_word, type_word}
 use Rattle.btf_relocate_model.specs.Section as section
 use Rattle.btf_relocate_model.specs.Section.{code_after, outcome_of, patch_of}
@@ -250,39 +251,111 @@ records_commute g code words others (Ok q) (Ok r) apart = patches_commute g.loca
 records_commute g code words others (Ok q) (Err e) apart = (refl, refl)
 records_commute g code words others (Err e) r apart = (refl, refl)
 
--- two records at the beginning
+-- ---- candidates
+
+differ : (m n : ℕ) → m ≢ n → (m == n) ≡ false
+differ m n apart = grind (arith, nat_tests)
+
+-- candidates of another type stay
+other_left : (is_shared : Bool) (words others : List ℕ) (q : Result (Resolved × List ℕ) RelocationError) (left : ℕ → List ℕ) → ShareNone is_shared words others
+    → section.left_after is_shared words q left (type_word others) ≡ left (type_word others)
+other_left false words others q left none = refl
+other_left true words others q left (inl shares) = absurd (cc)
+other_left true words others q left (inr apart) = rw (differ (type_word words) (type_word others) apart)
+
+-- two tests that do not both hold, in either order
+either : {A : Type 0} (p q : Bool) (a b c : A) → (p ≡ true → q ≡ true → ⊥) → (if p then a else (if q then b else c)) ≡ (if q then b else (if p then a else c))
+either true true a b c apart = absurd (apart refl refl)
+either true false a b c apart = refl
+either false true a b c apart = refl
+either false false a b c apart = refl
+
+-- the changes for two types, in either order
+lefts_same : (is_shared : Bool) (words others : List ℕ) (q r : Result (Resolved × List ℕ) RelocationError) (left : ℕ → List ℕ) → ShareNone is_shared words others
+    → section.left_after is_shared others r (section.left_after is_shared words q left) ≡ section.left_after is_shared words q (section.left_after is_shared others r left)
+lefts_same false words others q r left none = refl
+lefts_same true words others q r left (inl shares) = absurd (cc)
+lefts_same true words others q r left (inr apart) = fun_ext (λ x. at_type x)
+  where
+    m : ℕ
+    m = type_word words
+
+    n : ℕ
+    n = type_word others
+
+    both : (x : ℕ) → (n == x) ≡ true → (m == x) ≡ true → ⊥
+    both x e f = apart (grind (arith, nat_tests))
+
+    at_type : (x : ℕ) → section.left_after true others r (section.left_after true words q left) x ≡ section.left_after true words q (section.left_after true others r left) x
+    at_type x =
+        rw (differ m n apart, differ n m (λ e. apart (sym e))) (either (n == x) (m == x) (section.candidates_after (left n) r) (section.candidates_after (left m) q) (left x) (both x))
+
+-- ---- two records at the beginning
 abbrev Exchange : List Outcome × List ℕ → List Outcome × List ℕ → List Outcome → Type 0
 Exchange a b os = (o p : Outcome) × (more : List Outcome) × (a.0 ≡ os ++ o ∷ p ∷ more) × (b.0 ≡ os ++ p ∷ o ∷ more) × (a.1 ≡ b.1)
 
-first_two : (g : Setting) (left : ℕ → List ℕ) (code : List ℕ) (after : List (List ℕ)) (words others : List ℕ) → AreApart code (instruction_word words) (instruction_word others)
-    → Exchange (section.relocated_from g false left code (words ∷ others ∷ after)) (section.relocated_from g false left code (others ∷ words ∷ after)) []
-first_two g left code after words others apart =
+then_second : (g : Setting) (is_shared : Bool) (after : List (List ℕ)) (others : List ℕ) (first : List ℕ) (left : ℕ → List ℕ) (r : Result (Resolved × List ℕ) RelocationError) → List Outcome × List ℕ
+then_second g is_shared after others first left r =
+    section.then_outcomes (outcome_of (patch_of g first others r)) (section.relocated_from g is_shared (section.left_after is_shared others r left) (code_after first (patch_of g first others r)) after)
+
+-- the first two records, where the second has the candidates that it had before the first
+as_before : (g : Setting) (is_shared : Bool) (left : ℕ → List ℕ) (code : List ℕ) (after : List (List ℕ)) (words others : List ℕ) → ShareNone is_shared words others
+    → section.relocated_from g is_shared left code (words ∷ others ∷ after)
+    ≡ section.then_outcomes (outcome_of (patch_of g code words (resolution g (left (type_word words)) words)))
+    (then_second g is_shared after others (code_after code (patch_of g code words (resolution g (left (type_word words)) words))) (section.left_after is_shared words (resolution g (left (type_word words)) words) left)
+    (resolution g (left (type_word others)) others))
+unfolding then_second
+as_before g is_shared left code after words others none =
+    let q = resolution g (left (type_word words)) words in
+    let p = patch_of g code words q in
+    ap (λ (cs : List ℕ). section.then_outcomes (outcome_of p) (then_second g is_shared after others (code_after code p) (section.left_after is_shared words q left) (resolution g cs others)))
+    (other_left is_shared words others q left none)
+
+first_two : (g : Setting) (is_shared : Bool) (left : ℕ → List ℕ) (code : List ℕ) (after : List (List ℕ)) (words others : List ℕ) → ShareNone is_shared words others → AreApart code (instruction_word words) (instruction_word others)
+    → Exchange (section.relocated_from g is_shared left code (words ∷ others ∷ after)) (section.relocated_from g is_shared left code (others ∷ words ∷ after)) []
+unfolding then_second
+first_two g is_shared left code after words others none apart =
     let q = resolution g (left (type_word words)) words in
     let r = resolution g (left (type_word others)) others in
     let there = records_commute g code words others q r apart in
     let back = records_commute g code others words r q (exchanged code (instruction_word words) (instruction_word others) apart) in
+    let o = outcome_of (patch_of g code words q) in
+    let p = outcome_of (patch_of g code others r) in
     let first = code_after code (patch_of g code words q) in
     let second = code_after code (patch_of g code others r) in
     let end = code_after first (patch_of g first others r) in
-    let rest = section.relocated_from g false left end after in (
-      outcome_of (patch_of g code words q),
-      outcome_of (patch_of g code others r),
+    let end_back = code_after second (patch_of g second words q) in
+    let lefts = section.left_after is_shared others r (section.left_after is_shared words q left) in
+    let lefts_back = section.left_after is_shared words q (section.left_after is_shared others r left) in
+    let rest = section.relocated_from g is_shared lefts end after in
+    let one = as_before g is_shared left code after words others none in
+    let two = as_before g is_shared left code after others words (turned is_shared words others none) in
+    let same : section.relocated_from g is_shared lefts_back end_back after ≡ rest =
+    ap (λ (l : ℕ → List ℕ). section.relocated_from g is_shared l end_back after) (sym (lefts_same is_shared words others q r left none))
+    ∙ ap (λ (c : List ℕ). section.relocated_from g is_shared lefts c after) (sym there.1) in (
+      o,
+      p,
       rest.0,
-      ap (λ (p : Outcome). outcome_of (patch_of g code words q) ∷ p ∷ rest.0) there.0,
-      ap (λ (o : Outcome). outcome_of (patch_of g code others r) ∷ o ∷ (section.relocated_from g false left (code_after second (patch_of g second words q)) after).0) back.0
-          ∙ ap (λ (c : List ℕ). outcome_of (patch_of g code others r) ∷ outcome_of (patch_of g code words q) ∷ (section.relocated_from g false left c after).0) (sym there.1),
-      ap (λ (c : List ℕ). (section.relocated_from g false left c after).1) there.1,
+      ap (λ (x : List Outcome × List ℕ). x.0) one ∙ ap (λ (x : Outcome). o ∷ x ∷ rest.0) there.0,
+      ap (λ (x : List Outcome × List ℕ). x.0) two ∙ ap (λ (x : Outcome). p ∷ x ∷ (section.relocated_from g is_shared lefts_back end_back after).0) back.0 ∙ ap (λ (x : List Outcome × List ℕ). p ∷ o ∷ x.0) same,
+      ap (λ (x : List Outcome × List ℕ). x.1) one ∙ sym (ap (λ (x : List Outcome × List ℕ). x.1) two ∙ ap (λ (x : List Outcome × List ℕ). x.1) same),
     )
+  where
+    turned : (b : Bool) (m n : List ℕ) → ShareNone b m n → ShareNone b n m
+    turned b m n (inl none) = inl none
+    turned b m n (inr apart) = inr (λ e. apart (sym e))
 
 -- after the records before them
-after_all : (g : Setting) (left : ℕ → List ℕ) (code : List ℕ) (before after : List (List ℕ)) (words others : List ℕ)
-    → AreApart (section.relocated_from g false left code before).1 (instruction_word words) (instruction_word others)
-    → Exchange (section.relocated_from g false left code (before ++ words ∷ others ∷ after)) (section.relocated_from g false left code (before ++ others ∷ words ∷ after)) (section.relocated_from g false left code before).0
-after_all g left code [] after words others apart = first_two g left code after words others apart
-after_all g left code (one ∷ before) after words others apart =
-    let p = patch_of g code one (resolution g (left (type_word one)) one) in
-    let rest = after_all g left (code_after code p) before after words others apart in
+after_all : (g : Setting) (is_shared : Bool) (left : ℕ → List ℕ) (code : List ℕ) (before after : List (List ℕ)) (words others : List ℕ) → ShareNone is_shared words others
+    → AreApart (section.relocated_from g is_shared left code before).1 (instruction_word words) (instruction_word others)
+    → Exchange (section.relocated_from g is_shared left code (before ++ words ∷ others ∷ after)) (section.relocated_from g is_shared left code (before ++ others ∷ words ∷ after)) (section.relocated_from g is_shared left code before).0
+after_all g is_shared left code [] after words others none apart = first_two g is_shared left code after words others none apart
+after_all g is_shared left code (one ∷ before) after words others none apart =
+    let r = resolution g (left (type_word one)) one in
+    let p = patch_of g code one r in
+    let rest = after_all g is_shared (section.left_after is_shared one r left) (code_after code p) before after words others none apart in
     (rest.0, rest.1, rest.2, ap (λ (os : List Outcome). outcome_of p ∷ os) rest.3, ap (λ (os : List Outcome). outcome_of p ∷ os) rest.4, rest.5)
 
 pub neighbours_exchange : NeighboursExchange
-neighbours_exchange g code before after words others apart = after_all g (section.candidates_of g.local g.target) code before after words others apart
+neighbours_exchange g is_shared code before after words others none apart =
+    after_all g is_shared (section.candidates_of g.local g.target) code before after words others none apart

@@ -122,21 +122,22 @@ PatchesCommute =
     ≡ outcome_of (patched_code order s code other))
     × (code_with order s other (code_with order r at code) ≡ code_with order r at (code_with order s other code))
 
--- the outcomes and the code of a section whose records have all candidates
-abbrev pub freshly : Setting → List ℕ → List (List ℕ) → List (Result Patched RelocationError) × List ℕ
-freshly g code records = relocated_section g false code records
+-- Two records share no candidates: each record has all of them, or the two are about different types.
+abbrev pub ShareNone : Bool → List ℕ → List ℕ → Type 0
+ShareNone is_shared words others = (is_shared ≡ false) ⊎ (type_word words ≢ type_word others)
 
--- Where each record has all candidates, two neighbouring records change places, if their instructions do not overlap in
--- the code that the records before them leave: then their outcomes change places, and all else is the same.
+-- Two neighbouring records that share no candidates may change places, if their instructions do not overlap in the code
+-- that the records before them leave. Then their outcomes change places, and all else is the same.
 abbrev pub NeighboursExchange : Type 0
 NeighboursExchange =
-    (g : Setting) (code : List ℕ) (before after : List (List ℕ)) (words others : List ℕ)
-    → AreApart (freshly g code before).1 (instruction_word words) (instruction_word others)
+    (g : Setting) (is_shared : Bool) (code : List ℕ) (before after : List (List ℕ)) (words others : List ℕ)
+    → let run = relocated_section g is_shared code in
+    ShareNone is_shared words others
+    → AreApart (run before).1 (instruction_word words) (instruction_word others)
     → (o p : Result Patched RelocationError) × (os : List (Result Patched RelocationError))
-    × ((freshly g code (before ++ words ∷ others ∷ after)).0 ≡ (freshly g code before).0 ++ o ∷ p ∷ os)
-    × ((freshly g code (before ++ others ∷ words ∷ after)).0 ≡ (freshly g code before).0 ++ p ∷ o ∷ os)
-    × ((freshly g code (before ++ words ∷ others ∷ after)).1
-    ≡ (freshly g code (before ++ others ∷ words ∷ after)).1)
+    × ((run (before ++ words ∷ others ∷ after)).0 ≡ (run before).0 ++ o ∷ p ∷ os)
+    × ((run (before ++ others ∷ words ∷ after)).0 ≡ (run before).0 ++ p ∷ o ∷ os)
+    × ((run (before ++ words ∷ others ∷ after)).1 ≡ (run (before ++ others ∷ words ∷ after)).1)
 
 -- ---- more strings
 

@@ -47,8 +47,8 @@ pub fn patches_commute()
     ensures { PatchesCommute }
 {}
 
-/// Where each record has all candidates, two neighbouring records whose instructions do not overlap may change places.
-/// Their outcomes change places, and all other outcomes and the code are the same.
+/// Two neighbouring records may change places if their instructions do not overlap, and if each record has all candidates
+/// or the two are about different types. Their outcomes change places, and all else is the same.
 pub fn neighbours_exchange()
     ensures { NeighboursExchange }
 {}
