@@ -1,5 +1,5 @@
 -- What a record about a field gives, beside the record about the existence of the field.
-use Rattle.std.proofs.Common.{◌≡◌, ℕ, List, [], ◌∷◌, Bool, true, false, Option, Some, None, Result, Ok, Err, refl, sym, ap, subst, arith, inl, inr}
+use Rattle.std.proofs.Common.{◌≡◌, ℕ, suc, List, [], ◌∷◌, Bool, true, false, Option, Some, None, Result, Ok, Err, refl, sym, ap, subst, arith, inl, inr}
 use Rattle.std.specs.Prelude.{◌⊎◌, not, if◌then◌else◌, slice_get}
 use Rattle.std.proofs.lemmas.Bool.Decides.{nat_tests}
 use Rattle.btf_model.specs.Table.{Table}
@@ -7,7 +7,7 @@ use Rattle.btf_model.specs.declared.endianness.Endianness.{Endianness}
 use Rattle.btf_relocate_model.specs.Access.{access_of}
 use Rattle.btf_relocate_model.specs.Candidates.{is_nameless}
 use Rattle.btf_relocate_model.specs.Kind.{relocation_kinds}
-use Rattle.btf_relocate_model.specs.Laws.{IsOfValue, AgreesWith, ExistenceAgrees}
+use Rattle.btf_relocate_model.specs.Laws.{IsOfValue, IsOfItsValue, AgreesWith, ExistenceAgrees}
 use Rattle.btf_relocate_model.specs.Match.{match_path}
 use Rattle.btf_relocate_model.specs.Path.{Path, path_of, local_pointer}
 use Rattle.btf_relocate_model.specs.Resolution.{Setting, Question, Subject, indices_or_bad, Topic, Fields, OfField, topic_of, poisons, resolution, question, answered, searched, answers, answer_of, candidate_answer, joined, retained, agree, seen_as, same_order, subject_by, is_local, resolved_by, remaining, validates}
@@ -103,31 +103,32 @@ remain c None None cs ds same is = is
 SameFound : Option Answer × List ℕ → Option Answer × List ℕ → Type 0
 SameFound x y = Same x.0 y.0 × (x.1 ≡ y.1)
 
-all_answers : (V : RelocationError → Type 0) → V Ambiguous → (f h : ℕ → Result (Option Answer) RelocationError) → ((c : ℕ) → Follows V Same (f c) (h c))
-    → (cs : List ℕ) (first other : Option Answer) → Same first other → Follows V SameFound (answers f first cs) (answers h other cs)
+all_answers : (V : RelocationError → Type 0) → V Ambiguous → (f h : ℕ → Result (Option Answer) RelocationError) → (cs : List ℕ) → ((i c : ℕ) → slice_get cs i ≡ Some c → Follows V Same (f c) (h c))
+    → (first other : Option Answer) → Same first other → Follows V SameFound (answers f first cs) (answers h other cs)
 unfolding SameFound
-all_answers V v f h each [] first other same = (same, refl)
-all_answers V v f h each (c ∷ cs) first other same =
-    bind V Same SameFound (f c) (h c) (λ a. joined first a >>= λ next. answers f next cs >>= λ rest. Ok (rest.0, retained c a rest.1)) (λ b. joined other b >>= λ next. answers h next cs >>= λ rest. Ok (rest.0, retained c b rest.1)) (each c)
+all_answers V v f h [] each first other same = (same, refl)
+all_answers V v f h (c ∷ cs) each first other same =
+    bind V Same SameFound (f c) (h c) (λ a. joined first a >>= λ next. answers f next cs >>= λ rest. Ok (rest.0, retained c a rest.1)) (λ b. joined other b >>= λ next. answers h next cs >>= λ rest. Ok (rest.0, retained c b rest.1)) (each 0 c refl)
     (λ a b ab. bind V Same SameFound (joined first a) (joined other b) (λ next. answers f next cs >>= λ rest. Ok (rest.0, retained c a rest.1)) (λ next. answers h next cs >>= λ rest. Ok (rest.0, retained c b rest.1)) (joins V v first other a b same ab)
-    (λ m n mn. bind V SameFound SameFound (answers f m cs) (answers h n cs) (λ rest. Ok (rest.0, retained c a rest.1)) (λ rest. Ok (rest.0, retained c b rest.1)) (all_answers V v f h each cs m n mn)
+    (λ m n mn. bind V SameFound SameFound (answers f m cs) (answers h n cs) (λ rest. Ok (rest.0, retained c a rest.1)) (λ rest. Ok (rest.0, retained c b rest.1)) (all_answers V v f h cs (λ i d is. each (suc i) d is) m n mn)
     (λ r s rs. (rs.0, remain c a b r.1 s.1 ab rs.1))))
 
 -- ---- one candidate
 
-one_field : (V : RelocationError → Type 0) (pointer : ℕ) (t : Table) (k : RelocationKind) → ((f : Field) (e : RelocationError) → field_value pointer t k f ≡ Err e → V e) → (f : Field)
+one_field : (V : RelocationError → Type 0) (pointer : ℕ) (t : Table) (k : RelocationKind) (f : Field) → ((e : RelocationError) → field_value pointer t k f ≡ Err e → V e)
     → Follows V Same (answer_of pointer t FieldExists (Some (AtField f))) (answer_of pointer t k (Some (AtField f)))
 unfolding Same
-one_field V pointer t k v f =
+one_field V pointer t k f v =
     bind V (λ (a b : Value). a ≡ plain 1) Same (Ok (plain 1)) (field_value pointer t k f) (λ value. Ok (Some (record { bit = f.bit; value = value }))) (λ value. Ok (Some (record { bit = f.bit; value = value })))
-    (beside_value V (plain 1) (field_value pointer t k f) (v f)) (λ a b is. (refl, ap (λ (w : Value). w.value) is))
+    (beside_value V (plain 1) (field_value pointer t k f) v) (λ a b is. (refl, ap (λ (w : Value). w.value) is))
 
-one_candidate : (V : RelocationError → Type 0) (pointer : ℕ) (t : Table) (k : RelocationKind) → ((f : Field) (e : RelocationError) → field_value pointer t k f ≡ Err e → V e)
-    → (x : Result (Option Field) RelocationError) → Follows V Same (x >>= seen_as AtField >>= answer_of pointer t FieldExists) (x >>= seen_as AtField >>= answer_of pointer t k)
+one_candidate : (V : RelocationError → Type 0) (pointer : ℕ) (t : Table) (k : RelocationKind) (x : Result (Option Field) RelocationError)
+    → ((f : Field) (e : RelocationError) → x ≡ Ok (Some f) → field_value pointer t k f ≡ Err e → V e)
+    → Follows V Same (x >>= seen_as AtField >>= answer_of pointer t FieldExists) (x >>= seen_as AtField >>= answer_of pointer t k)
 unfolding Same
-one_candidate V pointer t k v (Ok (Some f)) = one_field V pointer t k v f
-one_candidate V pointer t k v (Ok None) = tt
-one_candidate V pointer t k v (Err e) = inl refl
+one_candidate V pointer t k (Ok (Some f)) v = one_field V pointer t k f (λ e is. v f e refl is)
+one_candidate V pointer t k (Ok None) v = tt
+one_candidate V pointer t k (Err e) v = inl refl
 
 -- ---- the whole record
 
@@ -162,25 +163,26 @@ about : RelocationKind → List ℕ → Path → Question
 about k name path = record { kind = k; name = name; subject = OfField path }
 
 searches : (g : Setting) (id : ℕ) (cs : List ℕ) (k : RelocationKind) (path : Path) (expected other : Value) → poisons k ≡ true
-    → Follows (IsOfValue g k) Agree (searched g FieldExists id (OfField path) cs expected) (searched g k id (OfField path) cs other)
+    → Follows (IsOfValue g k cs path) Agree (searched g FieldExists id (OfField path) cs expected) (searched g k id (OfField path) cs other)
 unfolding Same SameFound
 searches g id cs k path expected other poison =
-    bind (IsOfValue g k) SameFound Agree (answers (candidate_answer g FieldExists id (OfField path)) None cs) (answers (candidate_answer g k id (OfField path)) None cs)
+    bind (IsOfValue g k cs path) SameFound Agree (answers (candidate_answer g FieldExists id (OfField path)) None cs) (answers (candidate_answer g k id (OfField path)) None cs)
     (λ found. Ok (resolved_by g.local g.target FieldExists (validates FieldExists (OfField path)) expected found.0, remaining cs found.0 found.1))
     (λ found. Ok (resolved_by g.local g.target k (validates k (OfField path)) other found.0, remaining cs found.0 found.1))
-    (all_answers (IsOfValue g k) (inl refl) (candidate_answer g FieldExists id (OfField path)) (candidate_answer g k id (OfField path))
-    (λ c. one_candidate (IsOfValue g k) (pointer_size g.target) g.target k (λ f e is. inr (inr (f, is))) (match_path g.local (pointer_size g.target) g.target path.steps c))
-    cs None None tt)
+    (all_answers (IsOfValue g k cs path) (inl refl) (candidate_answer g FieldExists id (OfField path)) (candidate_answer g k id (OfField path))
+    cs
+    (λ i c at. one_candidate (IsOfValue g k cs path) (pointer_size g.target) g.target k (match_path g.local (pointer_size g.target) g.target path.steps c) (λ f e matched is. inr (inr (i, c, f, at, matched, is))))
+    None None tt)
     (λ x y xy. results g k (validates FieldExists (OfField path)) (validates k (OfField path)) expected other cs x.0 y.0 x.1 y.1 poison xy.0 xy.1)
 
 answers_agree : (g : Setting) (id : ℕ) (cs : List ℕ) (k : RelocationKind) (name : List ℕ) (path : Path) → poisons k ≡ true
-    → Follows (IsOfValue g k) Agree (answered g id cs (about FieldExists name path)) (answered g id cs (about k name path))
+    → Follows (IsOfValue g k cs path) Agree (answered g id cs (about FieldExists name path)) (answered g id cs (about k name path))
 unfolding about
 answers_agree g id cs k name path poison =
     rw (not_local k poison)
-    (by_test (IsOfValue g k) Agree (is_nameless name) (AnonymousType id) (searched g FieldExists id (OfField path) cs (plain 1)) (field_value local_pointer g.local k path.field >>= searched g k id (OfField path) cs)
-    (bind (IsOfValue g k) (λ (a b : Value). a ≡ plain 1) Agree (Ok (plain 1)) (field_value local_pointer g.local k path.field) (searched g FieldExists id (OfField path) cs) (searched g k id (OfField path) cs)
-    (beside_value (IsOfValue g k) (plain 1) (field_value local_pointer g.local k path.field) (λ e is. inr (inl (path.field, is))))
+    (by_test (IsOfValue g k cs path) Agree (is_nameless name) (AnonymousType id) (searched g FieldExists id (OfField path) cs (plain 1)) (field_value local_pointer g.local k path.field >>= searched g k id (OfField path) cs)
+    (bind (IsOfValue g k cs path) (λ (a b : Value). a ≡ plain 1) Agree (Ok (plain 1)) (field_value local_pointer g.local k path.field) (searched g FieldExists id (OfField path) cs) (searched g k id (OfField path) cs)
+    (beside_value (IsOfValue g k cs path) (plain 1) (field_value local_pointer g.local k path.field) (λ e is. inr (inl is)))
     (λ a b is. searches g id cs k path a b poison)))
 
 -- two questions about one field
@@ -225,19 +227,40 @@ agreed V (Ok a) (Err e) is = is
 agreed V (Err e) (Ok b) is = is
 agreed V (Err e) (Err other) is = is
 
-both_answer : (g : Setting) (id : ℕ) (cs : List ℕ) (k : RelocationKind) (q r : Question) → poisons k ≡ true → SameQuestion k q r
-    → Follows (IsOfValue g k) Agree (answered g id cs q) (answered g id cs r)
-unfolding SameQuestion
-both_answer g id cs k q r poison same =
-    subst (λ (x : Question). Follows (IsOfValue g k) Agree (answered g id cs x) (answered g id cs r)) (sym same.2)
-    (subst (λ (x : Question). Follows (IsOfValue g k) Agree (answered g id cs (about FieldExists same.0 same.1)) (answered g id cs x)) (sym same.3)
-    (answers_agree g id cs k same.0 same.1 poison))
+-- errors of a larger set
+weaker : {A B : Type 0} (V W : RelocationError → Type 0) (P : A → B → Type 0) (x : Result A RelocationError) (y : Result B RelocationError) → ((e : RelocationError) → V e → W e) → Follows V P x y → Follows W P x y
+weaker V W P (Ok a) (Ok b) more is = is
+weaker V W P (Ok a) (Err e) more is = more e is
+weaker V W P (Err e) (Ok b) more is = is
+weaker V W P (Err e) (Err other) more (inl same) = inl same
+weaker V W P (Err e) (Err other) more (inr is) = inr (more other is)
+
+-- two steps, where the first result is known
+bind_known : {A B C D : Type 0} (V : RelocationError → Type 0) (P : A → B → Type 0) (Q : C → D → Type 0) (x : Result A RelocationError) (y : Result B RelocationError)
+    (f : A → Result C RelocationError) (h : B → Result D RelocationError)
+    → Follows V P x y → ((a : A) (b : B) → x ≡ Ok a → P a b → Follows V Q (f a) (h b)) → Follows V Q (x >>= f) (y >>= h)
+bind_known V P Q (Ok a) (Ok b) f h p next = next a b refl p
+bind_known V P Q (Ok a) (Err e) f h p next = beside V Q (f a) e p
+bind_known V P Q (Err e) (Ok b) f h p next = absurd p
+bind_known V P Q (Err e) (Err other) f h p next = p
+
+both_answer : (g : Setting) (id : ℕ) (cs : List ℕ) (k : RelocationKind) (words : List ℕ) (q r : Question) → poisons k ≡ true → question g.local g.target.order words ≡ Ok q → SameQuestion k q r
+    → Follows (IsOfItsValue g k cs words) Agree (answered g id cs q) (answered g id cs r)
+unfolding SameQuestion about
+both_answer g id cs k words q r poison asked same =
+    let first : Question = about FieldExists same.0 same.1 in
+    weaker (IsOfValue g k cs same.1) (IsOfItsValue g k cs words) Agree (answered g id cs q) (answered g id cs r)
+    (λ e is. (q, same.1, asked, ap (λ (x : Question). x.subject) same.2, is))
+    (subst (λ (x : Question). Follows (IsOfValue g k cs same.1) Agree (answered g id cs x) (answered g id cs r)) (sym same.2)
+    (subst (λ (x : Question). Follows (IsOfValue g k cs same.1) Agree (answered g id cs first) (answered g id cs x)) (sym same.3)
+    (answers_agree g id cs k same.0 same.1 poison)))
 
 pub existence_agrees : ExistenceAgrees
 existence_agrees g cs at type access n k is topic poison =
     let words : List ℕ = at ∷ type ∷ access ∷ 2 ∷ [] in
     let others : List ℕ = at ∷ type ∷ access ∷ n ∷ [] in
-    agreed (IsOfValue g k) (resolution g cs words) (resolution g cs others)
-    (bind (IsOfValue g k) (SameQuestion k) Agree (question g.local g.target.order words) (question g.local g.target.order others) (answered g type cs) (answered g type cs)
-    (questions (IsOfValue g k) g.local g.target.order at type access n k is topic)
-    (λ q r same. both_answer g type cs k q r poison same))
+    let V = IsOfItsValue g k cs words in
+    agreed V (resolution g cs words) (resolution g cs others)
+    (bind_known V (SameQuestion k) Agree (question g.local g.target.order words) (question g.local g.target.order others) (answered g type cs) (answered g type cs)
+    (questions V g.local g.target.order at type access n k is topic)
+    (λ q r asked same. both_answer g type cs k words q r poison asked same))

@@ -73,11 +73,20 @@ PoisonHasAReason =
 
 -- ---- a field and its existence
 
--- The error of a value: candidates give different values, or a field of one of the tables has no value for a kind.
-abbrev pub IsOfValue : Setting → RelocationKind → RelocationError → Type 0
-IsOfValue g k e =
-    (e ≡ Ambiguous) ⊎ (((f : Field) × (field_value local_pointer g.local k f ≡ Err e))
-    ⊎ ((f : Field) × (field_value (pointer_size g.target) g.target k f ≡ Err e)))
+-- The error of a value of a field, by its path: candidates give different values, or the field has no value for the kind,
+-- in the program's table or in a candidate that matches.
+abbrev pub IsOfValue : Setting → RelocationKind → List ℕ → Path → RelocationError → Type 0
+IsOfValue g k candidates path e =
+    (e ≡ Ambiguous) ⊎ ((field_value local_pointer g.local k path.field ≡ Err e)
+    ⊎ ((i : ℕ) × (c : ℕ) × (f : Field) × (slice_get candidates i ≡ Some c)
+    × (match_path g.local (pointer_size g.target) g.target path.steps c ≡ Ok (Some f))
+    × (field_value (pointer_size g.target) g.target k f ≡ Err e)))
+
+-- the error of a value of the field that a record is about
+abbrev pub IsOfItsValue : Setting → RelocationKind → List ℕ → List ℕ → RelocationError → Type 0
+IsOfItsValue g k candidates words e =
+    (q : Question) × (path : Path) × (question g.local g.target.order words ≡ Ok q) × (q.subject ≡ OfField path)
+    × IsOfValue g k candidates path e
 
 -- What a record about a field gives agrees with what the record about its existence gives. The same candidates remain,
 -- and the existence is 0 if the other record poisons, and 1 if it does not. The other record has the same error, or the
@@ -96,7 +105,8 @@ abbrev pub ExistenceAgrees : Type 0
 ExistenceAgrees =
     (g : Setting) (candidates : List ℕ) (at type access n : ℕ) (k : RelocationKind)
     → slice_get relocation_kinds n ≡ Some k → topic_of k ≡ Fields → poisons k ≡ true
-    → AgreesWith (IsOfValue g k) (resolution g candidates (at ∷ type ∷ access ∷ 2 ∷ []))
+    → AgreesWith (IsOfItsValue g k candidates (at ∷ type ∷ access ∷ 2 ∷ []))
+    (resolution g candidates (at ∷ type ∷ access ∷ 2 ∷ []))
     (resolution g candidates (at ∷ type ∷ access ∷ n ∷ []))
 
 -- ---- the order of records
