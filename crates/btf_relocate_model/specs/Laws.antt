@@ -73,8 +73,8 @@ PoisonHasAReason =
 
 -- ---- a field and its existence
 
--- The error of a value of a field, by its path: candidates give different values, or the field has no value for the kind,
--- in the program's table or in a candidate that matches.
+-- The error of a value of a field, by its path: candidates give different values, or the field has no value for the
+-- kind, in the program's table or in a candidate that matches.
 abbrev pub IsOfValue : Setting → RelocationKind → List ℕ → Path → RelocationError → Type 0
 IsOfValue g k candidates path e =
     (e ≡ Ambiguous) ⊎ ((field_value local_pointer g.local k path.field ≡ Err e)

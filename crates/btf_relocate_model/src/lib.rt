@@ -47,8 +47,8 @@ pub fn patches_commute()
     ensures { PatchesCommute }
 {}
 
-/// Two neighbouring records may change places if their instructions do not overlap, and if each record has all candidates
-/// or the two are about different types. Their outcomes change places, and all else is the same.
+/// Two neighbouring records may change places if their instructions do not overlap, and if each record has all
+/// candidates or the two are about different types. Their outcomes change places, and all else is the same.
 pub fn neighbours_exchange()
     ensures { NeighboursExchange }
 {}
