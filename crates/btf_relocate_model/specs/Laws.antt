@@ -226,8 +226,8 @@ HasPlainEnumerators t id =
     → slice_get vs i ≡ Some v → slice_get vs j ≡ Some w → name_at t v.name ≡ Ok name → name_at t w.name ≡ Ok other
     → essential other ≡ essential name → w.value ≡ v.value
 
--- What makes a type match itself, for a subject. A kind that compares types asks that its comparison holds for the type
--- and itself, if it is not refused. That of libbpf does not hold for a FLOAT, for which it has no case.
+-- What makes a type match itself, for a subject. For a kind that compares types, the comparison of the type with itself
+-- is true, if it is not refused. libbpf's comparison is false for a FLOAT, because it has no case for this kind.
 abbrev pub MatchesItself : Setting → RelocationKind → ℕ → Subject → Type 0
 MatchesItself g k id (OfField path) = HasPlainMembers g.local
 MatchesItself g k id (OfType other) = (b : Bool) → g.is_alike k id id ≡ Ok b → b ≡ true
