@@ -6,3 +6,4 @@ mod OwnPaths
 mod OwnSubjects
 mod OwnTable
 mod PlainExample
+mod OwnSection

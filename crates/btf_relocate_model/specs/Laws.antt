@@ -14,7 +14,7 @@ use Rattle.btf_relocate_model.specs.Match.{match_path}
 use Rattle.btf_relocate_model.specs.Name.{essential}
 use Rattle.btf_relocate_model.specs.Path.{Path, path_of, local_pointer}
 use Rattle.btf_relocate_model.specs.Resolution.{Setting, Question, Subject, Fields, OfField, OfType, OfEnumerator, topic_of, poisons, resolution, question, instruction_word, type_word, match_of, local_match, value_of, validates}
-use Rattle.btf_relocate_model.specs.Section.{code_after, outcome_of, patch_of, relocated_section}
+use Rattle.btf_relocate_model.specs.Section.{candidates_of, code_after, outcome_of, patch_of, relocated_section}
 use Rattle.btf_relocate_model.specs.Types.{pointer_size, name_at, name_or_none, resolved_record}
 use Rattle.btf_relocate_model.specs.Value.{field_value, number_of}
 use Rattle.btf_relocate_model.specs.declared.error.RelocationError.{RelocationError}
@@ -275,3 +275,16 @@ OwnTableKeepsTheCode =
     → question g.local g.target.order words ≡ Ok q → MatchesItself g q.kind (type_word words) q.subject
     → validates q.kind q.subject ≡ true
     → patch_of g code words (resolution g (type_word words ∷ []) words) ≡ Ok p → p ≡ (Written, code)
+
+-- A record whose type is its one candidate in the target, and which validates its instruction, if it asks a question.
+pub record IsOwnRecord (g : Setting) (words : List ℕ) : Type 0 where
+  pub alone : candidates_of g.local g.target (type_word words) ≡ type_word words ∷ []
+  pub matches : (q : Question) → question g.local g.target.order words ≡ Ok q
+      → MatchesItself g q.kind (type_word words) q.subject × (validates q.kind q.subject ≡ true)
+
+-- Against the program's own table, such records leave the code of a section as it is, under both policies.
+abbrev pub OwnTableKeepsTheSection : Type 0
+OwnTableKeepsTheSection =
+    (g : Setting) (is_shared : Bool) (code : List ℕ) (records : List (List ℕ)) → AreBytes code → IsOwn g
+    → ((i : ℕ) (words : List ℕ) → slice_get records i ≡ Some words → IsOwnRecord g words)
+    → (relocated_section g is_shared code records).1 ≡ code

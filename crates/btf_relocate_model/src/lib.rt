@@ -4,7 +4,7 @@
 //! contract of a function that does nothing.
 #![tactic(auto)]
 
-ghost use Rattle.btf_relocate_model.specs.Laws.{WrittenReadsBack, WrittenKeepsTheRest, PoisonHasAReason, ExistenceAgrees, PatchesCommute, NeighboursExchange, StringsMayBeAppended, OwnTableGivesTheExpected, ExpectedKeepsTheCode, OwnTableKeepsTheCode, PathsMatchThemselves};
+ghost use Rattle.btf_relocate_model.specs.Laws.{WrittenReadsBack, WrittenKeepsTheRest, PoisonHasAReason, ExistenceAgrees, PatchesCommute, NeighboursExchange, StringsMayBeAppended, OwnTableGivesTheExpected, ExpectedKeepsTheCode, OwnTableKeepsTheCode, OwnTableKeepsTheSection, PathsMatchThemselves};
 
 mod answer;
 mod error;
@@ -79,4 +79,10 @@ pub fn own_table_keeps_the_code()
 /// In a table whose members have different names, the path of an access leads in its own type to its own field.
 pub fn paths_match_themselves()
     ensures { PathsMatchThemselves }
+{}
+
+/// Against the program's own table, records that validate their instructions, and whose types are their only candidates,
+/// leave the code of a section as it is.
+pub fn own_table_keeps_the_section()
+    ensures { OwnTableKeepsTheSection }
 {}
