@@ -81,8 +81,8 @@ pub fn paths_match_themselves()
     ensures { PathsMatchThemselves }
 {}
 
-/// Against the program's own table, records that validate their instructions, and whose types are their only candidates,
-/// leave the code of a section as it is.
+/// Against the program's own table, records that validate their instructions, and whose types are their only
+/// candidates, leave the code of a section as it is.
 pub fn own_table_keeps_the_section()
     ensures { OwnTableKeepsTheSection }
 {}
