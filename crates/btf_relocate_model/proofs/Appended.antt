@@ -9,15 +9,18 @@ use Rattle.btf_model.specs.Table.{Table, Variant}
 use Rattle.btf_model.specs.Text.{bytes_at, is_zero}
 use Rattle.btf_model.specs.Walk.{walk_limit}
 use Rattle.btf_model.specs.declared.endianness.Endianness.{Endianness}
+use Rattle.btf_relocate_model.proofs.AppendedComparison.{types_alike_same}
+use Rattle.btf_relocate_model.proofs.OwnPaths.{ok_of, same_ok}
 use Rattle.btf_relocate_model.specs.Access.{access_of}
 use Rattle.btf_relocate_model.specs.Candidates.{compared_number, is_nameless}
+use Rattle.btf_relocate_model.specs.Comparison.{types_alike}
 use Rattle.btf_relocate_model.specs.Compatible.{named_alike, alike_by, is_composite_kind, alike, compatible_by, compatible_within, compatible}
 use Rattle.btf_relocate_model.specs.Enumerator.{enumerators, named, enumerator_at}
 use Rattle.btf_relocate_model.specs.Field.{root, member}
-use Rattle.btf_relocate_model.specs.Laws.{SameOrUnread, with_strings, ComparesAlike, StringsMayBeAppended}
+use Rattle.btf_relocate_model.specs.Laws.{SameOrUnread, with_strings, MatchesAlike, StringsMayBeAppended}
 use Rattle.btf_relocate_model.specs.Match.{in_place, if_compatible, member_after, match_step, match_from, match_path, path_limit}
 use Rattle.btf_relocate_model.specs.Path.{Place, Step, AtIndex, ToMember, local_pointer, nameless_place, named_place, member_place, place_by, place_at, after, path_from, path_of}
-use Rattle.btf_relocate_model.specs.Resolution.{Setting, Question, Topic, Fields, Types, Enumerators, Subject, OfField, OfType, OfEnumerator, indices_or_bad, enumerator_subject, topic_of, question, answered, searched, answers, answer_of, candidate_answer, joined, seen_as, same_order, subject_by, subject_of, is_local, local_match, match_of, type_if, value_of, resolved_by, remaining, validates, kind_at, kind_word, type_word, access_word}
+use Rattle.btf_relocate_model.specs.Resolution.{Setting, Question, Topic, Fields, Types, Enumerators, Subject, OfField, OfType, OfEnumerator, indices_or_bad, enumerator_subject, topic_of, question, answered, searched, answers, answer_of, candidate_answer, joined, seen_as, same_order, subject_by, subject_of, is_local, local_match, rule_of, match_of, type_if, value_of, resolved_by, remaining, validates, kind_at, kind_word, type_word, access_word}
 use Rattle.btf_relocate_model.specs.Search.{Found, search}
 use Rattle.btf_relocate_model.specs.Types.{◌>>=◌, record_at, name_at, readable, resolved_record, pointer_size}
 use Rattle.btf_relocate_model.specs.declared.answer.Answer.{Answer}
@@ -28,7 +31,7 @@ use Rattle.btf_relocate_model.specs.declared.error.RelocationError.TheVariants.{
 use Rattle.btf_relocate_model.specs.declared.field.Field.{Field}
 use Rattle.btf_relocate_model.specs.declared.field.Value.{Value}
 use Rattle.btf_relocate_model.specs.declared.kind.RelocationKind.{RelocationKind}
-use Rattle.btf_relocate_model.specs.declared.kind.RelocationKind.TheVariants.{FieldExists, TypeSize}
+use Rattle.btf_relocate_model.specs.declared.kind.RelocationKind.TheVariants.{FieldExists, TypeSize, TypeMatches}
 use Rattle.btf_relocate_model.specs.declared.resolved.Resolved.{Resolved}
 
 -- ---- steps
@@ -183,12 +186,21 @@ path_match_same more t pointer target (AtIndex index ∷ ss) c =
 path_match_same more t pointer target (ToMember name type ∷ ss) c = inl refl
 path_match_same more t pointer target [] c = inl refl
 
-match_same : (more : List ℕ) (t : Table) (pointer : ℕ) (target : Table) (f h : ℕ → Result Bool RelocationError) → ((c : ℕ) → SameOrUnread t.strings (f c) (h c)) → (s : Subject) (c : ℕ)
-    → SameOrUnread t.strings (match_of f t pointer target s c) (match_of h (with_strings more t) pointer target s c)
-match_same more t pointer target f h each (OfField path) c =
-    bind t.strings (match_path t pointer target path.steps c) (match_path (with_strings more t) pointer target path.steps c) (seen_as AtField) (seen_as AtField) (path_match_same more t pointer target path.steps c) (λ o. inl refl)
-match_same more t pointer target f h each (OfType id) c = bind t.strings (f c) (h c) (type_if c) (type_if c) (each c) (λ is. inl refl)
-match_same more t pointer target f h each (OfEnumerator name value) c = inl refl
+-- the comparison of a kind, where that of `TypeMatches` is the same
+compares_same : (more : List ℕ) (g : Setting) (k : RelocationKind) → (k ≡ TypeMatches → MatchesAlike more g) → (id c : ℕ)
+    → SameOrUnread g.local.strings (types_alike (record { rule = rule_of k; local = g.local; target = g.target }) id c)
+    (types_alike (record { rule = rule_of k; local = with_strings more g.local; target = g.target }) id c)
+compares_same more g TypeMatches matches id c = matches refl id c
+compares_same more g k matches id c = inl (types_alike_same more g.local g.target id c)
+
+match_same : (more : List ℕ) (g : Setting) (k : RelocationKind) → (k ≡ TypeMatches → MatchesAlike more g) → (pointer : ℕ) (s : Subject) (c : ℕ)
+    → SameOrUnread g.local.strings (match_of k g.local pointer g.target s c) (match_of k (with_strings more g.local) pointer g.target s c)
+match_same more g k matches pointer (OfField path) c =
+    bind g.local.strings (match_path g.local pointer g.target path.steps c) (match_path (with_strings more g.local) pointer g.target path.steps c) (seen_as AtField) (seen_as AtField) (path_match_same more g.local pointer g.target path.steps c) (λ o. inl refl)
+match_same more g k matches pointer (OfType id) c =
+    bind g.local.strings (types_alike (record { rule = rule_of k; local = g.local; target = g.target }) id c) (types_alike (record { rule = rule_of k; local = with_strings more g.local; target = g.target }) id c) (type_if c) (type_if c)
+    (compares_same more g k matches id c) (λ is. inl refl)
+match_same more g k matches pointer (OfEnumerator name value) c = inl refl
 
 all_same : (strings : List ℕ) (f h : ℕ → Result (Option Answer) RelocationError) → ((c : ℕ) → SameOrUnread strings (f c) (h c)) → (cs : List ℕ) (first : Option Answer) → SameOrUnread strings (answers f first cs) (answers h first cs)
 all_same strings f h each [] first = inl refl
@@ -217,27 +229,50 @@ resolved_same more t target k is_validated expected None = refl
 
 -- ---- the whole record
 
-abbrev appended : List ℕ → (RelocationKind → ℕ → ℕ → Result Bool RelocationError) → Setting → Setting
-appended more is_alike g = record g { local = with_strings more g.local; is_alike = is_alike }
+abbrev appended : List ℕ → Setting → Setting
+appended more g = record g { local = with_strings more g.local }
 
-searched_same : (more : List ℕ) (is_alike : RelocationKind → ℕ → ℕ → Result Bool RelocationError) (g : Setting) → ComparesAlike g.local.strings g.is_alike is_alike
-    → (k : RelocationKind) (id : ℕ) (s : Subject) (cs : List ℕ) (expected : Value) → SameOrUnread g.local.strings (searched g k id s cs expected) (searched (appended more is_alike g) k id s cs expected)
-searched_same more is_alike g compares k id s cs expected =
-    bind g.local.strings (answers (candidate_answer g k id s) None cs) (answers (candidate_answer (appended more is_alike g) k id s) None cs) _ _
-    (all_same g.local.strings (candidate_answer g k id s) (candidate_answer (appended more is_alike g) k id s) (λ c.
-    bind g.local.strings (match_of (g.is_alike k id) g.local (pointer_size g.target) g.target s c) (match_of (is_alike k id) (with_strings more g.local) (pointer_size g.target) g.target s c) (answer_of (pointer_size g.target) g.target k) (answer_of (pointer_size g.target) g.target k)
-    (match_same more g.local (pointer_size g.target) g.target (g.is_alike k id) (is_alike k id) (compares k id) s c) (λ m. inl refl)) cs None)
+searched_same : (more : List ℕ) (g : Setting) (k : RelocationKind) → (k ≡ TypeMatches → MatchesAlike more g) → (s : Subject) (cs : List ℕ) (expected : Value) → SameOrUnread g.local.strings (searched g k s cs expected) (searched (appended more g) k s cs expected)
+searched_same more g k matches s cs expected =
+    bind g.local.strings (answers (candidate_answer g k s) None cs) (answers (candidate_answer (appended more g) k s) None cs) _ _
+    (all_same g.local.strings (candidate_answer g k s) (candidate_answer (appended more g) k s) (λ c.
+    bind g.local.strings (match_of k g.local (pointer_size g.target) g.target s c) (match_of k (with_strings more g.local) (pointer_size g.target) g.target s c) (answer_of (pointer_size g.target) g.target k) (answer_of (pointer_size g.target) g.target k)
+    (match_same more g k matches (pointer_size g.target) s c) (λ m. inl refl)) cs None)
     (λ found. inl (ap (λ (r : Resolved). Ok (r, remaining cs found.0 found.1)) (resolved_same more g.local g.target k (validates k s) expected found.0)))
 
-answered_same : (more : List ℕ) (is_alike : RelocationKind → ℕ → ℕ → Result Bool RelocationError) (g : Setting) → ComparesAlike g.local.strings g.is_alike is_alike
-    → (id : ℕ) (cs : List ℕ) (q : Question) → SameOrUnread g.local.strings (answered g id cs q) (answered (appended more is_alike g) id cs q)
-answered_same more is_alike g compares id cs q =
+answered_same : (more : List ℕ) (g : Setting) (id : ℕ) (cs : List ℕ) (q : Question) → (q.kind ≡ TypeMatches → MatchesAlike more g) → SameOrUnread g.local.strings (answered g id cs q) (answered (appended more g) id cs q)
+answered_same more g id cs q matches =
     by_test g.local.strings (is_local q.kind) _ _ _ _ (inl refl)
     (by_test g.local.strings (is_nameless q.name) (Err (AnonymousType id)) (Err (AnonymousType id)) _ _ (inl refl)
-    (bind g.local.strings (value_of local_pointer g.local q.kind (local_match q.subject)) (value_of local_pointer (with_strings more g.local) q.kind (local_match q.subject)) (searched g q.kind id q.subject cs) (searched (appended more is_alike g) q.kind id q.subject cs)
-    (inl (value_same more g.local q.kind (local_match q.subject))) (searched_same more is_alike g compares q.kind id q.subject cs)))
+    (bind g.local.strings (value_of local_pointer g.local q.kind (local_match q.subject)) (value_of local_pointer (with_strings more g.local) q.kind (local_match q.subject)) (searched g q.kind q.subject cs) (searched (appended more g) q.kind q.subject cs)
+    (inl (value_same more g.local q.kind (local_match q.subject))) (searched_same more g q.kind matches q.subject cs)))
+
+-- the kind of a question is the kind of its record
+kind_is : (t : Table) (order : Endianness) (words : List ℕ) (q : Question) → question t order words ≡ Ok q → kind_at (kind_word words) ≡ Ok q.kind
+kind_is t order words q is =
+    let k = ok_of (kind_at (kind_word words)) _ q is in k.1 ∙ ap {B = Result RelocationKind RelocationError} (λ (x : RelocationKind). Ok x) (by_order k.0 (not (same_order t.order order)) k.2)
+  where
+    by_order : (k : RelocationKind) (test : Bool)
+        → (if test then Err OrderMismatch else (record_at t (type_word words) >>= λ r. name_at t r.name >>= λ name. name_at t (access_word words) >>= λ access. subject_of t k (type_word words) access >>= λ s. Ok (record { kind = k; name = name; subject = s }))) ≡ Ok q
+        → k ≡ q.kind
+    by_order k true e = absurd (cc)
+    by_order k false e =
+        let r = ok_of (record_at t (type_word words)) _ q e in
+        let name = ok_of (name_at t r.0.name) _ q r.2 in
+        let access = ok_of (name_at t (access_word words)) _ q name.2 in
+        let s = ok_of (subject_of t k (type_word words) access.0) (λ s. Ok (record { kind = k; name = name.0; subject = s })) q access.2 in
+        ap (λ (x : Question). x.kind) (same_ok _ _ s.2)
+
+bind_known : {A B : Type 0} (strings : List ℕ) (x y : Result A RelocationError) (f h : A → Result B RelocationError) → SameOrUnread strings x y → ((a : A) → x ≡ Ok a → SameOrUnread strings (f a) (h a)) → SameOrUnread strings (x >>= f) (y >>= h)
+bind_known strings x y f h (inl same) next = subst (λ (z : Result _ RelocationError). SameOrUnread strings (x >>= f) (z >>= h)) (sym same) (after_known strings x f h next)
+  where
+    after_known : {A B : Type 0} (strings : List ℕ) (x : Result A RelocationError) (f h : A → Result B RelocationError) → ((a : A) → x ≡ Ok a → SameOrUnread strings (f a) (h a)) → SameOrUnread strings (x >>= f) (x >>= h)
+    after_known strings (Ok a) f h next = next a refl
+    after_known strings (Err e) f h next = inl refl
+bind_known strings x y f h (inr unread) next = inr (unread.0, unread.1, ap (λ (z : Result _ RelocationError). z >>= f) unread.2)
 
 pub strings_may_be_appended : StringsMayBeAppended
-strings_may_be_appended g more is_alike cs words compares =
-    bind g.local.strings (question g.local g.target.order words) (question (with_strings more g.local) g.target.order words) (answered g (type_word words) cs) (answered (appended more is_alike g) (type_word words) cs)
-    (question_same more g.local g.target.order words) (answered_same more is_alike g compares (type_word words) cs)
+strings_may_be_appended g more cs words matches =
+    bind_known g.local.strings (question g.local g.target.order words) (question (with_strings more g.local) g.target.order words) (answered g (type_word words) cs) (answered (appended more g) (type_word words) cs)
+    (question_same more g.local g.target.order words)
+    (λ q is. answered_same more g (type_word words) cs q (λ e. matches (kind_is g.local g.target.order words q is ∙ ap {B = Result RelocationKind RelocationError} (λ (k : RelocationKind). Ok k) e)))

@@ -163,13 +163,13 @@ about : RelocationKind → List ℕ → Path → Question
 about k name path = record { kind = k; name = name; subject = OfField path }
 
 searches : (g : Setting) (id : ℕ) (cs : List ℕ) (k : RelocationKind) (path : Path) (expected other : Value) → poisons k ≡ true
-    → Follows (IsOfValue g k cs path) Agree (searched g FieldExists id (OfField path) cs expected) (searched g k id (OfField path) cs other)
+    → Follows (IsOfValue g k cs path) Agree (searched g FieldExists (OfField path) cs expected) (searched g k (OfField path) cs other)
 unfolding Same SameFound
 searches g id cs k path expected other poison =
-    bind (IsOfValue g k cs path) SameFound Agree (answers (candidate_answer g FieldExists id (OfField path)) None cs) (answers (candidate_answer g k id (OfField path)) None cs)
+    bind (IsOfValue g k cs path) SameFound Agree (answers (candidate_answer g FieldExists (OfField path)) None cs) (answers (candidate_answer g k (OfField path)) None cs)
     (λ found. Ok (resolved_by g.local g.target FieldExists (validates FieldExists (OfField path)) expected found.0, remaining cs found.0 found.1))
     (λ found. Ok (resolved_by g.local g.target k (validates k (OfField path)) other found.0, remaining cs found.0 found.1))
-    (all_answers (IsOfValue g k cs path) (inl refl) (candidate_answer g FieldExists id (OfField path)) (candidate_answer g k id (OfField path))
+    (all_answers (IsOfValue g k cs path) (inl refl) (candidate_answer g FieldExists (OfField path)) (candidate_answer g k (OfField path))
     cs
     (λ i c at. one_candidate (IsOfValue g k cs path) (pointer_size g.target) g.target k (match_path g.local (pointer_size g.target) g.target path.steps c) (λ f e matched is. inr (inr (i, c, f, at, matched, is))))
     None None tt)
@@ -180,8 +180,8 @@ answers_agree : (g : Setting) (id : ℕ) (cs : List ℕ) (k : RelocationKind) (n
 unfolding about
 answers_agree g id cs k name path poison =
     rw (not_local k poison)
-    (by_test (IsOfValue g k cs path) Agree (is_nameless name) (AnonymousType id) (searched g FieldExists id (OfField path) cs (plain 1)) (field_value local_pointer g.local k path.field >>= searched g k id (OfField path) cs)
-    (bind (IsOfValue g k cs path) (λ (a b : Value). a ≡ plain 1) Agree (Ok (plain 1)) (field_value local_pointer g.local k path.field) (searched g FieldExists id (OfField path) cs) (searched g k id (OfField path) cs)
+    (by_test (IsOfValue g k cs path) Agree (is_nameless name) (AnonymousType id) (searched g FieldExists (OfField path) cs (plain 1)) (field_value local_pointer g.local k path.field >>= searched g k (OfField path) cs)
+    (bind (IsOfValue g k cs path) (λ (a b : Value). a ≡ plain 1) Agree (Ok (plain 1)) (field_value local_pointer g.local k path.field) (searched g FieldExists (OfField path) cs) (searched g k (OfField path) cs)
     (beside_value (IsOfValue g k cs path) (plain 1) (field_value local_pointer g.local k path.field) (λ e is. inr (inl is)))
     (λ a b is. searches g id cs k path a b poison)))
 

@@ -1,8 +1,9 @@
 mod Patches
 mod Existence
 mod Exchanges
-mod Appended
 mod OwnPaths
+mod AppendedComparison
+mod Appended
 mod OwnSubjects
 mod OwnTable
 mod PlainExample

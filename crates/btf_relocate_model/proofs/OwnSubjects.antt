@@ -6,12 +6,13 @@ use Rattle.btf_model.specs.Table.{Table, Variant}
 use Rattle.btf_model.specs.declared.endianness.Endianness.{Endianness}
 use Rattle.btf_relocate_model.proofs.OwnPaths.{ok_of, same_ok, same_some, same_bytes, bytes_same, paths_match_themselves}
 use Rattle.btf_relocate_model.specs.Access.{access_of}
+use Rattle.btf_relocate_model.specs.Comparison.{types_alike}
 use Rattle.btf_relocate_model.specs.Enumerator.{enumerators, named, enumerator_at, first_named, find_enumerator}
 use Rattle.btf_relocate_model.specs.Laws.{IsOwn, MatchesItself}
 use Rattle.btf_relocate_model.specs.Match.{match_path}
 use Rattle.btf_relocate_model.specs.Name.{essential}
 use Rattle.btf_relocate_model.specs.Path.{path_of, local_pointer}
-use Rattle.btf_relocate_model.specs.Resolution.{Setting, Question, Topic, Fields, Types, Enumerators, Subject, OfField, OfType, OfEnumerator, topic_of, indices_or_bad, enumerator_subject, subject_by, subject_of, question, kind_at, kind_word, type_word, access_word, same_order, local_match, match_of, seen_as, type_if}
+use Rattle.btf_relocate_model.specs.Resolution.{Setting, Question, Topic, Fields, Types, Enumerators, Subject, OfField, OfType, OfEnumerator, topic_of, indices_or_bad, enumerator_subject, subject_by, subject_of, question, kind_at, kind_word, type_word, access_word, same_order, local_match, rule_of, match_of, seen_as, type_if}
 use Rattle.btf_relocate_model.specs.Types.{◌>>=◌, record_at, name_at, pointer_size}
 use Rattle.btf_relocate_model.specs.declared.answer.Match.{Match}
 use Rattle.btf_relocate_model.specs.declared.answer.Match.TheVariants.{AtField, AtType, AtEnumerator}
@@ -105,22 +106,24 @@ first_is t name (w ∷ ws) i v o is read same found =
 
 -- a subject of the program's own table matches itself
 finds_itself : (g : Setting) (k : RelocationKind) (id : ℕ) (s : Subject) (m : Option Match) → IsOwn g → Made g.local id s → MatchesItself g k id s
-    → match_of (g.is_alike k id) g.local (pointer_size g.target) g.target s id ≡ Ok m → m ≡ Some (local_match s)
+    → match_of k g.local (pointer_size g.target) g.target s id ≡ Ok m → m ≡ Some (local_match s)
 unfolding Made
 finds_itself g k id s m own from plain found =
-    by_subject s from plain (sym (ap (λ (p : ℕ). match_of (g.is_alike k id) g.local p g.target s id) own.pointer ∙ ap (λ (t : Table). match_of (g.is_alike k id) g.local local_pointer t s id) own.table) ∙ found)
+    by_subject s from plain (sym (ap (λ (p : ℕ). match_of k g.local p g.target s id) own.pointer ∙ ap (λ (t : Table). match_of k g.local local_pointer t s id) own.table) ∙ found)
   where
     t : Table
     t = g.local
 
-    by_subject : (s : Subject) → Made t id s → MatchesItself g k id s → match_of (g.is_alike k id) t local_pointer t s id ≡ Ok m → m ≡ Some (local_match s)
+    by_subject : (s : Subject) → Made t id s → MatchesItself g k id s → match_of k t local_pointer t s id ≡ Ok m → m ≡ Some (local_match s)
     by_subject (OfField path) from plain found =
         let one = ok_of (match_path t local_pointer t path.steps id) (seen_as AtField) m found in
         let o : one.0 ≡ Some path.field = paths_match_themselves t id from.0 path one.0 plain from.1 one.1 in
         sym (same_ok (Some (AtField path.field)) m (ap (seen_as AtField) (sym o) ∙ one.2))
     by_subject (OfType other) from plain found =
-        let one = ok_of (g.is_alike k id id) (type_if id) m found in
-        sym (same_ok (Some (AtType id)) m (ap (type_if id) (sym (plain one.0 one.1)) ∙ one.2)) ∙ ap (λ (n : ℕ). Some (AtType n)) (sym from)
+        let one = ok_of (types_alike (record { rule = rule_of k; local = t; target = t }) other id) (type_if id) m found in
+        let alike : one.0 ≡ true =
+        plain one.0 (ap (λ (u : Table). types_alike (record { rule = rule_of k; local = t; target = u }) id id) own.table ∙ ap (λ (n : ℕ). types_alike (record { rule = rule_of k; local = t; target = t }) n id) (sym from) ∙ one.1) in
+        sym (same_ok (Some (AtType id)) m (ap (type_if id) (sym alike) ∙ one.2)) ∙ ap (λ (n : ℕ). Some (AtType n)) (sym from)
     by_subject (OfEnumerator name value) from plain found =
         let one = ok_of (find_enumerator t id name) (seen_as (λ (v : Variant). AtEnumerator v.value)) m found in
         let two = ok_of (enumerators t id) (first_named t name) one.0 one.1 in
@@ -131,6 +134,6 @@ finds_itself g k id s m own from plain found =
         ∙ ap (λ (n : ℕ). Some (AtEnumerator n)) (first.2 ∙ from.6)
 
 pub record_finds_itself : (g : Setting) (words : List ℕ) (q : Question) (m : Option Match) → IsOwn g → question g.local g.target.order words ≡ Ok q → MatchesItself g q.kind (type_word words) q.subject
-    → match_of (g.is_alike q.kind (type_word words)) g.local (pointer_size g.target) g.target q.subject (type_word words) ≡ Ok m → m ≡ Some (local_match q.subject)
+    → match_of q.kind g.local (pointer_size g.target) g.target q.subject (type_word words) ≡ Ok m → m ≡ Some (local_match q.subject)
 record_finds_itself g words q m own asked plain found =
     finds_itself g q.kind (type_word words) q.subject m own (made g.local g.target.order words q asked) plain found

@@ -43,8 +43,8 @@ own_value g own k m =
     ap (λ (p : ℕ). value_of p g.target k m) own.pointer ∙ ap (λ (t : Table). value_of local_pointer t k m) own.table
 
 -- the one candidate gives the value of the program's own table
-own_answer : (g : Setting) (k : RelocationKind) (id : ℕ) (s : Subject) (v : Value) → IsOwn g → match_of (g.is_alike k id) g.local (pointer_size g.target) g.target s id ≡ Ok (Some (local_match s))
-    → value_of local_pointer g.local k (local_match s) ≡ Ok v → candidate_answer g k id s id ≡ Ok (Some (record { bit = bit_of (local_match s); value = v }))
+own_answer : (g : Setting) (k : RelocationKind) (id : ℕ) (s : Subject) (v : Value) → IsOwn g → match_of k g.local (pointer_size g.target) g.target s id ≡ Ok (Some (local_match s))
+    → value_of local_pointer g.local k (local_match s) ≡ Ok v → candidate_answer g k s id ≡ Ok (Some (record { bit = bit_of (local_match s); value = v }))
 own_answer g k id s v own finds is =
     ap (λ (m : Result (Option Match) RelocationError). m >>= answer_of (pointer_size g.target) g.target k) finds
     ∙ ap (λ (x : Result Value RelocationError). x >>= λ value. Ok (Some (record { bit = bit_of (local_match s); value = value }))) (own_value g own k (local_match s) ∙ is)
@@ -57,23 +57,23 @@ one_error f id e is = rw is
 
 -- what the one candidate has
 abbrev matched : Setting → Question → ℕ → Result (Option Match) RelocationError
-matched g q id = match_of (g.is_alike q.kind id) g.local (pointer_size g.target) g.target q.subject id
+matched g q id = match_of q.kind g.local (pointer_size g.target) g.target q.subject id
 
 own_matched : (g : Setting) (q : Question) (id : ℕ) (v : Value) (x : Result (Option Match) RelocationError) → IsOwn g → ((m : Option Match) → x ≡ Ok m → m ≡ Some (local_match q.subject)) → matched g q id ≡ x
-    → value_of local_pointer g.local q.kind (local_match q.subject) ≡ Ok v → IsExpected g q id (searched g q.kind id q.subject (id ∷ []) v)
+    → value_of local_pointer g.local q.kind (local_match q.subject) ≡ Ok v → IsExpected g q id (searched g q.kind q.subject (id ∷ []) v)
 own_matched g q id v (Ok m) own finds found is =
     let a : Answer = record { bit = bit_of (local_match q.subject); value = v } in
     let here : matched g q id ≡ Ok (Some (local_match q.subject)) = found ∙ ap {B = Result (Option Match) RelocationError} (λ (o : Option Match). Ok o) (finds m refl) in
-    let e : answers (candidate_answer g q.kind id q.subject) None (id ∷ []) ≡ Ok (Some a, id ∷ []) = one_answer (candidate_answer g q.kind id q.subject) id a (own_answer g q.kind id q.subject v own here is) in
+    let e : answers (candidate_answer g q.kind q.subject) None (id ∷ []) ≡ Ok (Some a, id ∷ []) = one_answer (candidate_answer g q.kind q.subject) id a (own_answer g q.kind id q.subject v own here is) in
     subst (λ (found : Result (Option Answer × List ℕ) RelocationError). IsExpected g q id (found >>= λ f. Ok (resolved_by g.local g.target q.kind (validates q.kind q.subject) v f.0, remaining (id ∷ []) f.0 f.1))) (sym e)
     (record { value = refl; is_not_poisoned = refl; size = refl; validates = refl; remaining = refl })
 own_matched g q id v (Err e) own finds found is =
-    let none : answers (candidate_answer g q.kind id q.subject) None (id ∷ []) ≡ Err e = one_error (candidate_answer g q.kind id q.subject) id e (ap (λ (m : Result (Option Match) RelocationError). m >>= answer_of (pointer_size g.target) g.target q.kind) found) in
+    let none : answers (candidate_answer g q.kind q.subject) None (id ∷ []) ≡ Err e = one_error (candidate_answer g q.kind q.subject) id e (ap (λ (m : Result (Option Match) RelocationError). m >>= answer_of (pointer_size g.target) g.target q.kind) found) in
     subst (λ (found : Result (Option Answer × List ℕ) RelocationError). IsExpected g q id (found >>= λ f. Ok (resolved_by g.local g.target q.kind (validates q.kind q.subject) v f.0, remaining (id ∷ []) f.0 f.1))) (sym none)
     (inr (inr found))
 
 own_searched : (g : Setting) (q : Question) (id : ℕ) (x : Result Value RelocationError) → IsOwn g → ((m : Option Match) → matched g q id ≡ Ok m → m ≡ Some (local_match q.subject)) → value_of local_pointer g.local q.kind (local_match q.subject) ≡ x
-    → IsExpected g q id (x >>= searched g q.kind id q.subject (id ∷ []))
+    → IsExpected g q id (x >>= searched g q.kind q.subject (id ∷ []))
 own_searched g q id (Ok v) own finds is = own_matched g q id v (matched g q id) own finds refl is
 own_searched g q id (Err e) own finds is = inr (inl is)
 
@@ -91,7 +91,7 @@ pub own_table_gives_the_expected : OwnTableGivesTheExpected
 own_table_gives_the_expected g words q own asked plain =
     let id = type_word words in
     subst (λ (x : Result Question RelocationError). IsExpected g q id (x >>= answered g id (id ∷ []))) (sym asked)
-    (own_answered g q id (is_local q.kind) (is_nameless q.name) (value_of local_pointer g.local q.kind (local_match q.subject) >>= searched g q.kind id q.subject (id ∷ []))
+    (own_answered g q id (is_local q.kind) (is_nameless q.name) (value_of local_pointer g.local q.kind (local_match q.subject) >>= searched g q.kind q.subject (id ∷ []))
     (local_unvalidated q.kind q.subject)
     (own_searched g q id (value_of local_pointer g.local q.kind (local_match q.subject)) own (λ m found. record_finds_itself g words q m own asked plain found) refl))
 

@@ -5,6 +5,7 @@ use Rattle.btf_model.specs.Table.{Table, Variant}
 use Rattle.btf_model.specs.Text.{bytes_at}
 use Rattle.btf_model.specs.declared.endianness.Endianness.{Endianness}
 use Rattle.btf_relocate_model.specs.Candidates.{is_nameless}
+use Rattle.btf_relocate_model.specs.Comparison.{types_alike}
 use Rattle.btf_relocate_model.specs.Compatible.{is_composite_kind, compatible}
 use Rattle.btf_relocate_model.specs.Enumerator.{enumerators}
 use Rattle.btf_relocate_model.specs.Field.{Member, members_of}
@@ -13,10 +14,11 @@ use Rattle.btf_relocate_model.specs.Kind.{relocation_kinds}
 use Rattle.btf_relocate_model.specs.Match.{match_path}
 use Rattle.btf_relocate_model.specs.Name.{essential}
 use Rattle.btf_relocate_model.specs.Path.{Path, path_of, local_pointer}
-use Rattle.btf_relocate_model.specs.Resolution.{Setting, Question, Subject, Fields, OfField, OfType, OfEnumerator, topic_of, poisons, resolution, question, instruction_word, type_word, match_of, local_match, value_of, validates}
+use Rattle.btf_relocate_model.specs.Resolution.{Setting, Question, Subject, Fields, OfField, OfType, OfEnumerator, topic_of, poisons, resolution, question, instruction_word, type_word, rule_of, kind_at, kind_word, match_of, local_match, value_of, validates}
 use Rattle.btf_relocate_model.specs.Section.{candidates_of, code_after, outcome_of, patch_of, relocated_section}
 use Rattle.btf_relocate_model.specs.Types.{pointer_size, name_at, name_or_none, resolved_record}
 use Rattle.btf_relocate_model.specs.Value.{field_value, number_of}
+use Rattle.btf_relocate_model.specs.declared.comparison.Rule.TheVariants.{Matches}
 use Rattle.btf_relocate_model.specs.declared.error.RelocationError.{RelocationError}
 use Rattle.btf_relocate_model.specs.declared.error.RelocationError.TheVariants.{Ambiguous, AnonymousType, InvalidStringOffset}
 use Rattle.btf_relocate_model.specs.declared.field.Field.{Field}
@@ -26,6 +28,7 @@ use Rattle.btf_relocate_model.specs.declared.instruction.Instruction.TheVariants
 use Rattle.btf_relocate_model.specs.declared.instruction.Patched.{Patched}
 use Rattle.btf_relocate_model.specs.declared.instruction.Patched.TheVariants.{Written, Poisoned}
 use Rattle.btf_relocate_model.specs.declared.kind.RelocationKind.{RelocationKind}
+use Rattle.btf_relocate_model.specs.declared.kind.RelocationKind.TheVariants.{TypeMatches}
 use Rattle.btf_relocate_model.specs.declared.resolved.Resolved.{Resolved}
 
 -- The field of a slot reads as a value: the offset of a load or store, the immediate of another instruction, which is
@@ -162,19 +165,20 @@ SameOrUnread strings old new =
 abbrev pub with_strings : List ℕ → Table → Table
 with_strings more t = record t { strings = t.strings ++ more }
 
--- A comparison of types that the old and the new table of the program give.
-abbrev pub ComparesAlike : List ℕ → (RelocationKind → ℕ → ℕ → Result Bool RelocationError)
-    → (RelocationKind → ℕ → ℕ → Result Bool RelocationError) → Type 0
-ComparesAlike strings old new =
-    (k : RelocationKind) (id c : ℕ) → SameOrUnread strings (old k id c) (new k id c)
+-- Strings that are appended to the program's table do not change the comparisons of `TypeMatches`, except where a name had
+-- no text before them. In that comparison a name without a text counts as empty beside an empty name of the target.
+abbrev pub MatchesAlike : List ℕ → Setting → Type 0
+MatchesAlike more g =
+    (id c : ℕ) → SameOrUnread g.local.strings
+    (types_alike (record { rule = Matches; local = g.local; target = g.target }) id c)
+    (types_alike (record { rule = Matches; local = with_strings more g.local; target = g.target }) id c)
 
 -- Strings that are appended to the program's table change no resolution, except where a name had no text before them.
 abbrev pub StringsMayBeAppended : Type 0
 StringsMayBeAppended =
-    (g : Setting) (more : List ℕ) (is_alike : RelocationKind → ℕ → ℕ → Result Bool RelocationError)
-    (candidates words : List ℕ) → ComparesAlike g.local.strings g.is_alike is_alike
+    (g : Setting) (more candidates words : List ℕ) → (kind_at (kind_word words) ≡ Ok TypeMatches → MatchesAlike more g)
     → SameOrUnread g.local.strings (resolution g candidates words)
-    (resolution (record g { local = with_strings more g.local; is_alike = is_alike }) candidates words)
+    (resolution (record g { local = with_strings more g.local }) candidates words)
 
 -- ---- members of different names
 
@@ -230,7 +234,8 @@ HasPlainEnumerators t id =
 -- is true, if it is not refused. libbpf's comparison is false for a FLOAT, because it has no case for this kind.
 abbrev pub MatchesItself : Setting → RelocationKind → ℕ → Subject → Type 0
 MatchesItself g k id (OfField path) = HasPlainMembers g.local
-MatchesItself g k id (OfType other) = (b : Bool) → g.is_alike k id id ≡ Ok b → b ≡ true
+MatchesItself g k id (OfType other) =
+    (b : Bool) → types_alike (record { rule = rule_of k; local = g.local; target = g.target }) id id ≡ Ok b → b ≡ true
 MatchesItself g k id (OfEnumerator name value) = HasPlainEnumerators g.local id
 
 -- The value for the target is the value for the program's own table, of the same size, and the one candidate remains.
@@ -246,7 +251,7 @@ abbrev pub IsExpected : Setting → Question → ℕ → Result (Resolved × Lis
 IsExpected g q id (Ok r) = GivesTheExpected q id r
 IsExpected g q id (Err e) =
     (e ≡ AnonymousType id) ⊎ ((value_of local_pointer g.local q.kind (local_match q.subject) ≡ Err e)
-    ⊎ (match_of (g.is_alike q.kind id) g.local (pointer_size g.target) g.target q.subject id ≡ Err e))
+    ⊎ (match_of q.kind g.local (pointer_size g.target) g.target q.subject id ≡ Err e))
 
 -- Against the program's own table, with its own type as the one candidate, a record gives the expected value.
 abbrev pub OwnTableGivesTheExpected : Type 0

@@ -73,7 +73,7 @@ unfolding local target table structure int texts member_at walk search compatibl
 matches = (refl, refl)
 
 setting : Setting
-setting = record { local = local; target = target; is_alike = λ k id c. Ok false }
+setting = record { local = local; target = target }
 
 -- an offset of 4 bytes, whose field has 4 bytes in both tables
 moved : ℕ → ℕ → Resolved

@@ -48,7 +48,6 @@ setting : List Record → Setting
 setting records = record {
   local = table local_texts (int ∷ structure 5 2 (7 ∷ 1 ∷ 0 ∷ 9 ∷ 1 ∷ 32 ∷ []) ∷ []);
   target = table target_texts records;
-  is_alike = λ k id c. Ok false;
 }
 
 -- the target with both structs, and a target without them

@@ -7,6 +7,7 @@
 ghost use Rattle.btf_relocate_model.specs.Laws.{WrittenReadsBack, WrittenKeepsTheRest, PoisonHasAReason, ExistenceAgrees, PatchesCommute, NeighboursExchange, StringsMayBeAppended, OwnTableGivesTheExpected, ExpectedKeepsTheCode, OwnTableKeepsTheCode, OwnTableKeepsTheSection, PathsMatchThemselves};
 
 mod answer;
+mod comparison;
 mod error;
 mod field;
 mod instruction;
@@ -14,6 +15,7 @@ mod kind;
 mod resolved;
 
 pub use answer::{Answer, Match};
+pub use comparison::{Pair, Rule};
 pub use error::RelocationError;
 pub use field::{Field, Load, Value};
 pub use instruction::{Instruction, Patched, Slot};
