@@ -165,8 +165,8 @@ SameOrUnread strings old new =
 abbrev pub with_strings : List ℕ → Table → Table
 with_strings more t = record t { strings = t.strings ++ more }
 
--- Strings that are appended to the program's table do not change the comparisons of `TypeMatches`, except where a name had
--- no text before them. In that comparison a name without a text counts as empty beside an empty name of the target.
+-- Strings that are appended to the program's table do not change the comparisons of `TypeMatches`, except where a name
+-- had no text before them. In that comparison a name without a text counts as empty beside an empty name of the target.
 abbrev pub MatchesAlike : List ℕ → Setting → Type 0
 MatchesAlike more g =
     (id c : ℕ) → SameOrUnread g.local.strings
