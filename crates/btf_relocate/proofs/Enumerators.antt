@@ -42,7 +42,7 @@ enum64_has b t es is kind tail =
     let here : kind_of t.info ≡ Some model.Enum64 = subst (λ (x : BtfType). kind_of (record_of x).info ≡ Some (type_kind x)) is kind in
     rw (is, here, tail) (sym (wide_back es))
 
-at_index : (vs : List Variant) (i : ℕ) (v : Variant) → slice_get vs i ≡ Some v → drop i vs ≡ v ∷ drop (i + 1) vs
+pub at_index : (vs : List Variant) (i : ℕ) (v : Variant) → slice_get vs i ≡ Some v → drop i vs ≡ v ∷ drop (i + 1) vs
 at_index vs i v is =
     drop-cons vs i v (slice_get_within vs i v is) ∙ ap (λ (x : Variant). x ∷ drop (suc i) vs) (get_or_from_slice_get vs i v v is)
     ∙ ap (λ (n : ℕ). v ∷ drop n vs) (sym (add-one i))

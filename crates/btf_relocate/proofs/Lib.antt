@@ -13,3 +13,6 @@ mod Answering
 mod Resolves
 mod Sections
 mod Indexes
+mod Pairs
+mod Comparing
+mod Definitions

@@ -11,15 +11,15 @@ use Rattle.std.specs.Result.{IsErrAnd}
 use Rattle.std.proofs.lemmas.List.{append-nil}
 use Rattle.btf_model.specs.Table.{Table}
 use Rattle.btf_relocate_model.specs.Instruction.{patched_code}
-use Rattle.btf_relocate_model.specs.Resolution.{resolution, compares_types, type_word, instruction_word}
+use Rattle.btf_relocate_model.specs.Resolution.{resolution, type_word, instruction_word}
 use Rattle.btf_relocate_model.specs.Section.{outcome_of, code_after, candidates_of, candidates_after, changed_at, patch_of, then_outcomes, relocated_from}
 use Rattle.btf_relocate_model.specs.declared.error.RelocationError.{RelocationError}
 use Rattle.btf_relocate_model.specs.declared.error.RelocationError.TheVariants.{OutOfMemory}
 use Rattle.btf_relocate_model.specs.declared.instruction.Patched.{Patched}
 use Rattle.btf_relocate_model.specs.declared.resolved.Resolved.{Resolved}
 use Rattle.btf_relocate.specs.Patch.{HasPatched}
-use Rattle.btf_relocate.specs.Resolving.{Alike, HasResolved}
-use Rattle.btf_relocate.specs.Sections.{written_for, HasOthers, HasLeft, Relocated, Relocates, ResolvedFor, CompareNone, patch_by, is_memory, is_out_of_memory, is_shared, items_or, left_in, left_with}
+use Rattle.btf_relocate.specs.Resolving.{HasResolved}
+use Rattle.btf_relocate.specs.Sections.{written_for, HasOthers, HasLeft, Relocated, Relocates, ResolvedFor, patch_by, is_memory, is_out_of_memory, is_shared, items_or, left_in, left_with}
 use Rattle.btf_relocate.specs.declared.section.CandidatePolicy.{CandidatePolicy}
 use Rattle.btf_relocate.specs.declared.section.CandidatePolicy.TheVariants.{Shared, Fresh}
 use Rattle.btf_relocate.proofs.Compatibles.{from_err}
@@ -29,14 +29,13 @@ memory_is OutOfMemory is = refl
 memory_is e is = absurd (cc)
 
 module _ (local target : Table) (words candidates left old : List ℕ) where
-  abbrev Told : Result Resolved RelocationError → Type 0
-  Told r = (is_alike : Alike) → compares_types words ≡ false
-      → HasResolved candidates left (resolution (record { local = local; target = target; is_alike = is_alike }) candidates words) r
+  abbrev Resolves : Result Resolved RelocationError → Type 0
+  Resolves r = HasResolved candidates left (resolution (record { local = local; target = target }) candidates words) r
 
   -- a record that cannot be resolved
-  by_memory : (b : Bool) (e : RelocationError) → is_memory e ≡ b → Told (Err e) → Relocated local target words candidates left old old (Err e)
+  by_memory : (b : Bool) (e : RelocationError) → is_memory e ≡ b → Resolves (Err e) → Relocated local target words candidates left old old (Err e)
   by_memory true e is known = inl (ap (λ (x : RelocationError). let r : Result Patched RelocationError = Err x in r) (memory_is e is))
-  by_memory false e is known = inr (Err e, (λ is_alike other. (without (known is_alike other).0, remains (known is_alike other).0 (known is_alike other).1)), refl, refl)
+  by_memory false e is known = inr (Err e, (without known.0, remains known.0 known.1), refl, refl)
     where
       differs : e ≡ OutOfMemory → ⊥
       differs same = let wrong : is_memory OutOfMemory ≡ false = ap is_memory (sym same) ∙ is in cc
@@ -49,13 +48,13 @@ module _ (local target : Table) (words candidates left old : List ℕ) where
       remains (inl memory) kept = absurd (differs memory)
       remains (inr same) kept = kept ∙ sym (ap (candidates_after candidates) same)
 
-  pub not_resolved : (o : Result Patched RelocationError) (e : RelocationError) → IsErrAnd o (λ x. x ≡ e) → Told (Err e) → Relocated local target words candidates left old old o
+  pub not_resolved : (o : Result Patched RelocationError) (e : RelocationError) → IsErrAnd o (λ x. x ≡ e) → Resolves (Err e) → Relocated local target words candidates left old old o
   not_resolved o e same known = subst (λ (x : Result Patched RelocationError). Relocated local target words candidates left old old x) (sym (from_err o e same)) (by_memory (is_memory e) e refl known)
 
   -- a record that is resolved, and then patched
-  pub patched_as : (new : List ℕ) (o : Result Patched RelocationError) (r : Resolved) → Told (Ok r) → HasPatched old new (patched_code local.order r old (instruction_word words)) o → Relocated local target words candidates left old new o
-  patched_as new (Ok p) r known is = inr (Ok r, (λ is_alike other. (ap written_for (known is_alike other), sym (ap (candidates_after candidates) (known is_alike other)))), sym (ap outcome_of is), sym (ap (code_after old) is))
-  patched_as new (Err e) r known is = inr (Ok r, (λ is_alike other. (ap written_for (known is_alike other), sym (ap (candidates_after candidates) (known is_alike other)))), sym (ap outcome_of is.0), is.1 ∙ sym (ap (code_after old) is.0))
+  pub patched_as : (new : List ℕ) (o : Result Patched RelocationError) (r : Resolved) → Resolves (Ok r) → HasPatched old new (patched_code local.order r old (instruction_word words)) o → Relocated local target words candidates left old new o
+  patched_as new (Ok p) r known is = inr (Ok r, (ap written_for known, sym (ap (candidates_after candidates) known)), sym (ap outcome_of is), sym (ap (code_after old) is))
+  patched_as new (Err e) r known is = inr (Ok r, (ap written_for known, sym (ap (candidates_after candidates) known)), sym (ap outcome_of is.0), is.1 ∙ sym (ap (code_after old) is.0))
 
 -- the candidates of each type before the first record
 no_lists : (policy : CandidatePolicy) (local target : Table) (m : BTreeMap ℕ (Vec ℕ)) → IsEmpty m → left_in policy local target m ≡ candidates_of local target
@@ -116,21 +115,21 @@ all_done policy local target start all before m code rest sofar none =
     subst (λ (os : List (Result Patched RelocationError)). Relocates (is_shared policy) local target (candidates_of local target) start all os code) (append-nil before)
     (sofar [] code (subst (λ (rs : List (List ℕ)). Relocates (is_shared policy) local target (left_in policy local target m) code rs [] code) (sym none) (refl, refl)))
 
--- what the definition says, if no record compares types
-module _ (shares : Bool) (local target : Table) (is_alike : Alike) where
-  same_patch : (code words : List ℕ) (x : Result (Resolved × List ℕ) RelocationError) → patch_by local.order code words (written_for x) ≡ patch_of (record { local = local; target = target; is_alike = is_alike }) code words x
+-- what the definition says
+module _ (shares : Bool) (local target : Table) where
+  same_patch : (code words : List ℕ) (x : Result (Resolved × List ℕ) RelocationError) → patch_by local.order code words (written_for x) ≡ patch_of (record { local = local; target = target }) code words x
   same_patch code words (Ok r) = refl
   same_patch code words (Err e) = refl
 
   pub as_defined : (left : ℕ → List ℕ) (code : List ℕ) (records : List (List ℕ)) (outcomes : List (Result Patched RelocationError)) (new : List ℕ)
-      → Relocates shares local target left code records outcomes new → CompareNone records → (outcomes, new) ≡ relocated_from (record { local = local; target = target; is_alike = is_alike }) shares left code records
-  as_defined left code [] outcomes new done none = ap (λ (os : List (Result Patched RelocationError)). (os, new)) done.0 ∙ ap (λ (c : List ℕ). let os : List (Result Patched RelocationError) = [] in (os, c)) done.1
-  as_defined left code (words ∷ records) [] new done none = absurd done
-  as_defined left code (words ∷ records) (o ∷ outcomes) new (after, r, resolved, patched, rest) none =
-      let x = resolution (record { local = local; target = target; is_alike = is_alike }) (left (type_word words)) words in
-      let known = resolved is_alike none.0 in
-      let written : patch_by local.order code words r ≡ patch_of (record { local = local; target = target; is_alike = is_alike }) code words x = ap (patch_by local.order code words) (sym known.0) ∙ same_patch code words x in
-      ap (then_outcomes o) (as_defined (left_with shares (type_word words) after left) (code_after code (patch_by local.order code words r)) records outcomes new rest none.1)
-      ∙ ap (λ (p : Result Patched RelocationError). then_outcomes p (relocated_from (record { local = local; target = target; is_alike = is_alike }) shares (left_with shares (type_word words) after left) (code_after code (patch_by local.order code words r)) records)) patched
-      ∙ ap (λ (p : Result (Patched × List ℕ) RelocationError). then_outcomes (outcome_of p) (relocated_from (record { local = local; target = target; is_alike = is_alike }) shares (left_with shares (type_word words) after left) (code_after code p) records)) written
-      ∙ ap (λ (cs : List ℕ). let p = patch_of (record { local = local; target = target; is_alike = is_alike }) code words x in then_outcomes (outcome_of p) (relocated_from (record { local = local; target = target; is_alike = is_alike }) shares (left_with shares (type_word words) cs left) (code_after code p) records)) known.1
+      → Relocates shares local target left code records outcomes new → (outcomes, new) ≡ relocated_from (record { local = local; target = target }) shares left code records
+  as_defined left code [] outcomes new done = ap (λ (os : List (Result Patched RelocationError)). (os, new)) done.0 ∙ ap (λ (c : List ℕ). let os : List (Result Patched RelocationError) = [] in (os, c)) done.1
+  as_defined left code (words ∷ records) [] new done = absurd done
+  as_defined left code (words ∷ records) (o ∷ outcomes) new (after, r, resolved, patched, rest) =
+      let x = resolution (record { local = local; target = target }) (left (type_word words)) words in
+      let known = resolved in
+      let written : patch_by local.order code words r ≡ patch_of (record { local = local; target = target }) code words x = ap (patch_by local.order code words) (sym known.0) ∙ same_patch code words x in
+      ap (then_outcomes o) (as_defined (left_with shares (type_word words) after left) (code_after code (patch_by local.order code words r)) records outcomes new rest)
+      ∙ ap (λ (p : Result Patched RelocationError). then_outcomes p (relocated_from (record { local = local; target = target }) shares (left_with shares (type_word words) after left) (code_after code (patch_by local.order code words r)) records)) patched
+      ∙ ap (λ (p : Result (Patched × List ℕ) RelocationError). then_outcomes (outcome_of p) (relocated_from (record { local = local; target = target }) shares (left_with shares (type_word words) after left) (code_after code p) records)) written
+      ∙ ap (λ (cs : List ℕ). let p = patch_of (record { local = local; target = target }) code words x in then_outcomes (outcome_of p) (relocated_from (record { local = local; target = target }) shares (left_with shares (type_word words) cs left) (code_after code p) records)) known.1

@@ -1,5 +1,6 @@
 pub mod Access
 pub mod Arrays
+pub mod Comparing
 pub mod Entries
 pub mod Enumerators
 pub mod Extent
@@ -12,3 +13,4 @@ pub mod Paths
 pub mod Resolving
 pub mod Searching
 pub mod Sections
+pub mod Steps

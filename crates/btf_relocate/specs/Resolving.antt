@@ -1,5 +1,5 @@
 -- What `resolve` and its parts return, as the definitions see it.
-use Rattle.std.specs.Prelude.{◌≡◌, ◌⊎◌, ℕ, Bool, List, Option, Result, Ok, Err}
+use Rattle.std.specs.Prelude.{◌≡◌, ◌⊎◌, ℕ, List, Option, Result, Ok, Err}
 use Rattle.std.specs.Global.{Vec}
 use Rattle.btf_model.specs.Table.{Table}
 use Rattle.btf_relocate_model.specs.Resolution as model
@@ -14,10 +14,6 @@ use Rattle.btf_relocate.specs.declared.resolving.Question.{Question}
 use Rattle.btf_relocate.specs.declared.resolving.Subject.{Subject}
 use Rattle.btf_relocate.specs.declared.resolving.Subject.TheVariants.{OfField, OfType, OfEnumerator}
 
--- comparisons of two types, for each kind
-abbrev pub Alike : Type 0
-Alike = RelocationKind → ℕ → ℕ → Result Bool RelocationError
-
 abbrev pub subject_view : Subject → model.Subject
 subject_view (OfField path) = model.OfField (path_of path)
 subject_view (OfType id) = model.OfType id
@@ -30,10 +26,8 @@ abbrev pub answers_view : Option Answer × Vec ℕ → Option Answer × List ℕ
 answers_view p = (p.0, p.1.items)
 
 -- the answer that a candidate has for a subject
-abbrev pub answer_at : (ℕ → Result Bool RelocationError) → Table → Table → RelocationKind → model.Subject → ℕ
-    → Result (Option Answer) RelocationError
-answer_at is_alike local t k s c =
-    model.match_of is_alike local (pointer_size t) t s c >>= model.answer_of (pointer_size t) t k
+abbrev pub answer_at : Table → Table → RelocationKind → model.Subject → ℕ → Result (Option Answer) RelocationError
+answer_at local t k s c = model.match_of k local (pointer_size t) t s c >>= model.answer_of (pointer_size t) t k
 
 -- The result is the expected one, and the candidates are those that remain; or an allocation failed. The candidates are
 -- unchanged after an error.

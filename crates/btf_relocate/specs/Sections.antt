@@ -1,18 +1,17 @@
 -- What `relocate_section` and its parts return.
-use Rattle.std.specs.Prelude.{◌≡◌, ◌⊎◌, ⊤, ℕ, if◌then◌else◌, cond, Bool, true, false, List, [], ◌∷◌, Option, Some, None, Result, Ok, Err}
+use Rattle.std.specs.Prelude.{◌≡◌, ◌⊎◌, ℕ, if◌then◌else◌, cond, Bool, true, false, List, [], ◌∷◌, Option, Some, None, Result, Ok, Err}
 use Rattle.std.specs.BTreeMap.{BTreeMap, get, is_at}
 use Rattle.std.specs.Global.{Vec}
 use Rattle.std.specs.Ordering.{nat_cmp}
 use Rattle.btf_model.specs.Table.{Table}
 use Rattle.btf_model.specs.declared.endianness.Endianness.{Endianness}
 use Rattle.btf_relocate_model.specs.Instruction.{patched_code}
-use Rattle.btf_relocate_model.specs.Resolution.{Setting, resolution, compares_types, type_word, instruction_word}
+use Rattle.btf_relocate_model.specs.Resolution.{Setting, resolution, type_word, instruction_word}
 use Rattle.btf_relocate_model.specs.Section.{outcome_of, code_after, candidates_of, candidates_after, changed_at}
 use Rattle.btf_relocate_model.specs.declared.error.RelocationError.{RelocationError}
 use Rattle.btf_relocate_model.specs.declared.error.RelocationError.TheVariants.{OutOfMemory}
 use Rattle.btf_relocate_model.specs.declared.instruction.Patched.{Patched}
 use Rattle.btf_relocate_model.specs.declared.resolved.Resolved.{Resolved}
-use Rattle.btf_relocate.specs.Resolving.{Alike}
 use Rattle.btf_relocate.specs.declared.section.CandidatePolicy.{CandidatePolicy}
 use Rattle.btf_relocate.specs.declared.section.CandidatePolicy.TheVariants.{Shared, Fresh}
 
@@ -49,17 +48,15 @@ HasLeft policy id v old new =
 abbrev pub left_with : Bool → ℕ → List ℕ → (ℕ → List ℕ) → ℕ → List ℕ
 left_with is_shared id after left = if is_shared then changed_at id after left else left
 
--- two tables, with comparisons of types
-abbrev pub setting : Table → Table → Alike → Setting
-setting local target is_alike = record { local = local; target = target; is_alike = is_alike }
+-- two tables
+abbrev pub setting : Table → Table → Setting
+setting local target = record { local = local; target = target }
 
--- A record was resolved for candidates of which `after` remain. Of a record whose kind compares types this says
--- nothing.
+-- A record was resolved for candidates of which `after` remain.
 abbrev pub ResolvedFor : Table → Table → List ℕ → List ℕ → List ℕ → Result Resolved RelocationError → Type 0
 ResolvedFor local target words candidates after r =
-    (is_alike : Alike) → compares_types words ≡ false
-    → (written_for (resolution (setting local target is_alike) candidates words) ≡ r)
-    × (after ≡ candidates_after candidates (resolution (setting local target is_alike) candidates words))
+    (written_for (resolution (setting local target) candidates words) ≡ r)
+    × (after ≡ candidates_after candidates (resolution (setting local target) candidates words))
 
 -- the patch of a record, by what it asks to be written
 abbrev pub patch_by : Endianness → List ℕ → List ℕ → Result Resolved RelocationError
@@ -87,11 +84,6 @@ Relocates is_shared local target left code (words ∷ records) (o ∷ outcomes) 
     × (o ≡ outcome_of (patch_by local.order code words r))
     × Relocates is_shared local target (left_with is_shared (type_word words) after left)
     (code_after code (patch_by local.order code words r)) records outcomes new
-
--- no record compares types
-abbrev pub CompareNone : List (List ℕ) → Type 0
-CompareNone [] = ⊤
-CompareNone (words ∷ records) = (compares_types words ≡ false) × CompareNone records
 
 -- an allocation failed
 abbrev pub is_memory : RelocationError → Bool

@@ -72,7 +72,7 @@ impl Enumerator {
     }
 
     /// The enumerator of a type at an index; `None` if the type has none there.
-    fn at(btf_type: &BtfType, index: usize) -> Option<Enumerator>
+    pub fn at(btf_type: &BtfType, index: usize) -> Option<Enumerator>
         ensures { option_map variant_of result
             ≡ slice_get (enumerators_of (record_of btf_type.now)) index }
     {

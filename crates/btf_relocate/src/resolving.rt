@@ -1,13 +1,11 @@
 //! The value of a record.
 
-ghost use Rattle.std.specs.Prelude.{◌≡◌, ℕ, Bool, Result, Ok, Err, true, false, None};
+ghost use Rattle.std.specs.Prelude.{◌≡◌, Ok, Err, None};
 ghost use Rattle.std.specs.Option.{option_map};
 ghost use Rattle.btf_relocate_model.specs.Resolution as model;
 ghost use Rattle.btf_relocate_model.specs.Types.{pointer_size};
-ghost use Rattle.btf_relocate_model.specs.declared.error.RelocationError.{RelocationError};
-ghost use Rattle.btf_relocate_model.specs.declared.kind.RelocationKind.{RelocationKind};
 ghost use Rattle.btf_relocate.specs.Gives.{GivesBy};
-ghost use Rattle.btf_relocate.specs.Resolving.{subject_view, question_view, answer_at, answers_view, Alike, HasResolved};
+ghost use Rattle.btf_relocate.specs.Resolving.{subject_view, question_view, answer_at, answers_view, HasResolved};
 
 use crate::access::Access;
 use crate::enumerator::{enumerator_at, find_enumerator};
@@ -16,10 +14,10 @@ use crate::matching::matching_field;
 use crate::path::{LOCAL_POINTER_SIZE, Path};
 use crate::size::size_of;
 use crate::target::Target;
-use crate::types::{Comparison, Rule};
+use crate::types::types_alike;
 use crate::value::{field_value, is_adjustable, plain};
 use btf_model::Endianness;
-use btf_relocate_model::{Answer, Match, RelocationError, RelocationKind, Resolved, Value};
+use btf_relocate_model::{Answer, Match, RelocationError, RelocationKind, Resolved, Rule, Value};
 use btf_table::Btf;
 use std::alloc::Global;
 
@@ -57,9 +55,8 @@ pub fn resolve(
     record: &[u32; 4],
     candidates: &mut Vec<u32>,
 ) -> Result<Resolved, RelocationError>
-    ensures { (is_alike : Alike) → model.compares_types «record».now ≡ false
-        → HasResolved candidates.old.items candidates.new.items
-        (model.resolution (record { local = local.now; target = target.now; is_alike = is_alike })
+    ensures { HasResolved candidates.old.items candidates.new.items
+        (model.resolution (record { local = local.now; target = target.now })
         candidates.old.items «record».now) result }
 {
     let type_id = record[1];
@@ -218,9 +215,7 @@ fn matching(
     subject: &Subject<'_>,
     candidate: u32,
 ) -> Result<Option<Match>, RelocationError>
-    ensures { (is_alike : ℕ → Result Bool RelocationError)
-        → model.is_of_type (subject_view subject.now) ≡ false
-        → GivesBy (λ o. o) (model.match_of is_alike local.now (pointer_size target.now) target.now
+    ensures { GivesBy (λ o. o) (model.match_of kind local.now (pointer_size target.now) target.now
         (subject_view subject.now) candidate) result }
 {
     match subject {
@@ -229,14 +224,12 @@ fn matching(
             Ok(field.map(Match::AtField))
         }
         Subject::OfType(type_id) => {
-            let rule = if kind == RelocationKind::TypeMatches {
-                Rule::Matches
+            let rule = rule_of(kind);
+            if types_alike(alloc, rule, local, target.table(), *type_id, candidate)? {
+                Ok(Some(Match::AtType(candidate)))
             } else {
-                Rule::Compatible
-            };
-            let mut comparison = Comparison::new(alloc, rule, local, target.table());
-            let is_match = comparison.run(*type_id, candidate)?;
-            Ok(is_match.then_some(Match::AtType(candidate)))
+                Ok(None)
+            }
         }
         Subject::OfEnumerator(name, _) => {
             match find_enumerator(target.table(), candidate, *name)? {
@@ -244,6 +237,16 @@ fn matching(
                 None => Ok(None),
             }
         }
+    }
+}
+
+/// The rule by which a kind compares the record's type with a candidate.
+fn rule_of(kind: RelocationKind) -> Rule
+    ensures { result ≡ model.rule_of kind }
+{
+    match kind {
+        RelocationKind::TypeMatches => Rule::Matches,
+        _ => Rule::Compatible,
     }
 }
 
@@ -301,9 +304,7 @@ fn answers(
     subject: &Subject<'_>,
     candidates: &[u32],
 ) -> Result<(Option<Answer>, Vec<u32>), RelocationError>
-    ensures { (is_alike : ℕ → Result Bool RelocationError)
-        → model.is_of_type (subject_view subject.now) ≡ false
-        → GivesBy answers_view (model.answers (answer_at is_alike local.now target.now kind
+    ensures { GivesBy answers_view (model.answers (answer_at local.now target.now kind
         (subject_view subject.now)) None candidates.now) result }
 {
     let mut common: Option<Answer> = None;

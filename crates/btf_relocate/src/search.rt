@@ -117,7 +117,7 @@ fn search_members(
 }
 
 /// The member at an index.
-fn member_at(members: &[BtfMember], index: usize) -> &BtfMember
+pub fn member_at(members: &[BtfMember], index: usize) -> &BtfMember
     requires { index < length members.now }
     ensures { drop index members.now ≡ result.now ∷ drop (index + 1) members.now }
 {

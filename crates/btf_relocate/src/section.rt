@@ -3,8 +3,7 @@
 ghost use Rattle.std.specs.Prelude.{◌≡◌, ◌+◌, ◌<◌, ◌∷◌, length, drop, IfOk, OnOk};
 ghost use Rattle.btf_relocate_model.specs.Resolution.{type_word};
 ghost use Rattle.btf_relocate_model.specs.Section.{candidates_of, relocated_section};
-ghost use Rattle.btf_relocate.specs.Resolving.{Alike};
-ghost use Rattle.btf_relocate.specs.Sections.{CompareNone, HasOthers, HasLeft, Relocated, Relocates, is_out_of_memory, is_shared, left_in, setting};
+ghost use Rattle.btf_relocate.specs.Sections.{HasOthers, HasLeft, Relocated, Relocates, is_out_of_memory, is_shared, left_in, setting};
 
 use crate::instruction::patch;
 use crate::lookup::{kind_number, name_or_none, type_at};
@@ -45,9 +44,8 @@ pub fn relocate_section(
 ) -> Result<Vec<Outcome>, AllocError>
     ensures records { IfOk result (λ outcomes. Relocates (is_shared policy) local.now target.now
         (candidates_of local.now target.now) code.old records.now outcomes.items code.new) }
-    ensures defined { (is_alike : Alike) → CompareNone records.now → IfOk result (λ outcomes.
-        (outcomes.items, code.new) ≡ relocated_section (setting local.now target.now is_alike)
-        (is_shared policy) code.old records.now) }
+    ensures defined { IfOk result (λ outcomes. (outcomes.items, code.new)
+        ≡ relocated_section (setting local.now target.now) (is_shared policy) code.old records.now) }
 {
     let mut outcomes = Vec::with_capacity(alloc, records.len())?;
     let mut shared: BTreeMap<u32, Vec<u32>> = BTreeMap::new(alloc);

@@ -106,7 +106,7 @@ by_class false false true e f m a z is = absurd (cc)
 by_class false false false e f m a z is = inr (refl, is)
 
 -- the class of a slot that was patched, and by which rule
-slot_class : (r : Resolved) (s : Slot) (z : Patched × Slot) → patched_slot r s ≡ Ok z
+pub slot_class : (r : Resolved) (s : Slot) (z : Patched × Slot) → patched_slot r s ≡ Ok z
     → ((nat_le (s.opcode % 8) 3 ≡ true) × (patched_offset r s ≡ Ok z)) ⊎ ((nat_le (s.opcode % 8) 3 ≡ false) × (patched_immediate r s ≡ Ok z))
 slot_class r s z is =
     by_class (s.opcode % 8 == 0) (nat_le (s.opcode % 8) 3) ((s.opcode % 8 == 5) || (s.opcode % 8 == 6)) BadLdImm64 NotPatchable (patched_offset r s) (patched_immediate r s) z is
@@ -126,7 +126,7 @@ slot_written r s u is =
 -- ---- instructions
 
 -- an outcome of a slot, as that of an instruction
-narrowed : (o : Result (Patched × Slot) RelocationError) (p : Patched) (j : Instruction) → narrow o ≡ Ok (p, j) → (u : Slot) × (o ≡ Ok (p, u)) × (j ≡ Narrow u)
+pub narrowed : (o : Result (Patched × Slot) RelocationError) (p : Patched) (j : Instruction) → narrow o ≡ Ok (p, j) → (u : Slot) × (o ≡ Ok (p, u)) × (j ≡ Narrow u)
 narrowed (Err e) p j is = absurd (cc)
 narrowed (Ok q) p j is =
     let same : ◌≡◌ {A = Patched × Instruction} (q.0, Narrow q.1) (p, j) = same_instruction (q.0, Narrow q.1) (p, j) is in
@@ -141,7 +141,7 @@ wide_outcome true unexpected e f x z is = absurd (cc)
 wide_outcome false true e f x z is = absurd (cc)
 wide_outcome false false e f x z is = cc
 
-wide_result : (order : Endianness) (r : Resolved) (s t : Slot) (z : Patched × Instruction) → patched_wide order r s t ≡ Ok z
+pub wide_result : (order : Endianness) (r : Resolved) (s t : Slot) (z : Patched × Instruction) → patched_wide order r s t ≡ Ok z
     → ◌≡◌ {A = Patched × Instruction} (Written, Wide (record s { immediate = r.value % 2 ^ 32 }) (record t { immediate = r.value / 2 ^ 32 })) z
 wide_result order r s t z is =
     wide_outcome (not (is_ld_imm64 order s t)) (is_unexpected r (wide_immediate s t)) BadLdImm64 WrongImmediate (Written, Wide (record s { immediate = r.value % 2 ^ 32 }) (record t { immediate = r.value / 2 ^ 32 })) z is

@@ -11,8 +11,11 @@ pub mod Search
 pub mod Match
 pub mod Enumerator
 pub mod Value
+pub mod Comparison
 pub mod Resolution
 pub mod Section
 pub mod Laws
 pub mod Examples
 pub mod ResolutionExamples
+pub mod ComparisonExamples
+pub mod SectionExamples

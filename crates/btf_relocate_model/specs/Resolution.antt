@@ -10,6 +10,7 @@ use Rattle.btf_model.specs.declared.endianness.Endianness.{Endianness}
 use Rattle.btf_model.specs.declared.endianness.Endianness.TheVariants.{Little, Big}
 use Rattle.btf_relocate_model.specs.Access.{access_of}
 use Rattle.btf_relocate_model.specs.Candidates.{is_nameless}
+use Rattle.btf_relocate_model.specs.Comparison.{types_alike}
 use Rattle.btf_relocate_model.specs.Enumerator.{enumerator_at, find_enumerator}
 use Rattle.btf_relocate_model.specs.Kind.{relocation_kinds}
 use Rattle.btf_relocate_model.specs.Match.{match_path}
@@ -19,6 +20,8 @@ use Rattle.btf_relocate_model.specs.Value.{field_value, plain, is_adjustable}
 use Rattle.btf_relocate_model.specs.declared.answer.Answer.{Answer}
 use Rattle.btf_relocate_model.specs.declared.answer.Match.{Match}
 use Rattle.btf_relocate_model.specs.declared.answer.Match.TheVariants.{AtField, AtType, AtEnumerator}
+use Rattle.btf_relocate_model.specs.declared.comparison.Rule.{Rule}
+use Rattle.btf_relocate_model.specs.declared.comparison.Rule.TheVariants.{Compatible, Matches}
 use Rattle.btf_relocate_model.specs.declared.error.RelocationError.{RelocationError}
 use Rattle.btf_relocate_model.specs.declared.error.RelocationError.TheVariants.{UnknownKind, OrderMismatch, BadAccess, BadIndex, AnonymousType, Ambiguous}
 use Rattle.btf_relocate_model.specs.declared.field.Value.{Value}
@@ -116,12 +119,17 @@ abbrev pub type_if : ℕ → Bool → Result (Option Match) RelocationError
 type_if id true = Ok (Some (AtType id))
 type_if id false = Ok None
 
--- What a candidate has for the subject; none if it does not match. `is_alike` compares the record's type with it.
-abbrev pub match_of : (ℕ → Result Bool RelocationError) → Table → ℕ → Table → Subject → ℕ
-    → Result (Option Match) RelocationError
-match_of is_alike local pointer t (OfField path) c = match_path local pointer t path.steps c >>= seen_as AtField
-match_of is_alike local pointer t (OfType id) c = is_alike c >>= type_if c
-match_of is_alike local pointer t (OfEnumerator name value) c =
+-- the rule by which a kind compares the record's type with a candidate
+abbrev pub rule_of : RelocationKind → Rule
+rule_of TypeMatches = Matches
+rule_of k = Compatible
+
+-- What a candidate has for the subject of a record of a kind; none if it does not match.
+abbrev pub match_of : RelocationKind → Table → ℕ → Table → Subject → ℕ → Result (Option Match) RelocationError
+match_of k local pointer t (OfField path) c = match_path local pointer t path.steps c >>= seen_as AtField
+match_of k local pointer t (OfType id) c =
+    types_alike (record { rule = rule_of k; local = local; target = t }) id c >>= type_if c
+match_of k local pointer t (OfEnumerator name value) c =
     find_enumerator t c name >>= seen_as (λ (v : Variant). AtEnumerator v.value)
 
 -- ---- values
@@ -247,24 +255,20 @@ abbrev pub remaining : List ℕ → Option Answer → List ℕ → List ℕ
 remaining before (Some a) matching = matching
 remaining before None matching = before
 
--- A program's table, the table of the target, and the comparison of two types, each in its own table, for a kind that
--- compares types.
+-- A program's table, and the table of the target.
 pub record Setting : Type 0 where
   pub local : Table
   pub target : Table
-  pub is_alike : RelocationKind → ℕ → ℕ → Result Bool RelocationError
 
 -- the answer that a candidate has for a subject
-abbrev pub candidate_answer : Setting → RelocationKind → ℕ → Subject → ℕ → Result (Option Answer) RelocationError
-candidate_answer g k id s c =
-    match_of (g.is_alike k id) g.local (pointer_size g.target) g.target s c
-    >>= answer_of (pointer_size g.target) g.target k
+abbrev pub candidate_answer : Setting → RelocationKind → Subject → ℕ → Result (Option Answer) RelocationError
+candidate_answer g k s c =
+    match_of k g.local (pointer_size g.target) g.target s c >>= answer_of (pointer_size g.target) g.target k
 
 -- a record whose kind needs a search, after its local value
-abbrev pub searched : Setting → RelocationKind → ℕ → Subject → List ℕ → Value
-    → Result (Resolved × List ℕ) RelocationError
-searched g k id s candidates expected =
-    answers (candidate_answer g k id s) None candidates >>= λ found.
+abbrev pub searched : Setting → RelocationKind → Subject → List ℕ → Value → Result (Resolved × List ℕ) RelocationError
+searched g k s candidates expected =
+    answers (candidate_answer g k s) None candidates >>= λ found.
     Ok (resolved_by g.local g.target k (validates k s) expected found.0, remaining candidates found.0 found.1)
 
 -- the kind of a record, the name of its type, and what it is about
@@ -284,7 +288,7 @@ answered g id candidates q =
     if is_local q.kind then Ok (local_id id, candidates)
     else (if is_nameless q.name then Err (AnonymousType id)
     else (value_of local_pointer g.local q.kind (local_match q.subject)
-    >>= searched g q.kind id q.subject candidates))
+    >>= searched g q.kind q.subject candidates))
 
 -- two tables have one byte order
 abbrev pub same_order : Endianness → Endianness → Bool
@@ -306,21 +310,3 @@ question t order words =
 abbrev pub resolution : Setting → List ℕ → List ℕ → Result (Resolved × List ℕ) RelocationError
 resolution g candidates words =
     question g.local g.target.order words >>= answered g (type_word words) candidates
-
--- ---- kinds that compare types
-
--- the kinds that compare the record's type with a candidate
-abbrev pub compares : RelocationKind → Bool
-compares TypeIdTarget = true
-compares TypeExists = true
-compares TypeSize = true
-compares TypeMatches = true
-compares k = false
-
-abbrev pub compares_or_not : Option RelocationKind → Bool
-compares_or_not (Some k) = compares k
-compares_or_not None = false
-
--- A record compares types if its kind does.
-abbrev pub compares_types : List ℕ → Bool
-compares_types words = compares_or_not (slice_get relocation_kinds (kind_word words))

@@ -1,7 +1,7 @@
 -- Worked examples of paths, searches, matches and results, computed. The program was compiled against
 -- `struct s { int a; int b; }`; the target has `struct s { struct { int c; int b; }; int a; }`, and `struct s___old` with
 -- an `int a`.
-use Rattle.std.specs.Prelude.{◌≡◌, ℕ, ◌+◌, ◌*◌, ◌^◌, Bool, true, false, List, [], ◌∷◌, ◌++◌, codes, Option, Some, None, Result, Ok, Err, refl}
+use Rattle.std.specs.Prelude.{◌≡◌, ℕ, ◌+◌, ◌*◌, ◌^◌, Bool, true, false, List, [], ◌∷◌, ◌++◌, codes, Some, None, Ok, Err, refl}
 use Rattle.btf_model.specs.Record.{Record, unknown}
 use Rattle.btf_model.specs.Table.{Table}
 use Rattle.btf_model.specs.declared.endianness.Endianness.TheVariants.{Little}
@@ -11,11 +11,9 @@ use Rattle.btf_relocate_model.specs.Match.{match_path}
 use Rattle.btf_relocate_model.specs.Path.{AtIndex, ToMember, path_of}
 use Rattle.btf_relocate_model.specs.Resolution.{Setting, resolution}
 use Rattle.btf_relocate_model.specs.Search.{search}
-use Rattle.btf_relocate_model.specs.Section.{relocated_section}
 use Rattle.btf_relocate_model.specs.Types.{walk}
-use Rattle.btf_relocate_model.specs.declared.error.RelocationError.TheVariants.{Ambiguous, BadAccess, BadIndex, TooDeep, UnknownBtfType, UnknownKind}
+use Rattle.btf_relocate_model.specs.declared.error.RelocationError.TheVariants.{BadAccess, BadIndex, TooDeep, UnknownBtfType, UnknownKind}
 use Rattle.btf_relocate_model.specs.declared.field.Field.{Field}
-use Rattle.btf_relocate_model.specs.declared.instruction.Patched.TheVariants.{Written, Poisoned}
 use Rattle.btf_relocate_model.specs.declared.resolved.Resolved.{Resolved}
 
 -- `int` at 1, `s` at 5, `a` at 7, `b` at 9, `c` at 11, the access `0:1` at 13, the access `0:2` at 17, `s___old` at 21
@@ -75,7 +73,7 @@ unfolding local target table structure int texts member_at walk search compatibl
 matches = (refl, refl)
 
 setting : Setting
-setting = record { local = local; target = target; is_alike = λ k id c. Ok false }
+setting = record { local = local; target = target }
 
 -- an offset of 4 bytes, whose field has 4 bytes in both tables
 moved : ℕ → ℕ → Resolved

@@ -4,9 +4,10 @@
 //! contract of a function that does nothing.
 #![tactic(auto)]
 
-ghost use Rattle.btf_relocate_model.specs.Laws.{WrittenReadsBack, WrittenKeepsTheRest, PoisonHasAReason};
+ghost use Rattle.btf_relocate_model.specs.Laws.{WrittenReadsBack, WrittenKeepsTheRest, PoisonHasAReason, ExistenceAgrees, PatchesCommute, NeighboursExchange, StringsMayBeAppended, OwnTableGivesTheExpected, ExpectedKeepsTheCode, OwnTableKeepsTheCode, OwnTableKeepsTheSection, PathsMatchThemselves};
 
 mod answer;
+mod comparison;
 mod error;
 mod field;
 mod instruction;
@@ -14,6 +15,7 @@ mod kind;
 mod resolved;
 
 pub use answer::{Answer, Match};
+pub use comparison::{Pair, Rule};
 pub use error::RelocationError;
 pub use field::{Field, Load, Value};
 pub use instruction::{Instruction, Patched, Slot};
@@ -34,4 +36,55 @@ pub fn written_keeps_the_rest()
 /// change and may not. Then each slot of the instruction is the poison.
 pub fn poison_has_a_reason()
     ensures { PoisonHasAReason }
+{}
+
+/// A record about a field, of a kind that poisons, such as the offset of the field, agrees with the record about its
+/// existence: the field exists just if the other record does not poison. Errors of values are apart.
+pub fn existence_agrees()
+    ensures { ExistenceAgrees }
+{}
+
+/// Patches of two instructions that do not overlap have the same outcomes and leave the same code in either order.
+pub fn patches_commute()
+    ensures { PatchesCommute }
+{}
+
+/// Two neighbouring records may change places if their instructions do not overlap, and if each record has all
+/// candidates or the two are about different types. Their outcomes change places, and all else is the same.
+pub fn neighbours_exchange()
+    ensures { NeighboursExchange }
+{}
+
+/// Strings that are appended to the program's table change no resolution, except where a name had no text before.
+pub fn strings_may_be_appended()
+    ensures { StringsMayBeAppended }
+{}
+
+/// Against the program's own table, with its own type as the one candidate, a record gives the expected value and does
+/// not poison.
+pub fn own_table_gives_the_expected()
+    ensures { OwnTableGivesTheExpected }
+{}
+
+/// A patch that validates the instruction, and whose value and size are the expected ones, writes the bytes that are
+/// there.
+pub fn expected_keeps_the_code()
+    ensures { ExpectedKeepsTheCode }
+{}
+
+/// Against the program's own table, with its own type as the one candidate, a record that validates its instruction
+/// leaves the code as it is.
+pub fn own_table_keeps_the_code()
+    ensures { OwnTableKeepsTheCode }
+{}
+
+/// In a table whose members have different names, the path of an access leads in its own type to its own field.
+pub fn paths_match_themselves()
+    ensures { PathsMatchThemselves }
+{}
+
+/// Against the program's own table, records that validate their instructions, and whose types are their only
+/// candidates, leave the code of a section as it is.
+pub fn own_table_keeps_the_section()
+    ensures { OwnTableKeepsTheSection }
 {}

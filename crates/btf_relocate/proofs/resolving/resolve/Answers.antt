@@ -11,13 +11,13 @@ use Rattle.btf_relocate_model.specs.declared.answer.Match.{Match}
 use Rattle.btf_relocate_model.specs.declared.error.RelocationError.TheVariants.{OutOfMemory}
 use Rattle.btf_relocate_model.specs.declared.resolved.Resolved.{Resolved}
 use Rattle.btf_relocate.specs.Resolving.{question_view}
-use Rattle.btf_relocate.proofs.Resolves.{about_no_type, has_name, Asked, refused, answered_by, remain_some, remain_none, left_refused}
+use Rattle.btf_relocate.proofs.Resolves.{has_name, Asked, refused, answered_by, remain_some, remain_none, left_refused}
 use Rattle.btf_relocate.proofs.resolving.resolve.Goals as goal
 use Rattle.btf_relocate.proofs.resolving.resolve.Goals.{then-is_some, else-is_some}
 
 pub returns-in_err-answer : goal.returns-in_err-answer
-returns-in_err-answer c = λ is_alike other.
-    let g : Setting = record { local = c.args.local.now; target = c.args.target.now; is_alike = is_alike } in
+returns-in_err-answer c =
+    let g : Setting = record { local = c.args.local.now; target = c.args.target.now } in
     let words = c.args.record.now in
     let q : Question = question_view c.in_ok-question.question in
     let e = c.in_err-answer.field-0.0 in
@@ -29,17 +29,17 @@ returns-in_err-answer c = λ is_alike other.
       named = has_name q.name c.is_empty.result c.is_empty.ensures c.if-is_empty.false;
       local_value = ap (λ (m : Match). model.value_of local_pointer g.local q.kind m) (sym c.local_match-found.ensures) ∙ sym c.in_ok-expected.ensures;
     } in
-    let known = c.in_err-answer.ensures (is_alike q.kind (type_word words)) (about_no_type g.local g.target.order words q asks other (sym c.is_local.ensures ∙ c.if-is_local.false)) in
+    let known = c.in_err-answer.ensures in
     left_refused c.args.candidates.now.items (resolution g c.args.candidates.now.items words) c.from_residual-in_err-answer.result e c.from_residual-in_err-answer.ensures.1
     (elim known as (λ x. (e ≡ OutOfMemory) ⊎ (resolution g c.args.candidates.now.items words ≡ Err e)) [
       | inl memory ↦ inl memory
       | inr is ↦ inr (refused g c.args.candidates.now.items words q c.in_ok-expected.expected asked e
-          (ap (λ (cs : List ℕ). answers (candidate_answer g q.kind (type_word words) q.subject) None cs) (sym c.as_slice.ensures.value) ∙ is))
+          (ap (λ (cs : List ℕ). answers (candidate_answer g q.kind q.subject) None cs) (sym c.as_slice.ensures.value) ∙ is))
     ])
 
 pub returns : goal.returns
-returns c = λ is_alike other.
-    let g : Setting = record { local = c.args.local.now; target = c.args.target.now; is_alike = is_alike } in
+returns c =
+    let g : Setting = record { local = c.args.local.now; target = c.args.target.now } in
     let words = c.args.record.now in
     let q : Question = question_view c.in_ok-question.question in
     let order : c.endianness.result ≡ c.args.target.now.order = c.endianness.ensures ∙ ap (λ (t : Table). t.order) c.table.ensures in
@@ -51,8 +51,8 @@ returns c = λ is_alike other.
       local_value = ap (λ (m : Match). model.value_of local_pointer g.local q.kind m) (sym c.local_match-found.ensures) ∙ sym c.in_ok-expected.ensures;
     } in
     let found : Option Answer × List ℕ = (c.in_ok-answer.answer, c.in_ok-answer.matching.items) in
-    let known : answers (candidate_answer g q.kind (type_word words) q.subject) None c.as_slice.result.now ≡ Ok found =
-    c.in_ok-answer.ensures (is_alike q.kind (type_word words)) (about_no_type g.local g.target.order words q asks other (sym c.is_local.ensures ∙ c.if-is_local.false)) in
+    let known : answers (candidate_answer g q.kind q.subject) None c.as_slice.result.now ≡ Ok found =
+    c.in_ok-answer.ensures in
     let left : remaining c.args.candidates.now.items found.0 found.1 ≡ c.if-is_some.candidates.items = elim c.if-is_some.branch [
       | then-is_some w ↦ remain_some found.0 c.is_some.result c.args.candidates.now.items found.1 c.if-is_some.candidates.items c.is_some.ensures w.if-is_some.true (ap (λ (v : Vec ℕ). v.items) w.candidates-is)
       | else-is_some w ↦ remain_none found.0 c.is_some.result c.args.candidates.now.items found.1 c.if-is_some.candidates.items c.is_some.ensures w.if-is_some.false (ap (λ (v : Vec ℕ). v.items) w.candidates-is)
@@ -61,6 +61,6 @@ returns c = λ is_alike other.
     ∙ ap (λ (t : Table). resolved_by g.local t q.kind c.validates-validates.result c.in_ok-expected.expected found.0) c.table-2.ensures
     ∙ ap (λ (b : Bool). resolved_by g.local g.target q.kind b c.in_ok-expected.expected found.0) c.validates-validates.ensures) in
     answered_by g c.args.candidates.now.items words q c.in_ok-expected.expected asked found
-    (ap (λ (cs : List ℕ). answers (candidate_answer g q.kind (type_word words) q.subject) None cs) (sym c.as_slice.ensures.value) ∙ known)
+    (ap (λ (cs : List ℕ). answers (candidate_answer g q.kind q.subject) None cs) (sym c.as_slice.ensures.value) ∙ known)
     ∙ ap (λ (r : Resolved). let p : Resolved × List ℕ = (r, remaining c.args.candidates.now.items found.0 found.1) in Ok p) result
     ∙ ap (λ (cs : List ℕ). let p : Resolved × List ℕ = (c.resolved_by.result, cs) in Ok p) left

@@ -19,6 +19,6 @@ returns-clause-records c =
     (drop_all c.loop-index.index c.args.records.now (omega arith))
 
 pub returns-clause-defined : goal.returns-clause-defined
-returns-clause-defined c = λ is_alike none.
-    as_defined (is_shared c.args.policy) c.args.local.now c.args.target.now is_alike (candidates_of c.args.local.now c.args.target.now) c.args.code.now c.args.records.now c.loop-index.outcomes.items c.loop-index.code
-    (returns-clause-records c) none
+returns-clause-defined c =
+    as_defined (is_shared c.args.policy) c.args.local.now c.args.target.now (candidates_of c.args.local.now c.args.target.now) c.args.code.now c.args.records.now c.loop-index.outcomes.items c.loop-index.code
+    (returns-clause-records c)

@@ -1,0 +1,9 @@
+-- The comparison of the two types is under way.
+use Rattle.std.proofs.Common.{false}
+use Rattle.btf_relocate_model.specs.Comparison.{pair}
+use Rattle.btf_relocate.specs.Steps.{comparison}
+use Rattle.btf_relocate.proofs.Comparing.{Runs}
+use Rattle.btf_relocate.proofs.types.types_alike.Given as goal
+
+abbrev pub invariant-loop : goal.invariant-loop
+invariant-loop l = Runs (comparison l.rule l.local l.target) (pair false l.local_id l.target_id) l.progress l.answer

@@ -1,0 +1,26 @@
+use Rattle.std.proofs.Common.{◌+◌, ℕ, Bool, Option, Result, Ok, map, drop, subst, sym, refl, ap, ◌∙◌}
+use Rattle.btf_relocate_model.specs.declared.error.RelocationError.{RelocationError}
+use Rattle.btf_relocate.specs.Members.{member_of}
+use Rattle.btf_relocate.specs.Steps.{NamedMember}
+use Rattle.btf_relocate.proofs.Compatibles.{from_err}
+use Rattle.btf_relocate.proofs.Definitions.{no_name, with_name, other_name}
+use Rattle.btf_relocate.proofs.types.walk.named_member.Goals as goal
+
+pub returns-in_err-names_match : goal.returns-in_err-names_match
+returns-in_err-names_match c =
+    let m = member_of c.args.member.now in
+    let others = c.args.others.now in
+    let e = c.in_err-names_match.field-0.0 in
+    subst (λ (r : Result (Option (ℕ × ℕ)) RelocationError). NamedMember c.args.local.now c.args.target.now m (map member_of others) (drop c.args.from (map member_of others)) r)
+    (sym (from_err c.from_residual.result e c.from_residual.ensures.1))
+    (λ inner. no_name c.args.local.now c.args.target.now m others c.loop-index.index c.args.from c.loop-index.invariant c.member_at-other.result.now c.member_at-other.ensures inner e (sym c.in_err-names_match.ensures))
+
+pub returns-then-branch : goal.returns-then-branch
+returns-then-branch c = λ inner.
+    with_name c.args.local.now c.args.target.now (member_of c.args.member.now) c.args.others.now c.loop-index.index c.args.from c.loop-index.invariant c.member_at-other.result.now c.member_at-other.ensures inner
+    (sym c.in_ok-names_match.ensures ∙ ap (λ (b : Bool). let r : Result Bool RelocationError = Ok b in r) c.if-branch.true) (c.loop-index.index + 1) refl
+
+pub loop-index-preserved : goal.loop-index-preserved
+loop-index-preserved c = λ inner.
+    other_name c.args.local.now c.args.target.now (member_of c.args.member.now) c.args.others.now c.loop-index.index c.args.from c.loop-index.invariant c.member_at-other.result.now c.member_at-other.ensures inner
+    (sym c.in_ok-names_match.ensures ∙ ap (λ (b : Bool). let r : Result Bool RelocationError = Ok b in r) c.if-branch.false)

@@ -1,0 +1,140 @@
+-- What is known while pairs of types are compared: the answers that are remembered, and the comparisons that are begun.
+use Rattle.std.specs.Prelude.{◌≡◌, ◌⊎◌, ℕ, zero, suc, ◌<◌, ◌≤◌, ◌++◌, Bool, true, false, cond, List, [], ◌∷◌, length, map, reverse, Option, None, Some, Result, Ok, Err}
+use Rattle.std.specs.BTreeMap.{BTreeMap, get, Updates}
+use Rattle.std.specs.List.{list_any}
+use Rattle.std.specs.Ordering.{nat_cmp, bool_cmp, ordering_then}
+use Rattle.std.specs.declared.cmp.Ordering.{Ordering}
+use Rattle.btf_model.specs.Walk.{walk_limit}
+use Rattle.btf_relocate_model.specs.Comparison.{Comparison, compared, pair, pair_count, resolved_pair, same_pair}
+use Rattle.btf_relocate_model.specs.Types.{◌>>=◌}
+use Rattle.btf_relocate_model.specs.declared.comparison.Pair.{Pair}
+use Rattle.btf_relocate_model.specs.declared.error.RelocationError.{RelocationError}
+use Rattle.btf_relocate_model.specs.declared.error.RelocationError.TheVariants.{OutOfMemory, MaximumTypeDepthReached}
+use Rattle.btf_relocate.specs.Steps.{Compare, rest}
+use Rattle.btf_relocate.specs.declared.types.Frame.{Frame}
+use Rattle.btf_relocate.specs.declared.types.Progress.{Progress}
+
+-- ---- pairs
+
+-- the order of pairs
+abbrev pub pair_cmp : Pair → Pair → Ordering
+pair_cmp p q =
+    ordering_then (nat_cmp p.local q.local)
+    (ordering_then (nat_cmp p.target q.target) (bool_cmp p.is_pointee q.is_pointee))
+
+-- the pairs that have begun, with their answers
+abbrev pub Answers : Type 0
+Answers = BTreeMap Pair (Option Bool)
+
+abbrev pub answer_in : Answers → Pair → Option (Option Bool)
+answer_in m p = get pair_cmp m p
+
+abbrev pub is_among : Pair → List Pair → Bool
+is_among p ps = list_any (same_pair p) ps
+
+-- both types are in the tables
+abbrev pub InTables : Comparison → Pair → Type 0
+InTables c p = (p.local < length c.local.records) × (p.target < length c.target.records)
+
+-- the pairs of a local type and the first types of the target
+abbrev pub pairs_of : ℕ → ℕ → List Pair
+pairs_of id zero = []
+pairs_of id (suc n) = pair true id n ∷ pair false id n ∷ pairs_of id n
+
+-- the pairs of the first types of both tables
+abbrev pub all_pairs : ℕ → ℕ → List Pair
+all_pairs zero n = []
+all_pairs (suc m) n = pairs_of m n ++ all_pairs m n
+
+-- the number of these pairs that are not among others
+abbrev pub count_without : List Pair → List Pair → ℕ
+count_without others [] = 0
+count_without others (p ∷ ps) = cond (is_among p others) (count_without others ps) (suc (count_without others ps))
+
+-- the number of pairs that are not begun
+unfoldable pub left_of : Comparison → List Pair → ℕ
+left_of c begun = count_without begun (all_pairs (length c.local.records) (length c.target.records))
+
+-- ---- answers
+
+-- none of these pairs has an answer
+abbrev pub Unanswered : Answers → List Pair → Type 0
+Unanswered m begun = (p : Pair) (b : Bool) → answer_in m p ≡ Some (Some b) → is_among p begun ≡ false
+
+-- Each answer is the result of the comparison inside any comparisons that have no answer.
+abbrev pub AreResults : Comparison → Answers → Type 0
+AreResults c m =
+    (p : Pair) (b : Bool) → answer_in m p ≡ Some (Some b) → (room : ℕ) (begun : List Pair)
+    → left_of c begun ≤ room → Unanswered m begun → compared room c begun p ≡ Ok b
+
+-- ---- comparisons that are begun
+
+-- the comparison of parameters and members inside a pair
+abbrev pub inside : ℕ → Comparison → List Pair → Pair → Compare
+inside room c begun p = λ q. resolved_pair c q >>= compared room c (p ∷ begun)
+
+-- what is left of a comparison has the result of the comparison of its pair
+abbrev pub GoesOn : Comparison → Answers → Frame → Option Bool → Type 0
+GoesOn c m f answer =
+    (room : ℕ) (begun : List Pair) → left_of c begun ≤ suc room → Unanswered m begun → is_among f.start begun ≡ false
+    → rest (inside room c begun f.start) c f answer ≡ compared (suc room) c begun f.start
+
+-- so has what is left after the answer of another pair
+abbrev pub WaitsFor : Comparison → Answers → Frame → Pair → Type 0
+WaitsFor c m f p =
+    (room : ℕ) (begun : List Pair) → left_of c begun ≤ suc room → Unanswered m begun → is_among f.start begun ≡ false
+    → (compared room c (f.start ∷ begun) p >>= λ is_alike. rest (inside room c begun f.start) c f (Some is_alike))
+    ≡ compared (suc room) c begun f.start
+
+-- the pairs of comparisons
+abbrev pub starts : List Frame → List Pair
+starts fs = map (λ f. f.start) fs
+
+-- a comparison inside others that has no answer
+pub record IsBegun (c : Comparison) (m : Answers) (f : Frame) (fs : List Frame) : Type 0 where
+  pub within : InTables c f.start
+  pub no_answer : answer_in m f.start ≡ Some None
+  pub once : is_among f.start (starts fs) ≡ false
+
+-- comparisons, each inside the next one, that wait for a pair; the last is of the root
+abbrev pub AreWaiting : Comparison → Pair → Answers → List Frame → Pair → Type 0
+AreWaiting c root m [] p = p ≡ root
+AreWaiting c root m (f ∷ fs) p = WaitsFor c m f p × IsBegun c m f fs × AreWaiting c root m fs f.start
+
+-- the comparisons that are begun, or the result of the root
+abbrev pub AreBegun : Comparison → Pair → Answers → List Frame → Option Bool → Type 0
+AreBegun c root m [] answer = (b : Bool) × (answer ≡ Some b) × (compared (pair_count c) c [] root ≡ Ok b)
+AreBegun c root m (f ∷ fs) answer = GoesOn c m f answer × IsBegun c m f fs × AreWaiting c root m fs f.start
+
+-- each pair without an answer has a comparison
+abbrev pub AreFound : Answers → List Frame → Type 0
+AreFound m fs = (p : Pair) → answer_in m p ≡ Some None → is_among p (starts fs) ≡ true
+
+-- The comparison of a root is under way.
+pub record IsUnderWay (c : Comparison) (root : Pair) (m : Answers) (fs : List Frame) (a : Option Bool) : Type 0 where
+  pub results : AreResults c m
+  pub found : AreFound m fs
+  pub begun : AreBegun c root m fs a
+
+-- ---- what the code does
+
+-- a comparison that begins
+abbrev pub beginning : Pair → Frame
+beginning p = record { start = p; at = p; left = walk_limit; index = 0; other = 0 }
+
+-- a pair was asked for: it has an answer, its comparison begins, or it is refused
+abbrev pub IsAsked : Comparison → Pair → Progress → Progress → Result (Option Bool) RelocationError → Type 0
+IsAsked c p old new (Ok (Some b)) =
+    (q : Pair) × (resolved_pair c p ≡ Ok q) × (answer_in old.pairs q ≡ Some (Some b)) × (new ≡ old)
+IsAsked c p old new (Ok None) =
+    (q : Pair) × (resolved_pair c p ≡ Ok q) × (answer_in old.pairs q ≡ None)
+    × Updates pair_cmp old.pairs new.pairs q (Some None) × (new.frames.items ≡ old.frames.items ++ beginning q ∷ [])
+IsAsked c p old new (Err e) =
+    (e ≡ OutOfMemory) ⊎ ((resolved_pair c p ≡ Err e)
+    ⊎ ((q : Pair) × (resolved_pair c p ≡ Ok q) × (answer_in old.pairs q ≡ Some None)
+    × (e ≡ MaximumTypeDepthReached q.local)))
+
+-- the comparison goes on, or the root has this error
+abbrev pub RunsOn : Comparison → Pair → Progress → Result (Option Bool) RelocationError → Type 0
+RunsOn c root new (Ok answer) = IsUnderWay c root new.pairs (reverse new.frames.items) answer
+RunsOn c root new (Err e) = (e ≡ OutOfMemory) ⊎ (compared (pair_count c) c [] root ≡ Err e)

@@ -1,0 +1,97 @@
+//! Names of types, members and enumerators, when definitions are compared.
+
+ghost use Rattle.std.specs.Prelude.{◌≡◌, ◌⊎◌, ℕ, List, Ok, Err, MatchResult};
+ghost use Rattle.btf_records.specs.BtfType.{record_of};
+ghost use Rattle.btf_relocate_model.specs.Comparison as model;
+ghost use Rattle.btf_relocate_model.specs.declared.error.RelocationError.TheVariants.{OutOfMemory};
+ghost use Rattle.btf_relocate.specs.Gives.{Gives};
+ghost use Rattle.btf_relocate.specs.Steps.{HasNames};
+
+use crate::enumerator::{Enumerator, count};
+use crate::lookup::{name_at, name_or_none};
+use crate::name::essential_name;
+use btf_records::BtfType;
+use btf_relocate_model::RelocationError;
+use btf_table::Btf;
+use std::alloc::Global;
+use std::collections::BTreeSet;
+
+/// Whether two names have the same essential name; a name without a text in the target counts as empty.
+pub fn names_match(
+    local: &Btf,
+    target: &Btf,
+    offset: u32,
+    other: u32,
+) -> Result<bool, RelocationError>
+    ensures { result ≡ model.names_match local.now target.now offset other }
+{
+    let other = name_or_none(target, other);
+    if other.is_empty() {
+        return Ok(name_or_none(local, offset).is_empty());
+    }
+    let name = name_at(local, offset)?;
+    Ok(essential_name(name) == essential_name(other))
+}
+
+/// Whether the enumerators of two enumerations match: the target has each local one by its essential name.
+pub fn enumerators_match(
+    alloc: Global,
+    local: &Btf,
+    target: &Btf,
+    one: &BtfType,
+    other: &BtfType,
+) -> Result<bool, RelocationError>
+    ensures { Gives (model.named_enumerators local.now target.now (record_of one.now)
+        (record_of other.now)) result }
+{
+    if count(other) < count(one) {
+        return Ok(false);
+    }
+    let names = essential_names(alloc, target, other)?;
+    all_among(local, one, &names)
+}
+
+/// The essential names of an enumeration's enumerators.
+fn essential_names<'t>(
+    alloc: Global,
+    table: &'t Btf,
+    btf_type: &BtfType,
+) -> Result<BTreeSet<&'t [u8]>, RelocationError>
+    ensures { MatchResult result
+        (λ set. (names : List (List ℕ))
+        × (model.essential_names table.now (model.enumerators_of (record_of btf_type.now)) ≡ Ok names)
+        × HasNames set names)
+        (λ e. (e ≡ OutOfMemory)
+        ⊎ (model.essential_names table.now (model.enumerators_of (record_of btf_type.now)) ≡ Err e)) }
+{
+    let mut names = BTreeSet::new(alloc);
+    for index in 0..count(btf_type) {
+        let Some(enumerator) = Enumerator::at(btf_type, index) else {
+            return Ok(names);
+        };
+        let name = name_at(table, enumerator.name_offset)?;
+        names.insert(essential_name(name))?;
+    }
+    Ok(names)
+}
+
+/// Whether the essential names of an enumeration's enumerators are among these.
+fn all_among(
+    table: &Btf,
+    btf_type: &BtfType,
+    names: &BTreeSet<&[u8]>,
+) -> Result<bool, RelocationError>
+    ensures { (all : List (List ℕ)) → HasNames names.now all
+        → result ≡ model.all_among table.now all (model.enumerators_of (record_of btf_type.now)) }
+{
+    for index in 0..count(btf_type) {
+        let Some(enumerator) = Enumerator::at(btf_type, index) else {
+            return Ok(true);
+        };
+        let name = name_at(table, enumerator.name_offset)?;
+        if !names.contains(essential_name(name)) {
+            return Ok(false);
+        }
+    }
+    Ok(true)
+}

@@ -1,0 +1,194 @@
+//! What comes next of a comparison.
+
+ghost use Rattle.std.specs.Prelude.{◌≡◌, ◌+◌, ◌<◌, ◌∷◌, drop, length, map};
+ghost use Rattle.btf_relocate_model.specs.Comparison as model;
+ghost use Rattle.btf_model.specs.Table.{Table};
+ghost use Rattle.btf_relocate.specs.Members.{member_of};
+ghost use Rattle.btf_relocate.specs.Steps.{Compare, Continues, NamedMember, NextMember, comparison, is_refusal, next_index, next_of, place_after, resumed, type_of};
+
+use super::Frame;
+use super::names::names_match;
+use super::steps::{Step, step_at};
+use crate::lookup::resolved;
+use crate::search::member_at;
+use btf_plain::{BtfMember, BtfParam};
+use btf_relocate_model::{Pair, RelocationError, Rule};
+use btf_table::Btf;
+use std::alloc::Global;
+
+/// What comes next of a comparison.
+#[derive(Debug, Drop)]
+pub enum Next {
+    /// The end, with an answer.
+    Ends(bool),
+    /// Another position: the pair of the types that a pointer, an array or a prototype leads to.
+    GoesOn(Pair),
+    /// The answer of another pair, and then the parameter or local member, and the member of the target, of these
+    /// indices.
+    Asks(Pair, usize, usize),
+}
+
+/// The pair of the types that two ids resolve to.
+pub fn resolved_pair(
+    rule: Rule,
+    local: &Btf,
+    target: &Btf,
+    pair: &Pair,
+) -> Result<Pair, RelocationError>
+    ensures { result ≡ model.resolved_pair (comparison rule local.now target.now) pair.now }
+{
+    let id = resolved(local, pair.local)?;
+    let other = resolved(target, pair.target)?;
+    Ok(Pair {
+        local: id,
+        target: other,
+        is_pointee: pair.is_pointee,
+    })
+}
+
+/// What comes next of a comparison, after the answer of the pair that it asked for.
+pub fn next_step(
+    alloc: Global,
+    rule: Rule,
+    local: &Btf,
+    target: &Btf,
+    frame: &Frame,
+    answer: Option<bool>,
+) -> Result<Next, RelocationError>
+    ensures { Continues (comparison rule local.now target.now) frame.now answer result }
+{
+    if frame.left == 0 {
+        return Err(RelocationError::MaximumTypeDepthReached {
+            type_id: frame.start.local,
+        });
+    }
+    let at = resolved_pair(rule, local, target, &frame.at)?;
+    match step_at(alloc, rule, local, target, &at)? {
+        Step::Ends(is_alike) => Ok(Next::Ends(is_alike)),
+        Step::GoesOn(pair) => Ok(Next::GoesOn(pair)),
+        Step::EachParameter(params, others, returned) => {
+            Ok(next_parameter(frame, answer, params, others, &returned))
+        }
+        Step::EachMember(members, others) => {
+            next_member(local, target, frame, answer, members, others)
+        }
+    }
+}
+
+/// The next parameters, or the types returned after all of them.
+fn next_parameter(
+    frame: &Frame,
+    answer: Option<bool>,
+    params: &[BtfParam],
+    others: &[BtfParam],
+    returned: &Pair,
+) -> Next
+    ensures { (inner further : Compare) (local target : Table)
+        → next_of inner further local target
+        (model.EachParameter (map type_of params.now) (map type_of others.now) returned.now) result
+        ≡ resumed inner further local target
+        (model.EachParameter (map type_of params.now) (map type_of others.now) returned.now)
+        frame.now.index frame.now.other answer }
+{
+    if is_refusal(answer) {
+        return Next::Ends(false);
+    }
+    let index = frame.index;
+    if index >= params.len() || index >= others.len() {
+        return Next::GoesOn(*returned);
+    }
+    let param = param_at(params, index);
+    let other = param_at(others, index);
+    let pair = Pair {
+        local: param.btf_type,
+        target: other.btf_type,
+        is_pointee: returned.is_pointee,
+    };
+    Next::Asks(pair, index + 1, 0)
+}
+
+/// Whether an answer is no.
+fn is_refusal(answer: Option<bool>) -> bool
+    ensures { result ≡ is_refusal answer }
+{
+    match answer {
+        Some(false) => true,
+        _ => false,
+    }
+}
+
+/// The parameter at an index.
+fn param_at(params: &[BtfParam], index: usize) -> &BtfParam
+    requires { index < length params.now }
+    ensures { drop index params.now ≡ result.now ∷ drop (index + 1) params.now }
+{
+    &params[index]
+}
+
+/// The next pair of members: each local member has a member of the target with its name whose type matches.
+fn next_member(
+    local: &Btf,
+    target: &Btf,
+    frame: &Frame,
+    answer: Option<bool>,
+    members: &[BtfMember],
+    others: &[BtfMember],
+) -> Result<Next, RelocationError>
+    ensures { NextMember local.now target.now (map member_of members.now)
+        (map member_of others.now) frame.now.index frame.now.other answer result }
+{
+    let (index, from) = place_after(frame.index, frame.other, answer);
+    if index >= members.len() {
+        return Ok(Next::Ends(true));
+    }
+    let member = member_at(members, index);
+    match named_member(local, target, member, others, from)? {
+        Some((other, after)) => {
+            let pair = Pair {
+                local: member.btf_type,
+                target: other,
+                is_pointee: false,
+            };
+            Ok(Next::Asks(pair, index, after))
+        }
+        None => Ok(Next::Ends(false)),
+    }
+}
+
+/// The local member that is next, and the member of the target from which on a match for it is searched.
+fn place_after(index: usize, other: usize, answer: Option<bool>) -> (usize, usize)
+    ensures { result ≡ place_after index other answer }
+{
+    match answer {
+        Some(true) => (next_index(index), 0),
+        _ => (index, other),
+    }
+}
+
+/// The index after another one, which has one in each list.
+fn next_index(index: usize) -> usize
+    ensures { result ≡ next_index index }
+{
+    if index < usize::MAX { index + 1 } else { index }
+}
+
+/// The type of the first member of the target from an index on that has the name of a local member, and the index after
+/// it.
+fn named_member(
+    local: &Btf,
+    target: &Btf,
+    member: &BtfMember,
+    others: &[BtfMember],
+    from: usize,
+) -> Result<Option<(u32, usize)>, RelocationError>
+    ensures { NamedMember local.now target.now (member_of member.now) (map member_of others.now)
+        (drop from (map member_of others.now)) result }
+{
+    for index in from..others.len() {
+        let other = member_at(others, index);
+        if names_match(local, target, member.name_offset, other.name_offset)? {
+            return Ok(Some((other.btf_type, index + 1)));
+        }
+    }
+    Ok(None)
+}
