@@ -16,3 +16,4 @@ mod Indexes
 mod Pairs
 mod Comparing
 mod Definitions
+mod Measures

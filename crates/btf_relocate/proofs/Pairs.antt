@@ -149,6 +149,10 @@ fewer p others (q ∷ ps) is out = elim (cases_Bool (same_pair p q)) [
       ]
 ]
 
+-- a pair of the tables is among all pairs
+pub in_all_pairs : (c : Comparison) (p : Pair) → InTables c p → is_among p (all_pairs (length c.local.records) (length c.target.records)) ≡ true
+in_all_pairs c p inside = within_all p.is_pointee p.local p.target (length c.local.records) (length c.target.records) inside.0 inside.1
+
 pub fewer_left : (c : Comparison) (p : Pair) (begun : List Pair) → InTables c p → is_among p begun ≡ false → left_of c (p ∷ begun) < left_of c begun
 unfolding left_of
 fewer_left c p begun inside out =

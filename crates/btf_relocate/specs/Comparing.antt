@@ -1,7 +1,8 @@
 -- What is known while pairs of types are compared: the answers that are remembered, and the comparisons that are begun.
-use Rattle.std.specs.Prelude.{◌≡◌, ◌⊎◌, ℕ, zero, suc, ◌<◌, ◌≤◌, ◌++◌, Bool, true, false, cond, List, [], ◌∷◌, length, map, reverse, Option, None, Some, Result, Ok, Err}
+use Rattle.std.specs.Prelude.{◌≡◌, ◌⊎◌, ⊤, ℕ, zero, suc, ◌+◌, ◌-◌, ◌*◌, ◌<◌, ◌≤◌, ◌++◌, Bool, true, false, cond, List, [], ◌∷◌, length, map, reverse, Option, None, Some, Result, Ok, Err}
 use Rattle.std.specs.BTreeMap.{BTreeMap, get, Updates}
 use Rattle.std.specs.List.{list_any}
+use Rattle.std.specs.Option.{is_some}
 use Rattle.std.specs.Ordering.{nat_cmp, bool_cmp, ordering_then}
 use Rattle.std.specs.declared.cmp.Ordering.{Ordering}
 use Rattle.btf_model.specs.Walk.{walk_limit}
@@ -13,6 +14,8 @@ use Rattle.btf_relocate_model.specs.declared.error.RelocationError.TheVariants.{
 use Rattle.btf_relocate.specs.Steps.{Compare, rest}
 use Rattle.btf_relocate.specs.declared.types.Frame.{Frame}
 use Rattle.btf_relocate.specs.declared.types.Progress.{Progress}
+use Rattle.btf_relocate.specs.declared.types.walk.Next.{Next}
+use Rattle.btf_relocate.specs.declared.types.walk.Next.TheVariants as next
 
 -- ---- pairs
 
@@ -138,3 +141,51 @@ IsAsked c p old new (Err e) =
 abbrev pub RunsOn : Comparison → Pair → Progress → Result (Option Bool) RelocationError → Type 0
 RunsOn c root new (Ok answer) = IsUnderWay c root new.pairs (reverse new.frames.items) answer
 RunsOn c root new (Err e) = (e ≡ OutOfMemory) ⊎ (compared (pair_count c) c [] root ≡ Err e)
+
+-- ---- the steps that are left
+
+-- a bound on the indices of parameters and members
+abbrev pub most : ℕ
+most = 18446744073709551616
+
+-- the parameters, or members of both types, that are left from these indices on
+abbrev pub place_left : ℕ → ℕ → ℕ
+place_left index other = (most - index) * (most + 1) + (most - other)
+
+-- the steps that are left of a position
+abbrev pub position_steps : ℕ
+position_steps = most * (most + 1) + most + 1
+
+abbrev pub steps_left : Frame → ℕ
+steps_left f = f.left * position_steps + place_left f.index f.other + 1
+
+abbrev pub all_steps_left : List Frame → ℕ
+all_steps_left [] = 0
+all_steps_left (f ∷ fs) = steps_left f + all_steps_left fs
+
+-- the next step of a position leaves fewer parameters or members
+abbrev pub LeavesFewerPlaces : ℕ → ℕ → Next → Type 0
+LeavesFewerPlaces index other (next.Ends is_alike) = ⊤
+LeavesFewerPlaces index other (next.GoesOn p) = ⊤
+LeavesFewerPlaces index other (next.Asks p k l) = place_left k l < place_left index other
+
+-- the next step of a comparison leaves fewer steps of it
+abbrev pub LeavesFewer : Frame → Next → Type 0
+LeavesFewer f (next.Ends is_alike) = ⊤
+LeavesFewer f (next.GoesOn p) = 0 < f.left
+LeavesFewer f (next.Asks p k l) = place_left k l < place_left f.index f.other
+
+-- the number of these pairs that have not begun
+abbrev pub count_new : Answers → List Pair → ℕ
+count_new m [] = 0
+count_new m (p ∷ ps) = cond (is_some (answer_in m p)) (count_new m ps) (suc (count_new m ps))
+
+-- the steps that are left of a comparison that has not begun
+abbrev pub pair_steps : ℕ
+pair_steps = (walk_limit + 1) * position_steps + 1
+
+-- the steps that are left at most of all comparisons
+unfoldable pub work : Comparison → Progress → ℕ
+work c p =
+    count_new p.pairs (all_pairs (length c.local.records) (length c.target.records)) * pair_steps
+    + all_steps_left p.frames.items

@@ -1,9 +1,9 @@
 //! Comparisons of two types, each in its own table.
 
-ghost use Rattle.std.specs.Prelude.{◌≡◌, ◌∷◌, reverse};
+ghost use Rattle.std.specs.Prelude.{◌≡◌, ◌+◌, ◌<◌, ◌∷◌, reverse, OnOk};
 ghost use Rattle.btf_relocate_model.specs.Comparison as model;
 ghost use Rattle.btf_relocate_model.specs.declared.comparison.Pair as pairs;
-ghost use Rattle.btf_relocate.specs.Comparing.{IsAsked, IsUnderWay, RunsOn};
+ghost use Rattle.btf_relocate.specs.Comparing.{IsAsked, IsUnderWay, RunsOn, steps_left, work};
 ghost use Rattle.btf_relocate.specs.Gives.{Gives};
 ghost use Rattle.btf_relocate.specs.Steps.{comparison};
 
@@ -66,13 +66,10 @@ pub fn types_alike(
         frames: Vec::new(alloc),
     };
     let mut answer = ask(rule, local, target, &mut progress, &root)?;
-    for _ in 0..u64::MAX {
-        let Some(frame) = progress.frames.pop() else {
-            return Ok(answer == Some(true));
-        };
+    while let Some(frame) = progress.frames.pop() {
         answer = advance(alloc, rule, local, target, &mut progress, &frame, answer)?;
     }
-    Err(RelocationError::OutOfMemory)
+    Ok(answer == Some(true))
 }
 
 /// Takes the next step of a comparison, which is inside those of `progress`.
@@ -85,9 +82,11 @@ fn advance(
     frame: &Frame,
     answer: Option<bool>,
 ) -> Result<Option<bool>, RelocationError>
-    ensures { (root : pairs.Pair) → IsUnderWay (comparison rule local.now target.now) root
+    ensures runs { (root : pairs.Pair) → IsUnderWay (comparison rule local.now target.now) root
         progress.old.pairs (frame.now ∷ reverse progress.old.frames.items) answer
         → RunsOn (comparison rule local.now target.now) root progress.new result }
+    ensures fewer { OnOk result (work (comparison rule local.now target.now) progress.new
+        < work (comparison rule local.now target.now) progress.old + steps_left frame.now) }
 {
     match next_step(alloc, rule, local, target, frame, answer)? {
         Next::Ends(is_alike) => {

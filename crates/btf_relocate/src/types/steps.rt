@@ -39,7 +39,8 @@ pub fn step_at<'t>(
     target: &'t Btf,
     at: &Pair,
 ) -> Result<Step<'t>, RelocationError>
-    ensures { GivesBy step_view (model.step_at (comparison rule local.now target.now) at.now) result }
+    ensures { GivesBy step_view (model.step_at (comparison rule local.now target.now) at.now)
+        result }
 {
     let one = type_at(local, at.local)?;
     let other = type_at(target, at.target)?;

@@ -1,8 +1,9 @@
 //! What comes next of a comparison.
 
-ghost use Rattle.std.specs.Prelude.{◌≡◌, ◌+◌, ◌<◌, ◌∷◌, drop, length, map};
+ghost use Rattle.std.specs.Prelude.{◌≡◌, ◌+◌, ◌<◌, ◌≤◌, ◌∷◌, drop, length, map, IfOk, IfSome};
 ghost use Rattle.btf_relocate_model.specs.Comparison as model;
 ghost use Rattle.btf_model.specs.Table.{Table};
+ghost use Rattle.btf_relocate.specs.Comparing.{LeavesFewer, LeavesFewerPlaces};
 ghost use Rattle.btf_relocate.specs.Members.{member_of};
 ghost use Rattle.btf_relocate.specs.Steps.{Compare, Continues, NamedMember, NextMember, comparison, is_refusal, next_index, next_of, place_after, resumed, type_of};
 
@@ -55,7 +56,8 @@ pub fn next_step(
     frame: &Frame,
     answer: Option<bool>,
 ) -> Result<Next, RelocationError>
-    ensures { Continues (comparison rule local.now target.now) frame.now answer result }
+    ensures continues { Continues (comparison rule local.now target.now) frame.now answer result }
+    ensures fewer { IfOk result (LeavesFewer frame.now) }
 {
     if frame.left == 0 {
         return Err(RelocationError::MaximumTypeDepthReached {
@@ -83,12 +85,13 @@ fn next_parameter(
     others: &[BtfParam],
     returned: &Pair,
 ) -> Next
-    ensures { (inner further : Compare) (local target : Table)
+    ensures next { (inner further : Compare) (local target : Table)
         → next_of inner further local target
         (model.EachParameter (map type_of params.now) (map type_of others.now) returned.now) result
         ≡ resumed inner further local target
         (model.EachParameter (map type_of params.now) (map type_of others.now) returned.now)
         frame.now.index frame.now.other answer }
+    ensures fewer { LeavesFewerPlaces frame.now.index frame.now.other result }
 {
     if is_refusal(answer) {
         return Next::Ends(false);
@@ -134,8 +137,9 @@ fn next_member(
     members: &[BtfMember],
     others: &[BtfMember],
 ) -> Result<Next, RelocationError>
-    ensures { NextMember local.now target.now (map member_of members.now)
+    ensures next { NextMember local.now target.now (map member_of members.now)
         (map member_of others.now) frame.now.index frame.now.other answer result }
+    ensures fewer { IfOk result (LeavesFewerPlaces frame.now.index frame.now.other) }
 {
     let (index, from) = place_after(frame.index, frame.other, answer);
     if index >= members.len() {
@@ -181,8 +185,10 @@ fn named_member(
     others: &[BtfMember],
     from: usize,
 ) -> Result<Option<(u32, usize)>, RelocationError>
-    ensures { NamedMember local.now target.now (member_of member.now) (map member_of others.now)
-        (drop from (map member_of others.now)) result }
+    ensures found { NamedMember local.now target.now (member_of member.now)
+        (map member_of others.now) (drop from (map member_of others.now)) result }
+    ensures later { IfOk result (λ found. IfSome found (λ p. (from < p.1)
+        × (p.1 ≤ length others.now))) }
 {
     for index in from..others.len() {
         let other = member_at(others, index);

@@ -6,8 +6,8 @@ use Rattle.btf_relocate.proofs.Compatibles.{from_err}
 use Rattle.btf_relocate.proofs.Definitions.{no_name, with_name, other_name}
 use Rattle.btf_relocate.proofs.types.walk.named_member.Goals as goal
 
-pub returns-in_err-names_match : goal.returns-in_err-names_match
-returns-in_err-names_match c =
+pub returns-in_err-names_match-clause-found : goal.returns-in_err-names_match-clause-found
+returns-in_err-names_match-clause-found c =
     let m = member_of c.args.member.now in
     let others = c.args.others.now in
     let e = c.in_err-names_match.field-0.0 in
@@ -15,8 +15,8 @@ returns-in_err-names_match c =
     (sym (from_err c.from_residual.result e c.from_residual.ensures.1))
     (λ inner. no_name c.args.local.now c.args.target.now m others c.loop-index.index c.args.from c.loop-index.invariant c.member_at-other.result.now c.member_at-other.ensures inner e (sym c.in_err-names_match.ensures))
 
-pub returns-then-branch : goal.returns-then-branch
-returns-then-branch c = λ inner.
+pub returns-then-branch-clause-found : goal.returns-then-branch-clause-found
+returns-then-branch-clause-found c = λ inner.
     with_name c.args.local.now c.args.target.now (member_of c.args.member.now) c.args.others.now c.loop-index.index c.args.from c.loop-index.invariant c.member_at-other.result.now c.member_at-other.ensures inner
     (sym c.in_ok-names_match.ensures ∙ ap (λ (b : Bool). let r : Result Bool RelocationError = Ok b in r) c.if-branch.true) (c.loop-index.index + 1) refl
 
