@@ -1,0 +1,33 @@
+-- The object with its code relocated, from what its parts are.
+use Rattle.std.proofs.Common.{◌≡◌, ℕ, Bool, false, List, Option, Some, Ok, sym, ap, ◌∙◌, subst}
+use Rattle.std.specs.List.{list_any}
+use Rattle.btf_model.specs.Blob.{IsTable}
+use Rattle.btf_model.specs.Ext.{Ext, IsExt}
+use Rattle.btf_model.specs.Table.{Table}
+use Rattle.btf_elf_model.specs.Object.{Object, IsObject}
+use Rattle.btf_elf_model.specs.declared.file_header.FileHeader.{FileHeader}
+use Rattle.btf_relocate.specs.Sections.{setting}
+use Rattle.btf_loader_model.specs.Loader.{Outcomes, IsRelocated, AreSections, bytes_named, table_name, ext_name, is_unreadable, relocated_file}
+
+pub is_relocated : (bytes : List ℕ) (target : Table) (is_shared : Bool) (o : Object) (h : FileHeader) (table section : List ℕ) (local : Table) (e : Ext)
+    (sections : List (ℕ × List (List ℕ))) (outcomes : List (ℕ × Outcomes)) (start new file : List ℕ)
+    → IsObject bytes o → h ≡ o.header
+    → Some table ≡ bytes_named o table_name → IsTable h.order table local
+    → Some section ≡ bytes_named o ext_name → IsExt h.order section local.strings (Ok e) → sections ≡ e.relocations
+    → start ≡ bytes → file ≡ new
+    → list_any (is_unreadable local.strings) sections ≡ false
+    → (outcomes, new) ≡ relocated_file (setting local target) is_shared o start sections
+    → IsRelocated bytes target is_shared outcomes file
+is_relocated bytes target is_shared o h table section local e sections outcomes start new file object header has_table is_table has_ext is_ext are starts ends readable did = record {
+  object = o;
+  is_object = object;
+  table = table;
+  has_table = sym has_table;
+  local = local;
+  is_table = subst (λ (x : FileHeader). IsTable x.order table local) header is_table;
+  sections = sections;
+  are_sections = subst (λ (b : Option (List ℕ)). AreSections o.header.order local.strings b sections) has_ext
+      (e, subst (λ (x : FileHeader). IsExt x.order section local.strings (Ok e)) header is_ext, are);
+  are_readable = readable;
+  relocated = ap (λ (f : List ℕ). (outcomes, f)) ends ∙ did ∙ ap (λ (b : List ℕ). relocated_file (setting local target) is_shared o b sections) starts;
+}

@@ -1,0 +1,107 @@
+//! Objects whose code is relocated.
+
+ghost use Rattle.std.specs.Prelude.{◌≡◌, false, length, map, option_map, IfOk};
+ghost use Rattle.btf_loader_model.specs.Loader.{IsRelocated, any_error, bytes_named};
+ghost use Rattle.btf_loader.specs.Results.{outcomes_of};
+ghost use Rattle.btf_loader.specs.declared.step.Refusals.TheVariants.{Refuse};
+ghost use Rattle.btf_relocate.specs.Sections.{is_shared};
+
+use crate::error::{LoaderError, ext_error};
+use crate::places::{sections_by_name, shared_places};
+use crate::step::{Loader, Refusals, SectionOutcomes};
+use btf_elf::Object;
+use btf_ext::BtfExt;
+use btf_relocate::{CandidatePolicy, Target};
+use btf_table::Btf;
+use std::alloc::Global;
+use std::hash::{BuildHasher, BuildHasherDefault, FoldHasher};
+
+/// The bytes of the first section of a name.
+fn section_named<'a>(object: &Object<'a>, name: &[u8]) -> Option<&'a [u8]>
+    ensures { option_map (λ b. b.now) result ≡ bytes_named object.now name.now }
+{
+    let index = object.section_by_name(name)?;
+    let section = object.sections().get(index)?;
+    Some(object.section_bytes(section))
+}
+
+/// The object with its code relocated for a target table, and the outcome of every relocation record. This is
+/// `relocate_object_with` with the default hasher, with the same errors.
+pub fn relocate_object(
+    alloc: Global,
+    bytes: &[u8],
+    target: &Target<'_>,
+    policy: CandidatePolicy,
+    refusals: Refusals,
+) -> Result<(Vec<u8>, Vec<SectionOutcomes>), LoaderError>
+    // The outcomes of the records, and the object of the bytes with its code relocated.
+    ensures relocated { IfOk result (λ r. IsRelocated bytes.now target.now (is_shared policy)
+        (map outcomes_of r.1.items) r.0.items) }
+    // Under `Refuse` no outcome is an error.
+    ensures refused { IfOk result (λ r. refusals ≡ Refuse
+        → any_error (map outcomes_of r.1.items) ≡ false) }
+    ensures length { IfOk result (λ r. length r.0.items ≡ length bytes.now) }
+{
+    let hash_builder: BuildHasherDefault<FoldHasher> = BuildHasherDefault::new();
+    relocate_object_with(alloc, bytes, target, policy, refusals, hash_builder)
+}
+
+/// The object with its code relocated for a target table, and the outcome of every relocation record. An object
+/// without a section `.BTF.ext` comes back unchanged, without outcomes.
+///
+/// The sections of records are taken in the order of `.BTF.ext`. Each is applied to the code of the first section of
+/// its name that has bytes in the file, by `relocate_section`; if there is none, it has no outcomes. The name is read
+/// as `Btf::string_at` reads it. If two sections of records have one name, the second continues with the patched code.
+///
+/// `hash_builder` hashes the names of `.BTF.ext`. The default has a fixed seed, so an attacker can choose names that
+/// collide, and n of them take time in proportion to n squared. For an untrusted object, pass a hasher with random
+/// keys, as `RandomState`.
+///
+/// Reports the first error, in this order: `Object`, `NoTable`, `Table`, `Ext`; then for each section of records
+/// `SectionName`, `SharedPlace`, and under `Refusals::Refuse` the first record with an error as `Refused`. An
+/// allocation failure is reported as `OutOfMemory`.
+pub fn relocate_object_with<H: BuildHasher + Clone + Drop>(
+    alloc: Global,
+    bytes: &[u8],
+    target: &Target<'_>,
+    policy: CandidatePolicy,
+    refusals: Refusals,
+    hash_builder: H,
+) -> Result<(Vec<u8>, Vec<SectionOutcomes>), LoaderError>
+    // The outcomes of the records, and the object of the bytes with its code relocated.
+    ensures relocated { IfOk result (λ r. IsRelocated bytes.now target.now (is_shared policy)
+        (map outcomes_of r.1.items) r.0.items) }
+    // Under `Refuse` no outcome is an error.
+    ensures refused { IfOk result (λ r. refusals ≡ Refuse
+        → any_error (map outcomes_of r.1.items) ≡ false) }
+    ensures length { IfOk result (λ r. length r.0.items ≡ length bytes.now) }
+{
+    let object = Object::parse(alloc, bytes)?;
+    let Some(table) = section_named(&object, b".BTF") else {
+        return Err(LoaderError::NoTable);
+    };
+    let order = object.header().order;
+    let local = Btf::parse(alloc, table, order)?;
+    let mut file = Vec::from_slice(alloc, bytes)?;
+    let Some(data) = section_named(&object, b".BTF.ext") else {
+        return Ok((file, Vec::new(alloc)));
+    };
+    let ext = match BtfExt::parse_with_hasher(data, order, &local, hash_builder) {
+        Ok(ext) => ext,
+        Err(error) => return Err(ext_error(error)),
+    };
+    let named = sections_by_name(alloc, &object)?;
+    let shared = shared_places(alloc, object.sections())?;
+    let loader = Loader {
+        alloc,
+        object: &object,
+        named: &named,
+        shared: &shared,
+        local: &local,
+        target,
+        policy,
+        refusals,
+    };
+    let outcomes = loader.relocate(ext.relocations(), &mut file)?;
+    Ok((file, outcomes))
+}

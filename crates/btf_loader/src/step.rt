@@ -1,0 +1,218 @@
+//! The sections of relocation records, one after another.
+
+ghost use Rattle.std.specs.Prelude.{◌≡◌, ◌+◌, ◌<◌, ◌++◌, ◌∷◌, [], Some, false, drop, length, map, option_map, is_err, slice_get, IfOk, IfNone, OnOk};
+ghost use Rattle.std.specs.List.{list_any};
+ghost use Rattle.std.specs.Option.{option_and_then};
+ghost use Rattle.btf_ext.specs.Relocation.{relocation};
+ghost use Rattle.btf_model.specs.Text.{text_at};
+ghost use Rattle.btf_loader_model.specs.Loader.{any_error, has_error, is_error, is_unreadable, relocated_at, relocated_file, section_at};
+ghost use Rattle.btf_loader.specs.Results.{HasIndices, index_in, outcomes_of};
+ghost use Rattle.btf_loader.specs.declared.step.Refusals.TheVariants.{Refuse};
+ghost use Rattle.btf_relocate.specs.Sections.{is_shared, setting};
+
+use crate::error::LoaderError;
+use btf_elf::{Object, SectionHeader};
+use btf_plain::BtfError;
+use btf_relocate::{CandidatePolicy, Outcome, RelocationError, Target, relocate_section};
+use btf_table::Btf;
+use std::alloc::{AllocError, Global};
+use std::collections::{BTreeMap, BTreeSet};
+
+/// What a record with an error does.
+#[derive(Clone, Copy, Debug, PartialEq, Eq, Default)]
+pub enum Refusals {
+    /// It refuses the object.
+    #[default]
+    Refuse,
+    /// It changes nothing, and its outcome is the error.
+    Keep,
+}
+
+/// What became of a section of relocation records.
+#[derive(Debug, Drop)]
+pub struct SectionOutcomes {
+    /// The string offset of the section's name.
+    pub name_offset: u32,
+    /// The outcome of each record; None if no section of this name has bytes in the file.
+    pub outcomes: Option<Vec<Outcome>>,
+}
+
+/// What the relocation of each section needs.
+#[derive(Drop)]
+pub struct Loader<'a, 'o, 't> {
+    pub alloc: Global,
+    pub object: &'a Object<'o>,
+    /// The first section of each name.
+    pub named: &'a BTreeMap<&'o [u8], usize>,
+    /// The sections that share a byte with another one.
+    pub shared: &'a BTreeSet<usize>,
+    pub local: &'a Btf,
+    pub target: &'a Target<'t>,
+    pub policy: CandidatePolicy,
+    pub refusals: Refusals,
+}
+
+impl<'a, 'o, 't> Loader<'a, 'o, 't> {
+    /// Relocates the code of each section of records in the file.
+    pub fn relocate(
+        &self,
+        relocations: &[(u32, Vec<[u32; 4]>)],
+        file: &mut [u8],
+    ) -> Result<Vec<SectionOutcomes>, LoaderError>
+        requires { HasIndices self.now.named.now self.now.object.now }
+        ensures relocated { IfOk result (λ r. (map outcomes_of r.items, file.new)
+            ≡ relocated_file (setting self.now.local.now self.now.target.now)
+            (is_shared self.now.policy) self.now.object.now file.old
+            (map relocation relocations.now)) }
+        ensures refused { IfOk result (λ r. self.now.refusals ≡ Refuse
+            → any_error (map outcomes_of r.items) ≡ false) }
+        ensures readable { OnOk result (list_any (is_unreadable self.now.local.now.strings)
+            (map relocation relocations.now) ≡ false) }
+    {
+        let mut all = Vec::with_capacity(self.alloc, relocations.len())?;
+        for index in 0..relocations.len() {
+            let section = relocation_at(relocations, index);
+            let outcomes = self.relocate_records(section, file)?;
+            push(&mut all, section.0, outcomes)?;
+        }
+        Ok(all)
+    }
+
+    /// Relocates the code of one section of records.
+    fn relocate_records(
+        &self,
+        section: &(u32, Vec<[u32; 4]>),
+        file: &mut [u8],
+    ) -> Result<Option<Vec<Outcome>>, LoaderError>
+        requires { HasIndices self.now.named.now self.now.object.now }
+        ensures relocated { IfOk result (λ r. (option_map (λ v. v.items) r, file.new)
+            ≡ relocated_at (setting self.now.local.now self.now.target.now)
+            (is_shared self.now.policy)
+            (section_at (setting self.now.local.now self.now.target.now) self.now.object.now
+            section.now.0)
+            file.old section.now.1.items) }
+        ensures refused { IfOk result (λ r. self.now.refusals ≡ Refuse
+            → has_error (option_map (λ v. v.items) r) ≡ false) }
+        ensures readable { OnOk result
+            (is_err (text_at self.now.local.now.strings section.now.0) ≡ false) }
+    {
+        let Some(index) = self.index_of(section.0)? else {
+            return Ok(None);
+        };
+        if self.shared.contains(&index) {
+            return Err(LoaderError::SharedPlace { index });
+        }
+        let Some(header) = self.object.sections().get(index) else {
+            return Ok(None);
+        };
+        let outcomes = self.relocate_code(header, &section.1, file)?;
+        check(self.refusals, section.0, &outcomes)?;
+        Ok(Some(outcomes))
+    }
+
+    /// Relocates the code of one section of the object, which is in its place in the file.
+    fn relocate_code(
+        &self,
+        section: &SectionHeader,
+        records: &[[u32; 4]],
+        file: &mut [u8],
+    ) -> Result<Vec<Outcome>, AllocError>
+        ensures { IfOk result (λ outcomes. (Some outcomes.items, file.new)
+            ≡ relocated_at (setting self.now.local.now self.now.target.now)
+            (is_shared self.now.policy) (Some section.now) file.old records.now) }
+    {
+        let start = file.len().min(section.offset as usize);
+        let len = (file.len() - start).min(section.size as usize);
+        let code = &mut file[start..start + len];
+        relocate_section(
+            self.alloc,
+            self.local,
+            self.target,
+            records,
+            code,
+            self.policy,
+        )
+    }
+
+    /// The index of the first section that has bytes in the file, and the name at a string offset.
+    fn index_of(&self, name_offset: u32) -> Result<Option<usize>, LoaderError>
+        requires { HasIndices self.now.named.now self.now.object.now }
+        ensures index { IfOk result (λ index. option_and_then
+            (slice_get self.now.object.now.sections) index
+            ≡ section_at (setting self.now.local.now self.now.target.now) self.now.object.now
+            name_offset) }
+        ensures readable { OnOk result
+            (is_err (text_at self.now.local.now.strings name_offset) ≡ false) }
+    {
+        match self.local.string_at(name_offset) {
+            Ok(name) => Ok(index_in(self.named, name.as_str().as_bytes())),
+            Err(BtfError::OutOfMemory) => Err(LoaderError::OutOfMemory),
+            Err(_error) => Err(LoaderError::SectionName { name_offset }),
+        }
+    }
+}
+
+/// The index that a map has for a name.
+fn index_in(named: &BTreeMap<&[u8], usize>, name: &[u8]) -> Option<usize>
+    ensures { result ≡ index_in named.now name.entry }
+{
+    named.get(name).copied()
+}
+
+/// The section of records at an index.
+fn relocation_at(all: &[(u32, Vec<[u32; 4]>)], index: usize) -> &(u32, Vec<[u32; 4]>)
+    requires { index < length all.now }
+    ensures { drop index all.now ≡ result.now ∷ drop (index + 1) all.now }
+{
+    &all[index]
+}
+
+/// Appends the outcomes of a section of records.
+fn push(
+    all: &mut Vec<SectionOutcomes>,
+    name_offset: u32,
+    outcomes: Option<Vec<Outcome>>,
+) -> Result<(), AllocError>
+    ensures { OnOk result (all.new.items ≡ all.old.items
+        ++ (record { name_offset = name_offset; outcomes = outcomes }) ∷ []) }
+{
+    all.push(SectionOutcomes {
+        name_offset,
+        outcomes,
+    })?;
+    Ok(())
+}
+
+/// Refuses a section of records if an outcome is an error, unless errors are kept.
+fn check(refusals: Refusals, name_offset: u32, outcomes: &[Outcome]) -> Result<(), LoaderError>
+    ensures { OnOk result (refusals ≡ Refuse → list_any is_error outcomes.now ≡ false) }
+{
+    match (refusals, first_error(outcomes)) {
+        (Refusals::Refuse, Some((index, cause))) => Err(LoaderError::Refused {
+            name_offset,
+            index,
+            cause,
+        }),
+        _ => Ok(()),
+    }
+}
+
+/// The outcome at an index.
+fn outcome_at(outcomes: &[Outcome], index: usize) -> &Outcome
+    requires { index < length outcomes.now }
+    ensures { drop index outcomes.now ≡ result.now ∷ drop (index + 1) outcomes.now }
+{
+    &outcomes[index]
+}
+
+/// The first outcome that is an error, with its index.
+fn first_error(outcomes: &[Outcome]) -> Option<(usize, RelocationError)>
+    ensures { IfNone result (list_any is_error outcomes.now ≡ false) }
+{
+    for index in 0..outcomes.len() {
+        if let Err(cause) = outcome_at(outcomes, index) {
+            return Some((index, *cause));
+        }
+    }
+    None
+}

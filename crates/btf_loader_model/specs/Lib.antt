@@ -1,0 +1,3 @@
+pub mod Loader
+pub mod Laws
+pub mod Examples

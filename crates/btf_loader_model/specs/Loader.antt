@@ -1,0 +1,120 @@
+-- The file of an object whose code is relocated: its sections of relocation records, one after another.
+-- Source: libbpf's `bpf_object__relocate_core`. That the first section of a name counts, and that a section of records
+-- may name no section, are choices of this project.
+use Rattle.std.specs.Prelude.{◌≡◌, ℕ, ◌+◌, ◌&&◌, Bool, true, false, List, [], ◌∷◌, ◌++◌, length, take, drop, position, slice_get, codes, Option, Some, None, option_map, Result, Ok, Err, is_err}
+use Rattle.std.specs.List.{list_any}
+use Rattle.std.specs.Option.{option_and_then}
+use Rattle.std.specs.Str.{bytes_eq}
+use Rattle.btf_model.specs.Blob.{slice, IsTable}
+use Rattle.btf_model.specs.Ext.{Ext, IsExt}
+use Rattle.btf_model.specs.Refusal.{Refusal}
+use Rattle.btf_model.specs.Table.{Table}
+use Rattle.btf_model.specs.Text.{text_at}
+use Rattle.btf_model.specs.declared.endianness.Endianness.{Endianness}
+use Rattle.btf_elf_model.specs.Object.{Object, IsObject, section_name, section_bytes}
+use Rattle.btf_elf_model.specs.Section.{has_bytes}
+use Rattle.btf_elf_model.specs.declared.section_header.SectionHeader.{SectionHeader}
+use Rattle.btf_relocate_model.specs.Resolution.{Setting}
+use Rattle.btf_relocate_model.specs.Section.{relocated_section}
+use Rattle.btf_relocate_model.specs.declared.error.RelocationError.{RelocationError}
+use Rattle.btf_relocate_model.specs.declared.instruction.Patched.{Patched}
+
+-- the outcome of each record of a section; none if no section has its name
+abbrev pub Outcomes : Type 0
+Outcomes = Option (List (Result Patched RelocationError))
+
+-- the index of the first section that has a name, and bytes in the file
+abbrev pub code_index : Object → List ℕ → Option ℕ
+code_index o name = position (λ s. has_bytes s && bytes_eq (section_name o s) name) o.sections
+
+-- the first section that has a name, and bytes in the file
+abbrev pub code_section : Object → List ℕ → Option SectionHeader
+code_section o name = option_and_then (slice_get o.sections) (code_index o name)
+
+-- the section of a name that was read from the table; none if it cannot be read
+abbrev pub section_by : Object → Result (List ℕ) Refusal → Option SectionHeader
+section_by o (Ok name) = code_section o name
+section_by o (Err refusal) = None
+
+-- the section whose name is at a string offset of the program's table
+abbrev pub section_at : Setting → Object → ℕ → Option SectionHeader
+section_at g o name_offset = section_by o (text_at g.local.strings name_offset)
+
+-- the file with other bytes from an offset on
+abbrev pub overwritten : ℕ → List ℕ → List ℕ → List ℕ
+overwritten at new file = take at file ++ new ++ drop (at + length new) file
+
+-- The outcomes of the records of a section, and the file with its code relocated. Without a section the file stays.
+abbrev pub relocated_at : Setting → Bool → Option SectionHeader → List ℕ → List (List ℕ) → Outcomes × List ℕ
+relocated_at g is_shared None file records = (None, file)
+relocated_at g is_shared (Some s) file records =
+    let r = relocated_section g is_shared (slice s.offset s.size file) records in
+    (Some r.0, overwritten s.offset r.1 file)
+
+-- the outcomes of a section of records, before those of later ones
+abbrev pub then_section : ℕ × Outcomes → List (ℕ × Outcomes) × List ℕ → List (ℕ × Outcomes) × List ℕ
+then_section s rest = (s ∷ rest.0, rest.1)
+
+-- The outcomes of each section of records, with the string offset of its name, and the file after all of them.
+abbrev pub relocated_file : Setting → Bool → Object → List ℕ → List (ℕ × List (List ℕ))
+    → List (ℕ × Outcomes) × List ℕ
+relocated_file g is_shared o file [] = ([], file)
+relocated_file g is_shared o file (s ∷ rest) =
+    let r = relocated_at g is_shared (section_at g o s.0) file s.1 in
+    then_section (s.0, r.0) (relocated_file g is_shared o r.1 rest)
+
+-- ---- errors of records
+
+-- the outcome of a record is an error
+abbrev pub is_error : Result Patched RelocationError → Bool
+is_error (Ok patched) = false
+is_error (Err error) = true
+
+-- the outcome of a record of a section is an error
+abbrev pub has_error : Outcomes → Bool
+has_error None = false
+has_error (Some outcomes) = list_any is_error outcomes
+
+-- the outcome of any record is an error
+abbrev pub any_error : List (ℕ × Outcomes) → Bool
+any_error sections = list_any (λ (s : ℕ × Outcomes). has_error s.1) sections
+
+-- ---- the object
+
+-- the name of the section with the table, and the name of the section with relocation records
+abbrev pub table_name : List ℕ
+table_name = codes ".BTF"
+
+abbrev pub ext_name : List ℕ
+ext_name = codes ".BTF.ext"
+
+-- the bytes of the first section that has a name
+abbrev pub bytes_named : Object → List ℕ → Option (List ℕ)
+bytes_named o name = option_map (section_bytes o)
+    (option_and_then (slice_get o.sections) (position (λ s. bytes_eq (section_name o s) name) o.sections))
+
+-- The sections of relocation records in the bytes of `.BTF.ext`, for a table with these strings; none without the bytes.
+abbrev pub AreSections : Endianness → List ℕ → Option (List ℕ) → List (ℕ × List (List ℕ)) → Type 0
+AreSections order strings None sections = sections ≡ []
+AreSections order strings (Some bytes) sections =
+    (e : Ext) × IsExt order bytes strings (Ok e) × (sections ≡ e.relocations)
+
+-- the name of a section of records cannot be read from these strings
+abbrev pub is_unreadable : List ℕ → ℕ × List (List ℕ) → Bool
+is_unreadable strings s = is_err (text_at strings s.0)
+
+-- The bytes are an object with a table, and these are the outcomes of its relocation records for a target table, and
+-- the file with its code relocated.
+pub record IsRelocated (bytes : List ℕ) (target : Table) (is_shared : Bool) (outcomes : List (ℕ × Outcomes))
+    (file : List ℕ) : Type 0 where
+  pub object : Object
+  pub is_object : IsObject bytes object
+  pub table : List ℕ
+  pub has_table : bytes_named object table_name ≡ Some table
+  pub local : Table
+  pub is_table : IsTable object.header.order table local
+  pub sections : List (ℕ × List (List ℕ))
+  pub are_sections : AreSections object.header.order local.strings (bytes_named object ext_name) sections
+  pub are_readable : list_any (is_unreadable local.strings) sections ≡ false
+  pub relocated : (outcomes, file)
+      ≡ relocated_file (record { local = local; target = target }) is_shared object bytes sections
