@@ -15,10 +15,7 @@ fn print_code(rt: &HostRuntime, object: &Object<'_>, name: &str) -> Result<(), F
     let index = object
         .section_by_name(name.as_bytes())
         .ok_or("a section is missing")?;
-    let section = object
-        .sections()
-        .get(index)
-        .ok_or("a section is missing")?;
+    let section = object.sections().get(index).ok_or("a section is missing")?;
     let code = hex::encode(rt.alloc(), object.section_bytes(section))?;
     println!(rt; "{name}:{code}")?;
     Ok(())
