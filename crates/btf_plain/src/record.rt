@@ -57,6 +57,8 @@ pub trait Enumerates: Kind {}
 pub struct Record<K: Kind> {
     pub(crate) head: Head,
     pub(crate) tail: K::Tail,
+    /// Aligns the records of all kinds alike, so that their heads are at one place of an enum of records.
+    pub(crate) aligned: [u64; 0],
     pub(crate) kind: PhantomData<K>,
 }
 
@@ -106,6 +108,7 @@ impl<K: Kind> Record<K> {
         Self {
             head: Head { name, info, third },
             tail,
+            aligned: [],
             kind: PhantomData,
         }
     }
@@ -167,12 +170,9 @@ impl<K: Kind> Record<K> {
     pub fn with_name_offset(self, name_offset: u32) -> Self
         ensures { result ≡ record self { name = name_offset } }
     {
-        let Record { head, tail, kind } = self;
-        let head = Head {
-            name: name_offset,
-            ..head
-        };
-        Record { head, tail, kind }
+        let mut named = self;
+        named.head.name = name_offset;
+        named
     }
 
     /// Sets the string offset of the name, and changes nothing else.
@@ -205,6 +205,7 @@ impl<K: Kind> Record<K> {
         Ok(Record {
             head,
             tail,
+            aligned: [],
             kind: PhantomData,
         })
     }
@@ -219,9 +220,9 @@ where
         requires { kind_of info ≡ Some (kinds.kind K.KIND) }
         ensures { result ≡ record self { info = info } }
     {
-        let Record { head, tail, kind } = self;
-        let head = Head { info, ..head };
-        Record { head, tail, kind }
+        let mut informed = self;
+        informed.head.info = info;
+        informed
     }
 }
 
@@ -266,6 +267,7 @@ where
         Ok(Record {
             head: self.head,
             tail: self.tail.clone()?,
+            aligned: [],
             kind: PhantomData,
         })
     }

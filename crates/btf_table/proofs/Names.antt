@@ -1,15 +1,19 @@
 -- The search for a name, type after type.
-use Rattle.std.proofs.Common.{◌≡◌, ℕ, ◌+◌, ◌<◌, Bool, true, false, List, Some, Result, Ok, Err, refl, sym, ap, subst, ◌∙◌, arith, ◌⊎◌, inr, ⊎_elim}
-use Rattle.std.specs.Prelude.{slice_get}
+use Rattle.std.proofs.Common.{◌≡◌, ◌≢◌, ℕ, ◌+◌, ◌<◌, Bool, true, false, List, [], ◌∷◌, ◌++◌, length, take, drop, get_or, Option, None, Some, Result, Ok, Err, refl, sym, ap, subst, ◌∙◌, arith, ◌⊎◌, inr, ⊎_elim}
+use Rattle.std.specs.Prelude.{map, slice_get, option_map, IfSome, MatchOption}
 use Rattle.std.specs.Str.{IsUtf8, bytes_eq}
-use Rattle.std.proofs.lemmas.Bool.{cases_order, true≢false}
-use Rattle.std.proofs.lemmas.Option.{same_Some, IfSome_then}
+use Rattle.std.proofs.Math.Nat.{min-le_left}
+use Rattle.std.proofs.lemmas.Bool.{cases_order, false≢true, true≢false}
+use Rattle.std.proofs.lemmas.List.{get_or-drop, get_or-take, length-take}
+use Rattle.std.proofs.lemmas.Option.{none-some, same_Some, slice_get-map, slice_get_read, slice_get_within, get_or_from_slice_get, IfSome_then}
 use Rattle.std.proofs.lemmas.Slice.Eq.{bytes_eq-Decides}
 use Rattle.btf_model.specs.Record.{Kind, Record, kind_of}
 use Rattle.btf_model.specs.Refusal.{Refusal}
 use Rattle.btf_model.specs.Text.{text_at, IsPassed, ArePassed}
 use Rattle.btf_plain.specs.Error.{MeetsOrNoMemory, refusal_of}
 use Rattle.btf_plain.specs.declared.error.BtfError.{BtfError}
+use Rattle.btf_records.specs.BtfType.{record_of}
+use Rattle.btf_records.specs.declared.btf_type.BtfType.{BtfType}
 use Rattle.btf_table.specs.BtfStr.{HasName, IsNamed}
 use Rattle.btf_table.specs.Readable.{IsReadableEnd, IsComparable, HasNameAt}
 use Rattle.btf_table.proofs.Readable.{text_is_name, name_at_text}
@@ -31,6 +35,29 @@ bytes_compared strings name offset end same readable utf8 comparable low decides
     by_cases true is = text.1 ∙ ap (λ (x : List ℕ). Ok x) (text_is_name strings name text.0 offset utf8 comparable text.1 (decides.0 is))
     by_cases false is = (text.0, text.1, λ e. true≢false (sym (decides.1 (name_at_text strings name text.0 offset comparable text.1 e)) ∙ is))
 
+-- a text that begins with another byte than the name
+pub begins_otherwise : (strings name readable : List ℕ) (offset first byte : ℕ) (readable_end : Option ℕ) → IfSome readable_end (λ end. IsReadableEnd strings end × IsComparable name)
+    → MatchOption readable_end (readable ≡ []) (λ end. readable ≡ take end strings) → IsUtf8 name → ((rest : List ℕ) → get_or (name ++ 0 ∷ rest) 0 0 ≡ first)
+    → slice_get readable offset ≡ Some byte → byte ≢ first → HasName strings offset name (Ok false)
+begins_otherwise strings name readable offset first byte None ends none utf8 firsts at other = absurd (none-some byte (sym (ap (λ (xs : List ℕ). slice_get xs offset) none) ∙ at))
+begins_otherwise strings name readable offset first byte (Some end) ends taken utf8 firsts at other =
+    bytes_compared strings name offset end false ends.0 utf8 ends.1 low (λ t. absurd (false≢true t), λ has. absurd (other (sym byte_at ∙ ap (λ (xs : List ℕ). get_or xs 0 0) has.1 ∙ firsts has.0)))
+  where
+    in_taken : slice_get (take end strings) offset ≡ Some byte
+    in_taken = sym (ap (λ (xs : List ℕ). slice_get xs offset) taken) ∙ at
+
+    within : offset < length (take end strings)
+    within = slice_get_within (take end strings) offset byte in_taken
+
+    low : offset < end
+    low = omega (arith, within, length-take end strings, min-le_left end (length strings))
+
+    no_further : offset + 0 ≡ offset
+    no_further = omega arith
+
+    byte_at : get_or (drop offset strings) 0 0 ≡ byte
+    byte_at = get_or-drop offset strings 0 0 ∙ ap (λ (k : ℕ). get_or strings k 0) no_further ∙ sym (get_or-take end strings offset 0 low) ∙ get_or_from_slice_get (take end strings) offset byte 0 in_taken
+
 -- a type of the kind, whose name was compared
 kind_named : (strings : List ℕ) (k : Kind) (name : List ℕ) (r : Record) (answer : Result Bool Refusal) → kind_of r.info ≡ Some k → HasName strings r.name name answer → IsNamed strings k name r answer
 kind_named strings k name r (Ok true) kind is = (kind, is)
@@ -49,3 +76,7 @@ passed_one strings records k name id r below is passed low q lt at =
     (λ (other : (low < id) ⊎ (id < low)).
     ⊎_elim (λ (less : low < id). below low q less at) (λ (more : id < low). absurd (omega (arith, lt, more))) other)
     (cases_order low id)
+
+-- the record of the type at an index
+pub record_at : (types : List BtfType) (id : ℕ) (t : BtfType) → id < length types → t ≡ get_or types id t → slice_get (map record_of types) id ≡ Some (record_of t)
+record_at types id t low is = slice_get-map record_of types id ∙ ap (option_map record_of) (slice_get_read types (length types) id t refl low is)

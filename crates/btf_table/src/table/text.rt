@@ -1,6 +1,6 @@
 //! Texts of the string section, and the type of a name.
 
-ghost use Rattle.std.specs.Prelude.{◌≡◌, ◌≢◌, ◌↔◌, ◌<◌, ◌^◌, ◌++◌, ℕ, List, length, drop, map, Some, IfSome, IsTrue, MatchOption};
+ghost use Rattle.std.specs.Prelude.{◌≡◌, ◌≢◌, ◌↔◌, ◌<◌, ◌^◌, ◌++◌, ◌∷◌, [], ℕ, List, length, take, drop, get_or, slice_get, map, Some, IfSome, IsTrue, MatchOption};
 ghost use Rattle.std.specs.Option.{option_map};
 ghost use Rattle.std.specs.Str.{IsUtf8};
 ghost use Rattle.btf_model.specs.Record.{kind_of};
@@ -211,8 +211,39 @@ pub fn has_name(
     Ok(has_name_at(strings, offset, name))
 }
 
+/// The bytes at whose offsets a text can be read, if names are compared with bytes; else none.
+fn readable_bytes(strings: &[u8], readable_end: Option<usize>) -> &[u8]
+    ensures { MatchOption readable_end (result.now ≡ [])
+        (λ end. result.now ≡ take end strings.now) }
+{
+    match readable_end {
+        Some(end) => strings.get(..end).unwrap_or(strings),
+        None => &[],
+    }
+}
+
+/// The first byte of a name, or the zero byte after an empty one.
+fn first_byte(name: &str) -> u8
+    ensures { (rest : List ℕ) → get_or (name.now ++ 0 ∷ rest) 0 0 ≡ result }
+{
+    name.as_bytes().first().copied().unwrap_or(0)
+}
+
+/// Whether the text at an offset can be read and begins with another byte than this one.
+#[inline(always)]
+fn begins_otherwise_at(readable: &[u8], offset: u32, first: u8) -> bool
+    ensures { IsTrue result → (byte : ℕ)
+        × (slice_get readable.now offset ≡ Some byte) × (byte ≢ first) }
+{
+    match readable.get(offset as usize) {
+        Some(byte) => *byte != first,
+        None => false,
+    }
+}
+
 /// Whether a type has this kind and this name, or why the name of a type of this kind can't be read. With a readable
 /// end the bytes are compared, and otherwise the text that they are read as.
+#[inline(never)]
 fn has_kind_and_name(
     alloc: Global,
     strings: &[u8],
@@ -248,7 +279,14 @@ pub fn find_named(
         (FindsName strings.now (map record_of types.now) (kinds.kind kind) name.now) }
 {
     let readable_end = comparable_end(strings, name);
+    let readable = readable_bytes(strings, readable_end);
+    let first = first_byte(name);
     for (id, btf_type) in types.iter().enumerate() {
+        // Before the kind: most names of a table begin otherwise, so a processor predicts this branch, but not that of
+        // the kind.
+        if begins_otherwise_at(readable, btf_type.name_offset(), first) {
+            continue;
+        }
         if has_kind_and_name(alloc, strings, btf_type, name, kind, readable_end)? {
             return Ok(id as u32);
         }
