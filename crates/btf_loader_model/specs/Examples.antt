@@ -1,8 +1,14 @@
 -- Worked examples of the definitions, computed.
-use Rattle.std.specs.Prelude.{◌≡◌, [], ◌∷◌, Some, None, Ok, Err, refl, true, false}
-use Rattle.btf_relocate_model.specs.declared.error.RelocationError.TheVariants.{BadAccess}
+use Rattle.std.specs.Prelude.{◌≡◌, ℕ, ◌&&◌, Bool, List, [], ◌∷◌, map, position, replicate, Some, None, Ok, Err, refl, true, false}
+use Rattle.std.specs.Str.{bytes_eq}
+use Rattle.btf_elf_model.specs.Object.{Object, section_name}
+use Rattle.btf_elf_model.specs.Replaced.{shares_bytes}
+use Rattle.btf_elf_model.specs.Section.{has_bytes, sht_nobits}
+use Rattle.btf_elf_model.specs.declared.section_header.SectionHeader.{SectionHeader}
+use Rattle.btf_relocate_model.specs.declared.error.RelocationError.TheVariants.{BadAccess, BadIndex}
 use Rattle.btf_relocate_model.specs.declared.instruction.Patched.TheVariants.{Written}
-use Rattle.btf_loader_model.specs.Loader.{overwritten, any_error, is_unreadable}
+use Rattle.btf_loader_model.specs.Loader.{code_index, overwritten, any_error, is_unreadable}
+use Rattle.btf_loader_model.specs.Refused.{BadRecord, bad_record, shares_place}
 
 two_bytes_in_place : overwritten 1 (7 ∷ 8 ∷ []) (1 ∷ 2 ∷ 3 ∷ 4 ∷ []) ≡ 1 ∷ 7 ∷ 8 ∷ 4 ∷ []
 two_bytes_in_place = refl
@@ -16,3 +22,45 @@ errors_of_records = (refl, refl)
 -- in the strings "\0a" the name at 1 has no end
 name_without_end : (is_unreadable (0 ∷ 97 ∷ []) (1, []) ≡ true) × (is_unreadable (0 ∷ 97 ∷ 0 ∷ []) (1, []) ≡ false)
 name_without_end = (refl, refl)
+
+-- a name of 511 bytes is searched for, and a longer one is not
+limit_of_names :
+    ((o : Object) → code_index o (replicate 511 97)
+    ≡ position (λ s. has_bytes s && bytes_eq (section_name o s) (replicate 511 97)) o.sections)
+    × ((o : Object) → code_index o (replicate 512 97) ≡ None)
+limit_of_names = (λ o. refl, λ o. refl)
+
+-- the first record with an error, by its index
+first_bad_record :
+    (bad_record 5 0 (Ok Written ∷ Err BadAccess ∷ Err BadIndex ∷ []) ≡ Some (BadRecord 5 1 BadAccess))
+    × (bad_record 5 0 (Ok Written ∷ Ok Written ∷ []) ≡ None)
+first_bad_record = (refl, refl)
+
+-- a section of a type that has these bytes of the file
+section_with : ℕ → ℕ → ℕ → SectionHeader
+section_with kind offset size = record {
+  name = 0;
+  kind = kind;
+  flags = 0;
+  address = 0;
+  offset = offset;
+  size = size;
+  link = 0;
+  info = 0;
+  alignment = 1;
+  entry_size = 0;
+}
+
+-- whether each of three sections shares its place
+sharing : SectionHeader → SectionHeader → SectionHeader → List Bool
+sharing s t u = map (shares_place (s ∷ t ∷ u ∷ [])) (0 ∷ 1 ∷ 2 ∷ [])
+
+-- Sections that touch share no byte, and those with one byte in common do. A section shares with one that is inside it.
+-- One without bytes in the file, or of size 0, shares with none.
+shared_places :
+    (sharing (section_with 1 64 8) (section_with 1 72 8) (section_with 1 80 8) ≡ false ∷ false ∷ false ∷ [])
+    × (sharing (section_with 1 64 9) (section_with 1 72 8) (section_with 1 80 8) ≡ true ∷ true ∷ false ∷ [])
+    × (sharing (section_with 1 64 32) (section_with 1 72 8) (section_with 1 80 8) ≡ true ∷ true ∷ true ∷ [])
+    × (sharing (section_with 1 64 8) (section_with sht_nobits 64 8) (section_with 1 68 0) ≡ false ∷ false ∷ false ∷ [])
+unfolding sharing section_with shares_bytes
+shared_places = (refl, refl, refl, refl)

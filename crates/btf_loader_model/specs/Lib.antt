@@ -1,3 +1,4 @@
 pub mod Loader
+pub mod Refused
 pub mod Laws
 pub mod Examples

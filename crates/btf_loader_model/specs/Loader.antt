@@ -1,7 +1,7 @@
 -- The file of an object whose code is relocated: its sections of relocation records, one after another.
--- Source: libbpf's `bpf_object__relocate_core`. That the first section of a name counts, and that a section of records
--- may name no section, are choices of this project.
-use Rattle.std.specs.Prelude.{◌≡◌, ℕ, ◌+◌, ◌&&◌, Bool, true, false, List, [], ◌∷◌, ◌++◌, length, take, drop, position, slice_get, codes, Option, Some, None, option_map, Result, Ok, Err, is_err}
+-- Source: libbpf's `bpf_object__relocate_core`. That the first section of a name counts, that a section of records may
+-- name no section, and that a long name names none, are choices of this project.
+use Rattle.std.specs.Prelude.{◌≡◌, ℕ, ◌+◌, ◌&&◌, nat_lt, Bool, true, false, if◌then◌else◌, List, [], ◌∷◌, ◌++◌, length, take, drop, position, slice_get, Option, Some, None, option_map, Result, Ok, Err, is_err}
 use Rattle.std.specs.List.{list_any}
 use Rattle.std.specs.Option.{option_and_then}
 use Rattle.std.specs.Str.{bytes_eq}
@@ -14,6 +14,8 @@ use Rattle.btf_model.specs.declared.endianness.Endianness.{Endianness}
 use Rattle.btf_elf_model.specs.Object.{Object, IsObject, section_name, section_bytes}
 use Rattle.btf_elf_model.specs.Section.{has_bytes}
 use Rattle.btf_elf_model.specs.declared.section_header.SectionHeader.{SectionHeader}
+use Rattle.btf_object_model.specs.Layout.{name_limit}
+use Rattle.btf_object_model.specs.Sanitized.{index_of, table_name, ext_name}
 use Rattle.btf_relocate_model.specs.Resolution.{Setting}
 use Rattle.btf_relocate_model.specs.Section.{relocated_section}
 use Rattle.btf_relocate_model.specs.declared.error.RelocationError.{RelocationError}
@@ -23,22 +25,26 @@ use Rattle.btf_relocate_model.specs.declared.instruction.Patched.{Patched}
 abbrev pub Outcomes : Type 0
 Outcomes = Option (List (Result Patched RelocationError))
 
--- the index of the first section that has a name, and bytes in the file
+-- The index of the first section that has a name, and bytes in the file. A name that no rewrite asks for because of its
+-- length names no section of code.
 abbrev pub code_index : Object → List ℕ → Option ℕ
-code_index o name = position (λ s. has_bytes s && bytes_eq (section_name o s) name) o.sections
+code_index o name =
+    if nat_lt (length name) name_limit
+    then position (λ s. has_bytes s && bytes_eq (section_name o s) name) o.sections
+    else None
 
--- the first section that has a name, and bytes in the file
-abbrev pub code_section : Object → List ℕ → Option SectionHeader
-code_section o name = option_and_then (slice_get o.sections) (code_index o name)
+-- the index of the section of a name that was read from the table; none if it cannot be read
+abbrev pub index_by : Object → Result (List ℕ) Refusal → Option ℕ
+index_by o (Ok name) = code_index o name
+index_by o (Err refusal) = None
 
--- the section of a name that was read from the table; none if it cannot be read
-abbrev pub section_by : Object → Result (List ℕ) Refusal → Option SectionHeader
-section_by o (Ok name) = code_section o name
-section_by o (Err refusal) = None
+-- the index of the section whose name is at a string offset of the program's table
+abbrev pub index_at : Setting → Object → ℕ → Option ℕ
+index_at g o name_offset = index_by o (text_at g.local.strings name_offset)
 
 -- the section whose name is at a string offset of the program's table
 abbrev pub section_at : Setting → Object → ℕ → Option SectionHeader
-section_at g o name_offset = section_by o (text_at g.local.strings name_offset)
+section_at g o name_offset = option_and_then (slice_get o.sections) (index_at g o name_offset)
 
 -- the file with other bytes from an offset on
 abbrev pub overwritten : ℕ → List ℕ → List ℕ → List ℕ
@@ -81,17 +87,9 @@ any_error sections = list_any (λ (s : ℕ × Outcomes). has_error s.1) sections
 
 -- ---- the object
 
--- the name of the section with the table, and the name of the section with relocation records
-abbrev pub table_name : List ℕ
-table_name = codes ".BTF"
-
-abbrev pub ext_name : List ℕ
-ext_name = codes ".BTF.ext"
-
 -- the bytes of the first section that has a name
 abbrev pub bytes_named : Object → List ℕ → Option (List ℕ)
-bytes_named o name = option_map (section_bytes o)
-    (option_and_then (slice_get o.sections) (position (λ s. bytes_eq (section_name o s) name) o.sections))
+bytes_named o name = option_map (section_bytes o) (option_and_then (slice_get o.sections) (index_of o name))
 
 -- The sections of relocation records in the bytes of `.BTF.ext`, for a table with these strings; none without the bytes.
 abbrev pub AreSections : Endianness → List ℕ → Option (List ℕ) → List (ℕ × List (List ℕ)) → Type 0
