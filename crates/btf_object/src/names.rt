@@ -45,7 +45,7 @@ fn names_index(object: &Object<'_>) -> u32
     }
 }
 
-/// The string table with the names of sections.
+/// The bytes of the string table with the names of an object's sections.
 pub fn section_names<'a>(object: &Object<'a>) -> &'a [u8]
     ensures { result.now ≡ unwrap_or (elf.name_table object.now) [] }
 {
@@ -102,8 +102,9 @@ fn front(bytes: &[u8]) -> &[u8]
     &bytes[..len]
 }
 
-/// The name at an offset, unless it is too long.
-fn short_name(strings: &[u8], offset: u32) -> Option<&[u8]>
+/// The name at an offset of a string table; None for a name of `NAME_LIMIT` bytes or more. Reads at most `NAME_LIMIT`
+/// bytes.
+pub fn short_name(strings: &[u8], offset: u32) -> Option<&[u8]>
     ensures some { IfSome result (λ name. (name.now ≡ name_at strings.now offset)
         × (length name.now < 512)) }
     ensures none { IfNone result (512 ≤ length (name_at strings.now offset)) }
