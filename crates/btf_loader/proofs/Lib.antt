@@ -1,3 +1,5 @@
-mod Names
+mod Causes
+mod Indices
 mod Objects
+mod Sharing
 mod Steps

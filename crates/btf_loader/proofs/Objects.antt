@@ -1,5 +1,5 @@
 -- The object with its code relocated, from what its parts are.
-use Rattle.std.proofs.Common.{◌≡◌, ℕ, Bool, false, List, Option, Some, Ok, sym, ap, ◌∙◌, subst}
+use Rattle.std.proofs.Common.{◌≡◌, ℕ, Bool, false, List, Some, Ok, sym, ap, ◌∙◌, subst}
 use Rattle.std.specs.List.{list_any}
 use Rattle.btf_model.specs.Blob.{IsTable}
 use Rattle.btf_model.specs.Ext.{Ext, IsExt}
@@ -7,7 +7,9 @@ use Rattle.btf_model.specs.Table.{Table}
 use Rattle.btf_elf_model.specs.Object.{Object, IsObject}
 use Rattle.btf_elf_model.specs.declared.file_header.FileHeader.{FileHeader}
 use Rattle.btf_relocate.specs.Sections.{setting}
-use Rattle.btf_loader_model.specs.Loader.{Outcomes, IsRelocated, AreSections, bytes_named, table_name, ext_name, is_unreadable, relocated_file}
+use Rattle.btf_loader_model.specs.Loader.{Outcomes, IsRelocated, bytes_named, is_unreadable, relocated_file}
+use Rattle.btf_loader.proofs.Causes.{are_sections}
+use Rattle.btf_object_model.specs.Sanitized.{table_name, ext_name}
 
 pub is_relocated : (bytes : List ℕ) (target : Table) (is_shared : Bool) (o : Object) (h : FileHeader) (table section : List ℕ) (local : Table) (e : Ext)
     (sections : List (ℕ × List (List ℕ))) (outcomes : List (ℕ × Outcomes)) (start new file : List ℕ)
@@ -26,8 +28,7 @@ is_relocated bytes target is_shared o h table section local e sections outcomes 
   local = local;
   is_table = subst (λ (x : FileHeader). IsTable x.order table local) header is_table;
   sections = sections;
-  are_sections = subst (λ (b : Option (List ℕ)). AreSections o.header.order local.strings b sections) has_ext
-      (e, subst (λ (x : FileHeader). IsExt x.order section local.strings (Ok e)) header is_ext, are);
+  are_sections = are_sections o h section local e sections header has_ext is_ext are;
   are_readable = readable;
   relocated = ap (λ (f : List ℕ). (outcomes, f)) ends ∙ did ∙ ap (λ (b : List ℕ). relocated_file (setting local target) is_shared o b sections) starts;
 }

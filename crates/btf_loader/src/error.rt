@@ -1,7 +1,7 @@
 //! Why an object is not relocated.
 
 ghost use Rattle.std.specs.Prelude.{◌≡◌};
-ghost use Rattle.btf_loader.specs.Errors.{of_object, of_table};
+ghost use Rattle.btf_loader.specs.Errors.{of_object, of_table, of_ext};
 ghost use Rattle.btf_loader.specs.declared.error.LoaderError.TheVariants.{OutOfMemory};
 
 use btf_elf::ObjectError;
@@ -91,7 +91,9 @@ impl From<BtfError> for LoaderError {
 }
 
 /// The error of a `.BTF.ext` that is not read.
-pub fn ext_error(error: BtfError) -> LoaderError {
+pub fn ext_error(error: BtfError) -> LoaderError
+    ensures { result ≡ of_ext error }
+{
     match error {
         BtfError::OutOfMemory => LoaderError::OutOfMemory,
         error => LoaderError::Ext(error),

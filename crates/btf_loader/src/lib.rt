@@ -3,6 +3,7 @@
 
 mod error;
 mod loader;
+mod names;
 mod places;
 mod step;
 

@@ -1,13 +1,16 @@
 //! Objects whose code is relocated.
 
-ghost use Rattle.std.specs.Prelude.{◌≡◌, false, length, map, option_map, IfOk};
+ghost use Rattle.std.specs.Prelude.{◌≡◌, false, length, map, option_map, None, IfOk, IfErr, OnOk};
 ghost use Rattle.btf_loader_model.specs.Loader.{IsRelocated, any_error, bytes_named};
-ghost use Rattle.btf_loader.specs.Results.{outcomes_of};
+ghost use Rattle.btf_loader_model.specs.Refused.{IsReason};
+ghost use Rattle.btf_loader.specs.Errors.{IsCause};
+ghost use Rattle.btf_loader.specs.Results.{outcomes_of, refuses_errors};
 ghost use Rattle.btf_loader.specs.declared.step.Refusals.TheVariants.{Refuse};
 ghost use Rattle.btf_relocate.specs.Sections.{is_shared};
 
 use crate::error::{LoaderError, ext_error};
-use crate::places::{sections_by_name, shared_places};
+use crate::names::sections_by_name;
+use crate::places::Places;
 use crate::step::{Loader, Refusals, SectionOutcomes};
 use btf_elf::Object;
 use btf_ext::BtfExt;
@@ -41,6 +44,12 @@ pub fn relocate_object(
     ensures refused { IfOk result (λ r. refusals ≡ Refuse
         → any_error (map outcomes_of r.1.items) ≡ false) }
     ensures length { IfOk result (λ r. length r.0.items ≡ length bytes.now) }
+    // Nothing is refused: the object, its table, `.BTF.ext`, and each section of records.
+    ensures accepted { OnOk result (IsReason bytes.now target.now (is_shared policy)
+        (refuses_errors refusals) None) }
+    // An error is the first reason in the stated order.
+    ensures cause { IfErr result (IsCause (IsReason bytes.now target.now (is_shared policy)
+        (refuses_errors refusals))) }
 {
     let hash_builder: BuildHasherDefault<FoldHasher> = BuildHasherDefault::new();
     relocate_object_with(alloc, bytes, target, policy, refusals, hash_builder)
@@ -75,6 +84,12 @@ pub fn relocate_object_with<H: BuildHasher + Clone + Drop>(
     ensures refused { IfOk result (λ r. refusals ≡ Refuse
         → any_error (map outcomes_of r.1.items) ≡ false) }
     ensures length { IfOk result (λ r. length r.0.items ≡ length bytes.now) }
+    // Nothing is refused: the object, its table, `.BTF.ext`, and each section of records.
+    ensures accepted { OnOk result (IsReason bytes.now target.now (is_shared policy)
+        (refuses_errors refusals) None) }
+    // An error is the first reason in the stated order.
+    ensures cause { IfErr result (IsCause (IsReason bytes.now target.now (is_shared policy)
+        (refuses_errors refusals))) }
 {
     let object = Object::parse(alloc, bytes)?;
     let Some(table) = section_named(&object, b".BTF") else {
@@ -91,12 +106,12 @@ pub fn relocate_object_with<H: BuildHasher + Clone + Drop>(
         Err(error) => return Err(ext_error(error)),
     };
     let named = sections_by_name(alloc, &object)?;
-    let shared = shared_places(alloc, object.sections())?;
+    let places = Places::read(alloc, &object)?;
     let loader = Loader {
         alloc,
         object: &object,
         named: &named,
-        shared: &shared,
+        places: &places,
         local: &local,
         target,
         policy,

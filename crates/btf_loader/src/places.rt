@@ -1,105 +1,89 @@
-//! The places of sections in the file, and their names.
+//! The places of sections in the file.
 
-ghost use Rattle.std.specs.Prelude.{◌≡◌, ◌+◌, ◌<◌, ◌∷◌, drop, length, IfOk, OnOk};
-ghost use Rattle.btf_elf_model.specs.Section.{has_bytes};
-ghost use Rattle.btf_loader.specs.Results.{HasIndices, HasIndicesFrom};
+ghost use Rattle.std.specs.Prelude.{◌≡◌, count_by, nat_lt, IfOk, IfSome, IfNone, OnOk};
+ghost use Rattle.std.specs.List.Sorted.{IsNonDecreasing};
+ghost use Rattle.btf_loader_model.specs.Refused.{shares_place};
+ghost use Rattle.btf_loader.specs.Places.{is_placed, IsPlace, HasNoPlace, HasPlaces, Adds};
 
+use crate::names::has_bytes;
 use btf_elf::{Object, SectionHeader};
 use std::alloc::{AllocError, Global};
-use std::collections::{BTreeMap, BTreeSet};
 
-/// Whether the file has bytes of a section.
-pub fn has_bytes(section: &SectionHeader) -> bool
-    ensures { result ≡ has_bytes section.now }
+/// Whether a section has a byte in the file.
+fn is_placed(section: &SectionHeader) -> bool
+    ensures { result ≡ is_placed section.now }
 {
-    section.kind != SectionHeader::NULL && section.kind != SectionHeader::NOBITS
+    has_bytes(section) && section.size > 0
 }
 
-/// Where the bytes of a section are in the file.
-#[derive(Clone, Copy)]
-struct Place {
-    start: u64,
-    end: u64,
-    index: usize,
-}
-
-/// Adds a section by its index, if the file has bytes of it.
-fn add<'a>(
-    named: &mut BTreeMap<&'a [u8], usize>,
-    object: &Object<'a>,
-    index: usize,
-) -> Result<(), AllocError>
-    requires { index < length object.now.sections }
-    ensures { OnOk result (HasIndicesFrom named.old object.now (index + 1)
-        → HasIndicesFrom named.new object.now index) }
+/// The start and the end of the section of an index in the file; None if it has no byte there.
+fn place_of(object: &Object<'_>, index: usize) -> Option<(u64, u64)>
+    ensures some { IfSome result (λ place. IsPlace object.now.sections index place.0 place.1) }
+    ensures none { IfNone result (HasNoPlace object.now.sections index) }
 {
-    let section = header_at(object.sections(), index);
-    if has_bytes(section) {
-        let _ = named.insert(object.section_name(section), index)?;
+    // The sections of an object are in the file, which this shows.
+    let _len = object.bytes().len();
+    let section = object.sections().get(index)?;
+    if !is_placed(section) {
+        return None;
     }
-    Ok(())
+    Some((section.offset, section.offset + section.size))
 }
 
-/// The header at an index.
-fn header_at(sections: &[SectionHeader], index: usize) -> &SectionHeader
-    requires { index < length sections.now }
-    ensures { drop index sections.now ≡ result.now ∷ drop (index + 1) sections.now }
+/// How many of rising numbers are below a bound.
+fn count_below(numbers: &[u64], bound: u64) -> usize
+    requires { IsNonDecreasing numbers.now }
+    ensures { result ≡ count_by (λ n. nat_lt n bound) numbers.now }
 {
-    &sections[index]
+    numbers.partition_point(|number| *number < bound)
 }
 
-/// The first section of each name that has bytes in the file, by its index.
-pub fn sections_by_name<'a>(
-    alloc: Global,
-    object: &Object<'a>,
-) -> Result<BTreeMap<&'a [u8], usize>, AllocError>
-    ensures { IfOk result (λ named. HasIndices named object.now) }
-{
-    let mut named = BTreeMap::new(alloc);
-    let count = object.sections().len();
-    // From the last section to the first, so that the first one of a name remains.
-    for done in 0..count {
-        add(&mut named, object, count - 1 - done)?;
-    }
-    Ok(named)
+/// Where the bytes of an object's sections are in the file.
+#[derive(Drop)]
+pub struct Places {
+    /// The first byte of each section that has one, in rising order.
+    starts: Vec<u64>,
+    /// The end of each section that has a byte, in rising order.
+    ends: Vec<u64>,
 }
 
-/// The places of the sections that have bytes, by their starts.
-fn sorted_places(alloc: Global, sections: &[SectionHeader]) -> Result<Vec<Place>, AllocError> {
-    let mut places = Vec::new(alloc);
-    for index in 0..sections.len() {
-        let section = &sections[index];
-        if has_bytes(section) && section.size > 0 {
-            places.push(Place {
-                start: section.offset,
-                end: section.offset.saturating_add(section.size),
-                index,
-            })?;
-        }
-    }
-    places.sort_by_key(|place: &Place| place.start)?;
-    Ok(places)
-}
-
-/// The indices of the sections that share a byte with another one: an earlier section ends after its start, or the next
-/// one begins before its end.
-pub fn shared_places(
-    alloc: Global,
-    sections: &[SectionHeader],
-) -> Result<BTreeSet<usize>, AllocError> {
-    let places = sorted_places(alloc, sections)?;
-    let mut shared = BTreeSet::new(alloc);
-    let mut end = 0;
-    for at in 0..places.len() {
-        let place = places[at];
-        let begins_before = match places.get(at + 1) {
-            Some(next) => next.start < place.end,
-            None => false,
+impl Places {
+    /// The places of an object's sections.
+    pub fn read(alloc: Global, object: &Object<'_>) -> Result<Places, AllocError>
+        ensures { IfOk result (λ places. HasPlaces places object.now.sections) }
+    {
+        let mut places = Places {
+            starts: Vec::new(alloc),
+            ends: Vec::new(alloc),
         };
-        if place.start < end || begins_before {
-            let _ = shared.insert(place.index)?;
+        for index in 0..object.sections().len() {
+            places.add(object, index)?;
         }
-        end = end.max(place.end);
+        places.starts.sort_unstable();
+        places.ends.sort_unstable();
+        Ok(places)
     }
-    Ok(shared)
+
+    /// Adds the section of an index, if it has a byte.
+    fn add(&mut self, object: &Object<'_>, index: usize) -> Result<(), AllocError>
+        ensures { OnOk result (Adds object.now.sections index self.old self.new) }
+    {
+        if let Some((start, end)) = place_of(object, index) {
+            self.starts.push(start)?;
+            self.ends.push(end)?;
+        }
+        Ok(())
+    }
+
+    /// Whether the section of an index shares its place with another section: more sections begin before its end than
+    /// end at its start or before it, apart from itself.
+    pub fn is_shared(&self, object: &Object<'_>, index: usize) -> bool
+        requires { HasPlaces self.now object.now.sections }
+        ensures { result ≡ shares_place object.now.sections index }
+    {
+        let Some((start, end)) = place_of(object, index) else {
+            return false;
+        };
+        count_below(&self.starts, end) > count_below(&self.ends, start + 1) + 1
+    }
 }

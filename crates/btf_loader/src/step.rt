@@ -1,22 +1,27 @@
 //! The sections of relocation records, one after another.
 
-ghost use Rattle.std.specs.Prelude.{◌≡◌, ◌+◌, ◌<◌, ◌++◌, ◌∷◌, [], Some, false, drop, length, map, option_map, is_err, slice_get, IfOk, IfNone, OnOk};
+ghost use Rattle.std.specs.Prelude.{◌≡◌, ℕ, ◌+◌, ◌<◌, ◌++◌, ◌∷◌, [], Some, None, false, if◌then◌else◌, drop, length, map, option_map, is_err, IfOk, IfNone, OnOk};
 ghost use Rattle.std.specs.List.{list_any};
-ghost use Rattle.std.specs.Option.{option_and_then};
 ghost use Rattle.btf_ext.specs.Relocation.{relocation};
 ghost use Rattle.btf_model.specs.Text.{text_at};
-ghost use Rattle.btf_loader_model.specs.Loader.{any_error, has_error, is_error, is_unreadable, relocated_at, relocated_file, section_at};
-ghost use Rattle.btf_loader.specs.Results.{HasIndices, index_in, outcomes_of};
+ghost use Rattle.btf_loader_model.specs.Loader.{any_error, has_error, index_at, is_error, is_unreadable, relocated_at, relocated_file, section_at};
+ghost use Rattle.btf_loader_model.specs.Refused.{BadRecord, BadSectionName, bad_outcome, bad_record, records_reason, sections_reason, when};
+ghost use Rattle.btf_loader.specs.Errors.{Reports};
+ghost use Rattle.btf_loader.specs.Names.{HasIndices};
+ghost use Rattle.btf_loader.specs.Places.{HasPlaces};
+ghost use Rattle.btf_loader.specs.Results.{outcomes_of, refuses_errors};
 ghost use Rattle.btf_loader.specs.declared.step.Refusals.TheVariants.{Refuse};
 ghost use Rattle.btf_relocate.specs.Sections.{is_shared, setting};
 
 use crate::error::LoaderError;
+use crate::names::index_in;
+use crate::places::Places;
 use btf_elf::{Object, SectionHeader};
 use btf_plain::BtfError;
 use btf_relocate::{CandidatePolicy, Outcome, RelocationError, Target, relocate_section};
 use btf_table::Btf;
 use std::alloc::{AllocError, Global};
-use std::collections::{BTreeMap, BTreeSet};
+use std::collections::BTreeMap;
 
 /// What a record with an error does.
 #[derive(Clone, Copy, Debug, PartialEq, Eq, Default)]
@@ -44,8 +49,7 @@ pub struct Loader<'a, 'o, 't> {
     pub object: &'a Object<'o>,
     /// The first section of each name.
     pub named: &'a BTreeMap<&'o [u8], usize>,
-    /// The sections that share a byte with another one.
-    pub shared: &'a BTreeSet<usize>,
+    pub places: &'a Places,
     pub local: &'a Btf,
     pub target: &'a Target<'t>,
     pub policy: CandidatePolicy,
@@ -59,7 +63,8 @@ impl<'a, 'o, 't> Loader<'a, 'o, 't> {
         relocations: &[(u32, Vec<[u32; 4]>)],
         file: &mut [u8],
     ) -> Result<Vec<SectionOutcomes>, LoaderError>
-        requires { HasIndices self.now.named.now self.now.object.now }
+        requires named { HasIndices self.now.named.now self.now.object.now }
+        requires placed { HasPlaces self.now.places.now self.now.object.now.sections }
         ensures relocated { IfOk result (λ r. (map outcomes_of r.items, file.new)
             ≡ relocated_file (setting self.now.local.now self.now.target.now)
             (is_shared self.now.policy) self.now.object.now file.old
@@ -68,6 +73,9 @@ impl<'a, 'o, 't> Loader<'a, 'o, 't> {
             → any_error (map outcomes_of r.items) ≡ false) }
         ensures readable { OnOk result (list_any (is_unreadable self.now.local.now.strings)
             (map relocation relocations.now) ≡ false) }
+        ensures reports { Reports (sections_reason (setting self.now.local.now self.now.target.now)
+            (is_shared self.now.policy) (refuses_errors self.now.refusals) self.now.object.now
+            file.old (map relocation relocations.now)) result }
     {
         let mut all = Vec::with_capacity(self.alloc, relocations.len())?;
         for index in 0..relocations.len() {
@@ -84,7 +92,8 @@ impl<'a, 'o, 't> Loader<'a, 'o, 't> {
         section: &(u32, Vec<[u32; 4]>),
         file: &mut [u8],
     ) -> Result<Option<Vec<Outcome>>, LoaderError>
-        requires { HasIndices self.now.named.now self.now.object.now }
+        requires named { HasIndices self.now.named.now self.now.object.now }
+        requires placed { HasPlaces self.now.places.now self.now.object.now.sections }
         ensures relocated { IfOk result (λ r. (option_map (λ v. v.items) r, file.new)
             ≡ relocated_at (setting self.now.local.now self.now.target.now)
             (is_shared self.now.policy)
@@ -95,11 +104,14 @@ impl<'a, 'o, 't> Loader<'a, 'o, 't> {
             → has_error (option_map (λ v. v.items) r) ≡ false) }
         ensures readable { OnOk result
             (is_err (text_at self.now.local.now.strings section.now.0) ≡ false) }
+        ensures reports { Reports (records_reason (setting self.now.local.now self.now.target.now)
+            (is_shared self.now.policy) (refuses_errors self.now.refusals) self.now.object.now
+            file.old (relocation section.now)) result }
     {
         let Some(index) = self.index_of(section.0)? else {
             return Ok(None);
         };
-        if self.shared.contains(&index) {
+        if self.places.is_shared(self.object, index) {
             return Err(LoaderError::SharedPlace { index });
         }
         let Some(header) = self.object.sections().get(index) else {
@@ -137,12 +149,13 @@ impl<'a, 'o, 't> Loader<'a, 'o, 't> {
     /// The index of the first section that has bytes in the file, and the name at a string offset.
     fn index_of(&self, name_offset: u32) -> Result<Option<usize>, LoaderError>
         requires { HasIndices self.now.named.now self.now.object.now }
-        ensures index { IfOk result (λ index. option_and_then
-            (slice_get self.now.object.now.sections) index
-            ≡ section_at (setting self.now.local.now self.now.target.now) self.now.object.now
+        ensures index { IfOk result (λ index. index
+            ≡ index_at (setting self.now.local.now self.now.target.now) self.now.object.now
             name_offset) }
         ensures readable { OnOk result
             (is_err (text_at self.now.local.now.strings name_offset) ≡ false) }
+        ensures reports { Reports (when (is_err (text_at self.now.local.now.strings name_offset))
+            (BadSectionName name_offset)) result }
     {
         match self.local.string_at(name_offset) {
             Ok(name) => Ok(index_in(self.named, name.as_str().as_bytes())),
@@ -150,13 +163,6 @@ impl<'a, 'o, 't> Loader<'a, 'o, 't> {
             Err(_error) => Err(LoaderError::SectionName { name_offset }),
         }
     }
-}
-
-/// The index that a map has for a name.
-fn index_in(named: &BTreeMap<&[u8], usize>, name: &[u8]) -> Option<usize>
-    ensures { result ≡ index_in named.now name.entry }
-{
-    named.get(name).copied()
 }
 
 /// The section of records at an index.
@@ -185,7 +191,9 @@ fn push(
 
 /// Refuses a section of records if an outcome is an error, unless errors are kept.
 fn check(refusals: Refusals, name_offset: u32, outcomes: &[Outcome]) -> Result<(), LoaderError>
-    ensures { OnOk result (refusals ≡ Refuse → list_any is_error outcomes.now ≡ false) }
+    ensures refused { OnOk result (refusals ≡ Refuse → list_any is_error outcomes.now ≡ false) }
+    ensures reports { Reports (if refuses_errors refusals
+        then bad_outcome name_offset (Some outcomes.now) else None) result }
 {
     match (refusals, first_error(outcomes)) {
         (Refusals::Refuse, Some((index, cause))) => Err(LoaderError::Refused {
@@ -207,7 +215,9 @@ fn outcome_at(outcomes: &[Outcome], index: usize) -> &Outcome
 
 /// The first outcome that is an error, with its index.
 fn first_error(outcomes: &[Outcome]) -> Option<(usize, RelocationError)>
-    ensures { IfNone result (list_any is_error outcomes.now ≡ false) }
+    ensures none { IfNone result (list_any is_error outcomes.now ≡ false) }
+    ensures first { (name_offset : ℕ) → bad_record name_offset 0 outcomes.now
+        ≡ option_map (λ found. BadRecord name_offset found.0 found.1) result }
 {
     for index in 0..outcomes.len() {
         if let Err(cause) = outcome_at(outcomes, index) {

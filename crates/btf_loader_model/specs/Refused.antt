@@ -69,14 +69,17 @@ section_reason g refuses_errors o name_offset outcomes =
     (option_or (option_and_then (shared_place o) (index_at g o name_offset))
     (if refuses_errors then bad_outcome name_offset outcomes else None))
 
--- Why the first of the sections of records that is refused is refused. The outcomes of each are those after the sections
--- before it.
+-- Why a section of records is refused, when the file is this one.
+abbrev pub records_reason : Setting → Bool → Bool → Object → List ℕ → ℕ × List (List ℕ) → Option Reason
+records_reason g is_shared refuses_errors o file s =
+    section_reason g refuses_errors o s.0 (relocated_at g is_shared (section_at g o s.0) file s.1).0
+
+-- Why the first section of records that is refused is refused. The file is relocated for each section in turn.
 abbrev pub sections_reason : Setting → Bool → Bool → Object → List ℕ → List (ℕ × List (List ℕ)) → Option Reason
 sections_reason g is_shared refuses_errors o file [] = None
 sections_reason g is_shared refuses_errors o file (s ∷ rest) =
-    let r = relocated_at g is_shared (section_at g o s.0) file s.1 in
-    option_or (section_reason g refuses_errors o s.0 r.0)
-    (sections_reason g is_shared refuses_errors o r.1 rest)
+    option_or (records_reason g is_shared refuses_errors o file s)
+    (sections_reason g is_shared refuses_errors o (relocated_at g is_shared (section_at g o s.0) file s.1).1 rest)
 
 -- ---- the object
 
