@@ -22,10 +22,10 @@ use Rattle.btf_loader.specs.declared.error.LoaderError.{LoaderError}
 use Rattle.btf_loader.specs.declared.error.LoaderError.TheVariants as loader
 
 -- what is known about an error that is converted to another
-pub becomes : {T : Type 0} (P : LoaderError → Type 0) (e : LoaderError) (r : Result T LoaderError) → P e → IsErrAnd r (λ y. y ≡ e) → IfErr r P
-becomes {T} P e r known err =
+pub becomes : {T E : Type 0} (P : E → Type 0) (e : E) (r : Result T E) → P e → IsErrAnd r (λ y. y ≡ e) → IfErr r P
+becomes {T} {E} P e r known err =
     let q = err_from_is_err_and r err in
-    subst (λ (x : Result T LoaderError). IfErr x P) (sym (q.1 ∙ ap (λ (x : LoaderError). Err x) q.2)) known
+    subst (λ (x : Result T E). IfErr x P) (sym (q.1 ∙ ap (λ (x : E). Err x) q.2)) known
 
 pub has_table : (bytes : List ℕ) (o : Object) (h : FileHeader) (table : List ℕ) (local : Table) → IsObject bytes o → h ≡ o.header → Some table ≡ bytes_named o table_name
     → IsTable h.order table local → HasTable bytes o local

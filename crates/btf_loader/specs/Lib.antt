@@ -1,4 +1,5 @@
 pub mod Errors
 pub mod Names
 pub mod Places
+pub mod Prepared
 pub mod Results

@@ -1,10 +1,12 @@
-//! Why an object is not relocated.
+//! Why an object is not relocated, and why it is not prepared.
 
 ghost use Rattle.std.specs.Prelude.{◌≡◌};
 ghost use Rattle.btf_loader.specs.Errors.{of_object, of_table, of_ext};
 ghost use Rattle.btf_loader.specs.declared.error.LoaderError.TheVariants.{OutOfMemory};
+ghost use Rattle.btf_loader.specs.declared.error.PrepareError.TheVariants.{Relocate, Sanitize};
 
 use btf_elf::ObjectError;
+use btf_object::SanitizeError;
 use btf_plain::BtfError;
 use btf_relocate::RelocationError;
 use std::alloc::AllocError;
@@ -97,5 +99,33 @@ pub fn ext_error(error: BtfError) -> LoaderError
     match error {
         BtfError::OutOfMemory => LoaderError::OutOfMemory,
         error => LoaderError::Ext(error),
+    }
+}
+
+/// Why an object is not prepared for a kernel.
+#[derive(Debug, Drop, Error)]
+pub enum PrepareError {
+    /// The object is not relocated.
+    #[error(transparent)]
+    Relocate(LoaderError),
+
+    /// The table of the relocated object is not rewritten.
+    #[error(transparent)]
+    Sanitize(SanitizeError),
+}
+
+impl From<LoaderError> for PrepareError {
+    ghost from_gives = { λ e f. f ≡ Relocate e };
+
+    fn from(error: LoaderError) -> PrepareError {
+        PrepareError::Relocate(error)
+    }
+}
+
+impl From<SanitizeError> for PrepareError {
+    ghost from_gives = { λ e f. f ≡ Sanitize e };
+
+    fn from(error: SanitizeError) -> PrepareError {
+        PrepareError::Sanitize(error)
     }
 }

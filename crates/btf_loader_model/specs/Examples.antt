@@ -1,5 +1,9 @@
 -- Worked examples of the definitions, computed.
-use Rattle.std.specs.Prelude.{◌≡◌, ℕ, ◌&&◌, Bool, List, [], ◌∷◌, map, position, replicate, Some, None, Ok, Err, refl, true, false}
+use Rattle.std.specs.Prelude.{◌≡◌, ℕ, ◌&&◌, Bool, List, [], ◌∷◌, map, position, replicate, Option, Some, None, Ok, Err, is_err, refl, true, false}
+use Rattle.std.proofs.Common.{ap, ◌∙◌}
+use Rattle.std.specs.Option.{option_and_then, option_or}
+use Rattle.btf_model.specs.Text.{text_at}
+use Rattle.btf_relocate_model.specs.Resolution.{Setting}
 use Rattle.std.specs.Str.{bytes_eq}
 use Rattle.btf_elf_model.specs.Object.{Object, section_name}
 use Rattle.btf_elf_model.specs.Replaced.{shares_bytes}
@@ -7,8 +11,8 @@ use Rattle.btf_elf_model.specs.Section.{has_bytes, sht_nobits}
 use Rattle.btf_elf_model.specs.declared.section_header.SectionHeader.{SectionHeader}
 use Rattle.btf_relocate_model.specs.declared.error.RelocationError.TheVariants.{BadAccess, BadIndex}
 use Rattle.btf_relocate_model.specs.declared.instruction.Patched.TheVariants.{Written}
-use Rattle.btf_loader_model.specs.Loader.{code_index, overwritten, any_error, is_unreadable}
-use Rattle.btf_loader_model.specs.Refused.{BadRecord, bad_record, shares_place}
+use Rattle.btf_loader_model.specs.Loader.{code_index, index_at, overwritten, any_error, is_unreadable}
+use Rattle.btf_loader_model.specs.Refused.{Reason, BadSectionName, SharedPlace, BadRecord, bad_record, shares_place, shared_place, section_reason, when}
 
 two_bytes_in_place : overwritten 1 (7 ∷ 8 ∷ []) (1 ∷ 2 ∷ 3 ∷ 4 ∷ []) ≡ 1 ∷ 7 ∷ 8 ∷ 4 ∷ []
 two_bytes_in_place = refl
@@ -64,3 +68,14 @@ shared_places :
     × (sharing (section_with 1 64 8) (section_with sht_nobits 64 8) (section_with 1 68 0) ≡ false ∷ false ∷ false ∷ [])
 unfolding sharing section_with shares_bytes
 shared_places = (refl, refl, refl, refl)
+
+-- a shared place comes before the errors of records
+place_before_records :
+    (g : Setting) (o : Object) (name_offset index : ℕ) → is_err (text_at g.local.strings name_offset) ≡ false
+    → index_at g o name_offset ≡ Some index → shares_place o.sections index ≡ true
+    → section_reason g true o name_offset (Some (Err BadAccess ∷ [])) ≡ Some (SharedPlace index)
+place_before_records g o name_offset index readable found shared =
+    let others : Option Reason = option_or (option_and_then (shared_place o) (index_at g o name_offset)) (Some (BadRecord name_offset 0 BadAccess)) in
+    ap (λ (b : Bool). option_or (when b (BadSectionName name_offset)) others) readable
+    ∙ ap (λ (i : Option ℕ). option_or (option_and_then (shared_place o) i) (Some (BadRecord name_offset 0 BadAccess))) found
+    ∙ ap (λ (b : Bool). option_or (when b (SharedPlace index)) (Some (BadRecord name_offset 0 BadAccess))) shared

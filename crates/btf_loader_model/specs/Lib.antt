@@ -1,4 +1,5 @@
 pub mod Loader
 pub mod Refused
+pub mod Prepared
 pub mod Laws
 pub mod Examples

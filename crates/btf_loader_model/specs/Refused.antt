@@ -1,7 +1,7 @@
 -- Why an object is not relocated: the first reason.
 -- Source: the order of the tests is a choice of this project, and so is that code which shares its place in the file with
 -- another section is refused: a patch would change that section too.
-use Rattle.std.specs.Prelude.{◌≡◌, ℕ, ◌+◌, ◌&&◌, Bool, true, false, if◌then◌else◌, List, [], ◌∷◌, remove, slice_get, option_map, Option, Some, None, Result, Ok, Err, is_err}
+use Rattle.std.specs.Prelude.{◌≡◌, ℕ, ◌+◌, ◌&&◌, Bool, false, if◌then◌else◌, List, [], ◌∷◌, remove, slice_get, Option, Some, None, Result, Ok, Err, is_err}
 use Rattle.std.specs.List.{list_any}
 use Rattle.std.specs.Option.{option_and_then, option_map_or, option_or}
 use Rattle.btf_model.specs.Blob.{IsTable, IsRefusal}
