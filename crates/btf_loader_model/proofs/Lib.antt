@@ -1,2 +1,4 @@
 pub mod InTurn
 pub mod CodeStays
+pub mod Exts
+pub mod Reasons

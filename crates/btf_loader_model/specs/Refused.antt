@@ -114,3 +114,9 @@ IsReason bytes target is_shared refuses_errors (Some (BadExt refusal)) =
     (o : Object) × (local : Table) × (ext : List ℕ) × HasTable bytes o local × (bytes_named o ext_name ≡ Some ext)
     × IsExt o.header.order ext local.strings (Err refusal)
 IsReason bytes target is_shared refuses_errors reason = HasReason bytes target is_shared refuses_errors reason
+
+-- An object is refused for at most one reason, and not if it is relocated.
+abbrev pub ReasonIsDetermined : Type 0
+ReasonIsDetermined =
+    (bytes : List ℕ) (target : Table) (is_shared refuses_errors : Bool) (x y : Option Reason)
+    → IsReason bytes target is_shared refuses_errors x → IsReason bytes target is_shared refuses_errors y → x ≡ y
