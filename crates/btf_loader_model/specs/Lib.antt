@@ -3,3 +3,4 @@ pub mod Refused
 pub mod Prepared
 pub mod Laws
 pub mod Examples
+pub mod PreparedExamples
