@@ -15,7 +15,7 @@ use crate::step::{Loader, Refusals, SectionOutcomes};
 use btf_elf::Object;
 use btf_ext::BtfExt;
 use btf_relocate::{CandidatePolicy, Target};
-use btf_table::Btf;
+use btf_table::{Btf, comparable_end};
 use std::alloc::Global;
 use std::hash::{BuildHasher, BuildHasherDefault, FoldHasher};
 
@@ -60,7 +60,8 @@ pub fn relocate_object(
 ///
 /// The sections of records are taken in the order of `.BTF.ext`. Each is applied to the code of the first section of
 /// its name that has bytes in the file, by `relocate_section`; if there is none, it has no outcomes. The name is read
-/// as `Btf::string_at` reads it. If two sections of records have one name, the second continues with the patched code.
+/// as `Btf::string_at` reads it, and one of 512 bytes or more names no section. If two sections of records have one
+/// name, the second continues with the patched code.
 ///
 /// `hash_builder` hashes the names of `.BTF.ext`. The default has a fixed seed, so an attacker can choose names that
 /// collide, and n of them take time in proportion to n squared. For an untrusted object, pass a hasher with random
@@ -112,6 +113,8 @@ pub fn relocate_object_with<H: BuildHasher + Clone + Drop>(
         object: &object,
         named: &named,
         places: &places,
+        // The end does not depend on the name.
+        readable_end: comparable_end(&local, ""),
         local: &local,
         target,
         policy,

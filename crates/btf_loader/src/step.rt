@@ -1,10 +1,10 @@
 //! The sections of relocation records, one after another.
 
-ghost use Rattle.std.specs.Prelude.{◌≡◌, ℕ, ◌+◌, ◌<◌, ◌++◌, ◌∷◌, [], Some, None, false, if◌then◌else◌, drop, length, map, option_map, is_err, IfOk, IfNone, OnOk};
+ghost use Rattle.std.specs.Prelude.{◌≡◌, ℕ, ◌+◌, ◌<◌, ◌++◌, ◌∷◌, [], Some, None, false, if◌then◌else◌, drop, length, map, option_map, is_err, IfOk, IfSome, IfNone, OnOk, true};
 ghost use Rattle.std.specs.List.{list_any};
 ghost use Rattle.btf_ext.specs.Relocation.{relocation};
 ghost use Rattle.btf_model.specs.Text.{text_at};
-ghost use Rattle.btf_loader_model.specs.Loader.{any_error, has_error, index_at, is_error, is_unreadable, relocated_at, relocated_file, section_at};
+ghost use Rattle.btf_loader_model.specs.Loader.{any_error, has_error, index_at, is_error, is_short_at, is_unreadable, relocated_at, relocated_file, section_at};
 ghost use Rattle.btf_loader_model.specs.Refused.{BadRecord, BadSectionName, bad_outcome, bad_record, records_reason, sections_reason, when};
 ghost use Rattle.btf_loader.specs.Errors.{Reports};
 ghost use Rattle.btf_loader.specs.Names.{HasIndices};
@@ -12,14 +12,16 @@ ghost use Rattle.btf_loader.specs.Places.{HasPlaces};
 ghost use Rattle.btf_loader.specs.Results.{outcomes_of, refuses_errors};
 ghost use Rattle.btf_loader.specs.declared.step.Refusals.TheVariants.{Refuse};
 ghost use Rattle.btf_relocate.specs.Sections.{is_shared, setting};
+ghost use Rattle.btf_table.specs.Readable.{IsReadableEnd};
 
 use crate::error::LoaderError;
 use crate::names::index_in;
 use crate::places::Places;
 use btf_elf::{Object, SectionHeader};
+use btf_object::NAME_LIMIT;
 use btf_plain::BtfError;
 use btf_relocate::{CandidatePolicy, Outcome, RelocationError, Target, relocate_section};
-use btf_table::Btf;
+use btf_table::{Btf, short_name};
 use std::alloc::{AllocError, Global};
 use std::collections::BTreeMap;
 
@@ -50,6 +52,8 @@ pub struct Loader<'a, 'o, 't> {
     /// The first section of each name.
     pub named: &'a BTreeMap<&'o [u8], usize>,
     pub places: &'a Places,
+    /// The end of the string offsets at which a text can be read, if it is known.
+    pub readable_end: Option<usize>,
     pub local: &'a Btf,
     pub target: &'a Target<'t>,
     pub policy: CandidatePolicy,
@@ -65,6 +69,7 @@ impl<'a, 'o, 't> Loader<'a, 'o, 't> {
     ) -> Result<Vec<SectionOutcomes>, LoaderError>
         requires named { HasIndices self.now.named.now self.now.object.now }
         requires placed { HasPlaces self.now.places.now self.now.object.now.sections }
+        requires readable { IfSome self.now.readable_end (IsReadableEnd self.now.local.now.strings) }
         ensures relocated { IfOk result (λ r. (map outcomes_of r.items, file.new)
             ≡ relocated_file (setting self.now.local.now self.now.target.now)
             (is_shared self.now.policy) self.now.object.now file.old
@@ -94,6 +99,7 @@ impl<'a, 'o, 't> Loader<'a, 'o, 't> {
     ) -> Result<Option<Vec<Outcome>>, LoaderError>
         requires named { HasIndices self.now.named.now self.now.object.now }
         requires placed { HasPlaces self.now.places.now self.now.object.now.sections }
+        requires readable { IfSome self.now.readable_end (IsReadableEnd self.now.local.now.strings) }
         ensures relocated { IfOk result (λ r. (option_map (λ v. v.items) r, file.new)
             ≡ relocated_at (setting self.now.local.now self.now.target.now)
             (is_shared self.now.policy)
@@ -146,9 +152,23 @@ impl<'a, 'o, 't> Loader<'a, 'o, 't> {
         )
     }
 
-    /// The index of the first section that has bytes in the file, and the name at a string offset.
+    /// Whether a text can be read at a string offset; false if that is not known.
+    fn is_readable(&self, name_offset: u32) -> bool
+        requires { IfSome self.now.readable_end (IsReadableEnd self.now.local.now.strings) }
+        ensures { result ≡ true
+            → is_err (text_at self.now.local.now.strings name_offset) ≡ false }
+    {
+        match self.readable_end {
+            Some(end) => (name_offset as usize) < end,
+            None => false,
+        }
+    }
+
+    /// The index of the first section that has bytes in the file, and the name at a string offset. A long name is not
+    /// read to its end.
     fn index_of(&self, name_offset: u32) -> Result<Option<usize>, LoaderError>
-        requires { HasIndices self.now.named.now self.now.object.now }
+        requires named { HasIndices self.now.named.now self.now.object.now }
+        requires readable { IfSome self.now.readable_end (IsReadableEnd self.now.local.now.strings) }
         ensures index { IfOk result (λ index. index
             ≡ index_at (setting self.now.local.now self.now.target.now) self.now.object.now
             name_offset) }
@@ -157,12 +177,24 @@ impl<'a, 'o, 't> Loader<'a, 'o, 't> {
         ensures reports { Reports (when (is_err (text_at self.now.local.now.strings name_offset))
             (BadSectionName name_offset)) result }
     {
+        let is_short = is_short_at(self.local, name_offset);
+        if !is_short && self.is_readable(name_offset) {
+            return Ok(None);
+        }
         match self.local.string_at(name_offset) {
-            Ok(name) => Ok(index_in(self.named, name.as_str().as_bytes())),
+            Ok(name) if is_short => Ok(index_in(self.named, name.as_str().as_bytes())),
+            Ok(_name) => Ok(None),
             Err(BtfError::OutOfMemory) => Err(LoaderError::OutOfMemory),
             Err(_error) => Err(LoaderError::SectionName { name_offset }),
         }
     }
+}
+
+/// Whether the name at a string offset is shorter than `NAME_LIMIT` bytes. Reads at most so many bytes.
+fn is_short_at(local: &Btf, name_offset: u32) -> bool
+    ensures { result ≡ is_short_at local.now.strings name_offset }
+{
+    short_name(local, name_offset, NAME_LIMIT).is_some()
 }
 
 /// The section of records at an index.

@@ -1,5 +1,5 @@
 -- Worked examples of the definitions, computed.
-use Rattle.std.specs.Prelude.{◌≡◌, ℕ, ◌&&◌, Bool, List, [], ◌∷◌, map, position, replicate, Option, Some, None, Ok, Err, is_err, refl, true, false}
+use Rattle.std.specs.Prelude.{◌≡◌, ℕ, ◌&&◌, Bool, List, [], ◌∷◌, ◌++◌, map, position, replicate, Option, Some, None, Ok, Err, is_err, refl, true, false}
 use Rattle.std.proofs.Common.{ap, ◌∙◌}
 use Rattle.std.specs.Option.{option_and_then, option_or}
 use Rattle.btf_model.specs.Text.{text_at}
@@ -11,7 +11,7 @@ use Rattle.btf_elf_model.specs.Section.{has_bytes, sht_nobits}
 use Rattle.btf_elf_model.specs.declared.section_header.SectionHeader.{SectionHeader}
 use Rattle.btf_relocate_model.specs.declared.error.RelocationError.TheVariants.{BadAccess, BadIndex}
 use Rattle.btf_relocate_model.specs.declared.instruction.Patched.TheVariants.{Written}
-use Rattle.btf_loader_model.specs.Loader.{code_index, index_at, overwritten, any_error, is_unreadable}
+use Rattle.btf_loader_model.specs.Loader.{code_index, index_at, is_short_at, overwritten, any_error, is_unreadable}
 use Rattle.btf_loader_model.specs.Refused.{Reason, BadSectionName, SharedPlace, BadRecord, bad_record, shares_place, shared_place, section_reason, when}
 
 two_bytes_in_place : overwritten 1 (7 ∷ 8 ∷ []) (1 ∷ 2 ∷ 3 ∷ 4 ∷ []) ≡ 1 ∷ 7 ∷ 8 ∷ 4 ∷ []
@@ -33,6 +33,11 @@ limit_of_names :
     ≡ position (λ s. has_bytes s && bytes_eq (section_name o s) (replicate 511 97)) o.sections)
     × ((o : Object) → code_index o (replicate 512 97) ≡ None)
 limit_of_names = (λ o. refl, λ o. refl)
+
+-- so is a name in the table: the zero byte after a name of 511 bytes is among the first 512
+limit_of_names_in_the_table :
+    (is_short_at (0 ∷ replicate 511 97 ++ 0 ∷ []) 1 ≡ true) × (is_short_at (0 ∷ replicate 512 97 ++ 0 ∷ []) 1 ≡ false)
+limit_of_names_in_the_table = (refl, refl)
 
 -- the first record with an error, by its index
 first_bad_record :

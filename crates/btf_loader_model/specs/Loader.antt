@@ -1,7 +1,7 @@
 -- The file of an object whose code is relocated: its sections of relocation records, one after another.
 -- Source: libbpf's `bpf_object__relocate_core`. That the first section of a name counts, that a section of records may
 -- name no section, and that a long name names none, are choices of this project.
-use Rattle.std.specs.Prelude.{◌≡◌, ℕ, ◌+◌, ◌&&◌, nat_lt, Bool, true, false, if◌then◌else◌, List, [], ◌∷◌, ◌++◌, length, take, drop, position, slice_get, Option, Some, None, option_map, Result, Ok, Err, is_err}
+use Rattle.std.specs.Prelude.{◌≡◌, ℕ, ◌+◌, ◌&&◌, nat_lt, Bool, true, false, if◌then◌else◌, List, [], ◌∷◌, ◌++◌, length, take, drop, position, slice_get, Option, Some, None, is_some, option_map, Result, Ok, Err, is_err}
 use Rattle.std.specs.List.{list_any}
 use Rattle.std.specs.Option.{option_and_then}
 use Rattle.std.specs.Str.{bytes_eq}
@@ -9,7 +9,7 @@ use Rattle.btf_model.specs.Blob.{slice, IsTable}
 use Rattle.btf_model.specs.Ext.{Ext, IsExt}
 use Rattle.btf_model.specs.Refusal.{Refusal}
 use Rattle.btf_model.specs.Table.{Table}
-use Rattle.btf_model.specs.Text.{text_at}
+use Rattle.btf_model.specs.Text.{is_zero, text_at}
 use Rattle.btf_model.specs.declared.endianness.Endianness.{Endianness}
 use Rattle.btf_elf_model.specs.Object.{Object, IsObject, section_name, section_bytes}
 use Rattle.btf_elf_model.specs.Section.{has_bytes}
@@ -38,9 +38,15 @@ abbrev pub index_by : Object → Result (List ℕ) Refusal → Option ℕ
 index_by o (Ok name) = code_index o name
 index_by o (Err refusal) = None
 
--- the index of the section whose name is at a string offset of the program's table
+-- A name at an offset of the strings ends before the limit: one of so many bytes from the offset on is the zero byte that
+-- ends a text.
+abbrev pub is_short_at : List ℕ → ℕ → Bool
+is_short_at strings offset = is_some (position is_zero (take name_limit (drop offset strings)))
+
+-- the index of the section whose name is at a string offset of the program's table; none for a long name
 abbrev pub index_at : Setting → Object → ℕ → Option ℕ
-index_at g o name_offset = index_by o (text_at g.local.strings name_offset)
+index_at g o name_offset =
+    if is_short_at g.local.strings name_offset then index_by o (text_at g.local.strings name_offset) else None
 
 -- the section whose name is at a string offset of the program's table
 abbrev pub section_at : Setting → Object → ℕ → Option SectionHeader
