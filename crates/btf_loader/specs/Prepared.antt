@@ -9,8 +9,8 @@ use Rattle.btf_loader.specs.Errors.{IsCause}
 use Rattle.btf_loader.specs.declared.error.PrepareError.{PrepareError}
 use Rattle.btf_loader.specs.declared.error.PrepareError.TheVariants.{Relocate, Sanitize}
 
--- The object is not relocated for this reason; or it is relocated, and the table of the relocated object is not rewritten
--- for this reason.
+-- The object is not relocated for this reason; or it is relocated, and the table of the relocated object is not
+-- rewritten for this reason.
 abbrev pub IsPrepareCause : List ℕ → Table → Bool → Bool → Target → PrepareError → Type 0
 IsPrepareCause bytes target is_shared refuses_errors kernel (Relocate e) =
     IsCause (IsReason bytes target is_shared refuses_errors) e

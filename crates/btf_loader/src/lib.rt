@@ -1,5 +1,5 @@
-//! The loader's steps over an object file: its code with the CO-RE relocations of `.BTF.ext` applied for a target table,
-//! and then its own table rewritten for the kernel.
+//! The loader's steps over an object file: its code with the CO-RE relocations of `.BTF.ext` applied for a target
+//! table, and then its own table rewritten for the kernel.
 #![tactic(auto)]
 
 mod error;

@@ -49,8 +49,8 @@ fn add<'a>(
     Ok(())
 }
 
-/// The first section of each name that has bytes in the file, by its index. Names of `NAME_LIMIT` bytes or more are left
-/// out, so each name takes a bounded time.
+/// The first section of each name that has bytes in the file, by its index. Names of `NAME_LIMIT` bytes or more are
+/// left out, so each name takes a bounded time.
 pub fn sections_by_name<'a>(
     alloc: Global,
     object: &Object<'a>,

@@ -31,8 +31,8 @@ pub struct Prepared {
 /// The object with its code relocated for the kernel's table (`relocate_object`), and then with its own table rewritten
 /// for the kernel's features (`sanitize_object`).
 ///
-/// The order matters: relocation records refer to the types that the compiler wrote, and a rewrite changes types that the
-/// kernel does not know. The rewrite changes no code (`relocated_code_stays` of `btf_loader_model`).
+/// The order matters: relocation records refer to the types that the compiler wrote, and a rewrite changes types that
+/// the kernel does not know. The rewrite changes no code (`relocated_code_stays` of `btf_loader_model`).
 ///
 /// Reports the error of the first step that fails.
 pub fn prepare_object(

@@ -80,7 +80,8 @@ place_before_records :
     → index_at g o name_offset ≡ Some index → shares_place o.sections index ≡ true
     → section_reason g true o name_offset (Some (Err BadAccess ∷ [])) ≡ Some (SharedPlace index)
 place_before_records g o name_offset index readable found shared =
-    let others : Option Reason = option_or (option_and_then (shared_place o) (index_at g o name_offset)) (Some (BadRecord name_offset 0 BadAccess)) in
-    ap (λ (b : Bool). option_or (when b (BadSectionName name_offset)) others) readable
-    ∙ ap (λ (i : Option ℕ). option_or (option_and_then (shared_place o) i) (Some (BadRecord name_offset 0 BadAccess))) found
-    ∙ ap (λ (b : Bool). option_or (when b (SharedPlace index)) (Some (BadRecord name_offset 0 BadAccess))) shared
+    let bad : Option Reason = Some (BadRecord name_offset 0 BadAccess) in
+    let place : Option Reason = option_and_then (shared_place o) (index_at g o name_offset) in
+    ap (λ (b : Bool). option_or (when b (BadSectionName name_offset)) (option_or place bad)) readable
+    ∙ ap (λ (i : Option ℕ). option_or (option_and_then (shared_place o) i) bad) found
+    ∙ ap (λ (b : Bool). option_or (when b (SharedPlace index)) bad) shared

@@ -1,6 +1,6 @@
 -- An object that is prepared for a kernel: its code is relocated, and then its table is rewritten.
--- Source: libbpf relocates with the table of the object's compiler (`bpf_object__relocate`), and rewrites a copy of it for
--- the kernel (`bpf_object__sanitize_btf`). A rewrite changes kinds, so a record may have no meaning in the new table.
+-- Source: libbpf relocates with the table of the object's compiler (`bpf_object__relocate`), and rewrites a copy of it
+-- for the kernel (`bpf_object__sanitize_btf`). A rewrite changes kinds, so a record may have no meaning in the new table.
 use Rattle.std.specs.Prelude.{◌≡◌, ◌≢◌, ℕ, Bool, List, slice_get, Some}
 use Rattle.btf_model.specs.Table.{Table}
 use Rattle.btf_elf_model.specs.Object.{Object, IsObject, section_bytes}
@@ -23,8 +23,8 @@ pub record KeepsCode (old new : Object) (name : List ℕ) (index : ℕ) (s : Sec
   pub same_header : slice_get new.sections index ≡ Some s
   pub same_bytes : section_bytes new s ≡ section_bytes old s
 
--- A rewrite of the table of an object changes no section of code: after it, the code that the records of a name apply to
--- is the code before it.
+-- A rewrite of the table of an object changes no section of code: after it, the code that the records of a name apply
+-- to is the code before it.
 abbrev pub RelocatedCodeStays : Type 0
 RelocatedCodeStays =
     (middle file : List ℕ) (kernel : Target) (answers : List FeatureAnswer) → IsSanitized middle kernel file answers

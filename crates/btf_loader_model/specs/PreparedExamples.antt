@@ -1,5 +1,5 @@
--- Why the code is relocated before the table is rewritten, by a worked example: a record asks for the value of `a` of the
--- ENUM64 `e`, and the kernel has no ENUM64s.
+-- Why the code is relocated before the table is rewritten, by a worked example: a record asks for the value of `a` of
+-- the ENUM64 `e`, and the kernel has no ENUM64s.
 use Rattle.std.specs.Prelude.{◌≡◌, ℕ, ◌+◌, ◌*◌, ◌^◌, Bool, false, if◌then◌else◌, List, [], ◌∷◌, ◌++◌, codes, Result, Ok, Err, refl}
 use Rattle.std.proofs.Common.{ap}
 use Rattle.btf_model.specs.Record.{Record, unknown, kind_of}
@@ -63,4 +63,5 @@ after_the_rewrite :
     → becomes_by p [] 1 (kind_of (enum64 5).info) (enum64 5) ≡ union (member_type_id p 1))
     × ((type_id : ℕ) → value_of (resolution (setting (union type_id)) (1 ∷ []) value_of_enumerator) ≡ Err BadIndex)
 unfolding texts enum64 union table setting value_of value_of_enumerator walk
-after_the_rewrite = (λ p none. ap (λ (b : Bool). if b then enum64 5 else union (member_type_id p 1)) none, λ type_id. refl)
+after_the_rewrite =
+    (λ p none. ap (λ (b : Bool). if b then enum64 5 else union (member_type_id p 1)) none, λ type_id. refl)

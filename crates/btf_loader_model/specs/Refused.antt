@@ -1,6 +1,6 @@
 -- Why an object is not relocated: the first reason.
--- Source: the order of the tests is a choice of this project, and so is that code which shares its place in the file with
--- another section is refused: a patch would change that section too.
+-- Source: the order of the tests is a choice of this project. So is the refusal of code that shares its place in the file
+-- with another section, because a patch would change that section too.
 use Rattle.std.specs.Prelude.{◌≡◌, ℕ, ◌+◌, ◌&&◌, Bool, false, if◌then◌else◌, List, [], ◌∷◌, remove, slice_get, Option, Some, None, Result, Ok, Err, is_err}
 use Rattle.std.specs.List.{list_any}
 use Rattle.std.specs.Option.{option_and_then, option_map_or, option_or}
@@ -90,7 +90,8 @@ pub record HasTable (bytes : List ℕ) (o : Object) (local : Table) : Type 0 whe
   pub has_table : bytes_named o table_name ≡ Some table
   pub is_table : IsTable o.header.order table local
 
--- The bytes are an object with a table, and this is the reason to refuse one of its sections of records, if there is one.
+-- The bytes are an object with a table, and this is the reason to refuse one of its sections of records, if there is
+-- one.
 pub record HasReason (bytes : List ℕ) (target : Table) (is_shared refuses_errors : Bool) (reason : Option Reason)
     : Type 0 where
   pub object : Object
@@ -98,8 +99,8 @@ pub record HasReason (bytes : List ℕ) (target : Table) (is_shared refuses_erro
   pub has_table : HasTable bytes object local
   pub sections : List (ℕ × List (List ℕ))
   pub are_sections : AreSections object.header.order local.strings (bytes_named object ext_name) sections
-  pub reason_is : sections_reason (record { local = local; target = target }) is_shared refuses_errors object bytes sections
-      ≡ reason
+  pub reason_is : sections_reason (record { local = local; target = target }) is_shared refuses_errors object bytes
+      sections ≡ reason
 
 -- The reason for which an object is not relocated for a target table; none if it is relocated. The tests are in this
 -- order: the object, the section `.BTF`, its table, `.BTF.ext`, and each section of records in turn.
