@@ -1,10 +1,8 @@
 //! Compatible types of fields.
 
-ghost use Rattle.std.specs.Prelude.{◌≡◌, MatchOption};
-ghost use Rattle.btf_model.specs.Fields.{element_type};
-ghost use Rattle.btf_records.specs.BtfType.{record_of, type_kind};
+ghost use Rattle.std.specs.Prelude.{◌≡◌};
+ghost use Rattle.btf_records.specs.BtfType.{record_of};
 ghost use Rattle.btf_relocate_model.specs.Compatible as model;
-ghost use Rattle.btf_relocate.specs.Arrays.{AreArrays, AreNotArrays};
 
 use crate::lookup::{kind_number, name_at, resolved_type};
 use crate::name::essential_name;
@@ -31,29 +29,13 @@ pub fn are_compatible(
     for _ in 0..WALK_LIMIT {
         let one = resolved_type(local, id)?;
         let other = resolved_type(target, other_id)?;
-        let Some(pair) = elements(one, other) else {
+        let (BtfType::Array(array), BtfType::Array(other_array)) = (one, other) else {
             return are_alike(local, one, target, other);
         };
-        id = pair.0;
-        other_id = pair.1;
+        id = array.array().element_type;
+        other_id = other_array.array().element_type;
     }
     Err(RelocationError::MaximumTypeDepthReached { type_id: local_id })
-}
-
-/// The types of the elements of two ARRAYs; `None` if they are not both ARRAYs.
-fn elements(one: &BtfType, other: &BtfType) -> Option<(u32, u32)>
-    ensures { MatchOption result (AreNotArrays (type_kind one.now) (type_kind other.now))
-        (λ p. AreArrays (type_kind one.now) (type_kind other.now)
-        × (p ≡ (element_type (record_of one.now), element_type (record_of other.now)))) }
-{
-    match (one, other) {
-        (BtfType::Array(array), BtfType::Array(other_array)) => {
-            let array = array.array();
-            let other_array = other_array.array();
-            Some((array.element_type, other_array.element_type))
-        }
-        _ => None,
-    }
 }
 
 /// Whether two types of fields that are no modifiers and not both arrays are compatible.

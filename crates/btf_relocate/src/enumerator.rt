@@ -1,11 +1,12 @@
 //! Enumerators, by index and by name.
 
-ghost use Rattle.std.specs.Prelude.{◌≡◌, Ok, Err, length, slice_get, MatchResult, map};
+ghost use Rattle.std.specs.Prelude.{◌≡◌, Ok, Err, length, slice_get, MatchResult};
 ghost use Rattle.std.specs.Option.{option_map};
 ghost use Rattle.btf_records.specs.BtfType.{record_of};
 ghost use Rattle.btf_relocate_model.specs.Enumerator as model;
 ghost use Rattle.btf_relocate.specs.Enumerators.{variant_of, narrow, wide, enumerators_of};
 
+use crate::instruction::sign_extended_32;
 use crate::lookup::{name_at, resolved_type};
 use crate::name::essential_name;
 use btf_plain::{BtfEnum, BtfEnum64};
@@ -27,14 +28,9 @@ impl Enumerator {
     fn of_enum(enumerator: &BtfEnum) -> Enumerator
         ensures { variant_of result ≡ narrow enumerator.now }
     {
-        let value = u64::from(enumerator.value);
         Enumerator {
             name_offset: enumerator.name_offset,
-            value: if value < 0x8000_0000 {
-                value
-            } else {
-                value + 0xffff_ffff_0000_0000
-            },
+            value: sign_extended_32(enumerator.value),
         }
     }
 
@@ -49,28 +45,6 @@ impl Enumerator {
         }
     }
 
-    /// The enumerator of an ENUM at an index; `None` if there is none.
-    fn of_enums(enumerators: &[BtfEnum], index: usize) -> Option<Enumerator>
-        ensures { option_map variant_of result ≡ slice_get (map narrow enumerators.now) index }
-    {
-        if index < enumerators.len() {
-            Some(Enumerator::of_enum(&enumerators[index]))
-        } else {
-            None
-        }
-    }
-
-    /// The enumerator of an ENUM64 at an index; `None` if there is none.
-    fn of_enums64(enumerators: &[BtfEnum64], index: usize) -> Option<Enumerator>
-        ensures { option_map variant_of result ≡ slice_get (map wide enumerators.now) index }
-    {
-        if index < enumerators.len() {
-            Some(Enumerator::of_enum64(&enumerators[index]))
-        } else {
-            None
-        }
-    }
-
     /// The enumerator of a type at an index; `None` if the type has none there.
     pub fn at(btf_type: &BtfType, index: usize) -> Option<Enumerator>
         ensures { option_map variant_of result
@@ -79,8 +53,8 @@ impl Enumerator {
         // Only a use of the kind proves that the info word has it.
         let _ = btf_type.kind();
         match btf_type {
-            BtfType::Enum(t) => Enumerator::of_enums(t.variants(), index),
-            BtfType::Enum64(t) => Enumerator::of_enums64(t.variants(), index),
+            BtfType::Enum(t) => t.variants().get(index).map(Enumerator::of_enum),
+            BtfType::Enum64(t) => t.variants().get(index).map(Enumerator::of_enum64),
             _ => None,
         }
     }

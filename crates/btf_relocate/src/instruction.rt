@@ -1,8 +1,6 @@
 //! Patches of instructions.
 
 ghost use Rattle.std.specs.Prelude.{◌≡◌, ◌+◌, ◌≤◌, ◌++◌, length, IfOk};
-ghost use Rattle.btf_model.specs.Word.{half_of};
-ghost use Rattle.btf_model.specs.Blob.{slice, word_at};
 ghost use Rattle.btf_relocate_model.specs.Instruction as model;
 ghost use Rattle.btf_relocate_model.specs.Instruction.{patched_code};
 ghost use Rattle.btf_relocate.specs.Patch.{HasPatched};
@@ -60,36 +58,19 @@ pub fn patch(
     Ok(patched)
 }
 
-/// The half-word at a place.
-fn half_at(bytes: &[u8], at: usize, order: Endianness) -> u16
-    requires { at + 2 ≤ length bytes.now }
-    ensures { result ≡ half_of order (slice at 2 bytes.now) }
-{
-    let (_, rest) = bytes.split_at(at);
-    let (half, _) = rest.split_first_chunk::<2>().unwrap();
-    order.read_u16(*half)
-}
-
-/// The word at a place.
-fn word_at(bytes: &[u8], at: usize, order: Endianness) -> u32
-    requires { at + 4 ≤ length bytes.now }
-    ensures { result ≡ word_at order at bytes.now }
-{
-    let (_, rest) = bytes.split_at(at);
-    let (word, _) = rest.split_first_chunk::<4>().unwrap();
-    order.read_u32(*word)
-}
-
 /// The slot at a place.
 fn slot_at(code: &[u8], at: usize, order: Endianness) -> Slot
     requires { at + SLOT_LEN ≤ length code.now }
     ensures { result ≡ model.slot_at order code.now at }
 {
+    let (_, rest) = code.split_at(at + 2);
+    let (offset, rest) = rest.split_first_chunk::<2>().unwrap();
+    let (immediate, _) = rest.split_first_chunk::<4>().unwrap();
     Slot {
         opcode: code[at],
         registers: code[at + 1],
-        offset: half_at(code, at + 2, order),
-        immediate: word_at(code, at + 4, order),
+        offset: order.read_u16(*offset),
+        immediate: order.read_u32(*immediate),
     }
 }
 
@@ -117,7 +98,7 @@ fn instruction_at(code: &[u8], at: usize, order: Endianness) -> Result<Instructi
 }
 
 /// The sign-extension of 32 bits to 64.
-fn sign_extended_32(number: u32) -> u64
+pub fn sign_extended_32(number: u32) -> u64
     ensures { result ≡ model.sign_extended 32 number }
 {
     if number < 0x8000_0000 {
@@ -145,35 +126,6 @@ fn is_unexpected(resolved: &Resolved, field: u64) -> bool
     resolved.validates && field != resolved.expected
 }
 
-/// Whether the low 32 bits of a value extend to the value.
-fn fits_immediate(value: u64) -> bool
-    ensures { result ≡ model.fits_immediate value }
-{
-    value < 0x1_0000_0000 || sign_extended_32((value % 0x1_0000_0000) as u32) == value
-}
-
-/// The source register of a slot.
-fn source(slot: &Slot, order: Endianness) -> u8
-    ensures { result ≡ model.source order slot.now }
-{
-    match order {
-        Endianness::Little => slot.registers / 16,
-        Endianness::Big => slot.registers % 16,
-    }
-}
-
-/// The number of bytes that a load or store reads or writes.
-fn access_size(slot: &Slot) -> u32
-    ensures { result ≡ model.access_size slot.now }
-{
-    match slot.opcode / 8 % 4 {
-        0 => 4,
-        1 => 2,
-        2 => 1,
-        _ => 8,
-    }
-}
-
 /// The two bits of an opcode for a number of bytes.
 fn size_bits(size: u32) -> Option<u8>
     ensures { result ≡ model.size_bits size }
@@ -197,10 +149,10 @@ fn patched_immediate(resolved: &Resolved, slot: Slot) -> Result<(Patched, Slot),
     if is_unexpected(resolved, sign_extended_32(slot.immediate)) {
         return Err(RelocationError::WrongImmediate);
     }
-    if !fits_immediate(resolved.value) {
+    let immediate = (resolved.value % 0x1_0000_0000) as u32;
+    if resolved.value >= 0x1_0000_0000 && sign_extended_32(immediate) != resolved.value {
         return Err(RelocationError::ImmediateOverflow);
     }
-    let immediate = (resolved.value % 0x1_0000_0000) as u32;
     Ok((Patched::Written, Slot { immediate, ..slot }))
 }
 
@@ -221,13 +173,14 @@ fn patched_offset(resolved: &Resolved, slot: Slot) -> Result<(Patched, Slot), Re
     if !resolved.is_adjustable {
         return Ok((Patched::Poisoned, POISON));
     }
-    if access_size(&slot) != resolved.local_size {
+    let local_bits = slot.opcode / 8 % 4;
+    if size_bits(resolved.local_size) != Some(local_bits) {
         return Err(RelocationError::WrongAccessSize);
     }
     let Some(bits) = size_bits(resolved.target_size) else {
         return Err(RelocationError::BadAccessSize);
     };
-    let opcode = slot.opcode - slot.opcode / 8 % 4 * 8 + bits * 8;
+    let opcode = slot.opcode - local_bits * 8 + bits * 8;
     Ok((
         Patched::Written,
         Slot {
@@ -254,7 +207,11 @@ fn patched_slot(resolved: &Resolved, slot: Slot) -> Result<(Patched, Slot), Relo
 fn is_ld_imm64(order: Endianness, first: &Slot, second: &Slot) -> bool
     ensures { result ≡ model.is_ld_imm64 order first.now second.now }
 {
-    source(first, order) == 0
+    let source = match order {
+        Endianness::Little => first.registers / 16,
+        Endianness::Big => first.registers % 16,
+    };
+    source == 0
         && first.offset == 0
         && second.opcode == 0
         && second.registers == 0

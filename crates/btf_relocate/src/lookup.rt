@@ -1,9 +1,7 @@
 //! Lookups in a table, with the errors of a relocation.
 
 ghost use Rattle.std.specs.Prelude.{◌≡◌, Ok, Err, Some, IfSome, MatchResult};
-ghost use Rattle.std.specs.Option.{option_map};
 ghost use Rattle.btf_model.specs.Record.{kind_of, kind_number};
-ghost use Rattle.btf_model.specs.Text as text;
 ghost use Rattle.btf_plain.specs.Error.{refusal_of};
 ghost use Rattle.btf_records.specs.BtfType.{record_of, type_kind};
 ghost use Rattle.btf_relocate_model.specs.Types as model;
@@ -67,21 +65,14 @@ pub fn kind_number(btf_type: &BtfType) -> u32
     btf_type.info() / 0x100_0000 % 32
 }
 
-/// The bytes of a text, which need not be UTF-8; `None` if there is no text at the offset.
-fn bytes_at(table: &Btf, offset: u32) -> Option<&[u8]>
-    ensures { option_map (λ b. b.now) result ≡ text.bytes_at table.now.strings offset }
-{
-    // `name_bytes` reads the name of a type, so ask for the name of one that has this offset.
-    name_bytes(table, &BtfType::Float(Float::new(offset, 0)))
-}
-
-/// The bytes of a name that is needed.
+/// The bytes of a name that is needed, which need not be UTF-8.
 pub fn name_at(table: &Btf, offset: u32) -> Result<&[u8], RelocationError>
     ensures { MatchResult result
         (λ b. model.name_at table.now offset ≡ Ok b.now)
         (λ e. model.name_at table.now offset ≡ Err e) }
 {
-    match bytes_at(table, offset) {
+    // `name_bytes` reads the name of a type, so ask for the name of one that has this offset.
+    match name_bytes(table, &BtfType::Float(Float::new(offset, 0))) {
         Some(bytes) => Ok(bytes),
         None => Err(RelocationError::InvalidStringOffset { offset }),
     }
@@ -91,8 +82,8 @@ pub fn name_at(table: &Btf, offset: u32) -> Result<&[u8], RelocationError>
 pub fn name_or_none(table: &Btf, offset: u32) -> &[u8]
     ensures { result.now ≡ model.name_or_none table.now offset }
 {
-    match bytes_at(table, offset) {
-        Some(bytes) => bytes,
-        None => &[],
+    match name_at(table, offset) {
+        Ok(bytes) => bytes,
+        Err(_) => &[],
     }
 }

@@ -70,7 +70,16 @@ fn matching_step(
     match accessor {
         Accessor::Element(index) => {
             let next = element(target.table(), target.pointer_size(), &at.field, *index)?;
-            element_after(at.count, next)
+            let Some(field) = next else {
+                return Ok(None);
+            };
+            if at.count >= DEPTH_LIMIT {
+                return Err(RelocationError::TooDeep);
+            }
+            Ok(Some(Reached {
+                field,
+                count: at.count + 1,
+            }))
         }
         Accessor::Member(name, type_id) => {
             let room = DEPTH_LIMIT.saturating_sub(at.count);
@@ -78,22 +87,6 @@ fn matching_step(
             member_after(local, target.table(), *type_id, at, found)
         }
     }
-}
-
-/// An element, after this number of members and elements.
-fn element_after(count: u32, field: Option<Field>) -> Result<Option<Reached>, RelocationError>
-    ensures { GivesBy (option_map reached) (model.element_after count field) result }
-{
-    let Some(field) = field else {
-        return Ok(None);
-    };
-    if count >= DEPTH_LIMIT {
-        return Err(RelocationError::TooDeep);
-    }
-    Ok(Some(Reached {
-        field,
-        count: count + 1,
-    }))
 }
 
 /// A member that was found in the type at a place; `None` if its type is not compatible with the local member's.

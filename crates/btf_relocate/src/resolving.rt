@@ -15,8 +15,9 @@ use crate::path::{LOCAL_POINTER_SIZE, Path};
 use crate::size::size_of;
 use crate::target::Target;
 use crate::types::types_alike;
-use crate::value::{field_value, is_adjustable, plain};
+use crate::value::{field_value, plain};
 use btf_model::Endianness;
+use btf_records::BtfType;
 use btf_relocate_model::{Answer, Match, RelocationError, RelocationKind, Resolved, Rule, Value};
 use btf_table::Btf;
 use std::alloc::Global;
@@ -61,7 +62,7 @@ pub fn resolve(
 {
     let type_id = record[1];
     let question = question_of(alloc, local, target.table().endianness(), record)?;
-    if is_local(question.kind) {
+    if let RelocationKind::TypeIdLocal = question.kind {
         return Ok(local_id(type_id));
     }
     if question.name.is_empty() {
@@ -101,7 +102,7 @@ fn question_of<'t>(
     ensures { GivesBy question_view (model.question local.now order «record».now) result }
 {
     let kind = RelocationKind::try_from(record[3])?;
-    if !same_order(local.endianness(), order) {
+    if local.endianness() != order {
         return Err(RelocationError::OrderMismatch);
     }
     let name = name_at(local, type_at(local, record[1])?.name_offset())?;
@@ -112,26 +113,6 @@ fn question_of<'t>(
         name,
         subject,
     })
-}
-
-/// Whether a kind needs no search.
-fn is_local(kind: RelocationKind) -> bool
-    ensures { result ≡ model.is_local kind }
-{
-    match kind {
-        RelocationKind::TypeIdLocal => true,
-        _ => false,
-    }
-}
-
-/// Whether two byte orders are the same.
-fn same_order(one: Endianness, other: Endianness) -> bool
-    ensures { result ≡ model.same_order one other }
-{
-    match (one, other) {
-        (Endianness::Little, Endianness::Little) | (Endianness::Big, Endianness::Big) => true,
-        _ => false,
-    }
 }
 
 /// What a record of this kind is about.
@@ -157,42 +138,19 @@ fn subject_of<'t>(
             }
         }
         RelocationKind::EnumeratorExists | RelocationKind::EnumeratorValue => {
-            enumerator_subject(local, type_id, access)
+            let access = Access::parse(access)?;
+            let [index] = access.indices() else {
+                return Err(RelocationError::BadIndex);
+            };
+            let (enumerator, name) = enumerator_at(local, type_id, *index)?;
+            Ok(Subject::OfEnumerator(name, enumerator.value))
         }
-        _ => field_subject(alloc, local, type_id, access),
+        _ => {
+            let access = Access::parse(access)?;
+            let path = Path::new(alloc, local, type_id, &access)?;
+            Ok(Subject::OfField(path))
+        }
     }
-}
-
-/// The enumerator that a record is about.
-fn enumerator_subject<'t>(
-    local: &'t Btf,
-    type_id: u32,
-    access: &[u8],
-) -> Result<Subject<'t>, RelocationError>
-    ensures { GivesBy subject_view (model.subject_by local.now model.Enumerators type_id access.now)
-        result }
-{
-    let access = Access::parse(access)?;
-    let [index] = access.indices() else {
-        return Err(RelocationError::BadIndex);
-    };
-    let (enumerator, name) = enumerator_at(local, type_id, *index)?;
-    Ok(Subject::OfEnumerator(name, enumerator.value))
-}
-
-/// The field that a record is about.
-fn field_subject<'t>(
-    alloc: Global,
-    local: &'t Btf,
-    type_id: u32,
-    access: &[u8],
-) -> Result<Subject<'t>, RelocationError>
-    ensures { GivesBy subject_view (model.subject_by local.now model.Fields type_id access.now)
-        result }
-{
-    let access = Access::parse(access)?;
-    let path = Path::new(alloc, local, type_id, &access)?;
-    Ok(Subject::OfField(path))
 }
 
 /// The subject itself, as a match in the program's own table.
@@ -359,30 +317,27 @@ fn resolved_by(
             is_adjustable: may_resize(local, target, expected, &answer.value),
         };
     }
-    let is_poisoned = poisons(kind);
-    Resolved {
+    let missing = Resolved {
         expected: expected.value,
         value: 0,
-        is_poisoned,
+        is_poisoned: false,
         validates,
         local_size: expected.size,
-        target_size: if is_poisoned { 0 } else { expected.size },
+        target_size: expected.size,
         is_adjustable: true,
-    }
-}
-
-/// Whether a record of this kind poisons its instruction if no type of the target matches.
-fn poisons(kind: RelocationKind) -> bool
-    ensures { result ≡ model.poisons kind }
-{
+    };
     match kind {
         RelocationKind::FieldByteOffset
         | RelocationKind::FieldByteSize
         | RelocationKind::FieldSigned
         | RelocationKind::FieldLShift64
         | RelocationKind::FieldRShift64
-        | RelocationKind::EnumeratorValue => true,
-        _ => false,
+        | RelocationKind::EnumeratorValue => Resolved {
+            is_poisoned: true,
+            target_size: 0,
+            ..missing
+        },
+        _ => missing,
     }
 }
 
@@ -418,7 +373,8 @@ fn validates(kind: RelocationKind, subject: &Subject<'_>) -> bool
     }
 }
 
-/// Whether a load or store may get the size of the target's field.
+/// Whether a load or store may get the size of the target's field: the sizes are equal, both types are PTRs, or both are
+/// INTs that are not plain signed numbers. Zero-extension is right for these.
 fn may_resize(local: &Btf, target: &Btf, expected: &Value, value: &Value) -> bool
     ensures { result ≡ model.may_resize local.now target.now expected.now value.now }
 {
@@ -431,5 +387,13 @@ fn may_resize(local: &Btf, target: &Btf, expected: &Value, value: &Value) -> boo
     let Ok(other) = type_at(target, value.type_id) else {
         return false;
     };
-    is_adjustable(one, other)
+    // Only a use of the kinds proves that the info words have them.
+    let _ = (one.kind(), other.kind());
+    match (one, other) {
+        (BtfType::Ptr(_), BtfType::Ptr(_)) => true,
+        (BtfType::Int(t), BtfType::Int(u)) => {
+            t.word() / 0x100_0000 % 16 != 1 && u.word() / 0x100_0000 % 16 != 1
+        }
+        _ => false,
+    }
 }

@@ -1,15 +1,14 @@
 //! The search for a member by its name, through members without a name.
 
-ghost use Rattle.std.specs.Prelude.{◌≡◌, ◌+◌, ◌<◌, ◌≤◌, ◌∷◌, length, drop, IfOk};
+ghost use Rattle.std.specs.Prelude.{◌≡◌, ◌≤◌, IfOk};
 ghost use Rattle.std.specs.Result.{OnOk};
 ghost use Rattle.btf_records.specs.BtfType.{record_of};
 ghost use Rattle.btf_relocate_model.specs.Search as model;
 ghost use Rattle.btf_relocate.specs.Gives.{Gives, GivesBy};
-ghost use Rattle.btf_relocate.specs.Searching.{within, from_id, outward, found_of, size_of, Remembers};
+ghost use Rattle.btf_relocate.specs.Searching.{within, from_id, found_of, size_of, Remembers};
 
 use crate::field::{bits_of, member_field, members, moved};
 use crate::lookup::{name_or_none, resolved, type_at};
-use btf_plain::BtfMember;
 use btf_records::BtfType;
 use btf_relocate_model::{Field, RelocationError};
 use btf_table::Btf;
@@ -96,13 +95,14 @@ fn search_members(
         return Err(RelocationError::TooDeep);
     }
     let mut levels: u32 = 0;
-    for index in 0..members.len() {
-        let member = member_at(members, index);
+    for (index, member) in members.iter().enumerate() {
         let here = name_or_none(table, member.name_offset);
         if here.is_empty() {
             match search(table, name, searched, member.btf_type, depth - 1)? {
                 Found::Member(field, count) => {
-                    return further_out(bits_of(btf_type, member).0, &field, count);
+                    let (offset, _) = bits_of(btf_type, member);
+                    let bit = moved(offset, u64::from(field.bit))?;
+                    return Ok(Found::Member(Field { bit, ..field }, count + 1));
                 }
                 Found::Nothing(inner) => levels = levels.max(inner + 1),
             }
@@ -114,26 +114,4 @@ fn search_members(
         }
     }
     Ok(Found::Nothing(levels))
-}
-
-/// The member at an index.
-pub fn member_at(members: &[BtfMember], index: usize) -> &BtfMember
-    requires { index < length members.now }
-    ensures { drop index members.now ≡ result.now ∷ drop (index + 1) members.now }
-{
-    &members[index]
-}
-
-/// A member that was found in a member without a name, which begins at this bit.
-fn further_out(bit: u32, field: &Field, count: u32) -> Result<Found, RelocationError>
-    requires { count + 1 ≤ u32.MAX }
-    ensures found { result ≡ outward bit field.now count }
-    ensures small { IfOk result (λ f. size_of f ≤ count + 1) }
-{
-    let first = moved(bit, u64::from(field.bit))?;
-    let field = Field {
-        bit: first,
-        ..*field
-    };
-    Ok(Found::Member(field, count + 1))
 }

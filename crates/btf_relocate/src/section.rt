@@ -1,9 +1,9 @@
 //! The records of a section.
 
-ghost use Rattle.std.specs.Prelude.{◌≡◌, ◌+◌, ◌<◌, ◌∷◌, length, drop, IfOk, OnOk};
+ghost use Rattle.std.specs.Prelude.{◌≡◌, IfOk, OnOk};
 ghost use Rattle.btf_relocate_model.specs.Resolution.{type_word};
 ghost use Rattle.btf_relocate_model.specs.Section.{candidates_of, relocated_section};
-ghost use Rattle.btf_relocate.specs.Sections.{HasOthers, HasLeft, Relocated, Relocates, is_out_of_memory, is_shared, left_in, setting};
+ghost use Rattle.btf_relocate.specs.Sections.{HasOthers, HasLeft, Relocated, Relocates, is_shared, left_in, setting};
 
 use crate::instruction::patch;
 use crate::lookup::{kind_number, name_or_none, type_at};
@@ -49,35 +49,16 @@ pub fn relocate_section(
 {
     let mut outcomes = Vec::with_capacity(alloc, records.len())?;
     let mut shared: BTreeMap<u32, Vec<u32>> = BTreeMap::new(alloc);
-    for index in 0..records.len() {
-        let record = record_at(records, index);
+    for record in records {
         let mut candidates = candidates_for(alloc, local, target, record, policy, &mut shared)?;
         let outcome = relocate(alloc, local, target, record, &mut candidates, code);
-        if is_out_of_memory(&outcome) {
+        if let Err(RelocationError::OutOfMemory) = outcome {
             return Err(AllocError);
         }
         outcomes.push(outcome)?;
         leave(record, policy, candidates, &mut shared)?;
     }
     Ok(outcomes)
-}
-
-/// The record at an index.
-fn record_at(records: &[[u32; 4]], index: usize) -> &[u32; 4]
-    requires { index < length records.now }
-    ensures { drop index records.now ≡ result.now ∷ drop (index + 1) records.now }
-{
-    &records[index]
-}
-
-/// Whether an allocation failed.
-fn is_out_of_memory(outcome: &Outcome) -> bool
-    ensures { result ≡ is_out_of_memory outcome.now }
-{
-    match outcome {
-        Err(RelocationError::OutOfMemory) => true,
-        _ => false,
-    }
 }
 
 /// The candidates for a record. Under [`CandidatePolicy::Shared`] they are taken from the lists that records before it

@@ -1,14 +1,13 @@
 //! The table that a program is relocated against.
 
-ghost use Rattle.std.specs.Prelude.{◌≡◌, ◌≤◌, length, map, true, false, IfOk, MatchOption};
+ghost use Rattle.std.specs.Prelude.{◌≡◌, true, false, IfOk, IfErr, MatchOption};
 ghost use Rattle.std.specs.List.{list_any};
-ghost use Rattle.std.specs.List.Sorted.{IsPartitionPoint};
-ghost use Rattle.std.specs.Ordering.{is_lt, is_le};
 ghost use Rattle.std.specs.Str.{bytes_eq};
+ghost use Rattle.btf_plain.specs.declared.error.BtfError.TheVariants.{OutOfMemory};
 ghost use Rattle.btf_records.specs.BtfType.{record_of};
 ghost use Rattle.btf_relocate_model.specs.Candidates.{compared_number, candidates};
 ghost use Rattle.btf_relocate.specs.Index.{IsIndex, kind_code, key_of, key_cmp, named};
-ghost use Rattle.btf_relocate.specs.Entries.{AreEntries, id_of};
+ghost use Rattle.btf_relocate.specs.Entries.{AreEntries};
 ghost use Rattle.btf_relocate_model.specs.Types as model;
 
 use crate::lookup::{kind_number, name_or_none};
@@ -54,7 +53,8 @@ impl<'t> Model for Target<'t> {
 impl<'t> Target<'t> {
     /// The index of a table. `OutOfMemory` is the only error.
     pub fn new(alloc: Global, table: &'t Btf) -> Result<Target<'t>, BtfError>
-        ensures { IfOk result (λ target. target ≡ table.now) }
+        ensures indexed { IfOk result (λ target. target ≡ table.now) }
+        ensures only { IfErr result (λ e. e ≡ OutOfMemory) }
     {
         Ok(Target {
             table,
@@ -83,7 +83,7 @@ impl<'t> Target<'t> {
     pub fn candidates(&self, name: &[u8], kind: BtfKind) -> &[u32]
         ensures { result.now ≡ candidates self.now name.now (kind_code kind) }
     {
-        self.candidates_of_kind(name, kind_code(kind))
+        self.candidates_of_kind(name, kind as u32)
     }
 
     /// The candidates for the number of a kind.
@@ -92,43 +92,12 @@ impl<'t> Target<'t> {
     {
         let name = essential_name(name);
         let kind = compared_number(kind);
-        let start = first_from(self.table, &self.ids, name, kind);
-        let end = first_after(self.table, &self.ids, name, kind);
-        if start < end {
-            &self.ids[start..end]
-        } else {
-            &[]
-        }
+        let table = self.table;
+        let ids = self.ids.as_slice();
+        let start = ids.partition_point(|id| compare(table, *id, name, kind).is_lt());
+        let end = ids.partition_point(|id| compare(table, *id, name, kind).is_le());
+        if start < end { &ids[start..end] } else { &[] }
     }
-}
-
-/// The number of a kind.
-fn kind_code(kind: BtfKind) -> u32
-    ensures { result ≡ kind_code kind }
-{
-    kind as u32
-}
-
-/// The first place of the index whose key is not less than this one.
-fn first_from(table: &Btf, ids: &[u32], name: &[u8], kind: u32) -> usize
-    requires { IsIndex table.now ids.now }
-    ensures bound { result ≤ length ids.now }
-    ensures point { IsPartitionPoint
-        (λ id. is_lt (key_cmp (key_of table.now id) (name.now, kind)) ≡ true)
-        (λ id. is_lt (key_cmp (key_of table.now id) (name.now, kind)) ≡ false) ids.now result }
-{
-    ids.partition_point(|id| compare(table, *id, name, kind).is_lt())
-}
-
-/// The first place of the index whose key is greater than this one.
-fn first_after(table: &Btf, ids: &[u32], name: &[u8], kind: u32) -> usize
-    requires { IsIndex table.now ids.now }
-    ensures bound { result ≤ length ids.now }
-    ensures point { IsPartitionPoint
-        (λ id. is_le (key_cmp (key_of table.now id) (name.now, kind)) ≡ true)
-        (λ id. is_le (key_cmp (key_of table.now id) (name.now, kind)) ≡ false) ids.now result }
-{
-    ids.partition_point(|id| compare(table, *id, name, kind).is_le())
 }
 
 /// The order of the key of a type and another key.
@@ -158,15 +127,8 @@ fn sorted_ids(alloc: Global, table: &Btf) -> Result<Vec<u32>, AllocError>
 {
     let mut entries = named_types(alloc, table)?;
     entries.sort_by_key(|entry| (entry.name, entry.kind))?;
-    ids_of(alloc, &entries)
-}
-
-/// The ids of entries.
-fn ids_of(alloc: Global, entries: &[Entry<'_>]) -> Result<Vec<u32>, AllocError>
-    ensures { IfOk result (λ ids. ids.items ≡ map id_of entries.now) }
-{
     let mut ids = Vec::with_capacity(alloc, entries.len())?;
-    for entry in entries {
+    for entry in &entries {
         ids.push(entry.type_id)?;
     }
     Ok(ids)

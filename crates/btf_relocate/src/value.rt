@@ -1,6 +1,6 @@
 //! The value of a field for each kind.
 
-ghost use Rattle.std.specs.Prelude.{◌≡◌, ◌<◌, ◌∷◌, []};
+ghost use Rattle.std.specs.Prelude.{◌≡◌, ◌<◌, ◌∷◌, [], if◌then◌else◌, Some, None};
 ghost use Rattle.btf_model.specs.Record.{kind_of};
 ghost use Rattle.btf_records.specs.BtfType.{record_of};
 ghost use Rattle.btf_relocate_model.specs.Value as model;
@@ -81,7 +81,13 @@ fn member_value(
     ensures { result ≡ model.member_value table.now kind field.now type_id load.now }
 {
     match kind {
-        RelocationKind::FieldByteOffset => Ok(offset_value(field, type_id, load)),
+        // The load of a bit-field sets no size.
+        RelocationKind::FieldByteOffset if field.bits != 0 => Ok(plain(u64::from(load.offset))),
+        RelocationKind::FieldByteOffset => Ok(Value {
+            value: u64::from(load.offset),
+            size: load.size,
+            type_id,
+        }),
         RelocationKind::FieldByteSize => Ok(plain(u64::from(load.size))),
         RelocationKind::FieldSigned => {
             let btf_type = type_at(table, type_id)?;
@@ -99,21 +105,8 @@ fn member_value(
     }
 }
 
-/// The offset of a load, which sets the size of a load or store unless the member is a bit-field.
-fn offset_value(field: &Field, type_id: u32, load: &Load) -> Value
-    ensures { result ≡ model.offset_value field.now type_id load.now }
-{
-    if field.bits != 0 {
-        return plain(u64::from(load.offset));
-    }
-    Value {
-        value: u64::from(load.offset),
-        size: load.size,
-        type_id,
-    }
-}
-
-/// The load of a member whose type resolves to this id.
+/// The load of a member whose type resolves to this id. The load of a bit-field is the least of 1, 2, 4 and 8 bytes, from
+/// the size of its type on, that is aligned and holds all of its bits.
 fn load_of(
     table: &Btf,
     pointer_size: u32,
@@ -122,23 +115,15 @@ fn load_of(
 ) -> Result<Load, RelocationError>
     ensures { result ≡ model.load_of pointer_size table.now field.now type_id }
 {
-    if field.bits != 0 {
-        return bit_field_load(table, field, type_id);
+    if field.bits == 0 {
+        let size = size_of(table, pointer_size, type_id)?;
+        return Ok(Load {
+            offset: field.bit / 8,
+            size,
+            start: field.bit % 8,
+            bits: u64::from(size) * 8,
+        });
     }
-    let size = size_of(table, pointer_size, type_id)?;
-    Ok(Load {
-        offset: field.bit / 8,
-        size,
-        start: field.bit % 8,
-        bits: u64::from(size) * 8,
-    })
-}
-
-/// The load of a bit-field: the least of 1, 2, 4 and 8 bytes, from the size of its type on, that is aligned and holds
-/// all of its bits.
-fn bit_field_load(table: &Btf, field: &Field, type_id: u32) -> Result<Load, RelocationError>
-    ensures { result ≡ model.bit_field_load table.now field.now type_id }
-{
     let btf_type = type_at(table, type_id)?;
     let size = bit_field_size(btf_type);
     if size == 1 || size == 2 || size == 4 || size == 8 {
@@ -167,46 +152,46 @@ fn bit_field_size(btf_type: &BtfType) -> u32
 fn first_holding(field: &Field, from: u32) -> Result<Load, RelocationError>
     ensures { result ≡ model.first_holding field.now from (1 ∷ 2 ∷ 4 ∷ 8 ∷ []) }
 {
-    let load = aligned_load(field, 1);
-    if from <= 1 && holds(&load) {
+    if from <= 1
+        && let Some(load) = holding_load(field, 1)
+    {
         return Ok(load);
     }
-    let load = aligned_load(field, 2);
-    if from <= 2 && holds(&load) {
+    if from <= 2
+        && let Some(load) = holding_load(field, 2)
+    {
         return Ok(load);
     }
-    let load = aligned_load(field, 4);
-    if from <= 4 && holds(&load) {
+    if from <= 4
+        && let Some(load) = holding_load(field, 4)
+    {
         return Ok(load);
     }
-    let load = aligned_load(field, 8);
-    if from <= 8 && holds(&load) {
+    if from <= 8
+        && let Some(load) = holding_load(field, 8)
+    {
         return Ok(load);
     }
     Err(RelocationError::BitfieldTooWide)
 }
 
-/// The load of this many bytes that is aligned and has the first bit of a bit-field.
-fn aligned_load(field: &Field, size: u32) -> Load
+/// The load of this many bytes that is aligned and has the first bit of a bit-field; `None` if it does not hold all bits.
+fn holding_load(field: &Field, size: u32) -> Option<Load>
     requires { 0 < size }
-    ensures { result ≡ model.aligned_load field.now size }
+    ensures { result ≡ (if model.holds (model.aligned_load field.now size)
+        then Some (model.aligned_load field.now size) else None) }
 {
     let offset = field.bit / 8 / size * size;
-    Load {
+    let load = Load {
         offset,
         size,
         start: field.bit - offset * 8,
         bits: u64::from(field.bits),
-    }
-}
-
-/// Whether a load holds all bits of its field.
-fn holds(load: &Load) -> bool
-    ensures { result ≡ model.holds load.now }
-{
-    match load.bits.checked_add(u64::from(load.start)) {
-        Some(end) => end <= u64::from(load.size) * 8,
-        None => false,
+    };
+    if u64::from(load.start) + load.bits <= u64::from(size) * 8 {
+        Some(load)
+    } else {
+        None
     }
 }
 
@@ -248,23 +233,6 @@ pub fn is_signed(btf_type: &BtfType) -> bool
         BtfType::Int(t) => t.word() / 0x100_0000 % 16 % 2 == 1,
         BtfType::Enum(t) => t.info() / 0x8000_0000 == 1,
         BtfType::Enum64(t) => t.info() / 0x8000_0000 == 1,
-        _ => false,
-    }
-}
-
-/// Whether a load or store of the local type may get the size of the target's type: both are PTRs, or both are INTs
-/// that are not plain signed numbers. Zero-extension is right for these.
-pub fn is_adjustable(one: &BtfType, other: &BtfType) -> bool
-    ensures { result ≡ model.is_adjustable (kind_of (record_of one.now).info)
-        (kind_of (record_of other.now).info) (record_of one.now) (record_of other.now) }
-{
-    // Only a use of the kinds proves that the info words have them.
-    let _ = (one.kind(), other.kind());
-    match (one, other) {
-        (BtfType::Ptr(_), BtfType::Ptr(_)) => true,
-        (BtfType::Int(t), BtfType::Int(u)) => {
-            t.word() / 0x100_0000 % 16 != 1 && u.word() / 0x100_0000 % 16 != 1
-        }
         _ => false,
     }
 }

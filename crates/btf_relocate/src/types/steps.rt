@@ -84,14 +84,6 @@ fn compatible_step<'t>(is_pointee: bool, one: &'t BtfType, other: &'t BtfType) -
     if compared_number(kind_number(one)) != compared_number(kind_number(other)) {
         return Step::Ends(false);
     }
-    compatible_by(is_pointee, one, other)
-}
-
-/// What the rule `Compatible` finds at two types of one kind.
-fn compatible_by<'t>(is_pointee: bool, one: &'t BtfType, other: &'t BtfType) -> Step<'t>
-    ensures { step_view result ≡ model.compatible_by is_pointee (kind_of (record_of one.now).info)
-        (kind_of (record_of other.now).info) (record_of one.now) (record_of other.now) }
-{
     // Only a use of the kinds proves that the info words have them.
     let _ = (one.kind(), other.kind());
     match (one, other) {
@@ -149,21 +141,6 @@ fn exact_step<'t>(
     if !names_match(local, target, one.name_offset(), other.name_offset())? {
         return Ok(Step::Ends(false));
     }
-    matching_step(alloc, local, target, is_pointee, one, other)
-}
-
-/// What the rule `Matches` finds at two types whose names match.
-fn matching_step<'t>(
-    alloc: Global,
-    local: &'t Btf,
-    target: &'t Btf,
-    is_pointee: bool,
-    one: &'t BtfType,
-    other: &'t BtfType,
-) -> Result<Step<'t>, RelocationError>
-    ensures { GivesBy step_view (model.matching_step local.now target.now is_pointee
-        (record_of one.now) (record_of other.now)) result }
-{
     match (enumeration_size(one), enumeration_size(other)) {
         (Some(size), Some(other_size)) => {
             if size != other_size {
@@ -227,8 +204,13 @@ fn declared_step<'t>(is_pointee: bool, one: &'t BtfType, other: &'t BtfType) -> 
         (BtfType::Fwd(_), BtfType::Fwd(_)) => {
             Step::Ends(both_equal(declares_union(one), declares_union(other)))
         }
-        (BtfType::Struct(_), BtfType::Struct(_)) => members_step(one, other),
-        (BtfType::Union(_), BtfType::Union(_)) => members_step(one, other),
+        (BtfType::Struct(_), BtfType::Struct(_)) | (BtfType::Union(_), BtfType::Union(_)) => {
+            let (members, others) = (members(one), members(other));
+            if others.len() < members.len() {
+                return Step::Ends(false);
+            }
+            Step::EachMember(members, others)
+        }
         _ => Step::Ends(false),
     }
 }
@@ -256,15 +238,4 @@ fn both_equal(one: Option<bool>, other: Option<bool>) -> bool
         (Some(one), Some(other)) => one == other,
         _ => false,
     }
-}
-
-/// The members of two STRUCTs or two UNIONs, where the target's has no fewer.
-fn members_step<'t>(one: &'t BtfType, other: &'t BtfType) -> Step<'t>
-    ensures { step_view result ≡ model.members_step (record_of one.now) (record_of other.now) }
-{
-    let (members, others) = (members(one), members(other));
-    if others.len() < members.len() {
-        return Step::Ends(false);
-    }
-    Step::EachMember(members, others)
 }

@@ -1,17 +1,16 @@
 //! What comes next of a comparison.
 
-ghost use Rattle.std.specs.Prelude.{◌≡◌, ◌+◌, ◌<◌, ◌≤◌, ◌∷◌, drop, length, map, IfOk, IfSome};
+ghost use Rattle.std.specs.Prelude.{◌≡◌, ◌<◌, ◌≤◌, drop, length, map, IfOk, IfSome};
 ghost use Rattle.btf_relocate_model.specs.Comparison as model;
 ghost use Rattle.btf_model.specs.Table.{Table};
 ghost use Rattle.btf_relocate.specs.Comparing.{LeavesFewer, LeavesFewerPlaces};
 ghost use Rattle.btf_relocate.specs.Members.{member_of};
-ghost use Rattle.btf_relocate.specs.Steps.{Compare, Continues, NamedMember, NextMember, comparison, is_refusal, next_index, next_of, place_after, resumed, type_of};
+ghost use Rattle.btf_relocate.specs.Steps.{Compare, Continues, NamedMember, NextMember, comparison, next_of, place_after, resumed, type_of};
 
 use super::Frame;
 use super::names::names_match;
 use super::steps::{Step, step_at};
 use crate::lookup::resolved;
-use crate::search::member_at;
 use btf_plain::{BtfMember, BtfParam};
 use btf_relocate_model::{Pair, RelocationError, Rule};
 use btf_table::Btf;
@@ -93,39 +92,19 @@ fn next_parameter(
         frame.now.index frame.now.other answer }
     ensures fewer { LeavesFewerPlaces frame.now.index frame.now.other result }
 {
-    if is_refusal(answer) {
+    if let Some(false) = answer {
         return Next::Ends(false);
     }
     let index = frame.index;
-    if index >= params.len() || index >= others.len() {
+    let (Some(param), Some(other)) = (params.get(index), others.get(index)) else {
         return Next::GoesOn(*returned);
-    }
-    let param = param_at(params, index);
-    let other = param_at(others, index);
+    };
     let pair = Pair {
         local: param.btf_type,
         target: other.btf_type,
         is_pointee: returned.is_pointee,
     };
     Next::Asks(pair, index + 1, 0)
-}
-
-/// Whether an answer is no.
-fn is_refusal(answer: Option<bool>) -> bool
-    ensures { result ≡ is_refusal answer }
-{
-    match answer {
-        Some(false) => true,
-        _ => false,
-    }
-}
-
-/// The parameter at an index.
-fn param_at(params: &[BtfParam], index: usize) -> &BtfParam
-    requires { index < length params.now }
-    ensures { drop index params.now ≡ result.now ∷ drop (index + 1) params.now }
-{
-    &params[index]
 }
 
 /// The next pair of members: each local member has a member of the target with its name whose type matches.
@@ -142,10 +121,9 @@ fn next_member(
     ensures fewer { IfOk result (LeavesFewerPlaces frame.now.index frame.now.other) }
 {
     let (index, from) = place_after(frame.index, frame.other, answer);
-    if index >= members.len() {
+    let Some(member) = members.get(index) else {
         return Ok(Next::Ends(true));
-    }
-    let member = member_at(members, index);
+    };
     match named_member(local, target, member, others, from)? {
         Some((other, after)) => {
             let pair = Pair {
@@ -164,16 +142,9 @@ fn place_after(index: usize, other: usize, answer: Option<bool>) -> (usize, usiz
     ensures { result ≡ place_after index other answer }
 {
     match answer {
-        Some(true) => (next_index(index), 0),
+        Some(true) => (index.saturating_add(1), 0),
         _ => (index, other),
     }
-}
-
-/// The index after another one, which has one in each list.
-fn next_index(index: usize) -> usize
-    ensures { result ≡ next_index index }
-{
-    if index < usize::MAX { index + 1 } else { index }
 }
 
 /// The type of the first member of the target from an index on that has the name of a local member, and the index after
@@ -191,7 +162,7 @@ fn named_member(
         × (p.1 ≤ length others.now))) }
 {
     for index in from..others.len() {
-        let other = member_at(others, index);
+        let other = &others[index];
         if names_match(local, target, member.name_offset, other.name_offset)? {
             return Ok(Some((other.btf_type, index + 1)));
         }

@@ -1,11 +1,11 @@
-use Rattle.std.proofs.Common.{◌≡◌, ◌∙◌, List, ℕ, Bool, Option, Ok, Err, None, sym, ap, inl, inr}
+use Rattle.std.proofs.Common.{◌≡◌, ◌∙◌, List, ℕ, Bool, false, Option, Ok, Err, None, sym, ap, inl, inr, rules}
 use Rattle.std.specs.Prelude.{◌⊎◌}
 use Rattle.std.specs.Global.{Vec}
 use Rattle.btf_model.specs.Table.{Table}
 use Rattle.btf_model.specs.declared.endianness.Endianness.{Endianness}
 use Rattle.btf_relocate_model.specs.Path.{local_pointer}
 use Rattle.btf_relocate_model.specs.Resolution as model
-use Rattle.btf_relocate_model.specs.Resolution.{Setting, Question, question, answers, candidate_answer, resolution, resolved_by, remaining, type_word, is_of_type}
+use Rattle.btf_relocate_model.specs.Resolution.{Setting, Question, question, answers, candidate_answer, resolution, resolved_by, remaining, is_local}
 use Rattle.btf_relocate_model.specs.declared.answer.Answer.{Answer}
 use Rattle.btf_relocate_model.specs.declared.answer.Match.{Match}
 use Rattle.btf_relocate_model.specs.declared.error.RelocationError.TheVariants.{OutOfMemory}
@@ -23,9 +23,10 @@ returns-in_err-answer c =
     let e = c.in_err-answer.field-0.0 in
     let order : c.endianness.result ≡ c.args.target.now.order = c.endianness.ensures ∙ ap (λ (t : Table). t.order) c.table.ensures in
     let asks : question g.local g.target.order words ≡ Ok q = ap (λ (o : Endianness). question g.local o words) (sym order) ∙ c.in_ok-question.ensures in
+    let searches : is_local q.kind ≡ false = search rules in
     let asked : Asked g c.args.candidates.now.items words q c.in_ok-expected.expected = record {
       asks = asks;
-      searches = sym c.is_local.ensures ∙ c.if-is_local.false;
+      searches = searches;
       named = has_name q.name c.is_empty.result c.is_empty.ensures c.if-is_empty.false;
       local_value = ap (λ (m : Match). model.value_of local_pointer g.local q.kind m) (sym c.local_match-found.ensures) ∙ sym c.in_ok-expected.ensures;
     } in
@@ -44,9 +45,10 @@ returns c =
     let q : Question = question_view c.in_ok-question.question in
     let order : c.endianness.result ≡ c.args.target.now.order = c.endianness.ensures ∙ ap (λ (t : Table). t.order) c.table.ensures in
     let asks : question g.local g.target.order words ≡ Ok q = ap (λ (o : Endianness). question g.local o words) (sym order) ∙ c.in_ok-question.ensures in
+    let searches : is_local q.kind ≡ false = search rules in
     let asked : Asked g c.args.candidates.now.items words q c.in_ok-expected.expected = record {
       asks = asks;
-      searches = sym c.is_local.ensures ∙ c.if-is_local.false;
+      searches = searches;
       named = has_name q.name c.is_empty.result c.is_empty.ensures c.if-is_empty.false;
       local_value = ap (λ (m : Match). model.value_of local_pointer g.local q.kind m) (sym c.local_match-found.ensures) ∙ sym c.in_ok-expected.ensures;
     } in

@@ -5,6 +5,7 @@ use Rattle.btf_relocate.specs.Steps.{NamedMember, NextMember}
 use Rattle.btf_relocate.specs.declared.types.walk.Next.{Next}
 use Rattle.btf_relocate.proofs.Compatibles.{from_err}
 use Rattle.btf_relocate.proofs.Definitions.{member_fails, member_missing, member_asks}
+use Rattle.btf_relocate.proofs.Pointers.{item_here, item_within}
 use Rattle.btf_relocate.proofs.types.walk.next_member.Goals as goal
 
 pub returns-in_err-other-clause-next : goal.returns-in_err-other-clause-next
@@ -14,20 +15,20 @@ returns-in_err-other-clause-next c =
     (sym (from_err c.from_residual.result e c.from_residual.ensures.1))
     (λ inner further.
     member_fails inner further c.args.local.now c.args.target.now c.args.members.now c.args.others.now c.args.frame.now.index c.args.frame.now.other c.args.answer c.place_after-index.result c.place_after-index.ensures
-    c.member_at-member.result.now c.member_at-member.ensures e (c.in_err-other.ensures.found inner))
+    c.in-Some.member.now (item_here c.args.members.now c.place_after-index.result.0 c.get.result c.in-Some.member c.get.ensures.lookup c.in-Some.is) e (c.in_err-other.ensures.found inner))
 
-pub returns-in-Some-clause-next : goal.returns-in-Some-clause-next
-returns-in-Some-clause-next c = λ inner further.
-    let m = c.member_at-member.result.now in
-    let found = subst (λ (o : Option (ℕ × ℕ)). NamedMember c.args.local.now c.args.target.now (member_of m) (map member_of c.args.others.now) (drop c.place_after-index.result.1 (map member_of c.args.others.now)) (Ok o)) c.in-Some.is c.in_ok-other.ensures.found in
-    let low : c.place_after-index.result.0 < length c.args.members.now = c.if-index-members.false in
+pub returns-in-Some-2-clause-next : goal.returns-in-Some-2-clause-next
+returns-in-Some-2-clause-next c = λ inner further.
+    let m = c.in-Some.member.now in
+    let found = subst (λ (o : Option (ℕ × ℕ)). NamedMember c.args.local.now c.args.target.now (member_of m) (map member_of c.args.others.now) (drop c.place_after-index.result.1 (map member_of c.args.others.now)) (Ok o)) c.in-Some-2.is c.in_ok-other.ensures.found in
+    let low : c.place_after-index.result.0 < length c.args.members.now = item_within c.args.members.now c.place_after-index.result.0 c.get.result c.in-Some.member c.get.ensures.lookup c.in-Some.is in
     let few : length c.args.members.now ≤ 18446744073709551615 = omega arith in
     member_asks inner further c.args.local.now c.args.target.now c.args.members.now c.args.others.now c.args.frame.now.index c.args.frame.now.other c.args.answer c.place_after-index.result c.place_after-index.ensures
-    m c.member_at-member.ensures c.in-Some.after low few c.in-Some.other (found inner)
+    m (item_here c.args.members.now c.place_after-index.result.0 c.get.result c.in-Some.member c.get.ensures.lookup c.in-Some.is) c.in-Some-2.after low few c.in-Some-2.other (found inner)
 
 pub returns-in-None-clause-next : goal.returns-in-None-clause-next
 returns-in-None-clause-next c = λ inner further.
-    let m = c.member_at-member.result.now in
+    let m = c.in-Some.member.now in
     let found = subst (λ (o : Option (ℕ × ℕ)). NamedMember c.args.local.now c.args.target.now (member_of m) (map member_of c.args.others.now) (drop c.place_after-index.result.1 (map member_of c.args.others.now)) (Ok o)) c.in-None.is c.in_ok-other.ensures.found in
     member_missing inner further c.args.local.now c.args.target.now c.args.members.now c.args.others.now c.args.frame.now.index c.args.frame.now.other c.args.answer c.place_after-index.result c.place_after-index.ensures
-    m c.member_at-member.ensures (found inner)
+    m (item_here c.args.members.now c.place_after-index.result.0 c.get.result c.in-Some.member c.get.ensures.lookup c.in-Some.is) (found inner)
