@@ -1,6 +1,6 @@
 -- Definitions of two types, parameter by parameter, member by member and enumerator by enumerator.
 use Rattle.std.proofs.Common.{◌≡◌, ℕ, zero, suc, ◌+◌, ◌<◌, ◌≤◌, List, [], ◌∷◌, ◌++◌, length, drop, map, Bool, true, false, cond, Option, Some, None, Result, Ok, Err, refl, sym, ap, ◌∙◌, inl, inr, arith, append_assoc}
-use Rattle.std.specs.Prelude.{◌⊎◌, ◌==◌, ◌||◌, slice_get}
+use Rattle.std.specs.Prelude.{◌⊎◌, ◌==◌, ◌||◌, nat_lt, slice_get}
 use Rattle.std.specs.Borrow.{Bor}
 use Rattle.std.specs.BTreeSet.{BTreeSet, IsEmpty, Updates}
 use Rattle.std.specs.Cmp.Lexicographic.{slice_cmp}
@@ -17,7 +17,7 @@ use Rattle.btf_plain.specs.declared.items.BtfMember.{BtfMember}
 use Rattle.btf_model.specs.Record.{Record}
 use Rattle.btf_model.specs.Table.{Table, Variant}
 use Rattle.btf_relocate_model.specs.Comparison as model
-use Rattle.btf_relocate_model.specs.Comparison.{parameter_types, prototypes, pair, all_among, essential_names, some_member, each_member, each_parameter, names_match}
+use Rattle.btf_relocate_model.specs.Comparison.{parameter_types, prototypes, pair, all_among, essential_names, enumerators_of, named_enumerators, some_member, each_member, each_parameter, names_match}
 use Rattle.btf_relocate_model.specs.Field.{Member}
 use Rattle.btf_relocate_model.specs.Name.{essential}
 use Rattle.btf_relocate_model.specs.Types.{◌>>=◌, name_at}
@@ -157,6 +157,13 @@ module _ (t : Table) (all : List (List ℕ)) (vs : List Variant) (i : ℕ) where
 
   pub all_are : AllLeft → length vs ≤ i → all_among t all vs ≡ Ok true
   all_are left le = sym left ∙ ap (all_among t all) (drop_all i vs le)
+
+-- the names of the target are read, and it has enough enumerators
+pub names_known : (local target : Table) (r s : Record) (few many : ℕ) → many ≡ length (enumerators_of s) → few ≡ length (enumerators_of r) → few ≤ many
+    → (names : List (List ℕ)) → essential_names target (enumerators_of s) ≡ Ok names → named_enumerators local target r s ≡ all_among local names (enumerators_of r)
+names_known local target r s few many of_target of_local le names read =
+    let enough : nat_lt (length (enumerators_of s)) (length (enumerators_of r)) ≡ false = grind (arith, nat_tests) in
+    rw (enough, read) refl
 
 bytes_turned : (a b : List ℕ) → bytes_eq a b ≡ bytes_eq b a
 bytes_turned [] [] = refl

@@ -14,3 +14,4 @@ pub mod Resolving
 pub mod Searching
 pub mod Sections
 pub mod Steps
+pub mod Placed

@@ -59,24 +59,12 @@ fn are_alike(
         (BtfType::Ptr(_), _) => Ok(true),
         (BtfType::Float(_), _) => Ok(true),
         (BtfType::Int(t), BtfType::Int(u)) => Ok(t.offset() == 0 && u.offset() == 0),
-        (BtfType::Fwd(_), _) => are_named_alike(local, one, target, other),
-        (BtfType::Enum(_), _) => are_named_alike(local, one, target, other),
-        (BtfType::Enum64(_), _) => are_named_alike(local, one, target, other),
+        // One of two types has no name, or their essential names are equal.
+        (BtfType::Fwd(_) | BtfType::Enum(_) | BtfType::Enum64(_), _) => {
+            let name = essential_name(name_at(local, one.name_offset())?);
+            let other_name = essential_name(name_at(target, other.name_offset())?);
+            Ok(name.is_empty() || other_name.is_empty() || name == other_name)
+        }
         _ => Ok(false),
     }
-}
-
-/// Whether one of two types has no name, or their essential names are equal.
-fn are_named_alike(
-    local: &Btf,
-    one: &BtfType,
-    target: &Btf,
-    other: &BtfType,
-) -> Result<bool, RelocationError>
-    ensures { result ≡ model.named_alike local.now target.now (record_of one.now)
-        (record_of other.now) }
-{
-    let name = essential_name(name_at(local, one.name_offset())?);
-    let other_name = essential_name(name_at(target, other.name_offset())?);
-    Ok(name.is_empty() || other_name.is_empty() || name == other_name)
 }

@@ -6,6 +6,7 @@ ghost use Rattle.btf_model.specs.Record.{member_bit_offset, member_bit_field_siz
 ghost use Rattle.btf_records.specs.BtfType.{record_of, type_kind};
 ghost use Rattle.btf_relocate_model.specs.Field as model;
 ghost use Rattle.btf_relocate.specs.Members.{member_of};
+ghost use Rattle.btf_relocate.specs.Placed.{resolved_placed};
 
 use crate::lookup::{resolved, resolved_type, type_at};
 use crate::size::size_of;
@@ -24,16 +25,17 @@ pub fn moved(bit: u32, by: u64) -> Result<u32, RelocationError>
     }
 }
 
-/// The value at an index of values of a type, which begin at a bit.
-fn placed(
+/// The value at an index of values of the type that an id resolves to, where the first value begins at a bit.
+pub fn placed(
     table: &Btf,
     pointer_size: u32,
     type_id: u32,
     bit: u32,
     index: u32,
 ) -> Result<Field, RelocationError>
-    ensures { result ≡ model.placed pointer_size table.now type_id bit index }
+    ensures { result ≡ resolved_placed pointer_size table.now type_id bit index }
 {
+    let type_id = resolved(table, type_id)?;
     let size = size_of(table, pointer_size, type_id)?;
     let bytes = u64::from(index) * u64::from(size);
     // The number of bits would exceed 32 bits.
@@ -48,19 +50,6 @@ fn placed(
         is_member: false,
         is_last: false,
     })
-}
-
-/// The value of a type at an index, counted in whole values of the type.
-pub fn root(
-    table: &Btf,
-    pointer_size: u32,
-    type_id: u32,
-    index: u32,
-) -> Result<Field, RelocationError>
-    ensures { result ≡ model.root pointer_size table.now type_id index }
-{
-    let end = resolved(table, type_id)?;
-    placed(table, pointer_size, end, 0, index)
 }
 
 /// The element at an index of the ARRAY at a place; `None` if there is no ARRAY, or no such element. An array of length
@@ -82,8 +71,7 @@ pub fn element(
     if index >= array.len && !is_flexible {
         return Ok(None);
     }
-    let end = resolved(table, array.element_type)?;
-    let element = placed(table, pointer_size, end, field.bit, index)?;
+    let element = placed(table, pointer_size, array.element_type, field.bit, index)?;
     Ok(Some(element))
 }
 

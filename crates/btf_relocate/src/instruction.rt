@@ -54,7 +54,15 @@ pub fn patch(
 {
     let instruction = instruction_at(code, offset, endianness)?;
     let (patched, instruction) = relocated(endianness, resolved, instruction)?;
-    put_instruction(code, offset, endianness, instruction);
+    let mut bytes = ArrayVec::new();
+    match instruction {
+        Instruction::Narrow(slot) => add_slot(&mut bytes, &slot, endianness),
+        Instruction::Wide(first, second) => {
+            add_slot(&mut bytes, &first, endianness);
+            add_slot(&mut bytes, &second, endianness);
+        }
+    }
+    code[offset..offset + bytes.len()].copy_from_slice(&bytes);
     Ok(patched)
 }
 
@@ -101,22 +109,7 @@ fn instruction_at(code: &[u8], at: usize, order: Endianness) -> Result<Instructi
 pub fn sign_extended_32(number: u32) -> u64
     ensures { result ≡ model.sign_extended 32 number }
 {
-    if number < 0x8000_0000 {
-        u64::from(number)
-    } else {
-        u64::from(number) + 0xffff_ffff_0000_0000
-    }
-}
-
-/// The sign-extension of 16 bits to 64.
-fn sign_extended_16(number: u16) -> u64
-    ensures { result ≡ model.sign_extended 16 number }
-{
-    if number < 0x8000 {
-        u64::from(number)
-    } else {
-        u64::from(number) + 0xffff_ffff_ffff_0000
-    }
+    i64::from(number.cast_signed()).cast_unsigned()
 }
 
 /// Whether a field must have the expected value, and has another one.
@@ -160,7 +153,8 @@ fn patched_immediate(resolved: &Resolved, slot: Slot) -> Result<(Patched, Slot),
 fn patched_offset(resolved: &Resolved, slot: Slot) -> Result<(Patched, Slot), RelocationError>
     ensures { result ≡ model.patched_offset resolved.now slot }
 {
-    if is_unexpected(resolved, sign_extended_16(slot.offset)) {
+    let field = i64::from(slot.offset.cast_signed()).cast_unsigned();
+    if is_unexpected(resolved, field) {
         return Err(RelocationError::WrongImmediate);
     }
     if resolved.value > 32767 {
@@ -191,33 +185,6 @@ fn patched_offset(resolved: &Resolved, slot: Slot) -> Result<(Patched, Slot), Re
     ))
 }
 
-/// An instruction of one slot with the value, by the class of its opcode.
-fn patched_slot(resolved: &Resolved, slot: Slot) -> Result<(Patched, Slot), RelocationError>
-    ensures { result ≡ model.patched_slot resolved.now slot }
-{
-    match slot.opcode % 8 {
-        0 => Err(RelocationError::BadLdImm64),
-        1..=3 => patched_offset(resolved, slot),
-        5 | 6 => Err(RelocationError::NotPatchable),
-        _ => patched_immediate(resolved, slot),
-    }
-}
-
-/// Whether two slots load a 64-bit immediate.
-fn is_ld_imm64(order: Endianness, first: &Slot, second: &Slot) -> bool
-    ensures { result ≡ model.is_ld_imm64 order first.now second.now }
-{
-    let source = match order {
-        Endianness::Little => first.registers / 16,
-        Endianness::Big => first.registers % 16,
-    };
-    source == 0
-        && first.offset == 0
-        && second.opcode == 0
-        && second.registers == 0
-        && second.offset == 0
-}
-
 /// The load of a 64-bit immediate with the value.
 fn patched_wide(
     order: Endianness,
@@ -227,7 +194,12 @@ fn patched_wide(
 ) -> Result<(Patched, Instruction), RelocationError>
     ensures { result ≡ model.patched_wide order resolved.now first second }
 {
-    if !is_ld_imm64(order, &first, &second) {
+    let source = match order {
+        Endianness::Little => first.registers / 16,
+        Endianness::Big => first.registers % 16,
+    };
+    let is_plain = second.opcode == 0 && second.registers == 0 && second.offset == 0;
+    if source != 0 || first.offset != 0 || !is_plain {
         return Err(RelocationError::BadLdImm64);
     }
     let field = u64::from(first.immediate) + u64::from(second.immediate) * 0x1_0000_0000;
@@ -270,7 +242,12 @@ fn relocated(
             Ok((Patched::Poisoned, Instruction::Wide(POISON, POISON)))
         }
         Instruction::Narrow(slot) => {
-            let (patched, slot) = patched_slot(resolved, slot)?;
+            let (patched, slot) = match slot.opcode % 8 {
+                0 => return Err(RelocationError::BadLdImm64),
+                1..=3 => patched_offset(resolved, slot)?,
+                5 | 6 => return Err(RelocationError::NotPatchable),
+                _ => patched_immediate(resolved, slot)?,
+            };
             Ok((patched, Instruction::Narrow(slot)))
         }
         Instruction::Wide(first, second) => patched_wide(order, resolved, first, second),
@@ -286,20 +263,4 @@ fn add_slot(bytes: &mut ArrayVec<u8, 16>, slot: &Slot, order: Endianness)
     let _ = bytes.try_extend_from_slice(&[slot.opcode, slot.registers]);
     let _ = bytes.try_extend_from_slice(&order.write_u16(slot.offset));
     let _ = bytes.try_extend_from_slice(&order.write_u32(slot.immediate));
-}
-
-/// Overwrites the bytes at a place with those of an instruction.
-fn put_instruction(code: &mut [u8], at: usize, order: Endianness, instruction: Instruction)
-    requires { at + length (model.instruction_bytes order instruction) ≤ length code.old }
-    ensures { code.new ≡ model.overwritten at (model.instruction_bytes order instruction) code.old }
-{
-    let mut bytes = ArrayVec::new();
-    match instruction {
-        Instruction::Narrow(slot) => add_slot(&mut bytes, &slot, order),
-        Instruction::Wide(first, second) => {
-            add_slot(&mut bytes, &first, order);
-            add_slot(&mut bytes, &second, order);
-        }
-    }
-    code[at..at + bytes.len()].copy_from_slice(&bytes);
 }

@@ -10,7 +10,7 @@ ghost use Rattle.btf_relocate.specs.Paths.{step_of};
 ghost use Rattle.btf_relocate.specs.Searching.{found_of, size_of};
 
 use crate::compatible::are_compatible;
-use crate::field::{element, moved, root};
+use crate::field::{element, moved, placed};
 use crate::path::{Accessor, Path};
 use crate::search::{Found, find_member};
 use crate::target::Target;
@@ -45,7 +45,7 @@ pub fn matching_field(
     let [Accessor::Element(first), rest @ ..] = accessors else {
         return Ok(None);
     };
-    let field = root(target.table(), target.pointer_size(), candidate, *first)?;
+    let field = placed(target.table(), target.pointer_size(), candidate, 0, *first)?;
     let mut at = Reached { field, count: 1 };
     for accessor in rest {
         match matching_step(alloc, local, target, &at, accessor)? {
@@ -84,32 +84,17 @@ fn matching_step(
         Accessor::Member(name, type_id) => {
             let room = DEPTH_LIMIT.saturating_sub(at.count);
             let found = find_member(alloc, target.table(), *name, at.field.type_id, room)?;
-            member_after(local, target.table(), *type_id, at, found)
+            let Found::Member(field, count) = found else {
+                return Ok(None);
+            };
+            let bit = moved(at.field.bit, u64::from(field.bit))?;
+            if !are_compatible(local, *type_id, target.table(), field.type_id)? {
+                return Ok(None);
+            }
+            Ok(Some(Reached {
+                field: Field { bit, ..field },
+                count: at.count + count,
+            }))
         }
     }
-}
-
-/// A member that was found in the type at a place; `None` if its type is not compatible with the local member's.
-fn member_after(
-    local: &Btf,
-    target: &Btf,
-    type_id: u32,
-    at: &Reached,
-    found: Found,
-) -> Result<Option<Reached>, RelocationError>
-    requires { at.now.count + size_of found ≤ u32.MAX }
-    ensures { GivesBy (option_map reached) (model.member_after local.now target.now type_id
-        (reached at.now) (found_of found)) result }
-{
-    let Found::Member(field, count) = found else {
-        return Ok(None);
-    };
-    let bit = moved(at.field.bit, u64::from(field.bit))?;
-    if !are_compatible(local, type_id, target, field.type_id)? {
-        return Ok(None);
-    }
-    Ok(Some(Reached {
-        field: Field { bit, ..field },
-        count: at.count + count,
-    }))
 }

@@ -6,7 +6,7 @@ ghost use Rattle.btf_relocate.specs.Gives.{GivesBy};
 ghost use Rattle.btf_relocate.specs.Paths.{place_of, path_of};
 
 use crate::access::Access;
-use crate::field::{element, member, root};
+use crate::field::{element, member, placed};
 use crate::lookup::name_at;
 use btf_relocate_model::{Field, RelocationError};
 use btf_table::Btf;
@@ -56,7 +56,7 @@ impl<'t> Path<'t> {
         if indices.is_empty() {
             return Err(RelocationError::BadAccess);
         }
-        let mut field = root(table, LOCAL_POINTER_SIZE, type_id, indices[0])?;
+        let mut field = placed(table, LOCAL_POINTER_SIZE, type_id, 0, indices[0])?;
         let mut accessors = Vec::with_capacity(alloc, indices.len())?;
         accessors.push(Accessor::Element(indices[0]))?;
         let mut is_step = true;
@@ -81,29 +81,16 @@ fn place_at<'t>(table: &'t Btf, around: &Field, index: u32) -> Result<Place<'t>,
         (λ p. model.place_at table.now around.now index ≡ Ok (place_of p))
         (λ e. model.place_at table.now around.now index ≡ Err e) }
 {
-    match member(table, around, index)? {
-        Some((field, name_offset)) => member_place(table, around, field, name_offset),
-        None => match element(table, LOCAL_POINTER_SIZE, around, index)? {
-            Some(field) => Ok(Place {
-                field,
-                step: Some(Accessor::Element(index)),
-            }),
-            None => Err(RelocationError::BadIndex),
-        },
-    }
-}
-
-/// A member, as the place that an index leads to.
-fn member_place<'t>(
-    table: &'t Btf,
-    around: &Field,
-    field: Field,
-    name_offset: u32,
-) -> Result<Place<'t>, RelocationError>
-    ensures { MatchResult result
-        (λ p. model.member_place table.now around.now field name_offset ≡ Ok (place_of p))
-        (λ e. model.member_place table.now around.now field name_offset ≡ Err e) }
-{
+    let Some((field, name_offset)) = member(table, around, index)? else {
+        let Some(field) = element(table, LOCAL_POINTER_SIZE, around, index)? else {
+            return Err(RelocationError::BadIndex);
+        };
+        return Ok(Place {
+            field,
+            step: Some(Accessor::Element(index)),
+        });
+    };
+    // Whether an array in a member without a name is flexible depends on the last member that has a name.
     if name_offset == 0 {
         let field = Field {
             is_member: around.is_member,

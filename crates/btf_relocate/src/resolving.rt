@@ -182,7 +182,10 @@ fn matching(
             Ok(field.map(Match::AtField))
         }
         Subject::OfType(type_id) => {
-            let rule = rule_of(kind);
+            let rule = match kind {
+                RelocationKind::TypeMatches => Rule::Matches,
+                _ => Rule::Compatible,
+            };
             if types_alike(alloc, rule, local, target.table(), *type_id, candidate)? {
                 Ok(Some(Match::AtType(candidate)))
             } else {
@@ -195,16 +198,6 @@ fn matching(
                 None => Ok(None),
             }
         }
-    }
-}
-
-/// The rule by which a kind compares the record's type with a candidate.
-fn rule_of(kind: RelocationKind) -> Rule
-    ensures { result ≡ model.rule_of kind }
-{
-    match kind {
-        RelocationKind::TypeMatches => Rule::Matches,
-        _ => Rule::Compatible,
     }
 }
 

@@ -1,6 +1,6 @@
 //! The value of a field for each kind.
 
-ghost use Rattle.std.specs.Prelude.{◌≡◌, ◌<◌, ◌∷◌, [], if◌then◌else◌, Some, None};
+ghost use Rattle.std.specs.Prelude.{◌≡◌, ◌∷◌, []};
 ghost use Rattle.btf_model.specs.Record.{kind_of};
 ghost use Rattle.btf_records.specs.BtfType.{record_of};
 ghost use Rattle.btf_relocate_model.specs.Value as model;
@@ -98,7 +98,7 @@ fn member_value(
             Ok(plain(shift))
         }
         RelocationKind::FieldRShift64 => {
-            let shift = rest_of(64, load.bits)?;
+            let shift = 64_u64.checked_sub(load.bits).ok_or(RelocationError::ShiftTooWide)?;
             Ok(plain(shift))
         }
         _ => Ok(plain(0)),
@@ -124,8 +124,12 @@ fn load_of(
             bits: u64::from(size) * 8,
         });
     }
-    let btf_type = type_at(table, type_id)?;
-    let size = bit_field_size(btf_type);
+    let size = match type_at(table, type_id)? {
+        BtfType::Int(t) => t.size(),
+        BtfType::Enum(t) => t.size(),
+        BtfType::Enum64(t) => t.size(),
+        _ => 0,
+    };
     if size == 1 || size == 2 || size == 4 || size == 8 {
         first_holding(field, size)
     } else {
@@ -133,76 +137,24 @@ fn load_of(
     }
 }
 
-/// The size of a type that a bit-field may have; 0 for another type.
-fn bit_field_size(btf_type: &BtfType) -> u32
-    ensures { result ≡ model.bit_field_size (kind_of (record_of btf_type.now).info)
-        (record_of btf_type.now) }
-{
-    // Only a use of the kind proves that the info word has it.
-    let _ = btf_type.kind();
-    match btf_type {
-        BtfType::Int(t) => t.size(),
-        BtfType::Enum(t) => t.size(),
-        BtfType::Enum64(t) => t.size(),
-        _ => 0,
-    }
-}
-
-/// The first aligned load from a size on that holds a bit-field.
+/// The first aligned load of 1, 2, 4 or 8 bytes, from a size on, that holds a bit-field.
 fn first_holding(field: &Field, from: u32) -> Result<Load, RelocationError>
     ensures { result ≡ model.first_holding field.now from (1 ∷ 2 ∷ 4 ∷ 8 ∷ []) }
 {
-    if from <= 1
-        && let Some(load) = holding_load(field, 1)
-    {
-        return Ok(load);
-    }
-    if from <= 2
-        && let Some(load) = holding_load(field, 2)
-    {
-        return Ok(load);
-    }
-    if from <= 4
-        && let Some(load) = holding_load(field, 4)
-    {
-        return Ok(load);
-    }
-    if from <= 8
-        && let Some(load) = holding_load(field, 8)
-    {
-        return Ok(load);
+    for size in [1, 2, 4, 8] {
+        let offset = field.bit / 8 / size * size;
+        let start = field.bit - offset * 8;
+        let bits = u64::from(field.bits);
+        if from <= size && u64::from(start) + bits <= u64::from(size) * 8 {
+            return Ok(Load {
+                offset,
+                size,
+                start,
+                bits,
+            });
+        }
     }
     Err(RelocationError::BitfieldTooWide)
-}
-
-/// The load of this many bytes that is aligned and has the first bit of a bit-field; `None` if it does not hold all bits.
-fn holding_load(field: &Field, size: u32) -> Option<Load>
-    requires { 0 < size }
-    ensures { result ≡ (if model.holds (model.aligned_load field.now size)
-        then Some (model.aligned_load field.now size) else None) }
-{
-    let offset = field.bit / 8 / size * size;
-    let load = Load {
-        offset,
-        size,
-        start: field.bit - offset * 8,
-        bits: u64::from(field.bits),
-    };
-    if u64::from(load.start) + load.bits <= u64::from(size) * 8 {
-        Some(load)
-    } else {
-        None
-    }
-}
-
-/// The bits of a whole that a number of them leaves.
-fn rest_of(whole: u64, bits: u64) -> Result<u64, RelocationError>
-    ensures { result ≡ model.rest_of whole bits }
-{
-    if whole < bits {
-        return Err(RelocationError::ShiftTooWide);
-    }
-    Ok(whole - bits)
 }
 
 /// The left shift that moves the last bit of a loaded field to the top of a register of 64 bits.
@@ -211,14 +163,14 @@ fn left_shift(order: Endianness, load: &Load) -> Result<u64, RelocationError>
 {
     let start = u64::from(load.start);
     match order {
-        Endianness::Little => match load.bits.checked_add(start) {
-            Some(end) => rest_of(64, end),
+        Endianness::Little => {
+            let end = load.bits.saturating_add(start);
+            64_u64.checked_sub(end).ok_or(RelocationError::ShiftTooWide)
+        }
+        Endianness::Big => match 8_u64.checked_sub(u64::from(load.size)) {
+            Some(bytes) => Ok(start + bytes * 8),
             None => Err(RelocationError::ShiftTooWide),
         },
-        Endianness::Big => {
-            let bytes = rest_of(8, u64::from(load.size))?;
-            Ok(start + bytes * 8)
-        }
     }
 }
 

@@ -48,7 +48,16 @@ pub fn enumerators_match(
         return Ok(false);
     }
     let names = essential_names(alloc, target, other)?;
-    all_among(local, one, &names)
+    for index in 0..count(one) {
+        let Some(enumerator) = Enumerator::at(one, index) else {
+            return Ok(true);
+        };
+        let name = name_at(local, enumerator.name_offset)?;
+        if !names.contains(essential_name(name)) {
+            return Ok(false);
+        }
+    }
+    Ok(true)
 }
 
 /// The essential names of an enumeration's enumerators.
@@ -73,25 +82,4 @@ fn essential_names<'t>(
         names.insert(essential_name(name))?;
     }
     Ok(names)
-}
-
-/// Whether the essential names of an enumeration's enumerators are among these.
-fn all_among(
-    table: &Btf,
-    btf_type: &BtfType,
-    names: &BTreeSet<&[u8]>,
-) -> Result<bool, RelocationError>
-    ensures { (all : List (List ℕ)) → HasNames names.now all
-        → result ≡ model.all_among table.now all (model.enumerators_of (record_of btf_type.now)) }
-{
-    for index in 0..count(btf_type) {
-        let Some(enumerator) = Enumerator::at(btf_type, index) else {
-            return Ok(true);
-        };
-        let name = name_at(table, enumerator.name_offset)?;
-        if !names.contains(essential_name(name)) {
-            return Ok(false);
-        }
-    }
-    Ok(true)
 }

@@ -198,12 +198,13 @@ fn declared_step<'t>(is_pointee: bool, one: &'t BtfType, other: &'t BtfType) -> 
     // Only a use of the kinds proves that the info words have them.
     let _ = (one.kind(), other.kind());
     if is_pointee {
-        return Step::Ends(both_equal(declares_union(one), declares_union(other)));
+        return match (declares_union(one), declares_union(other)) {
+            (Some(union), Some(other_union)) => Step::Ends(union == other_union),
+            _ => Step::Ends(false),
+        };
     }
     match (one, other) {
-        (BtfType::Fwd(_), BtfType::Fwd(_)) => {
-            Step::Ends(both_equal(declares_union(one), declares_union(other)))
-        }
+        (BtfType::Fwd(t), BtfType::Fwd(u)) => Step::Ends(t.is_union() == u.is_union()),
         (BtfType::Struct(_), BtfType::Struct(_)) | (BtfType::Union(_), BtfType::Union(_)) => {
             let (members, others) = (members(one), members(other));
             if others.len() < members.len() {
@@ -227,15 +228,5 @@ fn declares_union(btf_type: &BtfType) -> Option<bool>
         BtfType::Union(_) => Some(true),
         BtfType::Fwd(t) => Some(t.is_union()),
         _ => None,
-    }
-}
-
-/// Whether both are there, and equal.
-fn both_equal(one: Option<bool>, other: Option<bool>) -> bool
-    ensures { result ≡ model.both_equal one other }
-{
-    match (one, other) {
-        (Some(one), Some(other)) => one == other,
-        _ => false,
     }
 }

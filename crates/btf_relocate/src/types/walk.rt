@@ -5,7 +5,7 @@ ghost use Rattle.btf_relocate_model.specs.Comparison as model;
 ghost use Rattle.btf_model.specs.Table.{Table};
 ghost use Rattle.btf_relocate.specs.Comparing.{LeavesFewer, LeavesFewerPlaces};
 ghost use Rattle.btf_relocate.specs.Members.{member_of};
-ghost use Rattle.btf_relocate.specs.Steps.{Compare, Continues, NamedMember, NextMember, comparison, next_of, place_after, resumed, type_of};
+ghost use Rattle.btf_relocate.specs.Steps.{Compare, Continues, NamedMember, NextMember, comparison, next_of, resumed, type_of};
 
 use super::Frame;
 use super::names::names_match;
@@ -120,7 +120,10 @@ fn next_member(
         (map member_of others.now) frame.now.index frame.now.other answer result }
     ensures fewer { IfOk result (LeavesFewerPlaces frame.now.index frame.now.other) }
 {
-    let (index, from) = place_after(frame.index, frame.other, answer);
+    let (index, from) = match answer {
+        Some(true) => (frame.index.saturating_add(1), 0),
+        _ => (frame.index, frame.other),
+    };
     let Some(member) = members.get(index) else {
         return Ok(Next::Ends(true));
     };
@@ -134,16 +137,6 @@ fn next_member(
             Ok(Next::Asks(pair, index, after))
         }
         None => Ok(Next::Ends(false)),
-    }
-}
-
-/// The local member that is next, and the member of the target from which on a match for it is searched.
-fn place_after(index: usize, other: usize, answer: Option<bool>) -> (usize, usize)
-    ensures { result ≡ place_after index other answer }
-{
-    match answer {
-        Some(true) => (index.saturating_add(1), 0),
-        _ => (index, other),
     }
 }
 

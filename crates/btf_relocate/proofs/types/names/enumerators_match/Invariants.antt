@@ -4,8 +4,8 @@ use Rattle.btf_records.specs.BtfType.{record_of}
 use Rattle.btf_relocate_model.specs.Comparison.{enumerators_of}
 use Rattle.btf_relocate.specs.Steps.{HasNames}
 use Rattle.btf_relocate.proofs.Definitions.{AllLeft}
-use Rattle.btf_relocate.proofs.types.names.all_among.Given as goal
+use Rattle.btf_relocate.proofs.types.names.enumerators_match.Given as goal
 
 abbrev pub invariant-loop-index : goal.invariant-loop-index
 invariant-loop-index l =
-    (all : List (List ℕ)) → HasNames l.names all → AllLeft l.table all (enumerators_of (record_of l.btf_type)) l.index
+    (all : List (List ℕ)) → HasNames l.names all → AllLeft l.local all (enumerators_of (record_of l.one)) l.index
