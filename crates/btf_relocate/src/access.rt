@@ -1,9 +1,7 @@
 //! Access strings.
 
-ghost use Rattle.std.specs.Prelude.{◌≡◌, ◌<◌, length, MatchOption, ◌∷◌, []};
-ghost use Rattle.std.specs.List.{slice_split};
-ghost use Rattle.btf_relocate_model.specs.Access.{index_of, is_colon};
-ghost use Rattle.btf_relocate.specs.Access.{AddsIndex};
+ghost use Rattle.std.specs.Prelude.{◌≡◌};
+ghost use Rattle.btf_relocate_model.specs.Access.{index_of};
 
 use arrayvec::ArrayVec;
 use btf_relocate_model::RelocationError;
@@ -46,12 +44,14 @@ impl Access {
         ensures { IsAccess (access_of text.now) result }
     {
         let mut indices = ArrayVec::new();
-        let mut rest = text;
-        while let Some((part, after)) = split_first(rest) {
-            add_index(&mut indices, part)?;
-            rest = after;
+        for part in text.split(|byte| *byte == b':') {
+            let Some(index) = index_of(part) else {
+                return Err(RelocationError::BadAccess);
+            };
+            if indices.try_push(index).is_err() {
+                return Err(RelocationError::BadAccess);
+            }
         }
-        add_index(&mut indices, rest)?;
         Ok(Access { indices })
     }
 
@@ -61,33 +61,6 @@ impl Access {
     {
         &self.indices
     }
-}
-
-/// The part before the first colon, and the text after it; `None` if there is no colon.
-fn split_first(text: &[u8]) -> Option<(&[u8], &[u8])>
-    ensures { MatchOption result (slice_split is_colon text.now ≡ text.now ∷ [])
-        (λ p. (slice_split is_colon text.now ≡ p.0.now ∷ slice_split is_colon p.1.now)
-        × (length p.1.now < length text.now)) }
-{
-    for (end, byte) in text.iter().enumerate() {
-        if *byte == b':' {
-            return Some((&text[..end], &text[end + 1..]));
-        }
-    }
-    None
-}
-
-/// Adds the index of a part of an access string.
-fn add_index(indices: &mut ArrayVec<u32, ACCESS_LIMIT>, part: &[u8]) -> Result<(), RelocationError>
-    ensures { AddsIndex indices.old.items indices.new.items (index_of part.now) result }
-{
-    let Some(index) = index_of(part) else {
-        return Err(RelocationError::BadAccess);
-    };
-    if indices.try_push(index).is_err() {
-        return Err(RelocationError::BadAccess);
-    }
-    Ok(())
 }
 
 /// The index that a part of an access string spells; `None` if it is empty, has other bytes than digits, or spells a

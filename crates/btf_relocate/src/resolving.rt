@@ -262,30 +262,19 @@ fn answers(
     let mut kept = Vec::new(alloc);
     for candidate in candidates {
         let found = matching(alloc, local, target, kind, subject, *candidate)?;
-        let answer = answer_of(target, kind, found)?;
-        common = joined(common, answer)?;
-        if answer.is_some() {
-            kept.push(*candidate)?;
+        let Some(answer) = answer_of(target, kind, found)? else {
+            continue;
+        };
+        if let Some(first) = common {
+            if first.bit != answer.bit || first.value.value != answer.value.value {
+                return Err(RelocationError::Ambiguous);
+            }
+        } else {
+            common = Some(answer);
         }
+        kept.push(*candidate)?;
     }
     Ok((common, kept))
-}
-
-/// The first answer, if the next one agrees with it.
-fn joined(first: Option<Answer>, next: Option<Answer>) -> Result<Option<Answer>, RelocationError>
-    ensures { result ≡ model.joined first next }
-{
-    match (first, next) {
-        (Some(first), Some(next)) => {
-            if first.bit == next.bit && first.value.value == next.value.value {
-                Ok(Some(first))
-            } else {
-                Err(RelocationError::Ambiguous)
-            }
-        }
-        (Some(first), None) => Ok(Some(first)),
-        (None, next) => Ok(next),
-    }
 }
 
 /// What is written for the answer of the candidates, or if there is none.

@@ -1,10 +1,9 @@
 //! The table that a program is relocated against.
 
-ghost use Rattle.std.specs.Prelude.{◌≡◌, true, false, IfOk, IfErr, MatchOption};
+ghost use Rattle.std.specs.Prelude.{◌≡◌, IfOk, IfErr};
 ghost use Rattle.std.specs.List.{list_any};
 ghost use Rattle.std.specs.Str.{bytes_eq};
 ghost use Rattle.btf_plain.specs.declared.error.BtfError.TheVariants.{OutOfMemory};
-ghost use Rattle.btf_records.specs.BtfType.{record_of};
 ghost use Rattle.btf_relocate_model.specs.Candidates.{compared_number, candidates};
 ghost use Rattle.btf_relocate.specs.Index.{IsIndex, kind_code, key_of, key_cmp, named};
 ghost use Rattle.btf_relocate.specs.Entries.{AreEntries};
@@ -56,10 +55,16 @@ impl<'t> Target<'t> {
         ensures indexed { IfOk result (λ target. target ≡ table.now) }
         ensures only { IfErr result (λ e. e ≡ OutOfMemory) }
     {
+        let mut entries = named_types(alloc, table)?;
+        entries.sort_by_key(|entry| (entry.name, entry.kind))?;
+        let mut ids = Vec::with_capacity(alloc, entries.len())?;
+        for entry in &entries {
+            ids.push(entry.type_id)?;
+        }
         Ok(Target {
             table,
             pointer_size: pointer_size(table),
-            ids: sorted_ids(alloc, table)?,
+            ids,
         })
     }
 
@@ -121,19 +126,6 @@ fn key_of(table: &Btf, type_id: u32) -> (&[u8], u32)
     }
 }
 
-/// The ids of the types that have a name, in the order of their keys.
-fn sorted_ids(alloc: Global, table: &Btf) -> Result<Vec<u32>, AllocError>
-    ensures { IfOk result (λ ids. IsIndex table.now ids.items) }
-{
-    let mut entries = named_types(alloc, table)?;
-    entries.sort_by_key(|entry| (entry.name, entry.kind))?;
-    let mut ids = Vec::with_capacity(alloc, entries.len())?;
-    for entry in &entries {
-        ids.push(entry.type_id)?;
-    }
-    Ok(ids)
-}
-
 /// The number of a kind when kinds are compared: ENUM64 counts as ENUM.
 pub fn compared_number(kind: u32) -> u32
     ensures { result ≡ compared_number kind }
@@ -167,32 +159,16 @@ fn pointer_size(table: &Btf) -> u32
         let Ok(btf_type) = table.type_by_id(type_id) else {
             return 8;
         };
-        if let Some(size) = long_size(table, btf_type) {
-            return size;
+        // Only a use of the kind proves that the info word has it.
+        let _ = btf_type.kind();
+        if let BtfType::Int(int) = btf_type {
+            let size = int.size();
+            if (size == 4 || size == 8) && is_long(name_or_none(table, btf_type.name_offset())) {
+                return size;
+            }
         }
     }
     8
-}
-
-/// The size of an INT of 4 or 8 bytes with the name of the C type `long`; `None` for another type.
-fn long_size(table: &Btf, btf_type: &BtfType) -> Option<u32>
-    ensures { MatchOption result (model.is_long table.now (record_of btf_type.now) ≡ false)
-        (λ size. (model.is_long table.now (record_of btf_type.now) ≡ true)
-        × (size ≡ (record_of btf_type.now).third)) }
-{
-    // Only a use of the kind proves that the info word has it.
-    let _ = btf_type.kind();
-    match btf_type {
-        BtfType::Int(int) => {
-            let size = int.size();
-            if (size == 4 || size == 8) && is_long(name_or_none(table, btf_type.name_offset())) {
-                Some(size)
-            } else {
-                None
-            }
-        }
-        _ => None,
-    }
 }
 
 /// Whether a name is one that compilers give to the C type `long`.

@@ -98,7 +98,9 @@ fn member_value(
             Ok(plain(shift))
         }
         RelocationKind::FieldRShift64 => {
-            let shift = 64_u64.checked_sub(load.bits).ok_or(RelocationError::ShiftTooWide)?;
+            let shift = 64_u64
+                .checked_sub(load.bits)
+                .ok_or(RelocationError::ShiftTooWide)?;
             Ok(plain(shift))
         }
         _ => Ok(plain(0)),
