@@ -12,6 +12,7 @@ mod Pointers
 mod Answering
 mod Resolves
 mod Sections
+mod KindNumbers
 mod Indexes
 mod Pairs
 mod Comparing

@@ -4,7 +4,7 @@ ghost use Rattle.std.specs.Prelude.{◌≡◌};
 ghost use Rattle.btf_records.specs.BtfType.{record_of};
 ghost use Rattle.btf_relocate_model.specs.Compatible as model;
 
-use crate::lookup::{kind_number, name_at, resolved_type};
+use crate::lookup::{name_at, resolved_type};
 use crate::name::essential_name;
 use crate::target::compared_number;
 use btf_records::BtfType;
@@ -52,7 +52,7 @@ fn are_alike(
     if one.is_composite() && other.is_composite() {
         return Ok(true);
     }
-    if compared_number(kind_number(one)) != compared_number(kind_number(other)) {
+    if compared_number(one.kind()) != compared_number(other.kind()) {
         return Ok(false);
     }
     match (one, other) {

@@ -4,12 +4,11 @@ ghost use Rattle.std.specs.Prelude.{◌≡◌, Ok, Err, length, slice_get, Match
 ghost use Rattle.std.specs.Option.{option_map};
 ghost use Rattle.btf_records.specs.BtfType.{record_of};
 ghost use Rattle.btf_relocate_model.specs.Enumerator as model;
-ghost use Rattle.btf_relocate.specs.Enumerators.{variant_of, narrow, wide, enumerators_of};
+ghost use Rattle.btf_relocate.specs.Enumerators.{variant_of, enumerators_of};
 
 use crate::instruction::sign_extended_32;
 use crate::lookup::{name_at, resolved_type};
 use crate::name::essential_name;
-use btf_plain::{BtfEnum, BtfEnum64};
 use btf_records::BtfType;
 use btf_relocate_model::RelocationError;
 use btf_table::Btf;
@@ -24,27 +23,6 @@ pub struct Enumerator {
 }
 
 impl Enumerator {
-    /// An enumerator of an ENUM.
-    fn of_enum(enumerator: &BtfEnum) -> Enumerator
-        ensures { variant_of result ≡ narrow enumerator.now }
-    {
-        Enumerator {
-            name_offset: enumerator.name_offset,
-            value: sign_extended_32(enumerator.value),
-        }
-    }
-
-    /// An enumerator of an ENUM64.
-    fn of_enum64(enumerator: &BtfEnum64) -> Enumerator
-        ensures { variant_of result ≡ wide enumerator.now }
-    {
-        Enumerator {
-            name_offset: enumerator.name_offset,
-            value: u64::from(enumerator.value_high) * 0x1_0000_0000
-                + u64::from(enumerator.value_low),
-        }
-    }
-
     /// The enumerator of a type at an index; `None` if the type has none there.
     pub fn at(btf_type: &BtfType, index: usize) -> Option<Enumerator>
         ensures { option_map variant_of result
@@ -53,8 +31,14 @@ impl Enumerator {
         // Only a use of the kind proves that the info word has it.
         let _ = btf_type.kind();
         match btf_type {
-            BtfType::Enum(t) => t.variants().get(index).map(Enumerator::of_enum),
-            BtfType::Enum64(t) => t.variants().get(index).map(Enumerator::of_enum64),
+            BtfType::Enum(t) => t.variants().get(index).map(|variant| Enumerator {
+                name_offset: variant.name_offset,
+                value: sign_extended_32(variant.value),
+            }),
+            BtfType::Enum64(t) => t.variants().get(index).map(|variant| Enumerator {
+                name_offset: variant.name_offset,
+                value: u64::from(variant.value_high) * 0x1_0000_0000 + u64::from(variant.value_low),
+            }),
             _ => None,
         }
     }

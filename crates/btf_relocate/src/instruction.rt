@@ -112,13 +112,6 @@ pub fn sign_extended_32(number: u32) -> u64
     i64::from(number.cast_signed()).cast_unsigned()
 }
 
-/// Whether a field must have the expected value, and has another one.
-fn is_unexpected(resolved: &Resolved, field: u64) -> bool
-    ensures { result ≡ model.is_unexpected resolved.now field }
-{
-    resolved.validates && field != resolved.expected
-}
-
 /// The two bits of an opcode for a number of bytes.
 fn size_bits(size: u32) -> Option<u8>
     ensures { result ≡ model.size_bits size }
@@ -139,7 +132,8 @@ fn patched_immediate(resolved: &Resolved, slot: Slot) -> Result<(Patched, Slot),
     if slot.opcode / 8 % 2 == 1 {
         return Err(RelocationError::NotImmediate);
     }
-    if is_unexpected(resolved, sign_extended_32(slot.immediate)) {
+    let field = sign_extended_32(slot.immediate);
+    if resolved.validates && field != resolved.expected {
         return Err(RelocationError::WrongImmediate);
     }
     let immediate = (resolved.value % 0x1_0000_0000) as u32;
@@ -154,7 +148,7 @@ fn patched_offset(resolved: &Resolved, slot: Slot) -> Result<(Patched, Slot), Re
     ensures { result ≡ model.patched_offset resolved.now slot }
 {
     let field = i64::from(slot.offset.cast_signed()).cast_unsigned();
-    if is_unexpected(resolved, field) {
+    if resolved.validates && field != resolved.expected {
         return Err(RelocationError::WrongImmediate);
     }
     if resolved.value > 32767 {
@@ -203,7 +197,7 @@ fn patched_wide(
         return Err(RelocationError::BadLdImm64);
     }
     let field = u64::from(first.immediate) + u64::from(second.immediate) * 0x1_0000_0000;
-    if is_unexpected(resolved, field) {
+    if resolved.validates && field != resolved.expected {
         return Err(RelocationError::WrongImmediate);
     }
     let low = (resolved.value % 0x1_0000_0000) as u32;

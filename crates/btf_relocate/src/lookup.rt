@@ -1,7 +1,7 @@
 //! Lookups in a table, with the errors of a relocation.
 
 ghost use Rattle.std.specs.Prelude.{◌≡◌, Ok, Err, Some, IfSome, MatchResult};
-ghost use Rattle.btf_model.specs.Record.{kind_of, kind_number};
+ghost use Rattle.btf_model.specs.Record.{kind_of};
 ghost use Rattle.btf_plain.specs.Error.{refusal_of};
 ghost use Rattle.btf_records.specs.BtfType.{record_of, type_kind};
 ghost use Rattle.btf_relocate_model.specs.Types as model;
@@ -56,13 +56,6 @@ pub fn resolved_type(table: &Btf, type_id: u32) -> Result<&BtfType, RelocationEr
 {
     let id = resolved(table, type_id)?;
     type_at(table, id)
-}
-
-/// The number of a type's kind.
-pub fn kind_number(btf_type: &BtfType) -> u32
-    ensures { result ≡ kind_number (record_of btf_type.now).info }
-{
-    btf_type.info() / 0x100_0000 % 32
 }
 
 /// The bytes of a name that is needed, which need not be UTF-8.

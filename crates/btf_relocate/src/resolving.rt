@@ -227,25 +227,6 @@ fn value_of(
     }
 }
 
-/// The answer of a match: its value, and where a field begins.
-fn answer_of(
-    target: &Target<'_>,
-    kind: RelocationKind,
-    found: Option<Match>,
-) -> Result<Option<Answer>, RelocationError>
-    ensures { result ≡ model.answer_of (pointer_size target.now) target.now kind found }
-{
-    let Some(found) = found else {
-        return Ok(None);
-    };
-    let bit = match found {
-        Match::AtField(field) => field.bit,
-        _ => 0,
-    };
-    let value = value_of(target.table(), target.pointer_size(), kind, &found)?;
-    Ok(Some(Answer { bit, value }))
-}
-
 /// The answer of all candidates that match, and these candidates.
 fn answers(
     alloc: Global,
@@ -261,10 +242,15 @@ fn answers(
     let mut common: Option<Answer> = None;
     let mut kept = Vec::new(alloc);
     for candidate in candidates {
-        let found = matching(alloc, local, target, kind, subject, *candidate)?;
-        let Some(answer) = answer_of(target, kind, found)? else {
+        let Some(found) = matching(alloc, local, target, kind, subject, *candidate)? else {
             continue;
         };
+        let bit = match found {
+            Match::AtField(field) => field.bit,
+            _ => 0,
+        };
+        let value = value_of(target.table(), target.pointer_size(), kind, &found)?;
+        let answer = Answer { bit, value };
         if let Some(first) = common {
             if first.bit != answer.bit || first.value.value != answer.value.value {
                 return Err(RelocationError::Ambiguous);

@@ -6,7 +6,7 @@ ghost use Rattle.btf_relocate_model.specs.Section.{candidates_of, relocated_sect
 ghost use Rattle.btf_relocate.specs.Sections.{HasOthers, HasLeft, Relocated, Relocates, is_shared, left_in, setting};
 
 use crate::instruction::patch;
-use crate::lookup::{kind_number, name_or_none, type_at};
+use crate::lookup::{name_or_none, type_at};
 use crate::resolving::resolve;
 use crate::target::Target;
 use btf_relocate_model::{Patched, RelocationError};
@@ -115,10 +115,7 @@ pub fn candidates_of(
     match type_at(local, type_id) {
         Ok(btf_type) => {
             let name = name_or_none(local, btf_type.name_offset());
-            Vec::from_slice(
-                alloc,
-                target.candidates_of_kind(name, kind_number(btf_type)),
-            )
+            Vec::from_slice(alloc, target.candidates(name, btf_type.kind()))
         }
         Err(_) => Ok(Vec::new(alloc)),
     }

@@ -1,15 +1,17 @@
 //! The table that a program is relocated against.
 
-ghost use Rattle.std.specs.Prelude.{◌≡◌, IfOk, IfErr};
+ghost use Rattle.std.specs.Prelude.{◌≡◌, ℕ, Some, IfOk, IfErr};
 ghost use Rattle.std.specs.List.{list_any};
 ghost use Rattle.std.specs.Str.{bytes_eq};
+ghost use Rattle.btf_model.specs.Record.{kind_number, kind_of};
+ghost use Rattle.btf_plain.specs.Kind as kinds;
 ghost use Rattle.btf_plain.specs.declared.error.BtfError.TheVariants.{OutOfMemory};
 ghost use Rattle.btf_relocate_model.specs.Candidates.{compared_number, candidates};
 ghost use Rattle.btf_relocate.specs.Index.{IsIndex, kind_code, key_of, key_cmp, named};
 ghost use Rattle.btf_relocate.specs.Entries.{AreEntries};
 ghost use Rattle.btf_relocate_model.specs.Types as model;
 
-use crate::lookup::{kind_number, name_or_none};
+use crate::lookup::name_or_none;
 use crate::name::essential_name;
 use btf_plain::{BtfError, BtfKind};
 use btf_records::BtfType;
@@ -88,13 +90,6 @@ impl<'t> Target<'t> {
     pub fn candidates(&self, name: &[u8], kind: BtfKind) -> &[u32]
         ensures { result.now ≡ candidates self.now name.now (kind_code kind) }
     {
-        self.candidates_of_kind(name, kind as u32)
-    }
-
-    /// The candidates for the number of a kind.
-    pub(crate) fn candidates_of_kind(&self, name: &[u8], kind: u32) -> &[u32]
-        ensures { result.now ≡ candidates self.now name.now kind }
-    {
         let name = essential_name(name);
         let kind = compared_number(kind);
         let table = self.table;
@@ -120,17 +115,22 @@ fn key_of(table: &Btf, type_id: u32) -> (&[u8], u32)
     match table.type_by_id(type_id) {
         Ok(btf_type) => (
             essential_name(name_or_none(table, btf_type.name_offset())),
-            compared_number(kind_number(btf_type)),
+            compared_number(btf_type.kind()),
         ),
         Err(_) => (&[], 0),
     }
 }
 
 /// The number of a kind when kinds are compared: ENUM64 counts as ENUM.
-pub fn compared_number(kind: u32) -> u32
-    ensures { result ≡ compared_number kind }
+pub fn compared_number(kind: BtfKind) -> u32
+    ensures code { result ≡ compared_number (kind_code kind) }
+    ensures word { (info : ℕ) → kind_of info ≡ Some (kinds.kind kind)
+        → result ≡ compared_number (kind_number info) }
 {
-    if kind == 19 { 6 } else { kind }
+    match kind {
+        BtfKind::Enum64 => BtfKind::Enum as u32,
+        kind => kind as u32,
+    }
 }
 
 /// The types that have a name, in rising order of their ids.

@@ -9,7 +9,7 @@ ghost use Rattle.btf_relocate.specs.Steps.{comparison, enumeration_size, step_vi
 
 use super::names::{enumerators_match, names_match};
 use crate::field::members;
-use crate::lookup::{kind_number, type_at};
+use crate::lookup::type_at;
 use crate::target::compared_number;
 use crate::value::is_signed;
 use btf_plain::{BtfMember, BtfParam, FuncProto};
@@ -81,7 +81,7 @@ fn compatible_step<'t>(is_pointee: bool, one: &'t BtfType, other: &'t BtfType) -
     ensures { step_view result
         ≡ model.compatible_step is_pointee (record_of one.now) (record_of other.now) }
 {
-    if compared_number(kind_number(one)) != compared_number(kind_number(other)) {
+    if compared_number(one.kind()) != compared_number(other.kind()) {
         return Step::Ends(false);
     }
     // Only a use of the kinds proves that the info words have them.
