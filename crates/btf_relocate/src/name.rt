@@ -1,7 +1,7 @@
 //! Essential names.
 
 ghost use Rattle.std.specs.Prelude.{◌≡◌};
-ghost use Rattle.btf_relocate_model.specs.Name.{essential, separates};
+ghost use Rattle.btf_relocate_model.specs.Name.{essential};
 
 /// The part of a type's or an enumerator's name that counts when the target is searched: the name without its last
 /// flavor. A flavor begins with three underscores between two bytes that are no underscores. So the essential name of
@@ -13,19 +13,13 @@ pub fn essential_name(name: &[u8]) -> &[u8]
     ensures { result.now ≡ essential name.now }
 {
     for last in (0..name.len()).rev() {
-        if separates(&name[last..]) {
+        // A flavor begins after the byte at this place.
+        if let [before, b'_', b'_', b'_', after, ..] = &name[last..]
+            && *before != b'_'
+            && *after != b'_'
+        {
             return &name[..last + 1];
         }
     }
     name
-}
-
-/// Whether a flavor begins after the first byte.
-fn separates(name: &[u8]) -> bool
-    ensures { result ≡ separates name.now }
-{
-    match name {
-        [before, b'_', b'_', b'_', after, ..] => *before != b'_' && *after != b'_',
-        _ => false,
-    }
 }

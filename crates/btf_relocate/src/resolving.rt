@@ -68,16 +68,13 @@ pub fn resolve(
     if question.name.is_empty() {
         return Err(RelocationError::AnonymousType { type_id });
     }
-    let found = local_match(&question.subject);
+    let found = match &question.subject {
+        Subject::OfField(path) => Match::AtField(path.field),
+        Subject::OfType(type_id) => Match::AtType(*type_id),
+        Subject::OfEnumerator(_, value) => Match::AtEnumerator(*value),
+    };
     let expected = value_of(local, LOCAL_POINTER_SIZE, question.kind, &found)?;
-    let (answer, matching) = answers(
-        alloc,
-        local,
-        target,
-        question.kind,
-        &question.subject,
-        candidates.as_slice(),
-    )?;
+    let (answer, matching) = answers(alloc, local, target, &question, candidates.as_slice())?;
     if answer.is_some() {
         *candidates = matching;
     }
@@ -153,17 +150,6 @@ fn subject_of<'t>(
     }
 }
 
-/// The subject itself, as a match in the program's own table.
-fn local_match(subject: &Subject<'_>) -> Match
-    ensures { result ≡ model.local_match (subject_view subject.now) }
-{
-    match subject {
-        Subject::OfField(path) => Match::AtField(path.field),
-        Subject::OfType(type_id) => Match::AtType(*type_id),
-        Subject::OfEnumerator(_, value) => Match::AtEnumerator(*value),
-    }
-}
-
 /// What a candidate has for the subject; `None` if it does not match.
 fn matching(
     alloc: Global,
@@ -232,17 +218,18 @@ fn answers(
     alloc: Global,
     local: &Btf,
     target: &Target<'_>,
-    kind: RelocationKind,
-    subject: &Subject<'_>,
+    question: &Question<'_>,
     candidates: &[u32],
 ) -> Result<(Option<Answer>, Vec<u32>), RelocationError>
-    ensures { GivesBy answers_view (model.answers (answer_at local.now target.now kind
-        (subject_view subject.now)) None candidates.now) result }
+    ensures { GivesBy answers_view (model.answers (answer_at local.now target.now question.now.kind
+        (subject_view question.now.subject)) None candidates.now) result }
 {
+    let kind = question.kind;
     let mut common: Option<Answer> = None;
     let mut kept = Vec::new(alloc);
     for candidate in candidates {
-        let Some(found) = matching(alloc, local, target, kind, subject, *candidate)? else {
+        let found = matching(alloc, local, target, kind, &question.subject, *candidate)?;
+        let Some(found) = found else {
             continue;
         };
         let bit = match found {

@@ -1,9 +1,9 @@
 //! The records of a section.
 
-ghost use Rattle.std.specs.Prelude.{◌≡◌, IfOk, OnOk};
+ghost use Rattle.std.specs.Prelude.{◌≡◌, IfOk};
 ghost use Rattle.btf_relocate_model.specs.Resolution.{type_word};
 ghost use Rattle.btf_relocate_model.specs.Section.{candidates_of, relocated_section};
-ghost use Rattle.btf_relocate.specs.Sections.{HasOthers, HasLeft, Relocated, Relocates, is_shared, left_in, setting};
+ghost use Rattle.btf_relocate.specs.Sections.{HasOthers, Relocated, Relocates, is_shared, left_in, setting};
 
 use crate::instruction::patch;
 use crate::lookup::{name_or_none, type_at};
@@ -56,7 +56,9 @@ pub fn relocate_section(
             return Err(AllocError);
         }
         outcomes.push(outcome)?;
-        leave(record, policy, candidates, &mut shared)?;
+        if let CandidatePolicy::Shared = policy {
+            shared.insert(record[1], candidates)?;
+        }
     }
     Ok(outcomes)
 }
@@ -81,24 +83,6 @@ fn candidates_for(
             None => candidates_of(alloc, local, target, record[1]),
         },
         CandidatePolicy::Fresh => candidates_of(alloc, local, target, record[1]),
-    }
-}
-
-/// Leaves the candidates that remain to later records of the type, under [`CandidatePolicy::Shared`].
-fn leave(
-    record: &[u32; 4],
-    policy: CandidatePolicy,
-    candidates: Vec<u32>,
-    shared: &mut BTreeMap<u32, Vec<u32>>,
-) -> Result<(), AllocError>
-    ensures { OnOk result (HasLeft policy (type_word «record».now) candidates shared.old shared.new) }
-{
-    match policy {
-        CandidatePolicy::Shared => {
-            let _ = shared.insert(record[1], candidates)?;
-            Ok(())
-        }
-        CandidatePolicy::Fresh => Ok(()),
     }
 }
 

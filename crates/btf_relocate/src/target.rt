@@ -20,6 +20,21 @@ use std::alloc::{AllocError, Global};
 use std::cmp::Ordering;
 use std::marker::Model;
 
+/// The names that compilers give to the C type `long`.
+const LONG_NAMES: [&str; 11] = [
+    "long",
+    "long int",
+    "int long",
+    "unsigned long",
+    "long unsigned",
+    "unsigned long int",
+    "unsigned int long",
+    "long unsigned int",
+    "long int unsigned",
+    "int unsigned long",
+    "int long unsigned",
+];
+
 /// A named type of the target, as the index sorts it.
 #[derive(Clone, Copy)]
 struct Entry<'t> {
@@ -163,27 +178,11 @@ fn pointer_size(table: &Btf) -> u32
         let _ = btf_type.kind();
         if let BtfType::Int(int) = btf_type {
             let size = int.size();
-            if (size == 4 || size == 8) && is_long(name_or_none(table, btf_type.name_offset())) {
+            let name = name_or_none(table, btf_type.name_offset());
+            if (size == 4 || size == 8) && LONG_NAMES.iter().any(|long| name == long.as_bytes()) {
                 return size;
             }
         }
     }
     8
-}
-
-/// Whether a name is one that compilers give to the C type `long`.
-fn is_long(name: &[u8]) -> bool
-    ensures { result ≡ list_any (bytes_eq name.now) model.long_names }
-{
-    name == b"long".as_slice()
-        || name == b"long int".as_slice()
-        || name == b"int long".as_slice()
-        || name == b"unsigned long".as_slice()
-        || name == b"long unsigned".as_slice()
-        || name == b"unsigned long int".as_slice()
-        || name == b"unsigned int long".as_slice()
-        || name == b"long unsigned int".as_slice()
-        || name == b"long int unsigned".as_slice()
-        || name == b"int unsigned long".as_slice()
-        || name == b"int long unsigned".as_slice()
 }

@@ -23,12 +23,13 @@ returns-in_err-answer c =
     let e = c.in_err-answer.field-0.0 in
     let order : c.endianness.result ≡ c.args.target.now.order = c.endianness.ensures ∙ ap (λ (t : Table). t.order) c.table.ensures in
     let asks : question g.local g.target.order words ≡ Ok q = ap (λ (o : Endianness). question g.local o words) (sym order) ∙ c.in_ok-question.ensures in
+    let own : model.local_match q.subject ≡ c.match-question-4.found = search rules in
     let searches : is_local q.kind ≡ false = search rules in
     let asked : Asked g c.args.candidates.now.items words q c.in_ok-expected.expected = record {
       asks = asks;
       searches = searches;
       named = has_name q.name c.is_empty.result c.is_empty.ensures c.if-is_empty.false;
-      local_value = ap (λ (m : Match). model.value_of local_pointer g.local q.kind m) (sym c.local_match-found.ensures) ∙ sym c.in_ok-expected.ensures;
+      local_value = ap (λ (m : Match). model.value_of local_pointer g.local q.kind m) own ∙ sym c.in_ok-expected.ensures;
     } in
     let known = c.in_err-answer.ensures in
     left_refused c.args.candidates.now.items (resolution g c.args.candidates.now.items words) c.from_residual-in_err-answer.result e c.from_residual-in_err-answer.ensures.1
@@ -45,12 +46,13 @@ returns c =
     let q : Question = question_view c.in_ok-question.question in
     let order : c.endianness.result ≡ c.args.target.now.order = c.endianness.ensures ∙ ap (λ (t : Table). t.order) c.table.ensures in
     let asks : question g.local g.target.order words ≡ Ok q = ap (λ (o : Endianness). question g.local o words) (sym order) ∙ c.in_ok-question.ensures in
+    let own : model.local_match q.subject ≡ c.match-question-4.found = search rules in
     let searches : is_local q.kind ≡ false = search rules in
     let asked : Asked g c.args.candidates.now.items words q c.in_ok-expected.expected = record {
       asks = asks;
       searches = searches;
       named = has_name q.name c.is_empty.result c.is_empty.ensures c.if-is_empty.false;
-      local_value = ap (λ (m : Match). model.value_of local_pointer g.local q.kind m) (sym c.local_match-found.ensures) ∙ sym c.in_ok-expected.ensures;
+      local_value = ap (λ (m : Match). model.value_of local_pointer g.local q.kind m) own ∙ sym c.in_ok-expected.ensures;
     } in
     let found : Option Answer × List ℕ = (c.in_ok-answer.answer, c.in_ok-answer.matching.items) in
     let known : answers (candidate_answer g q.kind q.subject) None c.as_slice.result.now ≡ Ok found =
