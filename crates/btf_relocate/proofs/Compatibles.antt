@@ -3,7 +3,6 @@ use Rattle.std.proofs.Common.{◌≡◌, ℕ, zero, suc, ◌+◌, ◌-◌, ◌<�
 use Rattle.std.specs.Result.{IsErrAnd}
 use Rattle.std.proofs.lemmas.Result.{err_from_is_err_and}
 use Rattle.btf_model.specs.Record.{Kind, Record, Array, kind_of}
-use Rattle.btf_relocate.specs.Arrays.{AreArrays, AreNotArrays}
 use Rattle.btf_model.specs.Fields.{element_type}
 use Rattle.btf_model.specs.Table.{Table}
 use Rattle.btf_model.specs.Walk.{walk_limit}
@@ -51,7 +50,13 @@ module _ (start : ℕ) (local target : Table) (id other counter : ℕ) (answer :
 pub from_err : {A : Type 0} (r : Result A RelocationError) (e : RelocationError) → IsErrAnd r (λ x. x ≡ e) → r ≡ Err e
 from_err r e same = let given = err_from_is_err_and r same in given.1 ∙ ap (λ (x : RelocationError). Err x) given.2
 
--- two types that are not both ARRAYs
+-- two types that are both ARRAYs, or not
+abbrev pub AreArrays : Kind → Kind → Type 0
+AreArrays k q = (k ≡ Array) × (q ≡ Array)
+
+abbrev pub AreNotArrays : Kind → Kind → Type 0
+AreNotArrays k q = AreArrays k q → ⊥
+
 by_kinds : (further : ℕ → ℕ → Result Bool RelocationError) (local target : Table) (k q : Kind) (r s : Record) → AreNotArrays k q
     → compatible_by further local target (Some k) (Some q) r s ≡ alike local target r s
 by_kinds further local target Array Array r s apart = absurd (apart (refl, refl))

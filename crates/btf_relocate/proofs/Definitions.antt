@@ -24,10 +24,15 @@ use Rattle.btf_relocate_model.specs.Types.{◌>>=◌, name_at}
 use Rattle.btf_relocate_model.specs.declared.comparison.Pair.{Pair}
 use Rattle.btf_relocate_model.specs.declared.error.RelocationError.{RelocationError}
 use Rattle.btf_relocate.specs.Members.{member_of}
-use Rattle.btf_relocate.specs.Steps.{Compare, next_index, is_refusal, HasNames, has_name, type_of, resumed, from_member, place_after}
+use Rattle.btf_relocate.specs.Steps.{Compare, next_index, HasNames, has_name, type_of, resumed, from_member, place_after}
 use Rattle.btf_relocate.proofs.Enumerators.{at_index}
 
 -- ---- parameters
+
+-- whether an answer is no
+abbrev pub is_refusal : Option Bool → Bool
+is_refusal (Some false) = true
+is_refusal answer = false
 
 params_back : (ps : List BtfParam) → parameter_types (flat_map param_words ps) ≡ map type_of ps
 params_back [] = refl

@@ -1,5 +1,5 @@
 -- Enumerators, and their words.
-use Rattle.std.proofs.Common.{◌≡◌, ℕ, zero, suc, ◌+◌, ◌≤◌, List, [], ◌∷◌, length, drop, map, Bool, true, false, Option, Some, None, Result, Ok, Err, refl, sym, ap, subst, ◌∙◌, add-one, drop-cons, arith}
+use Rattle.std.proofs.Common.{◌≡◌, ℕ, zero, suc, ◌+◌, ◌*◌, ◌^◌, ◌≤◌, List, [], ◌∷◌, length, drop, map, Bool, true, false, Option, Some, None, Result, Ok, Err, refl, sym, ap, subst, ◌∙◌, add-one, drop-cons, arith}
 use Rattle.std.specs.Prelude.{slice_get, MatchOption}
 use Rattle.std.specs.Borrow.{Bor}
 use Rattle.std.specs.Option.{IsSomeAnd, option_map}
@@ -18,11 +18,19 @@ use Rattle.btf_records.specs.BtfType.{record_of, type_kind}
 use Rattle.btf_records.specs.declared.btf_type.BtfType.{BtfType}
 use Rattle.btf_records.specs.declared.btf_type.BtfType.TheVariants as variants
 use Rattle.btf_relocate_model.specs.Enumerator.{narrow_enumerators, wide_enumerators, first_named, find_enumerator}
+use Rattle.btf_relocate_model.specs.Instruction.{sign_extended}
 use Rattle.btf_relocate_model.specs.Name.{essential}
 use Rattle.btf_relocate_model.specs.Types.{name_at, resolved_record}
 use Rattle.btf_relocate_model.specs.declared.error.RelocationError.{RelocationError}
-use Rattle.btf_relocate.specs.Enumerators.{variant_of, narrow, wide, enumerators_of}
+use Rattle.btf_relocate.specs.Enumerators.{variant_of, enumerators_of}
 use Rattle.btf_relocate.specs.declared.enumerator.Enumerator.{Enumerator}
+
+-- the enumerators of an ENUM and of an ENUM64
+abbrev pub narrow : BtfEnum → Variant
+narrow e = record { name = e.name_offset; value = sign_extended 32 e.value }
+
+abbrev pub wide : BtfEnum64 → Variant
+wide e = record { name = e.name_offset; value = e.value_high * 2 ^ 32 + e.value_low }
 
 narrow_back : (es : List BtfEnum) → narrow_enumerators (flat_map enum_words es) ≡ map narrow es
 narrow_back [] = refl

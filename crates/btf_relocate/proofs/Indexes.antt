@@ -94,10 +94,6 @@ index_made t xs ys ids are moved rising stable is =
     } in
     subst (λ (ns : List ℕ). IsIndex t ns) (sym is) whole
 
-pub index_if : {A E : Type 0} (t : Table) (xs ys : List Entry) (r : Result (Vec ℕ A) E) → AreEntries t xs (named t) → IsPermutation xs ys → IsSortedBy is_below ys → IsStableBy is_below xs ys → IfOk r (λ ids. ids.items ≡ map id_of ys) → IfOk r (λ ids. IsIndex t ids.items)
-index_if t xs ys (Ok ids) are moved rising stable is = index_made t xs ys ids.items are moved rising stable is
-index_if t xs ys (Err e) are moved rising stable is = tt
-
 -- ---- the part of a list between two places
 
 tail_within : {X : Type 0} (P : X → Type 0) (x : X) (xs : List X) (low high : ℕ) → AllWithin P (x ∷ xs) (suc low) (suc high) → AllWithin P xs low high

@@ -19,10 +19,24 @@ use Rattle.btf_relocate_model.specs.declared.instruction.Patched.{Patched}
 use Rattle.btf_relocate_model.specs.declared.resolved.Resolved.{Resolved}
 use Rattle.btf_relocate.specs.Patch.{HasPatched}
 use Rattle.btf_relocate.specs.Resolving.{HasResolved}
-use Rattle.btf_relocate.specs.Sections.{written_for, HasOthers, HasLeft, Relocated, Relocates, ResolvedFor, patch_by, is_memory, is_out_of_memory, is_shared, items_or, left_in, left_with}
+use Rattle.btf_relocate.specs.Sections.{written_for, HasOthers, Relocated, Relocates, ResolvedFor, patch_by, is_shared, items_or, left_in, left_with}
 use Rattle.btf_relocate.specs.declared.section.CandidatePolicy.{CandidatePolicy}
 use Rattle.btf_relocate.specs.declared.section.CandidatePolicy.TheVariants.{Shared, Fresh}
 use Rattle.btf_relocate.proofs.Compatibles.{from_err}
+
+-- an allocation failed
+abbrev is_memory : RelocationError → Bool
+is_memory OutOfMemory = true
+is_memory e = false
+
+abbrev pub is_out_of_memory : Result Patched RelocationError → Bool
+is_out_of_memory (Ok p) = false
+is_out_of_memory (Err e) = is_memory e
+
+-- under `Shared` the type has this list, and the other types have theirs
+abbrev pub HasLeft : CandidatePolicy → ℕ → Vec ℕ → BTreeMap ℕ (Vec ℕ) → BTreeMap ℕ (Vec ℕ) → Type 0
+HasLeft policy id v old new =
+    policy ≡ Shared → (q : ℕ) → get nat_cmp new q ≡ cond (is_at (nat_cmp id) q) (Some v) (get nat_cmp old q)
 
 memory_is : (e : RelocationError) → is_memory e ≡ true → e ≡ OutOfMemory
 memory_is OutOfMemory is = refl

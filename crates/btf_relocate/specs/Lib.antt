@@ -1,5 +1,4 @@
 pub mod Access
-pub mod Arrays
 pub mod Comparing
 pub mod Entries
 pub mod Enumerators

@@ -1,5 +1,5 @@
 -- What `relocate_section` and its parts return.
-use Rattle.std.specs.Prelude.{◌≡◌, ◌⊎◌, ℕ, if◌then◌else◌, cond, Bool, true, false, List, [], ◌∷◌, Option, Some, None, Result, Ok, Err}
+use Rattle.std.specs.Prelude.{◌≡◌, ◌⊎◌, ℕ, if◌then◌else◌, Bool, true, false, List, [], ◌∷◌, Option, Some, None, Result, Ok, Err}
 use Rattle.std.specs.BTreeMap.{BTreeMap, get, is_at}
 use Rattle.std.specs.Global.{Vec}
 use Rattle.std.specs.Ordering.{nat_cmp}
@@ -38,11 +38,6 @@ left_in Fresh local target m id = candidates_of local target id
 -- the lists of the types other than this one are as they were
 abbrev pub HasOthers : ℕ → BTreeMap ℕ (Vec ℕ) → BTreeMap ℕ (Vec ℕ) → Type 0
 HasOthers id old new = (q : ℕ) → is_at (nat_cmp id) q ≡ false → get nat_cmp new q ≡ get nat_cmp old q
-
--- under `Shared` the type has this list, and the other types have theirs
-abbrev pub HasLeft : CandidatePolicy → ℕ → Vec ℕ → BTreeMap ℕ (Vec ℕ) → BTreeMap ℕ (Vec ℕ) → Type 0
-HasLeft policy id v old new =
-    policy ≡ Shared → (q : ℕ) → get nat_cmp new q ≡ cond (is_at (nat_cmp id) q) (Some v) (get nat_cmp old q)
 
 -- the candidates for later records, where `after` remain of those of a type
 abbrev pub left_with : Bool → ℕ → List ℕ → (ℕ → List ℕ) → ℕ → List ℕ
@@ -84,12 +79,3 @@ Relocates is_shared local target left code (words ∷ records) (o ∷ outcomes) 
     × (o ≡ outcome_of (patch_by local.order code words r))
     × Relocates is_shared local target (left_with is_shared (type_word words) after left)
     (code_after code (patch_by local.order code words r)) records outcomes new
-
--- an allocation failed
-abbrev pub is_memory : RelocationError → Bool
-is_memory OutOfMemory = true
-is_memory e = false
-
-abbrev pub is_out_of_memory : Result Patched RelocationError → Bool
-is_out_of_memory (Ok p) = false
-is_out_of_memory (Err e) = is_memory e

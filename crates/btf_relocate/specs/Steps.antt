@@ -66,11 +66,6 @@ members_from inner local target members others place =
 abbrev pub next_index : ℕ → ℕ
 next_index index = if nat_lt index 18446744073709551615 then index + 1 else index
 
--- whether an answer is no
-abbrev pub is_refusal : Option Bool → Bool
-is_refusal (Some false) = true
-is_refusal answer = false
-
 -- the local member that is next, and the first member of the target that it may match
 abbrev pub place_after : ℕ → ℕ → Option Bool → ℕ × ℕ
 place_after index other (Some true) = (next_index index, 0)

@@ -161,6 +161,7 @@ fn patched_offset(resolved: &Resolved, slot: Slot) -> Result<(Patched, Slot), Re
     if !resolved.is_adjustable {
         return Ok((Patched::Poisoned, POISON));
     }
+    // The bits of the opcode for the size that is loaded or stored.
     let local_bits = slot.opcode / 8 % 4;
     if size_bits(resolved.local_size) != Some(local_bits) {
         return Err(RelocationError::WrongAccessSize);
@@ -188,6 +189,7 @@ fn patched_wide(
 ) -> Result<(Patched, Instruction), RelocationError>
     ensures { result ≡ model.patched_wide order resolved.now first second }
 {
+    // A load of a 64-bit immediate has no source register, no offsets, and only the immediate in the second slot.
     let source = match order {
         Endianness::Little => first.registers / 16,
         Endianness::Big => first.registers % 16,

@@ -2,11 +2,10 @@ use Rattle.std.proofs.Common.{◌≡◌, ◌∙◌, ◌+◌, ◌-◌, ℕ, List,
 use Rattle.std.specs.Prelude.{slice_index}
 use Rattle.btf_model.specs.Fields.{element_type}
 use Rattle.btf_records.specs.declared.btf_type.BtfType.{BtfType}
-use Rattle.btf_relocate.specs.Arrays.{AreNotArrays}
 use Rattle.btf_relocate_model.specs.Compatible.{compatible, compatible_within}
 use Rattle.btf_model.specs.Walk.{walk_limit}
 use Rattle.btf_records.specs.BtfType.{record_of, type_kind}
-use Rattle.btf_relocate.proofs.Compatibles.{first_refused, second_refused, both_known, not_arrays, arrays, too_many, from_err}
+use Rattle.btf_relocate.proofs.Compatibles.{AreNotArrays, first_refused, second_refused, both_known, not_arrays, arrays, too_many, from_err}
 use Rattle.btf_relocate.proofs.compatible.are_compatible.Goals as goal
 use Rattle.btf_relocate.proofs.compatible.are_compatible.Goals.{in_default-via-in-Array+in_default, in_default-via-in_default}
 

@@ -1,8 +1,7 @@
 use Rattle.std.proofs.Common.{length, sym, ap, ◌∙◌, List}
 use Rattle.std.proofs.lemmas.List.{length-map}
 use Rattle.btf_model.specs.Table.{Variant}
-use Rattle.btf_relocate.specs.Enumerators.{narrow, wide}
-use Rattle.btf_relocate.proofs.Enumerators.{enum_has, enum64_has}
+use Rattle.btf_relocate.proofs.Enumerators.{narrow, wide, enum_has, enum64_has}
 use Rattle.btf_relocate.proofs.enumerator.count.Goals as goal
 
 pub returns-in-Enum : goal.returns-in-Enum

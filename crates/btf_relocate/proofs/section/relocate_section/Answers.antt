@@ -1,8 +1,8 @@
 use Rattle.std.proofs.Common.{◌≡◌, ◌+◌, ℕ, List, ◌∷◌, [], drop, get_or, false, sym, ap, ◌∙◌, drop-cons, add-one, arith, rules}
 use Rattle.std.proofs.lemmas.List.{drop_all}
-use Rattle.btf_relocate.proofs.Sections.{continues, all_done, as_defined}
+use Rattle.btf_relocate.proofs.Sections.{HasLeft, is_out_of_memory, continues, all_done, as_defined}
 use Rattle.btf_relocate_model.specs.Section.{candidates_of}
-use Rattle.btf_relocate.specs.Sections.{HasLeft, is_shared, is_out_of_memory}
+use Rattle.btf_relocate.specs.Sections.{is_shared}
 use Rattle.btf_relocate_model.specs.Resolution.{type_word}
 use Rattle.btf_relocate.proofs.section.relocate_section.Goals as goal
 

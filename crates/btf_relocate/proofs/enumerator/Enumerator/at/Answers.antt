@@ -1,8 +1,7 @@
 use Rattle.std.proofs.Common.{ap, ◌∙◌, List, rules}
 use Rattle.std.specs.Prelude.{slice_get}
 use Rattle.btf_model.specs.Table.{Variant}
-use Rattle.btf_relocate.specs.Enumerators.{narrow, wide}
-use Rattle.btf_relocate.proofs.Enumerators.{enum_has, enum64_has, mapped_item}
+use Rattle.btf_relocate.proofs.Enumerators.{narrow, wide, enum_has, enum64_has, mapped_item}
 use Rattle.btf_relocate.proofs.enumerator.Enumerator.at.Goals as goal
 
 pub returns-in-Enum : goal.returns-in-Enum

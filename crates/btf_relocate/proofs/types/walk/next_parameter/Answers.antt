@@ -1,7 +1,6 @@
 use Rattle.std.proofs.Common.{◌≡◌, ◌+◌, ◌≤◌, length, false, inl, inr, refl, rules}
 use Rattle.std.specs.Prelude.{◌⊎◌}
-use Rattle.btf_relocate.specs.Steps.{is_refusal}
-use Rattle.btf_relocate.proofs.Definitions.{last_parameter, next_parameter}
+use Rattle.btf_relocate.proofs.Definitions.{is_refusal, last_parameter, next_parameter}
 use Rattle.btf_relocate.proofs.Pointers.{item_here, no_item}
 use Rattle.btf_relocate.proofs.types.walk.next_parameter.Goals as goal
 use Rattle.btf_relocate.proofs.types.walk.next_parameter.Goals.{in_default-2-via-in-Some+in_default, in_default-2-via-in_default}
