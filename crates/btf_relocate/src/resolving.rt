@@ -328,8 +328,8 @@ fn validates(kind: RelocationKind, subject: &Subject<'_>) -> bool
     }
 }
 
-/// Whether a load or store may get the size of the target's field: the sizes are equal, both types are PTRs, or both are
-/// INTs that are not plain signed numbers. Zero-extension is right for these.
+/// Whether a load or store may get the size of the target's field: the sizes are equal, both types are PTRs, or both
+/// are INTs that are not plain signed numbers. Zero-extension is right for these.
 fn may_resize(local: &Btf, target: &Btf, expected: &Value, value: &Value) -> bool
     ensures { result ≡ model.may_resize local.now target.now expected.now value.now }
 {

@@ -107,8 +107,8 @@ fn member_value(
     }
 }
 
-/// The load of a member whose type resolves to this id. The load of a bit-field is the least of 1, 2, 4 and 8 bytes, from
-/// the size of its type on, that is aligned and holds all of its bits.
+/// The load of a member whose type resolves to this id. The load of a bit-field is the least of 1, 2, 4 and 8 bytes,
+/// from the size of its type on, that is aligned and holds all of its bits.
 fn load_of(
     table: &Btf,
     pointer_size: u32,
