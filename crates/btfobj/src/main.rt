@@ -4,6 +4,7 @@
 mod files;
 mod new_file;
 mod output;
+mod relocate;
 mod run;
 
 use crate::run::carry_out;

@@ -3,6 +3,7 @@
 use crate::files::{STREAM, read_file};
 use crate::new_file::write_file;
 use crate::output::Output;
+use crate::relocate::relocate_file;
 use btf_rewrite_model::{BtfFeature, FeatureAnswer};
 use btf_table::Btf;
 use btf_text::Selection;
@@ -25,14 +26,14 @@ const NO_SECTIONS: &str =
 
 /// The error of a request: the file, and its error.
 #[derive(Drop)]
-struct Failure<'a> {
-    file: &'a str,
-    cause: Cause,
+pub struct Failure<'a> {
+    pub file: &'a str,
+    pub cause: Cause,
 }
 
 /// The error of a file.
 #[derive(Drop)]
-enum Cause {
+pub enum Cause {
     /// It cannot be read or written.
     Io(io::Error),
     /// The command fails on it.
@@ -49,13 +50,34 @@ impl fmt::Display for Failure<'_> {
     }
 }
 
-/// Carries out a request, and returns the status: 0 on success, 1 for an error or a negative check, and 141 if the
-/// reader of standard output closed it.
+/// The status of a relocation that poisons an instruction.
+const POISONED: u8 = 3;
+
+/// The answer of a request without an error.
+#[derive(Clone, Copy)]
+pub enum Answer {
+    /// It was carried out, and a check is positive.
+    Yes,
+    /// A check is negative, or a record has an error.
+    No,
+    /// An instruction was poisoned.
+    Poisoned,
+}
+
+impl From<bool> for Answer {
+    fn from(is_positive: bool) -> Answer {
+        if is_positive { Answer::Yes } else { Answer::No }
+    }
+}
+
+/// Carries out a request, and returns the status: 0 on success, 1 for an error or a negative check, 3 for a poisoned
+/// instruction, and 141 if the reader of standard output closed it.
 pub fn carry_out(rt: &HostRuntime, request: &Request<'_>) -> ExitCode {
     let mut out = Output::new(rt);
-    match answer(rt, request, &mut out) {
-        Ok(true) => ExitCode::SUCCESS,
-        Ok(false) => ExitCode::FAILURE,
+    match carried_out(rt, request, &mut out) {
+        Ok(Answer::Yes) => ExitCode::SUCCESS,
+        Ok(Answer::No) => ExitCode::FAILURE,
+        Ok(Answer::Poisoned) => ExitCode::from(POISONED),
         Err(failure) => report(rt, &failure, out.failure()),
     }
 }
@@ -75,17 +97,19 @@ fn report(rt: &HostRuntime, failure: &Failure<'_>, output: Option<ErrorKind>) ->
     ExitCode::FAILURE
 }
 
-/// Carries out a request. Returns false for a negative check.
-fn answer<'a>(
+/// Carries out a request.
+fn carried_out<'a>(
     rt: &HostRuntime,
     request: &Request<'a>,
     out: &mut Output<'_>,
-) -> Result<bool, Failure<'a>> {
+) -> Result<Answer, Failure<'a>> {
     match request {
         Request::Dump { file, selection } => write_types(rt, file, selection, out)?,
         Request::Layout { file, name } => write_members(rt, file, name, out)?,
         Request::Ext { file } => write_records(rt, file, out)?,
-        Request::Check { file, rewrite } => return has_all(rt, file, rewrite, out),
+        Request::Check { file, rewrite } => {
+            return Ok(Answer::from(has_all(rt, file, rewrite, out)?));
+        }
         Request::Sanitize {
             file,
             output,
@@ -96,9 +120,12 @@ fn answer<'a>(
             local,
             target,
             names,
-        } => return are_compatible(rt, local, target, names, out),
+        } => return Ok(Answer::from(are_compatible(rt, local, target, names, out)?)),
+        Request::Relocate { file, relocation } => {
+            return relocate_file(rt, file, relocation, out);
+        }
     }
-    Ok(true)
+    Ok(Answer::Yes)
 }
 
 /// Writes the selected types of a file.
@@ -147,7 +174,7 @@ fn has_all<'a>(
 }
 
 /// The bytes of a file.
-fn read<'a>(rt: &HostRuntime, file: &'a str) -> Result<Vec<u8>, Failure<'a>> {
+pub fn read<'a>(rt: &HostRuntime, file: &'a str) -> Result<Vec<u8>, Failure<'a>> {
     match read_file(rt, file) {
         Ok(bytes) => Ok(bytes),
         Err(e) => Err(Failure {
@@ -158,7 +185,7 @@ fn read<'a>(rt: &HostRuntime, file: &'a str) -> Result<Vec<u8>, Failure<'a>> {
 }
 
 /// A hasher with random keys, so that an object cannot choose names that collide.
-fn hasher<'a>(rt: &HostRuntime, file: &'a str) -> Result<RandomState, Failure<'a>> {
+pub fn hasher<'a>(rt: &HostRuntime, file: &'a str) -> Result<RandomState, Failure<'a>> {
     match RandomState::new(rt) {
         Ok(keys) => Ok(keys),
         Err(e) => Err(Failure {
@@ -169,7 +196,7 @@ fn hasher<'a>(rt: &HostRuntime, file: &'a str) -> Result<RandomState, Failure<'a
 }
 
 /// Attributes the fault of an outcome to this file.
-fn blame<'a, T>(file: &'a str, outcome: Result<T, Fault>) -> Result<T, Failure<'a>> {
+pub fn blame<'a, T>(file: &'a str, outcome: Result<T, Fault>) -> Result<T, Failure<'a>> {
     match outcome {
         Ok(value) => Ok(value),
         Err(e) => Err(Failure {
@@ -223,7 +250,7 @@ fn write_sanitized<'a>(
 }
 
 /// Writes bytes to a file, or to standard output for `-`.
-fn write<'a>(
+pub fn write<'a>(
     rt: &HostRuntime,
     file: &'a str,
     bytes: &[u8],
@@ -244,7 +271,7 @@ fn write<'a>(
 }
 
 /// The table of a file.
-fn read_table<'a>(rt: &HostRuntime, file: &'a str) -> Result<Btf, Failure<'a>> {
+pub fn read_table<'a>(rt: &HostRuntime, file: &'a str) -> Result<Btf, Failure<'a>> {
     let bytes = read(rt, file)?;
     let blob = blame(file, Blob::read(rt.alloc(), &bytes))?;
     blame(file, blob.whole_table(rt.alloc()))

@@ -3,3 +3,4 @@ pub mod Fault
 pub mod Rewrite
 pub mod Changes
 pub mod Compat
+pub mod Relocation

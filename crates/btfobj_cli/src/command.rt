@@ -50,13 +50,15 @@ pub fn command<'a>(alloc: Global) -> Result<Command<'a>, AllocError> {
         .arg_required_else_help(true)
         .after_help(
             "FILE is an ELF object or a BTF table of either byte order; - is standard input.\n\
-             Exit status: 0, 1 where a file is refused or a check says no, 2 for the command line.",
+             Exit status: 0, 1 where a file is refused or a check says no, 2 for the command line,\n\
+             3 where relocate poisons an instruction.",
         )
         .subcommand(dump(alloc)?)?
         .subcommand(layout(alloc)?)?
         .subcommand(ext(alloc)?)?
         .subcommand(check(alloc)?)?
         .subcommand(sanitize(alloc)?)?
+        .subcommand(relocate(alloc)?)?
         .subcommand(compat(alloc)?)
 }
 
@@ -197,6 +199,54 @@ fn with_kernel<'a>(alloc: Global, command: Command<'a>) -> Result<Command<'a>, A
         .arg(placeholder)?
         .arg(no_finalize)?
         .group(group)
+}
+
+/// The command `relocate`.
+fn relocate<'a>(alloc: Global) -> Result<Command<'a>, AllocError> {
+    let target = Arg::new(alloc, "target")
+        .long("target")
+        .value_name("TABLE")
+        .help("The kernel's object or table; by default the table of the running kernel");
+    let output = Arg::new(alloc, "output")
+        .short('o')
+        .long("output")
+        .value_name("OUT")
+        .help("Write the relocated object to this file, and no list; - is standard output");
+    let command = Command::new(alloc, "relocate")
+        .about("Applies the CO-RE relocations of an object for a kernel, or lists what they do")
+        .after_help(
+            "Examples: btfobj relocate prog.o\n          \
+             btfobj relocate prog.o --target vmlinux -o prog.relocated.o\n\
+             Exit status: 0 where each record has a value, 1 where a record has an error, 3 where an\n\
+             instruction is poisoned.",
+        )
+        .arg(file(alloc, "file", "FILE", "The program's object"))?
+        .arg(target)?
+        .arg(output)?
+        .arg(flag(
+            alloc,
+            "fresh",
+            "Give each record all candidates, as the kernel does, not as libbpf",
+        ))?
+        .arg(flag(
+            alloc,
+            "keep-going",
+            "With -o: write the object even if a record has an error",
+        ))?
+        .arg(flag(
+            alloc,
+            "allow-poison",
+            "Status 0 where an instruction is poisoned, as in dead code",
+        ))?;
+    command.arg(flag(alloc, "json", "Write the list as a JSON document"))
+}
+
+/// A flag, with the help for it.
+fn flag<'a>(alloc: Global, name: &'a str, help: &'a str) -> Arg<'a> {
+    Arg::new(alloc, name)
+        .long(name)
+        .action(ArgAction::SetTrue)
+        .help(help)
 }
 
 /// The command `compat`.

@@ -1,6 +1,7 @@
 //! The errors of commands.
 
 use btf_elf::ObjectError;
+use btf_loader::LoaderError;
 use btf_object::SanitizeError;
 use btf_plain::BtfError;
 use btf_text::TextError;
@@ -38,6 +39,10 @@ pub enum Fault {
     /// The object cannot be rewritten.
     #[error("{0}")]
     Rewrite(SanitizeError),
+
+    /// The code of the object cannot be relocated.
+    #[error("{0}")]
+    Relocation(LoaderError),
 
     /// No type of the table has the selected name.
     #[error("no type has this name")]
@@ -89,6 +94,15 @@ impl From<SanitizeError> for Fault {
         match e {
             SanitizeError::OutOfMemory => Fault::OutOfMemory,
             e => Fault::Rewrite(e),
+        }
+    }
+}
+
+impl From<LoaderError> for Fault {
+    fn from(e: LoaderError) -> Fault {
+        match e {
+            LoaderError::OutOfMemory => Fault::OutOfMemory,
+            e => Fault::Relocation(e),
         }
     }
 }

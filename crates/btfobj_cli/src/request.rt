@@ -1,7 +1,9 @@
 //! The request of a command line.
 
 use crate::command::command;
+use crate::relocation::Form;
 use crate::rewrite::Rewrite;
+use btf_loader::{CandidatePolicy, Refusals};
 use btf_object::Kernel;
 use btf_plain::BtfKind;
 use btf_rewrite_model::{BtfFeature, FillPolicy};
@@ -9,6 +11,26 @@ use btf_text::Selection;
 use clap::error::ErrorKind;
 use clap::{ArgMatches, Command, Error};
 use std::alloc::Global;
+
+/// The table of the running kernel.
+const RUNNING_KERNEL: &str = "/sys/kernel/btf/vmlinux";
+
+/// The settings of a relocation.
+#[derive(Clone, Copy, Debug)]
+pub struct Relocation<'a> {
+    /// The file with the table of the target.
+    pub target: &'a str,
+    /// The file for the relocated object; without one the records are listed.
+    pub output: Option<&'a str>,
+    /// Which candidates a record has.
+    pub policy: CandidatePolicy,
+    /// What a record with an error does.
+    pub refusals: Refusals,
+    /// Whether a poisoned instruction leaves the status 0.
+    pub allows_poison: bool,
+    /// The form of the list.
+    pub form: Form,
+}
 
 /// The request of a command line. A file `-` is standard input, and an output `-` is standard output.
 #[derive(Debug, Drop)]
@@ -38,6 +60,11 @@ pub enum Request<'a> {
         output: &'a str,
         rewrite: Rewrite<'a>,
         is_table_only: bool,
+    },
+    /// Relocates the code of an object.
+    Relocate {
+        file: &'a str,
+        relocation: Relocation<'a>,
     },
     /// Compares the types of these names in two tables.
     Compat {
@@ -77,11 +104,41 @@ pub fn read_request<'a>(alloc: Global, words: &'a [&'a str]) -> Result<Request<'
             rewrite: read_rewrite(alloc, &mut command, matches)?,
             is_table_only: matches.get_flag("table-only"),
         }),
+        "relocate" => Ok(Request::Relocate {
+            file,
+            relocation: read_relocation(matches),
+        }),
         _ => Ok(Request::Compat {
             local: text(matches, "local"),
             target: text(matches, "target"),
             names: Vec::from_slice(alloc, matches.get_strs("names").unwrap_or(&[]))?,
         }),
+    }
+}
+
+/// The settings of a relocation. A list has all records, those with an error too.
+fn read_relocation<'a>(matches: &ArgMatches<'a>) -> Relocation<'a> {
+    let output = matches.get_str("output");
+    let refuses = output.is_some() && !matches.get_flag("keep-going");
+    Relocation {
+        target: matches.get_str("target").unwrap_or(RUNNING_KERNEL),
+        output,
+        policy: if matches.get_flag("fresh") {
+            CandidatePolicy::Fresh
+        } else {
+            CandidatePolicy::Shared
+        },
+        refusals: if refuses {
+            Refusals::Refuse
+        } else {
+            Refusals::Keep
+        },
+        allows_poison: matches.get_flag("allow-poison"),
+        form: if matches.get_flag("json") {
+            Form::Json
+        } else {
+            Form::Lines
+        },
     }
 }
 

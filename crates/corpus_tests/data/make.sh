@@ -1,7 +1,7 @@
 #!/bin/sh
 # Makes the objects of this folder, and what other tools say of them. Run once, on Debian 12 for amd64, with clang 13.0.1,
 # 14.0.6, 15.0.6, 16.0.6 and 19.1.7, gcc 12.2.0, gcc-bpf 12.2.0, pahole 1.24, bpftool 7.1.0, llvm-readelf
-# 14.0.6 and llvm-objdump 19.1.7;
+# 14.0.6, llvm-objdump 19.1.7 and libbpf 1.1.2 (libbpf-dev);
 # `versions` has what each says of itself. Of llvm-readelf's lines the name, the offset and the size of each section that
 # has a name are left.
 set -eu
@@ -11,6 +11,16 @@ for order in el eb; do
     clang-14 -g $flags -target bpf$order -c kinds.c -o clang14.bpf$order.kinds.o
     clang-14 -g $flags -target bpf$order -Wno-everything -c prog.c -o clang14.bpf$order.prog.o
     clang-19 -g $flags -target bpf$order -DENUM64 -c kinds.c -o clang19.bpf$order.kinds.o
+    for version in 14 15 16 19; do
+        matching=-DMATCHING
+        [ $version = 14 ] && matching=
+        clang-$version -g $flags -target bpf$order $matching -c reloc.c -o clang$version.bpf$order.reloc.o
+    done
+    for kernel in 1 2 3; do
+        clang-14 -g -O2 -target bpf$order -DKERNEL=$kernel -c kernel.c -o kernel.o
+        llvm-objcopy-14 --dump-section .BTF=kernel$kernel.$order.btf kernel.o
+        rm kernel.o
+    done
 done
 clang-13 -g $flags -target bpfel -c kinds.c -o clang13.bpfel.kinds.o
 clang-15 -g $flags -target bpfel -DENUM64 -c kinds.c -o clang15.bpfel.kinds.o
@@ -23,6 +33,10 @@ for object in gcc12.x86_64.kinds.o clang14.x86_64.kinds.o; do
     pahole -J "$object"
 done
 for object in *.o; do
+    case $object in *.reloc.o)
+        llvm-strip-14 --strip-debug --keep-section=.BTF --keep-section=.BTF.ext "$object"
+        continue
+    esac
     llvm-strip-14 --strip-debug --keep-section=.BTF --keep-section=.BTF.ext "$object"
     bpftool btf dump file "$object" format raw >"$object.bpftool" || rm "$object.bpftool"
     llvm-readelf-14 --sections --wide "$object" | sed -n 's/^ *\[ *[0-9]*\] //p' |
@@ -34,6 +48,22 @@ done
 for object in clang*.bpf*.o; do
     llvm-objdump-19 -d -l -r --no-show-raw-insn "$object" | awk -f lines.awk | LC_ALL=C sort >"$object.objdump"
 done
+# What libbpf 1.1.2 does to an object, which has to be in the machine's byte order: here, and on s390x, which qemu-user
+# emulates with the packages libbpf-dev:s390x, libelf-dev:s390x and zlib1g-dev:s390x in the folder of $S390X.
+gcc -O1 core_log.c -Wl,--wrap=syscall -o core_log.el -l:libbpf.a -lelf -lz
+s390x-linux-gnu-gcc -O1 core_log.c -Wl,--wrap=syscall -o core_log.eb -I"$S390X/usr/include" \
+    -L"$S390X/usr/lib/s390x-linux-gnu" -L"$S390X/lib/s390x-linux-gnu" -l:libbpf.a -lelf -lz
+export QEMU_LD_PREFIX=/usr/s390x-linux-gnu
+export QEMU_SET_ENV=LD_LIBRARY_PATH=$S390X/usr/lib/s390x-linux-gnu:$S390X/lib/s390x-linux-gnu
+for object in clang*.bpfe?.reloc.o clang*.bpfe?.prog.o clang*.bpfel.kconfig.o; do
+    for kernel in 1 2 3; do
+        case $object in
+        *.bpfel.*) ./core_log.el "$object" kernel$kernel.el.btf ;;
+        *) qemu-s390x ./core_log.eb "$object" kernel$kernel.eb.btf ;;
+        esac | awk -f core_log.awk >"${object%.o}.kernel$kernel"
+    done
+done
+rm core_log.el core_log.eb
 {
     for version in 13 14 15 16 19; do
         clang-$version --version | head -n 1

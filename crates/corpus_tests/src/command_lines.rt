@@ -4,7 +4,7 @@ use btfobj_cli::{Request, read_request};
 
 /// Words of a command line, and their request: a command, `text` for help or the version on standard output, or `usage`
 /// for an error.
-static ROWS: [(&[&str], &str); 32] = [
+static ROWS: [(&[&str], &str); 35] = [
     (&["btfobj", "dump", "a.o"], "dump"),
     (&["btfobj", "dump", "-", "--ids", "3..9"], "dump"),
     (
@@ -89,6 +89,22 @@ static ROWS: [(&[&str], &str); 32] = [
         &["btfobj", "sanitize", "a.o", "-o", "b.o", "--has", "Bpf"],
         "usage",
     ),
+    (&["btfobj", "relocate", "a.o"], "relocate"),
+    (
+        &[
+            "btfobj",
+            "relocate",
+            "a.o",
+            "--target",
+            "vmlinux",
+            "-o",
+            "b.o",
+            "--fresh",
+            "--keep-going",
+        ],
+        "relocate",
+    ),
+    (&["btfobj", "relocate", "a.o", "--kernel", "5.4"], "usage"),
     (&["btfobj", "compat", "a.o", "b.o", "x", "y"], "compat"),
     (&["btfobj", "compat", "a.o", "b.o"], "usage"),
     (&["btfobj", "copy"], "usage"),
@@ -106,6 +122,7 @@ fn command_name(request: &Request) -> &'static str {
         Request::Ext { .. } => "ext",
         Request::Check { .. } => "check",
         Request::Sanitize { .. } => "sanitize",
+        Request::Relocate { .. } => "relocate",
         Request::Compat { .. } => "compat",
     }
 }

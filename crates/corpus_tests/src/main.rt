@@ -9,6 +9,7 @@ mod ext;
 mod kernels;
 mod malformed;
 mod outputs;
+mod relocations;
 mod samples;
 
 use crate::command_lines::try_command_lines;
@@ -16,6 +17,7 @@ use crate::ext::compare_ext;
 use crate::kernels::try_kernels;
 use crate::malformed::try_malformed;
 use crate::outputs::{compare_dump, compare_layouts, compare_sections};
+use crate::relocations::{RELOCATED, compare_relocations};
 use crate::samples::SAMPLES;
 use std::fs;
 
@@ -43,6 +45,10 @@ fn main(rt: HostRuntime) -> anyhow::Result<()> {
     try_command_lines(&rt)?;
     for sample in SAMPLES {
         try_sample(&rt, sample)?;
+    }
+    for sample in RELOCATED {
+        compare_relocations(&rt, sample, &read(&rt, sample, "")?)?;
+        println!(&rt; "{sample}: relocated")?;
     }
     for sample in ["clang14.bpfel.prog", "clang14.bpfeb.prog"] {
         try_malformed(&rt, sample, &read(&rt, sample, "")?)?;

@@ -1,0 +1,65 @@
+//! What `btfobj relocate` writes, beside what libbpf's debug log says of the same objects and tables.
+
+use crate::difference::first_difference;
+use btf_elf::Endianness;
+use btf_loader::Refusals;
+use btf_relocate::{CandidatePolicy, Target};
+use btf_table::Btf;
+use btfobj_cli::{Form, Relocated, list_relocations, relocate};
+use std::fs;
+use std::hash::RandomState;
+
+/// The objects with relocations, without `.o`.
+pub const RELOCATED: [&str; 11] = [
+    "clang14.bpfel.reloc",
+    "clang14.bpfeb.reloc",
+    "clang15.bpfel.reloc",
+    "clang15.bpfeb.reloc",
+    "clang16.bpfel.reloc",
+    "clang16.bpfeb.reloc",
+    "clang19.bpfel.reloc",
+    "clang19.bpfeb.reloc",
+    "clang14.bpfel.prog",
+    "clang14.bpfeb.prog",
+    "clang16.bpfel.kconfig",
+];
+
+/// The tables that the objects are relocated for.
+const KERNELS: [&str; 3] = ["kernel1", "kernel2", "kernel3"];
+
+/// Relocates an object for each table, and reports each difference from what libbpf does.
+pub fn compare_relocations(rt: &HostRuntime, sample: &str, object: &[u8]) -> anyhow::Result<()> {
+    let (ending, order) = if sample.contains(".bpfeb.") {
+        ("eb", Endianness::Big)
+    } else {
+        ("el", Endianness::Little)
+    };
+    for kernel in KERNELS {
+        let name = format!(in rt.alloc(); "{kernel}.{ending}.btf")?;
+        let table = Btf::parse(rt.alloc(), &fs::read(rt, name.as_str())?, order)?;
+        let written = list(rt, object, &table)?;
+        let name = format!(in rt.alloc(); "{sample}.{kernel}")?;
+        if let Some(line) = first_difference(&written, &fs::read(rt, name.as_str())?) {
+            println!(rt; "{sample} for {kernel}: differs from libbpf at line {line}")?;
+        }
+    }
+    Ok(())
+}
+
+/// The list of an object's relocations for a table.
+fn list(rt: &HostRuntime, object: &[u8], table: &Btf) -> anyhow::Result<Vec<u8>> {
+    let target = Target::new(rt.alloc(), table)?;
+    let (policy, refusals) = (CandidatePolicy::Shared, Refusals::Keep);
+    let keys = RandomState::new(rt)?;
+    let (file, sections) = relocate(rt.alloc(), object, &target, policy, refusals, keys)?;
+    let relocated = Relocated {
+        bytes: object,
+        file: &file,
+        sections: &sections,
+        target: &target,
+    };
+    let mut written = Vec::new(rt.alloc());
+    let keys = RandomState::new(rt)?;
+    list_relocations(rt.alloc(), &relocated, Form::Lines, keys, &mut written)?;
+    Ok(written)
+}
