@@ -57,7 +57,10 @@ enum vbtf_status {
 	VBTF_NO_ITEM = 103,              /* the type has no item of the index, or no variant of the name */
 	VBTF_NOT_AN_OBJECT = 104,        /* the bytes are no ELF object that is read here; error.id has the reason */
 	VBTF_NO_TABLE = 105,             /* the object has no section .BTF */
-	VBTF_NOT_REPLACEABLE = 106       /* the bytes of the section .BTF cannot be replaced */
+	VBTF_NOT_REPLACEABLE = 106,      /* the bytes of the section .BTF cannot be replaced */
+	VBTF_RELOCATION_REFUSED = 107,   /* a relocation has an error; vbtf_relocate_object names the fields */
+	VBTF_SHARED_PLACE = 108,         /* another section has bytes in the place of the section of index offset */
+	VBTF_BAD_SECTION_NAME = 109      /* the name of a section of relocations, at offset, cannot be read */
 };
 
 /* An error of the library. Fields that the error does not have are 0. */
@@ -256,6 +259,21 @@ struct vbtf_asked {
 	uint8_t granted[32];
 };
 
+/* ---- relocations of objects */
+
+/* The options of vbtf_relocate_object. */
+enum vbtf_option {
+	VBTF_FRESH_CANDIDATES = 1, /* each record has all candidates, as in the kernel; otherwise those of libbpf */
+	VBTF_KEEP_REFUSED = 2      /* a record with an error changes nothing; otherwise it refuses the object */
+};
+
+/* The numbers of relocation records of an object, apart from sections without code in the file. */
+struct vbtf_tally {
+	uint64_t records;
+	uint64_t poisoned;       /* whose instruction became a call that the kernel refuses */
+	uint64_t refused;        /* with an error */
+};
+
 /* ---- the exported calls, which the inline functions below call; slices may not be null */
 
 uint32_t vbtf_version(void);
@@ -297,6 +315,10 @@ uint32_t vbtf_raw_rewrite(struct vbtf_table *table, const uint8_t *section_names
 uint32_t vbtf_raw_sanitize_object(const uint8_t *object, size_t len, const struct vbtf_kernel *kernel,
                                   const uint8_t *placeholder, size_t placeholder_len, uint64_t seed, uint8_t *out,
                                   size_t room, uint64_t *needed, struct vbtf_asked *asked, struct vbtf_error *error);
+
+uint32_t vbtf_lent_relocate_object(const uint8_t *object, size_t len, struct vbtf_table *target, uint32_t options,
+                                   uint64_t seed, uint8_t *out, size_t room, uint64_t *needed,
+                                   struct vbtf_tally *tally, struct vbtf_error *error);
 
 uint32_t vbtf_raw_open_ext(struct vbtf_table *table, const uint8_t *data, size_t len, uint32_t order, uint64_t seed,
                            struct vbtf_error *error);
@@ -346,6 +368,8 @@ static inline const char *vbtf_error_text(uint32_t status, const struct vbtf_err
 	static const char *const texts[] = {
 		"buffer too short", "not open", "invalid argument", "no such item", "not an ELF object that is read here",
 		"the object has no section .BTF", "the bytes of the section .BTF cannot be replaced",
+		"a relocation has an error", "a section with relocations shares its place with another section",
+		"the name of a section of relocations cannot be read",
 	};
 	struct vbtf_error unknown = { 0, 0, 0, 0, 0, 0, { 0 } };
 	uint8_t written[1024];
@@ -772,6 +796,35 @@ static inline uint32_t vbtf_sanitize_object(const void *object, size_t len, cons
 	return vbtf_raw_sanitize_object(vbtf_bytes_or_none(object), len, kernel, vbtf_bytes_or_none(placeholder),
 	                                placeholder_len, seed, out ? (uint8_t *)out : &none, out ? room : 0, needed,
 	                                asked, vbtf_error_or(error, &unread));
+}
+
+/*
+ * Relocates the code of an ELF object for a table, for example that of the running kernel (CO-RE): each relocation in
+ * .BTF.ext is resolved, and the value for the target is patched into its instruction. Do this before
+ * vbtf_sanitize_object, because relocations refer to the types that the compiler wrote. Writes the new object, which
+ * is as long as the old one, to a buffer, its length in bytes to `needed`, and the numbers of records to `tally`, which
+ * may be null. `options` has bits of enum vbtf_option. `seed` is a random number, as for vbtf_sanitize_object. An
+ * object without .BTF.ext is not changed.
+ *
+ * VBTF_NO_ROOM if the buffer has less room: then only `needed` and `tally` are written. The first error:
+ * VBTF_NOT_AN_OBJECT, as of vbtf_sanitize_object; VBTF_NO_TABLE; those of vbtf_parse for the object's table, and those
+ * of vbtf_open_ext for its .BTF.ext; then for each section of relocations VBTF_BAD_SECTION_NAME, VBTF_SHARED_PLACE, and
+ * without VBTF_KEEP_REFUSED the first record with an error as VBTF_RELOCATION_REFUSED: error.id is the number of the
+ * reason in docs/C.md, error.offset the string offset of the section's name, and error.len the index of the record.
+ * VBTF_CLOSED if the table is not open; VBTF_BAD_ARGUMENT if another bit of `options` is set. After an error the buffer
+ * and the tally are unchanged.
+ */
+static inline uint32_t vbtf_relocate_object(const void *object, size_t len, const struct vbtf_table *target,
+                                            uint32_t options, uint64_t seed, void *out, size_t room,
+                                            uint64_t *needed, struct vbtf_tally *tally, struct vbtf_error *error)
+{
+	struct vbtf_error unread;
+	struct vbtf_tally uncounted;
+	struct vbtf_table loan = vbtf_loan(target);
+	uint8_t none = 0;
+	return vbtf_lent_relocate_object(vbtf_bytes_or_none(object), len, &loan, options, seed,
+	                                 out ? (uint8_t *)out : &none, out ? room : 0, needed,
+	                                 tally ? tally : &uncounted, vbtf_error_or(error, &unread));
 }
 
 /* ---- build */

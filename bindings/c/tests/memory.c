@@ -2,39 +2,8 @@
  * The nth allocation of each call fails, for each n: the call returns VBTF_OUT_OF_MEMORY, the table is unchanged, the
  * same call succeeds afterwards, and nothing leaks. Link with -Wl,--wrap=malloc,--wrap=realloc,--wrap=free.
  */
+#include "heap.h"
 #include "table.h"
-
-extern void *__real_malloc(size_t size);
-extern void *__real_realloc(void *at, size_t size);
-extern void __real_free(void *at);
-
-static unsigned long requests, failing;
-static long live;
-
-static int fails(void)
-{
-	return ++requests == failing;
-}
-
-void *__wrap_malloc(size_t size)
-{
-	void *at = fails() ? NULL : __real_malloc(size);
-	live += at != NULL;
-	return at;
-}
-
-void *__wrap_realloc(void *at, size_t size)
-{
-	void *moved = fails() ? NULL : __real_realloc(at, size);
-	live += at == NULL && moved != NULL;
-	return moved;
-}
-
-void __wrap_free(void *at)
-{
-	live -= at != NULL;
-	__real_free(at);
-}
 
 static struct vbtf_error error;
 static uint8_t blob[TABLE_LEN], ext_blob[EXT_LEN];

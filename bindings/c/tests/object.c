@@ -1,27 +1,5 @@
 /* Objects that are rewritten for a kernel: the program's argument is an object of clang. */
-#include "table.h"
-
-/* A file in memory. */
-struct file {
-	uint8_t *bytes;
-	size_t len;
-};
-
-static struct file read_file(const char *path)
-{
-	struct file file = { NULL, 0 };
-	FILE *stream = fopen(path, "rb");
-	if (!stream || fseek(stream, 0, SEEK_END) || ftell(stream) <= 0) {
-		fprintf(stderr, "%s: cannot be read\n", path);
-		exit(1);
-	}
-	file.len = (size_t)ftell(stream);
-	rewind(stream);
-	file.bytes = malloc(file.len);
-	check(file.bytes && fread(file.bytes, 1, file.len, stream) == file.len);
-	fclose(stream);
-	return file;
-}
+#include "file.h"
 
 static const struct vbtf_kernel none = { 0, 0, 0, 0 }, all = { 0xff, 0, 0, 0 };
 

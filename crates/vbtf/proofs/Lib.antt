@@ -12,3 +12,4 @@ pub mod Groups
 pub mod SectionNames
 pub mod ExtOpening
 pub mod Objects
+pub mod Relocations

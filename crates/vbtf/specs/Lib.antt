@@ -9,3 +9,4 @@ pub mod Adding
 pub mod Ext
 pub mod ExtRead
 pub mod Object
+pub mod Relocate

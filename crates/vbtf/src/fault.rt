@@ -69,6 +69,16 @@ pub(crate) fn report_number(fault: &mut Fault, number: u32, id: u32, offset: u64
     write(fault, number, id, offset, 0, 0)
 }
 
+/// Writes a status that is no error of `btf`, with a number, an offset and a length or index.
+pub(crate) fn report_numbers(fault: &mut Fault, number: u32, id: u32, offset: u64, len: u64) -> u32
+    ensures status { result ≡ number }
+    ensures number { fault.new.number ≡ number }
+    ensures details { HasDetails fault.new
+        (record no_details { id = id; offset = offset; len = len }) }
+{
+    write(fault, number, id, offset, len, 0)
+}
+
 /// The number of bytes of a name that fit in a fault.
 fn name_len(name: &[u8]) -> usize
     ensures { result ≡ min name_room (length name.now) }

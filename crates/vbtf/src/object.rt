@@ -23,10 +23,10 @@ use std::alloc::Global;
 use std::str;
 
 /// The bytes are no object.
-const NOT_AN_OBJECT: u32 = 104;
+pub(crate) const NOT_AN_OBJECT: u32 = 104;
 
 /// The object has no section `.BTF`.
-const NO_TABLE: u32 = 105;
+pub(crate) const NO_TABLE: u32 = 105;
 
 /// The bytes of the section `.BTF` cannot be replaced.
 const NOT_REPLACEABLE: u32 = 106;
@@ -117,7 +117,7 @@ fn report_cause(error: SanitizeError, fault: &mut Fault) -> u32
 }
 
 /// The position of an error in `ParseError`, from 1 on.
-fn place(error: &ParseError) -> u32
+pub(crate) fn place(error: &ParseError) -> u32
     ensures { result ≡ place_of error.now }
 {
     match error {
@@ -137,7 +137,7 @@ fn place(error: &ParseError) -> u32
 }
 
 /// The detail of an error in `ParseError`: a class, an encoding, or the index of a section or symbol; otherwise 0.
-fn detail(error: &ParseError) -> u64
+pub(crate) fn detail(error: &ParseError) -> u64
     ensures { result ≡ detail_of error.now }
 {
     match error {

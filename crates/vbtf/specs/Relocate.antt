@@ -1,0 +1,124 @@
+-- The relocation of an object for a target table, for C.
+use Rattle.std.specs.Prelude.{◌≡◌, ◌⊎◌, ◌==◌, ℕ, ◌/◌, ◌%◌, Bool, true, false, List, [], length, unwrap_or, flat_map, count_by, None, Result, Ok, Err}
+use Rattle.std.specs.Io.Iter.{u64_saturate}
+use Rattle.btf_elf.specs.declared.error.ObjectError.TheVariants as elf
+use Rattle.btf_loader.specs.Errors.{IsCause}
+use Rattle.btf_loader.specs.declared.error.LoaderError.{LoaderError}
+use Rattle.btf_loader.specs.declared.error.LoaderError.TheVariants.{Object, NoTable, Table, Ext, SectionName, SharedPlace, Refused, OutOfMemory}
+use Rattle.btf_loader_model.specs.Loader.{Outcomes, IsRelocated, any_error, is_error}
+use Rattle.btf_loader_model.specs.Refused.{IsReason}
+use Rattle.btf_model.specs.Table as tables
+use Rattle.btf_plain.specs.Error.{refusal_of}
+use Rattle.btf_relocate_model.specs.declared.error.RelocationError.{RelocationError}
+use Rattle.btf_relocate_model.specs.declared.error.RelocationError.TheVariants as relocation
+use Rattle.btf_relocate_model.specs.declared.instruction.Patched.{Patched}
+use Rattle.btf_relocate_model.specs.declared.instruction.Patched.TheVariants.{Written, Poisoned}
+use Rattle.vbtf.specs.Object as object
+use Rattle.vbtf.specs.Object.{ReportsNumber}
+use Rattle.vbtf.specs.Status.{no_details, Fills, ReportsError, ReportsNoMemory}
+use Rattle.vbtf.specs.declared.fault.Fault.{Fault}
+use Rattle.vbtf.specs.declared.relocate.Tally.{Tally}
+
+-- Bit 0 of the options is not set: the records of one type share their candidates.
+abbrev pub shares_candidates : ℕ → Bool
+shares_candidates options = options % 2 == 0
+
+-- Bit 1 of the options is not set: a record with an error refuses the object.
+abbrev pub refuses_records : ℕ → Bool
+refuses_records options = options / 2 % 2 == 0
+
+-- ---- the numbers of records
+
+-- the outcome of a record
+abbrev pub Outcome : Type 0
+Outcome = Result Patched RelocationError
+
+-- the instruction of the record is poisoned
+abbrev pub is_poisoned : Outcome → Bool
+is_poisoned (Ok Written) = false
+is_poisoned (Ok Poisoned) = true
+is_poisoned (Err error) = false
+
+-- the outcomes of the records of a section; none if it has no code in the file
+abbrev pub outcomes_in : ℕ × Outcomes → List Outcome
+outcomes_in section = unwrap_or section.1 []
+
+-- the outcomes of the records of all sections, one after another
+abbrev pub all_outcomes : List (ℕ × Outcomes) → List Outcome
+all_outcomes sections = flat_map outcomes_in sections
+
+-- The numbers of records, of poisoned instructions and of errors; 2^64 - 1 for a number that does not fit.
+pub record Counts (tally : Tally) (outcomes : List Outcome) : Type 0 where
+  pub records : tally.records ≡ u64_saturate (length outcomes)
+  pub poisoned : tally.poisoned ≡ u64_saturate (count_by is_poisoned outcomes)
+  pub refused : tally.refused ≡ u64_saturate (count_by is_error outcomes)
+
+-- ---- errors
+
+-- The position of an error in `RelocationError`, from 1 on.
+abbrev pub place_of : RelocationError → ℕ
+place_of relocation.OrderMismatch = 1
+place_of (relocation.UnknownKind kind) = 2
+place_of (relocation.UnknownBtfType type_id) = 3
+place_of (relocation.InvalidStringOffset offset) = 4
+place_of (relocation.MaximumTypeDepthReached type_id) = 5
+place_of (relocation.AnonymousType type_id) = 6
+place_of relocation.BadAccess = 7
+place_of relocation.BadIndex = 8
+place_of (relocation.NoSize type_id) = 9
+place_of relocation.BitOffsetTooBig = 10
+place_of relocation.NotForElement = 11
+place_of relocation.BitfieldTooWide = 12
+place_of (relocation.BadBitfield type_id) = 13
+place_of relocation.ShiftTooWide = 14
+place_of relocation.TooDeep = 15
+place_of relocation.Ambiguous = 16
+place_of relocation.Misaligned = 17
+place_of relocation.NoInstruction = 18
+place_of relocation.NoSecondSlot = 19
+place_of relocation.NotImmediate = 20
+place_of relocation.WrongImmediate = 21
+place_of relocation.ImmediateOverflow = 22
+place_of relocation.OffsetTooBig = 23
+place_of relocation.WrongAccessSize = 24
+place_of relocation.BadAccessSize = 25
+place_of relocation.BadLdImm64 = 26
+place_of relocation.NotPatchable = 27
+place_of relocation.OutOfMemory = 28
+
+-- The status and the fault report the reason for which an object is not relocated, or a failed allocation.
+abbrev pub ReportsReason : ℕ → Fault → LoaderError → Type 0
+ReportsReason status fault (Object (elf.Parse e)) =
+    ReportsNumber status fault 104 (record no_details { id = object.place_of e; offset = object.detail_of e })
+ReportsReason status fault (Object elf.OutOfMemory) = ReportsNoMemory status fault
+ReportsReason status fault NoTable = ReportsNumber status fault 105 no_details
+ReportsReason status fault (Table e) = ReportsError status fault (refusal_of e)
+ReportsReason status fault (Ext e) = ReportsError status fault (refusal_of e)
+ReportsReason status fault (Refused name_offset index cause) =
+    ReportsNumber status fault 107 (record no_details { id = place_of cause; offset = name_offset; len = index })
+ReportsReason status fault (SharedPlace index) = ReportsNumber status fault 108 (record no_details { offset = index })
+ReportsReason status fault (SectionName name_offset) =
+    ReportsNumber status fault 109 (record no_details { offset = name_offset })
+ReportsReason status fault OutOfMemory = ReportsNoMemory status fault
+
+-- ---- the call
+
+-- The object with its code relocated is in the buffer, if it fits, and the tally has the numbers of its records. It is
+-- as long as the object. If errors of records are refused, there is none.
+abbrev pub FillsRelocated : ℕ → List ℕ → tables.Table → ℕ → List ℕ → List ℕ → ℕ → Tally → Type 0
+FillsRelocated status object target options old new needed tally =
+    (file : List ℕ) × (outcomes : List (ℕ × Outcomes))
+    × IsRelocated object target (shares_candidates options) outcomes file
+    × (refuses_records options ≡ true → any_error outcomes ≡ false)
+    × (length file ≡ length object)
+    × Counts tally (all_outcomes outcomes) × Fills file old new needed status
+
+-- The outcomes of a call that relocates an object: the relocated object, and nothing is a reason to refuse it; or the
+-- first reason or a failed allocation, and the buffer and the tally are unchanged.
+abbrev pub EndsRelocating : ℕ → List ℕ → tables.Table → ℕ → List ℕ → List ℕ → ℕ → Tally → Tally → Fault → Type 0
+EndsRelocating status object target options old new needed old_tally tally fault =
+    (FillsRelocated status object target options old new needed tally
+    × IsReason object target (shares_candidates options) (refuses_records options) None)
+    ⊎ ((new ≡ old) × (tally ≡ old_tally) × ((e : LoaderError)
+    × IsCause (IsReason object target (shares_candidates options) (refuses_records options)) e
+    × ReportsReason status fault e))

@@ -1,0 +1,262 @@
+//! Objects whose code is relocated for a table.
+
+ghost use Rattle.std.specs.Prelude.{◌≡◌, ◌≢◌, ◌<◌, ◌≤◌, ◌++◌, ◌∷◌, [], List, map};
+ghost use Rattle.btf_loader.specs.Results.{outcomes_of, refuses_errors};
+ghost use Rattle.btf_relocate.specs.Sections.{is_shared};
+ghost use Rattle.vbtf.specs.Relocate.{Outcome as Said, shares_candidates, refuses_records, outcomes_in, all_outcomes, Counts, place_of, ReportsReason, EndsRelocating};
+ghost use Rattle.vbtf.specs.Status.{Keeps};
+
+use crate::fault::{
+    CLOSED, Fault, INVALID_ARGUMENT, OUT_OF_MEMORY, report, report_number, report_numbers,
+};
+use crate::handle::{Handle, lent};
+use crate::object::{NO_TABLE, NOT_AN_OBJECT, detail, place};
+use crate::seed::Keys;
+use crate::write::fill;
+use btf::Btf;
+use btf_elf::ObjectError;
+use btf_loader::{
+    CandidatePolicy, LoaderError, Outcome, Refusals, SectionOutcomes, Target, relocate_object_with,
+};
+use btf_relocate::{Patched, RelocationError};
+use std::alloc::Global;
+
+/// A relocation record has an error.
+const RELOCATION_REFUSED: u32 = 107;
+
+/// Another section has bytes in the place of a section with relocations.
+const SHARED_PLACE: u32 = 108;
+
+/// The name of a section of relocation records cannot be read.
+const BAD_SECTION_NAME: u32 = 109;
+
+/// The options with both bits set.
+const ALL_OPTIONS: u32 = 3;
+
+/// The numbers of relocation records of an object. A number above 2^64 - 1 is reported as 2^64 - 1.
+#[repr(C)]
+#[derive(Drop)]
+pub struct Tally {
+    /// The records of the sections that have code in the file.
+    pub records: u64,
+    /// The records whose instruction was poisoned.
+    pub poisoned: u64,
+    /// The records with an error, which changed no instruction.
+    pub refused: u64,
+}
+
+/// Relocates the code of an object for a table: each relocation record of `.BTF.ext` is resolved against the table, and
+/// its instruction patched. Writes the new object, which is as long as the old one, to a buffer, its length in bytes to
+/// `needed`, and the numbers of records to `tally`.
+///
+/// Bit 0 of `options`: each record has all candidates of the target, as in the kernel; otherwise the records of one
+/// type share them, as in libbpf. Bit 1: a record with an error changes nothing; otherwise it is status 107. `seed` is a
+/// random number, with which the names of sections are hashed.
+///
+/// Status 100 if the buffer is too small (it is then unchanged). 104 if the bytes are no object, with `id` and `offset`
+/// as in `vbtf_raw_sanitize_object`; 105 if no section is `.BTF`; 1 to 19 with the first error of the table or of
+/// `.BTF.ext`. Then for each section of records: 109 if its name cannot be read; `offset` is the string offset. 108 if
+/// another section has bytes in the place of its code; `offset` is the index of the section with code. 107 if a record
+/// has an error; `id` is the position of the error in `RelocationError`, from 1 on, `offset` the string offset of the
+/// section's name, and `len` the index of the record. 20 if an allocation fails; 101 if the handle's state is not 2; 102
+/// if another bit of the options is set.
+#[unsafe(no_mangle)]
+pub extern "C" fn vbtf_lent_relocate_object(
+    alloc: Global,
+    object: &[u8],
+    target: &mut Handle,
+    options: u32,
+    seed: u64,
+    out: &mut [u8],
+    needed: &mut u64,
+    tally: &mut Tally,
+    fault: &mut Fault,
+) -> u32
+    ensures relocated { target.old.state ≡ 2 → options ≤ 3
+        → EndsRelocating result object.now target.old.opened.btf options out.old out.new needed.new
+        tally.old tally.new fault.new }
+    ensures options { target.old.state ≡ 2 → 3 < options
+        → (result ≡ INVALID_ARGUMENT) × (out.new ≡ out.old) × (tally.new ≡ tally.old) }
+    ensures closed { target.old.state ≢ 2
+        → (result ≡ CLOSED) × (out.new ≡ out.old) × (tally.new ≡ tally.old) }
+    ensures kept { Keeps target.old target.new }
+{
+    let Some(loan) = lent(target) else {
+        return CLOSED;
+    };
+    let table = &loan.get().btf;
+    let status = relocate(
+        alloc, object, table, options, seed, out, needed, tally, fault,
+    );
+    *target = Handle::from_loan(loan);
+    status
+}
+
+/// Relocates the code of an object for a table.
+fn relocate(
+    alloc: Global,
+    object: &[u8],
+    table: &Btf,
+    options: u32,
+    seed: u64,
+    out: &mut [u8],
+    needed: &mut u64,
+    tally: &mut Tally,
+    fault: &mut Fault,
+) -> u32
+    ensures relocated { options ≤ 3 → EndsRelocating result object.now table.now options out.old
+        out.new needed.new tally.old tally.new fault.new }
+    ensures options { 3 < options
+        → (result ≡ INVALID_ARGUMENT) × (out.new ≡ out.old) × (tally.new ≡ tally.old) }
+{
+    if options > ALL_OPTIONS {
+        return INVALID_ARGUMENT;
+    }
+    let Ok(target) = Target::new(alloc, table) else {
+        return report_reason(LoaderError::OutOfMemory, fault);
+    };
+    let policy = policy(options);
+    let refusals = refusals(options);
+    match relocate_object_with(alloc, object, &target, policy, refusals, Keys { seed }) {
+        Ok((file, outcomes)) => {
+            *tally = Tally::of(&outcomes);
+            fill(&file, out, needed)
+        }
+        Err(error) => report_reason(error, fault),
+    }
+}
+
+/// The candidates of a record, by bit 0 of the options.
+fn policy(options: u32) -> CandidatePolicy
+    ensures { is_shared result ≡ shares_candidates options }
+{
+    if options % 2 == 0 {
+        CandidatePolicy::Shared
+    } else {
+        CandidatePolicy::Fresh
+    }
+}
+
+/// What a record with an error does, by bit 1 of the options.
+fn refusals(options: u32) -> Refusals
+    ensures { refuses_errors result ≡ refuses_records options }
+{
+    if options / 2 % 2 == 0 {
+        Refusals::Refuse
+    } else {
+        Refusals::Keep
+    }
+}
+
+impl Tally {
+    /// Counts the outcomes of the records of each section.
+    fn of(sections: &[SectionOutcomes]) -> Tally
+        ensures { Counts result (all_outcomes (map outcomes_of sections.now)) }
+    {
+        let mut tally = Tally {
+            records: 0,
+            poisoned: 0,
+            refused: 0,
+        };
+        for section in sections {
+            tally.add_section(section);
+        }
+        tally
+    }
+
+    /// Counts the outcomes of the records of one more section.
+    fn add_section(&mut self, section: &SectionOutcomes)
+        ensures { (counted : List Said) → Counts self.old counted
+            → Counts self.new (counted ++ outcomes_in (outcomes_of section.now)) }
+    {
+        let Some(outcomes) = &section.outcomes else {
+            return;
+        };
+        for outcome in outcomes {
+            self.add(outcome);
+        }
+    }
+
+    /// Counts the outcome of one more record.
+    fn add(&mut self, outcome: &Outcome)
+        ensures { (counted : List Said) → Counts self.old counted
+            → Counts self.new (counted ++ outcome.now ∷ []) }
+    {
+        self.records = self.records.saturating_add(1);
+        match outcome {
+            Ok(Patched::Written) => {}
+            Ok(Patched::Poisoned) => self.poisoned = self.poisoned.saturating_add(1),
+            Err(_) => self.refused = self.refused.saturating_add(1),
+        }
+    }
+}
+
+/// Writes the reason for which an object is not relocated, and returns the status.
+fn report_reason(error: LoaderError, fault: &mut Fault) -> u32
+    ensures { ReportsReason result fault.new error }
+{
+    match error {
+        LoaderError::Object(ObjectError::Parse(error)) => report_number(
+            fault,
+            NOT_AN_OBJECT,
+            place(&error),
+            detail(&error),
+        ),
+        LoaderError::NoTable => report_number(fault, NO_TABLE, 0, 0),
+        LoaderError::Table(error) | LoaderError::Ext(error) => report(error, fault),
+        LoaderError::SectionName { name_offset } => {
+            report_number(fault, BAD_SECTION_NAME, 0, name_offset as u64)
+        }
+        LoaderError::SharedPlace { index } => report_number(fault, SHARED_PLACE, 0, index as u64),
+        LoaderError::Refused {
+            name_offset,
+            index,
+            cause,
+        } => report_numbers(
+            fault,
+            RELOCATION_REFUSED,
+            error_place(cause),
+            name_offset as u64,
+            index as u64,
+        ),
+        LoaderError::Object(ObjectError::OutOfMemory) | LoaderError::OutOfMemory => {
+            report_number(fault, OUT_OF_MEMORY, 0, 0)
+        }
+    }
+}
+
+/// The position of an error in `RelocationError`, from 1 on.
+fn error_place(error: RelocationError) -> u32
+    ensures { result ≡ place_of error }
+{
+    match error {
+        RelocationError::OrderMismatch => 1,
+        RelocationError::UnknownKind { .. } => 2,
+        RelocationError::UnknownBtfType { .. } => 3,
+        RelocationError::InvalidStringOffset { .. } => 4,
+        RelocationError::MaximumTypeDepthReached { .. } => 5,
+        RelocationError::AnonymousType { .. } => 6,
+        RelocationError::BadAccess => 7,
+        RelocationError::BadIndex => 8,
+        RelocationError::NoSize { .. } => 9,
+        RelocationError::BitOffsetTooBig => 10,
+        RelocationError::NotForElement => 11,
+        RelocationError::BitfieldTooWide => 12,
+        RelocationError::BadBitfield { .. } => 13,
+        RelocationError::ShiftTooWide => 14,
+        RelocationError::TooDeep => 15,
+        RelocationError::Ambiguous => 16,
+        RelocationError::Misaligned => 17,
+        RelocationError::NoInstruction => 18,
+        RelocationError::NoSecondSlot => 19,
+        RelocationError::NotImmediate => 20,
+        RelocationError::WrongImmediate => 21,
+        RelocationError::ImmediateOverflow => 22,
+        RelocationError::OffsetTooBig => 23,
+        RelocationError::WrongAccessSize => 24,
+        RelocationError::BadAccessSize => 25,
+        RelocationError::BadLdImm64 => 26,
+        RelocationError::NotPatchable => 27,
+        RelocationError::OutOfMemory => 28,
+    }
+}
