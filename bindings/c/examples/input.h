@@ -1,4 +1,4 @@
-/* Shared code of the examples: reading a table from standard input, and messages. */
+/* Shared code of the examples: reading a table from standard input or a file, and messages. */
 #ifndef INPUT_H
 #define INPUT_H
 
@@ -7,14 +7,14 @@
 #include <stdio.h>
 #include <stdlib.h>
 
-/* Reads standard input to its end; returns null if an allocation or the input fails. */
-static inline unsigned char *read_all(size_t *len)
+/* Reads a stream to its end; returns null if an allocation or the stream fails. */
+static inline unsigned char *read_all(FILE *stream, size_t *len)
 {
 	size_t room = 1 << 16;
 	unsigned char *bytes = malloc(room);
 	*len = 0;
 	while (bytes) {
-		*len += fread(bytes + *len, 1, room - *len, stdin);
+		*len += fread(bytes + *len, 1, room - *len, stream);
 		if (*len < room)
 			break;
 		unsigned char *more = realloc(bytes, room *= 2);
@@ -22,7 +22,7 @@ static inline unsigned char *read_all(size_t *len)
 			free(bytes);
 		bytes = more;
 	}
-	if (bytes && ferror(stdin)) {
+	if (bytes && ferror(stream)) {
 		free(bytes);
 		bytes = NULL;
 	}
@@ -42,7 +42,7 @@ static inline int open_input(const char *program, struct vbtf_table *table)
 {
 	struct vbtf_error error;
 	size_t len;
-	unsigned char *bytes = read_all(&len);
+	unsigned char *bytes = read_all(stdin, &len);
 	if (!bytes) {
 		fprintf(stderr, "%s: standard input cannot be read\n", program);
 		return 1;

@@ -70,7 +70,7 @@ static void repeated(const struct file *file, const struct vbtf_table *target)
 	check(error.number == VBTF_RELOCATION_REFUSED && error.id == 21 && error.offset != 0 && error.len == 0);
 	check(byte == 1 && tally.records == 9 && tally.poisoned == 9 && tally.refused == 9);
 	again = relocated(file, target, VBTF_KEEP_REFUSED, &tally);
-	check(tally.records == 4 && tally.poisoned == 0 && tally.refused == 3);
+	check(tally.records == 4 && tally.poisoned == 0 && tally.refused == 4);
 	check(memcmp(again.bytes, file->bytes, file->len) == 0);
 	free(again.bytes);
 }
