@@ -84,6 +84,15 @@ pub struct vbtf_ext_sizes {
     pub relocation_sections: u64,
 }
 
+/// The numbers of relocation records of an object.
+#[repr(C)]
+#[derive(Debug, Clone, Copy, Default)]
+pub struct vbtf_tally {
+    pub records: u64,
+    pub poisoned: u64,
+    pub refused: u64,
+}
+
 extern "C" {
     pub fn vbtf_raw_rewrite(
         table: *mut vbtf_table,
@@ -111,6 +120,18 @@ extern "C" {
         room: usize,
         needed: *mut u64,
         asked: *mut vbtf_asked,
+        error: *mut vbtf_error,
+    ) -> u32;
+    pub fn vbtf_lent_relocate_object(
+        object: *const u8,
+        len: usize,
+        target: *mut vbtf_table,
+        options: u32,
+        seed: u64,
+        out: *mut u8,
+        room: usize,
+        needed: *mut u64,
+        tally: *mut vbtf_tally,
         error: *mut vbtf_error,
     ) -> u32;
     pub fn vbtf_version() -> u32;

@@ -6,6 +6,24 @@ use vbtf_sys::{vbtf_error, vbtf_raw_error_text};
 
 const CLOSED: u32 = 101;
 const INVALID_ARGUMENT: u32 = 102;
+const NOT_AN_OBJECT: u32 = 104;
+const NO_TABLE: u32 = 105;
+const RELOCATION_REFUSED: u32 = 107;
+const SHARED_PLACE: u32 = 108;
+const BAD_SECTION_NAME: u32 = 109;
+
+/// The text of a status that is no error of the library.
+fn own_text(status: u32) -> Option<&'static str> {
+    match status {
+        INVALID_ARGUMENT => Some("invalid argument"),
+        NOT_AN_OBJECT => Some("not an ELF object that is read here"),
+        NO_TABLE => Some("the object has no section .BTF"),
+        RELOCATION_REFUSED => Some("a relocation has an error"),
+        SHARED_PLACE => Some("a section with relocations shares its place with another section"),
+        BAD_SECTION_NAME => Some("the name of a section of relocations cannot be read"),
+        _ => None,
+    }
+}
 
 /// The error of a call. The variants and the texts are the library's; the variants have aya's names.
 ///
@@ -78,6 +96,34 @@ pub enum Error {
     OutOfMemory,
     /// An argument is invalid: bytes follow the record of a type that is added, or the table already has a `.BTF.ext`.
     InvalidArgument,
+    /// The bytes are no ELF object that is read here.
+    NotAnObject {
+        /// The row of the reason in the first table of `docs/OBJECTS.md`, from 1 on.
+        reason: u32,
+        /// The class, the encoding, or the index of a section or symbol; 0 if the reason has none.
+        detail: u64,
+    },
+    /// The object has no section `.BTF`.
+    NoTable,
+    /// A relocation record has an error.
+    RelocationRefused {
+        /// The number of the reason in `docs/C.md`, from 1 on.
+        reason: u32,
+        /// The string offset of the name of the record's section.
+        name_offset: u64,
+        /// The index of the record in the section.
+        index: u64,
+    },
+    /// Another section has bytes in the place of a section with relocations.
+    SharedPlace {
+        /// The index of the section with relocations.
+        index: u64,
+    },
+    /// The name of a section of relocation records cannot be read.
+    BadSectionName {
+        /// The string offset of the name.
+        name_offset: u64,
+    },
 }
 
 impl Error {
@@ -103,6 +149,15 @@ impl Error {
             15 => Error::UnknownSectionSize { section_name: name(error) },
             20 => Error::OutOfMemory,
             CLOSED | INVALID_ARGUMENT => Error::InvalidArgument,
+            NOT_AN_OBJECT => Error::NotAnObject { reason: error.id, detail: error.offset },
+            NO_TABLE => Error::NoTable,
+            RELOCATION_REFUSED => Error::RelocationRefused {
+                reason: error.id,
+                name_offset: error.offset,
+                index: error.len,
+            },
+            SHARED_PLACE => Error::SharedPlace { index: error.offset },
+            BAD_SECTION_NAME => Error::BadSectionName { name_offset: error.offset },
             other => unreachable!("status {other} of a call of vbtf"),
         }
     }
@@ -126,6 +181,13 @@ impl Error {
             Error::UnknownSectionSize { section_name } => (15, 0, 0, 0, 0, section_name.as_str()),
             Error::OutOfMemory => (20, 0, 0, 0, 0, ""),
             Error::InvalidArgument => (INVALID_ARGUMENT, 0, 0, 0, 0, ""),
+            Error::NotAnObject { reason, detail } => (NOT_AN_OBJECT, *reason, *detail, 0, 0, ""),
+            Error::NoTable => (NO_TABLE, 0, 0, 0, 0, ""),
+            Error::RelocationRefused { reason, name_offset, index } => {
+                (RELOCATION_REFUSED, *reason, *name_offset, *index, 0, "")
+            }
+            Error::SharedPlace { index } => (SHARED_PLACE, 0, *index, 0, 0, ""),
+            Error::BadSectionName { name_offset } => (BAD_SECTION_NAME, 0, *name_offset, 0, 0, ""),
         };
         let mut error =
             vbtf_error { number, id, offset, len, section_len, name_len: 0, name: [0; 255] };
@@ -158,8 +220,8 @@ fn name(error: &vbtf_error) -> String {
 impl fmt::Display for Error {
     fn fmt(&self, f: &mut fmt::Formatter<'_>) -> fmt::Result {
         let error = self.described();
-        if error.number == INVALID_ARGUMENT {
-            return f.write_str("invalid argument");
+        if let Some(text) = own_text(error.number) {
+            return f.write_str(text);
         }
         // SAFETY: the error and the buffer live as long as the call.
         let text = written(400, |out, room, needed, _| unsafe {

@@ -26,6 +26,7 @@ mod error;
 mod ext;
 mod kernel;
 mod kind;
+mod object;
 mod table;
 mod types;
 
@@ -33,6 +34,7 @@ pub use error::Error;
 pub use ext::{Ext, FuncInfo, LineInfo, Part, Relocation};
 pub use kernel::{Feature, FeatureAnswer, Kernel};
 pub use kind::{Endianness, Kind};
+pub use object::{Relocate, Tally};
 pub use table::{fields_are_compatible, types_are_compatible, Table};
 pub use types::{Array, Entry, Int, Items, Linkage, Member, Param, Type, Types, Variant};
 

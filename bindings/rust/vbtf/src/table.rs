@@ -14,7 +14,7 @@ use vbtf_sys::*;
 const BY_MAGIC: u32 = 2;
 
 /// A random number, from which the library derives the keys of its hashes: nobody can choose names that collide.
-fn random_seed() -> u64 {
+pub(crate) fn random_seed() -> u64 {
     RandomState::new().build_hasher().finish()
 }
 

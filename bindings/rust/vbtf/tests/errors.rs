@@ -27,6 +27,20 @@ fn errors_have_the_library_s_texts() {
         ),
         (Error::OutOfMemory, "out of memory"),
         (Error::InvalidArgument, "invalid argument"),
+        (Error::NotAnObject { reason: 1, detail: 0 }, "not an ELF object that is read here"),
+        (Error::NoTable, "the object has no section .BTF"),
+        (
+            Error::RelocationRefused { reason: 21, name_offset: 9, index: 0 },
+            "a relocation has an error",
+        ),
+        (
+            Error::SharedPlace { index: 3 },
+            "a section with relocations shares its place with another section",
+        ),
+        (
+            Error::BadSectionName { name_offset: 9 },
+            "the name of a section of relocations cannot be read",
+        ),
     ];
     for (error, text) in texts {
         assert_eq!(error.to_string(), text);
