@@ -1,4 +1,4 @@
-use Rattle.std.proofs.Common.{◌≡◌, ◌∙◌, sym, subst, refl, inl, inr, map, Bool, List, ℕ, true, None}
+use Rattle.std.proofs.Common.{◌≡◌, ◌∙◌, subst, refl, inl, inr, map, Bool, List, ℕ, true, None}
 use Rattle.btf_loader.specs.Results.{outcomes_of}
 use Rattle.btf_loader.specs.declared.error.LoaderError.TheVariants.{OutOfMemory}
 use Rattle.btf_loader_model.specs.Loader.{IsRelocated, Outcomes}
