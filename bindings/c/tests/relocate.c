@@ -105,6 +105,27 @@ static void refused(const struct file *object, const struct vbtf_table *target)
 	free(bytes);
 }
 
+/* The object with another byte at each place: the call returns a status that the header names, and an error writes nothing. */
+static void other_bytes(const struct file *object, const struct vbtf_table *target)
+{
+	uint8_t *out = malloc(object->len);
+	for (size_t at = 0; at < object->len; at++) {
+		struct vbtf_tally tally = { 9, 9, 9 };
+		uint8_t byte = object->bytes[at];
+		uint64_t needed = 0;
+		uint32_t status;
+		object->bytes[at] = (uint8_t)(byte + 1 + at % 255);
+		memset(out, 1, object->len);
+		status = vbtf_relocate_object(object->bytes, object->len, target, 0, SEED, out, object->len, &needed, &tally,
+		                              &error);
+		object->bytes[at] = byte;
+		check(status == VBTF_OK ? needed == object->len : out[0] == 1 && tally.records == 9 && error.number == status);
+		check(status < VBTF_OUT_OF_MEMORY || status == VBTF_NOT_AN_OBJECT || status == VBTF_NO_TABLE
+		      || (status >= VBTF_RELOCATION_REFUSED && status <= VBTF_BAD_SECTION_NAME));
+	}
+	free(out);
+}
+
 /* The nth allocation fails, for each n: the buffer, the tally and the table are unchanged, and nothing leaks. */
 static void without_memory(const struct file *object, const struct vbtf_table *target)
 {
@@ -143,6 +164,7 @@ int main(int argc, char **argv)
 	print_code(&file);
 	repeated(&file, &target);
 	refused(&object, &target);
+	other_bytes(&object, &target);
 	without_memory(&object, &target);
 	vbtf_close(&target);
 	free(file.bytes);
