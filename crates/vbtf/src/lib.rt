@@ -16,8 +16,8 @@
 //! Each exported function restates the clauses of the call that it makes. It returns a status: 0 for success; 1 to 20
 //! for an error of `btf`, by its position in `BtfError`; 100 for a buffer that is too small; 101 for a handle in
 //! another state than the call needs; 102 for an invalid argument; 103 for an item or a variant that the type does not
-//! have; 104 to 106 for an object that is not rewritten; 104, 105 and 107 to 109 for an object that is not relocated. For 1
-//! to 20, 104 and 107 to 109 the fault has details.
+//! have; 104 to 109 for an object that is not rewritten or not relocated. For 1 to 20, 104 and 107 to 109 the fault has
+//! details.
 #![tactic(auto)]
 
 mod add;

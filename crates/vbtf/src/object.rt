@@ -8,8 +8,8 @@ ghost use Rattle.btf_elf_model.specs.Object as elf;
 ghost use Rattle.btf_elf_model.specs.declared.section_header.SectionHeader.{SectionHeader};
 ghost use Rattle.btf_object_model.specs.Laws.{KeepsExt};
 ghost use Rattle.btf_object_model.specs.Sanitized.{HasSection, ext_name};
-ghost use Rattle.vbtf.specs.Status.{Fills};
-ghost use Rattle.vbtf.specs.Object.{name_or_none, target_chosen, place_of, detail_of, ReportsCause, EndsSanitizing};
+ghost use Rattle.vbtf.specs.Status.{Fills, no_details};
+ghost use Rattle.vbtf.specs.Object.{name_or_none, target_chosen, place_of, detail_of, ReportsNumber, ReportsCause, EndsSanitizing};
 
 use crate::fault::{Fault, INVALID_ARGUMENT, OUT_OF_MEMORY, report, report_number};
 use crate::kernel::{Asked, Kernel};
@@ -23,7 +23,7 @@ use std::alloc::Global;
 use std::str;
 
 /// The bytes are no object.
-pub(crate) const NOT_AN_OBJECT: u32 = 104;
+const NOT_AN_OBJECT: u32 = 104;
 
 /// The object has no section `.BTF`.
 pub(crate) const NO_TABLE: u32 = 105;
@@ -98,12 +98,7 @@ fn report_cause(error: SanitizeError, fault: &mut Fault) -> u32
     ensures { ReportsCause result fault.new error }
 {
     match error {
-        SanitizeError::Object(ObjectError::Parse(error)) => report_number(
-            fault,
-            NOT_AN_OBJECT,
-            place(&error),
-            detail(&error),
-        ),
+        SanitizeError::Object(ObjectError::Parse(error)) => report_parse(error, fault),
         SanitizeError::NoTable => report_number(fault, NO_TABLE, 0, 0),
         SanitizeError::Table(error) => report(error, fault),
         SanitizeError::Section(ReplaceError::NoSuchSection { .. })
@@ -116,8 +111,16 @@ fn report_cause(error: SanitizeError, fault: &mut Fault) -> u32
     }
 }
 
+/// Writes why the bytes are no object, and returns the status.
+pub(crate) fn report_parse(error: ParseError, fault: &mut Fault) -> u32
+    ensures { ReportsNumber result fault.new 104
+        (record no_details { id = place_of error; offset = detail_of error }) }
+{
+    report_number(fault, NOT_AN_OBJECT, place(&error), detail(&error))
+}
+
 /// The position of an error in `ParseError`, from 1 on.
-pub(crate) fn place(error: &ParseError) -> u32
+fn place(error: &ParseError) -> u32
     ensures { result ≡ place_of error.now }
 {
     match error {
@@ -137,7 +140,7 @@ pub(crate) fn place(error: &ParseError) -> u32
 }
 
 /// The detail of an error in `ParseError`: a class, an encoding, or the index of a section or symbol; otherwise 0.
-pub(crate) fn detail(error: &ParseError) -> u64
+fn detail(error: &ParseError) -> u64
     ensures { result ≡ detail_of error.now }
 {
     match error {

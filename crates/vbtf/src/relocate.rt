@@ -10,7 +10,7 @@ use crate::fault::{
     CLOSED, Fault, INVALID_ARGUMENT, OUT_OF_MEMORY, report, report_number, report_numbers,
 };
 use crate::handle::{Handle, lent};
-use crate::object::{NO_TABLE, NOT_AN_OBJECT, detail, place};
+use crate::object::{NO_TABLE, report_parse};
 use crate::seed::Keys;
 use crate::write::fill;
 use btf::Btf;
@@ -50,16 +50,16 @@ pub struct Tally {
 /// `needed`, and the numbers of records to `tally`.
 ///
 /// Bit 0 of `options`: each record has all candidates of the target, as in the kernel; otherwise the records of one
-/// type share them, as in libbpf. Bit 1: a record with an error changes nothing; otherwise it is status 107. `seed` is a
-/// random number, with which the names of sections are hashed.
+/// type share them, as in libbpf. Bit 1: a record with an error changes nothing; otherwise it is status 107. `seed` is
+/// a random number, with which the names of sections are hashed.
 ///
 /// Status 100 if the buffer is too small (it is then unchanged). 104 if the bytes are no object, with `id` and `offset`
 /// as in `vbtf_raw_sanitize_object`; 105 if no section is `.BTF`; 1 to 19 with the first error of the table or of
 /// `.BTF.ext`. Then for each section of records: 109 if its name cannot be read; `offset` is the string offset. 108 if
 /// another section has bytes in the place of its code; `offset` is the index of the section with code. 107 if a record
 /// has an error; `id` is the position of the error in `RelocationError`, from 1 on, `offset` the string offset of the
-/// section's name, and `len` the index of the record. 20 if an allocation fails; 101 if the handle's state is not 2; 102
-/// if another bit of the options is set.
+/// section's name, and `len` the index of the record. 20 if an allocation fails; 101 if the handle's state is not 2;
+/// 102 if another bit of the options is set.
 #[unsafe(no_mangle)]
 pub extern "C" fn vbtf_lent_relocate_object(
     alloc: Global,
@@ -196,12 +196,7 @@ fn report_reason(error: LoaderError, fault: &mut Fault) -> u32
     ensures { ReportsReason result fault.new error }
 {
     match error {
-        LoaderError::Object(ObjectError::Parse(error)) => report_number(
-            fault,
-            NOT_AN_OBJECT,
-            place(&error),
-            detail(&error),
-        ),
+        LoaderError::Object(ObjectError::Parse(error)) => report_parse(error, fault),
         LoaderError::NoTable => report_number(fault, NO_TABLE, 0, 0),
         LoaderError::Table(error) | LoaderError::Ext(error) => report(error, fault),
         LoaderError::SectionName { name_offset } => {
