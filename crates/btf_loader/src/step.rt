@@ -190,7 +190,7 @@ impl<'a, 'o, 't> Loader<'a, 'o, 't> {
     }
 }
 
-/// Whether the name at a string offset is shorter than `NAME_LIMIT` bytes. Reads at most so many bytes.
+/// Whether the name at a string offset is shorter than `NAME_LIMIT` bytes. Reads at most `NAME_LIMIT` bytes.
 fn is_short_at(local: &Btf, name_offset: u32) -> bool
     ensures { result ≡ is_short_at local.now.strings name_offset }
 {

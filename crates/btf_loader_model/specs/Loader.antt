@@ -38,8 +38,8 @@ abbrev pub index_by : Object → Result (List ℕ) Refusal → Option ℕ
 index_by o (Ok name) = code_index o name
 index_by o (Err refusal) = None
 
--- A name at an offset of the strings ends before the limit: one of so many bytes from the offset on is the zero byte
--- that ends a text.
+-- A name at an offset of the strings ends before the limit: of the first `name_limit` bytes from the offset on, one is
+-- the zero byte that ends a text.
 abbrev pub is_short_at : List ℕ → ℕ → Bool
 is_short_at strings offset = is_some (position is_zero (take name_limit (drop offset strings)))
 
