@@ -3,11 +3,11 @@
  * filter without maps, as filter.c.
  *
  * The steps are those of a loader: the code is relocated for the types of the kernel, the program's table is rewritten
- * for it, and the table, the code and the records of its functions are given to bpf(2). A whole loader also creates
- * maps, and tries which features the kernel has; this one assumes all of them. The exit status is 0 if the kernel does
- * not permit bpf(2).
+ * for the features that the kernel is found to have, and the table, the code and the records of its functions are given
+ * to bpf(2). A whole loader also creates maps. The exit status is 0 if the kernel does not permit bpf(2).
  */
 #include "input.h"
+#include "probes.h"
 
 #include <elf.h>
 #include <errno.h>
@@ -79,7 +79,7 @@ static bool relocate(struct loader *it)
 /* Rewrites the table of the relocated object for the kernel. */
 static bool sanitize(struct loader *it)
 {
-	const struct vbtf_kernel features = { 0xff, 0, 0, 0 };
+	const struct vbtf_kernel features = { kernel_features(), 0, 0, 0 };
 	const struct file *old = &it->relocated;
 	struct file *new = &it->sanitized;
 	struct vbtf_asked asked;

@@ -1,9 +1,11 @@
-//! Carrying out `relocate`.
+//! Carrying out `relocate`, and what `check` says of relocations.
 
 use crate::output::Output;
 use crate::run::{Answer, Cause, Failure, blame, hasher, read, read_table, write};
+use btf_loader::{CandidatePolicy, Refusals};
 use btf_relocate::Target;
-use btfobj_cli::{Ending, Fault, Relocated, Relocation, list_relocations, relocate};
+use btf_table::Btf;
+use btfobj_cli::{Ending, Fault, Form, Relocated, Relocation, list_relocations, relocate};
 
 /// Relocates the code of an object. Writes the new object, or without an output what became of its records.
 pub fn relocate_file<'a>(
@@ -14,38 +16,78 @@ pub fn relocate_file<'a>(
 ) -> Result<Answer, Failure<'a>> {
     let bytes = read(rt, file)?;
     let table = read_table(rt, relocation.target)?;
-    let target = match Target::new(rt.alloc(), &table) {
-        Ok(target) => target,
-        Err(e) => {
-            return Err(Failure {
-                file: relocation.target,
-                cause: Cause::Fault(Fault::from(e)),
-            });
-        }
-    };
+    let target = index(rt, relocation.target, &table)?;
     let (policy, refusals) = (relocation.policy, relocation.refusals);
     let keys = hasher(rt, file)?;
-    let (written, sections) = blame(
-        file,
-        relocate(rt.alloc(), &bytes, &target, policy, refusals, keys),
-    )?;
+    let relocated = relocate(rt.alloc(), &bytes, &target, policy, refusals, keys);
+    let (written, sections) = blame(file, relocated)?;
+    let relocated = Relocated {
+        bytes: &bytes,
+        file: &written,
+        sections: &sections,
+        target: &target,
+    };
     match relocation.output {
         Some(output) => write(rt, output, &written, out)?,
-        None => {
-            let relocated = Relocated {
-                bytes: &bytes,
-                file: &written,
-                sections: &sections,
-                target: &target,
-            };
-            let keys = hasher(rt, file)?;
-            let listed = list_relocations(rt.alloc(), &relocated, relocation.form, keys, out);
-            blame(file, listed)?;
-        }
+        None => list(rt, file, &relocated, relocation.form, out)?,
     }
     Ok(match Ending::of(&sections) {
-        Ending::Refused => Answer::No,
-        Ending::Poisoned if !relocation.allows_poison => Answer::Poisoned,
-        _ => Answer::Yes,
+        Ending::Poisoned if relocation.allows_poison => Answer::Yes,
+        ending => Answer::from(ending),
     })
+}
+
+/// Writes the number of relocation records of an object, and the records that the table of a file cannot satisfy.
+/// Returns how the records end.
+pub fn summarize<'a>(
+    rt: &HostRuntime,
+    file: &'a str,
+    bytes: &[u8],
+    target: &'a str,
+    out: &mut Output<'_>,
+) -> Result<Ending, Failure<'a>> {
+    let table = read_table(rt, target)?;
+    let target = index(rt, target, &table)?;
+    let (policy, refusals) = (CandidatePolicy::Shared, Refusals::Keep);
+    let keys = hasher(rt, file)?;
+    let relocated = relocate(rt.alloc(), bytes, &target, policy, refusals, keys);
+    let (written, sections) = blame(file, relocated)?;
+    let relocated = Relocated {
+        bytes,
+        file: &written,
+        sections: &sections,
+        target: &target,
+    };
+    list(rt, file, &relocated, Form::Summary, out)?;
+    Ok(Ending::of(&sections))
+}
+
+/// Writes what became of the records of an object.
+fn list<'a>(
+    rt: &HostRuntime,
+    file: &'a str,
+    relocated: &Relocated<'_, '_>,
+    form: Form,
+    out: &mut Output<'_>,
+) -> Result<(), Failure<'a>> {
+    let keys = hasher(rt, file)?;
+    blame(
+        file,
+        list_relocations(rt.alloc(), relocated, form, keys, out),
+    )
+}
+
+/// The index of the table of a file.
+fn index<'a, 't>(
+    rt: &HostRuntime,
+    file: &'a str,
+    table: &'t Btf,
+) -> Result<Target<'t>, Failure<'a>> {
+    match Target::new(rt.alloc(), table) {
+        Ok(target) => Ok(target),
+        Err(e) => Err(Failure {
+            file,
+            cause: Cause::Fault(Fault::from(e)),
+        }),
+    }
 }

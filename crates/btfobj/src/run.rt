@@ -3,12 +3,12 @@
 use crate::files::{STREAM, read_file};
 use crate::new_file::write_file;
 use crate::output::Output;
-use crate::relocate::relocate_file;
+use crate::relocate::{relocate_file, summarize};
 use btf_rewrite_model::{BtfFeature, FeatureAnswer};
 use btf_table::Btf;
 use btf_text::Selection;
 use btfobj_cli::{
-    Blob, Fault, Request, Rewrite, check, compat, dump, ext, layout, sanitize, table_alone,
+    Blob, Ending, Fault, Request, Rewrite, check, compat, dump, ext, layout, sanitize, table_alone,
 };
 use std::alloc::Global;
 use std::hash::RandomState;
@@ -70,6 +70,16 @@ impl From<bool> for Answer {
     }
 }
 
+impl From<Ending> for Answer {
+    fn from(ending: Ending) -> Answer {
+        match ending {
+            Ending::Written => Answer::Yes,
+            Ending::Poisoned => Answer::Poisoned,
+            Ending::Refused => Answer::No,
+        }
+    }
+}
+
 /// Carries out a request, and returns the status: 0 on success, 1 for an error or a negative check, 3 for a poisoned
 /// instruction, and 141 if the reader of standard output closed it.
 pub fn carry_out(rt: &HostRuntime, request: &Request<'_>) -> ExitCode {
@@ -107,9 +117,11 @@ fn carried_out<'a>(
         Request::Dump { file, selection } => write_types(rt, file, selection, out)?,
         Request::Layout { file, name } => write_members(rt, file, name, out)?,
         Request::Ext { file } => write_records(rt, file, out)?,
-        Request::Check { file, rewrite } => {
-            return Ok(Answer::from(has_all(rt, file, rewrite, out)?));
-        }
+        Request::Check {
+            file,
+            rewrite,
+            target,
+        } => return check_file(rt, file, rewrite, *target, out),
         Request::Sanitize {
             file,
             output,
@@ -160,17 +172,27 @@ fn write_records<'a>(
     blame(file, ext(rt.alloc(), &bytes, out))
 }
 
-/// Writes what a rewrite of a file would change. Returns whether the kernel has all features that the table needs.
-fn has_all<'a>(
+/// Writes what a rewrite of a file would change, and the relocations that the table of another file cannot satisfy, if
+/// there is one. Answers no if the kernel lacks a feature that the table needs.
+fn check_file<'a>(
     rt: &HostRuntime,
     file: &'a str,
     rewrite: &Rewrite<'_>,
+    target: Option<&'a str>,
     out: &mut Output<'_>,
-) -> Result<bool, Failure<'a>> {
+) -> Result<Answer, Failure<'a>> {
     let bytes = read(rt, file)?;
     let keys = hasher(rt, file)?;
     let checked = blame(file, check(rt.alloc(), &bytes, rewrite, keys, out))?;
-    Ok(!checked.lacks)
+    let ending = match target {
+        Some(target) => summarize(rt, file, &bytes, target, out)?,
+        None => Ending::Written,
+    };
+    Ok(if checked.lacks {
+        Answer::No
+    } else {
+        Answer::from(ending)
+    })
 }
 
 /// The bytes of a file.

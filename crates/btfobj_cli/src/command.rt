@@ -51,7 +51,7 @@ pub fn command<'a>(alloc: Global) -> Result<Command<'a>, AllocError> {
         .after_help(
             "FILE is an ELF object or a BTF table of either byte order; - is standard input.\n\
              Exit status: 0, 1 where a file is refused or a check says no, 2 for the command line,\n\
-             3 where relocate poisons an instruction.",
+             3 where a relocation poisons its instruction.",
         )
         .subcommand(dump(alloc)?)?
         .subcommand(layout(alloc)?)?
@@ -122,15 +122,22 @@ fn ext<'a>(alloc: Global) -> Result<Command<'a>, AllocError> {
 
 /// The command `check`.
 fn check<'a>(alloc: Global) -> Result<Command<'a>, AllocError> {
+    let target = Arg::new(alloc, "target")
+        .long("target")
+        .value_name("TABLE")
+        .help("Write also the relocations that this table, the kernel's, cannot satisfy");
     let command = Command::new(alloc, "check")
         .about(
             "Writes what the table needs of a kernel, and which types a rewrite for the kernel changes",
         )
         .after_help(
-            "Example: btfobj check prog.o --kernel 5.4\n\
-             Exit status: 0 where the kernel has what the table needs, else 1.",
+            "Examples: btfobj check prog.o --kernel 5.4\n          \
+             btfobj check prog.o --kernel 5.15 --target vmlinux-5.15\n\
+             Exit status: 0 where the kernel has what the table needs and each relocation has a value,\n\
+             1 where it has not or a relocation has an error, 3 where a relocation poisons its instruction.",
         )
-        .arg(file(alloc, "file", "FILE", "The object or table"))?;
+        .arg(file(alloc, "file", "FILE", "The object or table"))?
+        .arg(target)?;
     with_kernel(alloc, command)
 }
 

@@ -49,10 +49,11 @@ pub enum Request<'a> {
     Ext {
         file: &'a str,
     },
-    /// Writes the changes that a rewrite would make.
+    /// Writes the changes that a rewrite would make, and if there is a target, the relocations that it cannot satisfy.
     Check {
         file: &'a str,
         rewrite: Rewrite<'a>,
+        target: Option<&'a str>,
     },
     /// Rewrites a file, and writes the new file, or its table alone.
     Sanitize {
@@ -97,6 +98,7 @@ pub fn read_request<'a>(alloc: Global, words: &'a [&'a str]) -> Result<Request<'
         "check" => Ok(Request::Check {
             file,
             rewrite: read_rewrite(alloc, &mut command, matches)?,
+            target: matches.get_str("target"),
         }),
         "sanitize" => Ok(Request::Sanitize {
             file,

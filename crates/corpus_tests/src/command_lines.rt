@@ -4,7 +4,7 @@ use btfobj_cli::{Request, read_request};
 
 /// Words of a command line, and their request: a command, `text` for help or the version on standard output, or `usage`
 /// for an error.
-static ROWS: [(&[&str], &str); 35] = [
+static ROWS: [(&[&str], &str); 37] = [
     (&["btfobj", "dump", "a.o"], "dump"),
     (&["btfobj", "dump", "-", "--ids", "3..9"], "dump"),
     (
@@ -40,6 +40,13 @@ static ROWS: [(&[&str], &str); 35] = [
     (&["btfobj", "check", "a.o", "--kernel", "4.17.3"], "usage"),
     (&["btfobj", "check", "a.o", "--kernel", "new"], "usage"),
     (&["btfobj", "check", "a.o"], "usage"),
+    (
+        &[
+            "btfobj", "check", "a.o", "--kernel", "6.1", "--target", "vmlinux",
+        ],
+        "check",
+    ),
+    (&["btfobj", "check", "a.o", "--target", "vmlinux"], "usage"),
     (
         &["btfobj", "check", "a.o", "--kernel", "5.4", "--has", "Func"],
         "usage",

@@ -6,6 +6,7 @@
 mod command_lines;
 mod difference;
 mod ext;
+mod json;
 mod kernels;
 mod malformed;
 mod outputs;

@@ -1,6 +1,7 @@
 //! What `btfobj relocate` writes, beside what libbpf's debug log says of the same objects and tables.
 
 use crate::difference::first_difference;
+use crate::json::says_the_same;
 use btf_elf::Endianness;
 use btf_loader::Refusals;
 use btf_relocate::{CandidatePolicy, Target};
@@ -37,17 +38,22 @@ pub fn compare_relocations(rt: &HostRuntime, sample: &str, object: &[u8]) -> any
     for kernel in KERNELS {
         let name = format!(in rt.alloc(); "{kernel}.{ending}.btf")?;
         let table = Btf::parse(rt.alloc(), &fs::read(rt, name.as_str())?, order)?;
-        let written = list(rt, object, &table)?;
         let name = format!(in rt.alloc(); "{sample}.{kernel}")?;
-        if let Some(line) = first_difference(&written, &fs::read(rt, name.as_str())?) {
+        let log = fs::read(rt, name.as_str())?;
+        let written = list(rt, object, &table, Form::Lines)?;
+        if let Some(line) = first_difference(&written, &log) {
             println!(rt; "{sample} for {kernel}: differs from libbpf at line {line}")?;
+        }
+        let document = list(rt, object, &table, Form::Json)?;
+        if !says_the_same(rt.alloc(), &document, &log)? {
+            println!(rt; "{sample} for {kernel}: the JSON document differs from libbpf")?;
         }
     }
     Ok(())
 }
 
 /// The list of an object's relocations for a table.
-fn list(rt: &HostRuntime, object: &[u8], table: &Btf) -> anyhow::Result<Vec<u8>> {
+fn list(rt: &HostRuntime, object: &[u8], table: &Btf, form: Form) -> anyhow::Result<Vec<u8>> {
     let target = Target::new(rt.alloc(), table)?;
     let (policy, refusals) = (CandidatePolicy::Shared, Refusals::Keep);
     let keys = RandomState::new(rt)?;
@@ -60,6 +66,6 @@ fn list(rt: &HostRuntime, object: &[u8], table: &Btf) -> anyhow::Result<Vec<u8>>
     };
     let mut written = Vec::new(rt.alloc());
     let keys = RandomState::new(rt)?;
-    list_relocations(rt.alloc(), &relocated, Form::Lines, keys, &mut written)?;
+    list_relocations(rt.alloc(), &relocated, form, keys, &mut written)?;
     Ok(written)
 }

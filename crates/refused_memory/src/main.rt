@@ -8,6 +8,7 @@
 mod above;
 mod comparison;
 mod ext;
+mod loader;
 mod object;
 mod probe;
 mod records;
@@ -63,6 +64,7 @@ fn done(work: &str, probe: &Probe, blob: &[u8], report: &mut Report) -> Result<(
         "target" | "resolve" | "relocate_section" => relocated::relocated(
             work, probe, blob, report,
         ),
+        "relocate_object" | "prepare_object" => loader::loaded(work, probe, blob, report),
         "ksyms" | "ksyms_alone" => rewrite::step(work, probe, blob, report),
         "parse_func_sizes" => ext::least_sizes("func", probe, blob, report),
         "parse_line_sizes" => ext::least_sizes("line", probe, blob, report),

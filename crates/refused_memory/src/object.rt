@@ -17,13 +17,13 @@ const NAMES: &[u8] = b"\0.BTF\0.names\0.symbols\0.data/foo\0foo\0_license\0";
 
 /// A section: the non-zero words of its header.
 #[derive(Clone, Copy)]
-struct Section {
-    name: u32,
-    kind: u32,
-    offset: u32,
-    size: u32,
-    link: u32,
-    entry_size: u32,
+pub struct Section {
+    pub name: u32,
+    pub kind: u32,
+    pub offset: u32,
+    pub size: u32,
+    pub link: u32,
+    pub entry_size: u32,
 }
 
 /// Writes a number of at most 32 bits as one of 64 bits.
@@ -43,7 +43,11 @@ fn push_halves(bytes: &mut Vec<u8>, halves: &[u16], order: Endianness) -> Result
 }
 
 /// Writes the header of a relocatable object of BPF, with five section headers from an offset on.
-fn push_header(bytes: &mut Vec<u8>, sections: u32, order: Endianness) -> Result<(), AllocError> {
+pub fn push_header(
+    bytes: &mut Vec<u8>,
+    sections: u32,
+    order: Endianness,
+) -> Result<(), AllocError> {
     let data = match order {
         Endianness::Little => 1,
         Endianness::Big => 2,
@@ -57,7 +61,7 @@ fn push_header(bytes: &mut Vec<u8>, sections: u32, order: Endianness) -> Result<
     push_halves(bytes, &[64, 0, 0, 64, 5, 2], order)
 }
 
-fn push_section(
+pub fn push_section(
     bytes: &mut Vec<u8>,
     section: &Section,
     order: Endianness,

@@ -11,10 +11,10 @@ use std::test::Fail;
 
 /// Records about one instruction: the offset of the first member, the existence of the type, and whether it matches.
 /// Their access strings are `0:0` at offset 9, and `0`, which it ends with.
-const RECORDS: [[u32; 4]; 3] = [[0, 2, 9, 0], [0, 2, 11, 8], [0, 2, 11, 12]];
+pub const RECORDS: [[u32; 4]; 3] = [[0, 2, 9, 0], [0, 2, 11, 8], [0, 2, 11, 12]];
 
 /// The instruction r1 = 0.
-const CODE: [u8; 8] = [0xb7, 1, 0, 0, 0, 0, 0, 0];
+pub const CODE: [u8; 8] = [0xb7, 1, 0, 0, 0, 0, 0, 0];
 
 /// The number of STRUCTs named `s` in the index of a table.
 fn indexed(probe: &Probe, table: &Btf) -> Result<u64, BtfError> {
