@@ -1,0 +1,2 @@
+-- Blobs.
+use Rattle.std.proofs.Common.{◌≡◌}

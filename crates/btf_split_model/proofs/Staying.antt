@@ -1,0 +1,87 @@
+-- What a base gives an answer to has the same answer in a table that extends it.
+use Rattle.std.proofs.Common.{◌≡◌, ℕ, zero, suc, ◌+◌, ◌<◌, List, [], ◌∷◌, ◌++◌, length, drop, Option, None, Some, Ok, Err, refl, sym, ap, subst, ◌∙◌, arith, inl, inr}
+use Rattle.std.specs.Prelude.{slice_get}
+use Rattle.std.specs.Result.{result_ok}
+use Rattle.std.proofs.lemmas.Option.{none-some, slice_get_within}
+use Rattle.std.proofs.Math.Seq.{drop-append-add}
+use Rattle.btf_model.specs.Record.{Record}
+use Rattle.btf_model.specs.Refusal.{Refusal, MaximumTypeDepthReached}
+use Rattle.btf_model.specs.Table.{Table}
+use Rattle.btf_model.specs.Text.{text_at, bytes_at}
+use Rattle.btf_model.specs.Walk.{Finding, Ends, GoesOn, Leads, WalkAnswers, By, unmodified_in, size_in, Elements, Resolves, HasSize}
+use Rattle.btf_model.proofs.Blobs.{slice_get-append_left}
+use Rattle.btf_model.proofs.Texts.{text_stays}
+use Rattle.btf_split_model.specs.Split.{joined, Extends}
+use Rattle.btf_split_model.proofs.Joining.{front_and_rest}
+
+-- ---- records and texts
+
+pub record_stays : (base t : Table) → Extends base t → (id : ℕ) → id < length base.records → slice_get t.records id ≡ slice_get base.records id
+record_stays base t h id lt =
+    ap (λ (xs : List Record). slice_get xs id) (front_and_rest base.records t.records h.records)
+    ∙ slice_get-append_left base.records (drop (length base.records) t.records) id lt
+
+pub text_of_base : (base t : Table) → Extends base t → (offset : ℕ) (text : List ℕ) → text_at base.strings offset ≡ Ok text → text_at t.strings offset ≡ Ok text
+text_of_base base t h offset text is =
+    ap (λ (xs : List ℕ). text_at xs offset) (front_and_rest base.strings t.strings h.strings)
+    ∙ text_stays base.strings (drop (length base.strings) t.strings) offset text is
+
+-- an element behind a list
+behind_list : {X : Type 0} (xs ys : List X) (i : ℕ) → slice_get (xs ++ ys) (length xs + i) ≡ slice_get ys i
+behind_list [] ys i = ap (slice_get ys) (omega arith)
+behind_list (x ∷ xs) ys i =
+    let e : length (x ∷ xs) + i ≡ suc (length xs + i) = omega arith in
+    ap (slice_get (x ∷ xs ++ ys)) e ∙ behind_list xs ys i
+
+after_first : {X : Type 0} (xs : List X) (i : ℕ) → slice_get (drop 1 xs) i ≡ slice_get xs (1 + i)
+after_first [] i = refl
+after_first (x ∷ xs) i =
+    let e : suc i ≡ 1 + i = omega arith in
+    ap (slice_get (x ∷ xs)) e
+
+pub own_types : (base own : Table) (id : ℕ) → slice_get (joined base own).records (length base.records + id) ≡ slice_get own.records (1 + id)
+own_types base own id = behind_list base.records (drop 1 own.records) id ∙ after_first own.records id
+
+pub own_texts : (base own : Table) (offset : ℕ) → bytes_at (joined base own).strings (length base.strings + offset) ≡ bytes_at own.strings offset
+own_texts base own offset = rw (drop-append-add base.strings own.strings offset) refl
+
+-- ---- walks
+
+-- The walk goes on, or ends with a value.
+abbrev IsFound : {P A : Type 0} → Finding P A → Type 0
+IsFound (GoesOn next) = Unit {0}
+IsFound (Ends (Ok answer)) = Unit {0}
+IsFound (Ends (Err refusal)) = ⊥
+
+module _ {P A : Type 0} (find again : P → Finding P A) (stays : (place : P) → IsFound (find place) → again place ≡ find place) where
+  leads_stay : (n : ℕ) (start end : P) → Leads (By find) n start end → Leads (By again) n start end
+  leads_stay zero start end h = h
+  leads_stay (suc n) start end h = (h.0, stays start (subst IsFound (sym h.1) tt) ∙ h.1, leads_stay n h.0 end h.2)
+
+  -- a value that is found is found again
+  answer_stays : (start : P) (too_deep : P → Refusal) (x : A) → WalkAnswers (By find) start too_deep (Ok x) → WalkAnswers (By again) start too_deep (Ok x)
+  answer_stays start too_deep x (inl p) = inl (p.0, p.1, p.2, leads_stay p.0 start p.1 p.3, stays p.1 (subst IsFound (sym p.4) tt) ∙ p.4)
+  answer_stays start too_deep x (inr p) = absurd (none-some x (ap result_ok (sym p.2)))
+
+resolving_found : (at : ℕ) (o other : Option Record) → ((r : Record) → o ≡ Some r → other ≡ Some r) → IsFound (unmodified_in at o) → unmodified_in at other ≡ unmodified_in at o
+resolving_found at (Some r) other same found = ap (unmodified_in at) (same r refl)
+resolving_found at None other same found = absurd found
+
+size_found : (at : Elements) (o other : Option Record) → ((r : Record) → o ≡ Some r → other ≡ Some r) → IsFound (size_in at o) → size_in at other ≡ size_in at o
+size_found at (Some r) other same found = ap (size_in at) (same r refl)
+size_found at None other same found = absurd found
+
+known_stays : (base t : Table) → Extends base t → (id : ℕ) (r : Record) → slice_get base.records id ≡ Some r → slice_get t.records id ≡ Some r
+known_stays base t h id r is = record_stays base t h id (slice_get_within base.records id r is) ∙ is
+
+pub resolving_stays : (base t : Table) → Extends base t → (id end : ℕ) → Resolves base.records id (Ok end) → Resolves t.records id (Ok end)
+resolving_stays base t h id end is =
+    answer_stays (λ at. unmodified_in at (slice_get base.records at)) (λ at. unmodified_in at (slice_get t.records at))
+    (λ at. resolving_found at (slice_get base.records at) (slice_get t.records at) (known_stays base t h at))
+    id (λ _. MaximumTypeDepthReached id) end is
+
+pub size_stays : (base t : Table) → Extends base t → (id size : ℕ) → HasSize base.records id (Ok size) → HasSize t.records id (Ok size)
+size_stays base t h id size is =
+    answer_stays (λ at. size_in at (slice_get base.records at.type)) (λ at. size_in at (slice_get t.records at.type))
+    (λ at. size_found at (slice_get base.records at.type) (slice_get t.records at.type) (known_stays base t h at.type))
+    (record { count = 1; type = id }) (λ _. MaximumTypeDepthReached id) size is

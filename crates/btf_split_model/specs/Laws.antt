@@ -1,0 +1,52 @@
+-- The laws of split tables. Each is the contract of a public function of this crate.
+use Rattle.std.specs.Prelude.{All, ◌≡◌, ℕ, ◌+◌, ◌<◌, ◌^◌, List, length, Ok, slice_get}
+use Rattle.btf_model.specs.declared.endianness.Endianness.{Endianness}
+use Rattle.btf_model.specs.Refusal.{Refusal}
+use Rattle.btf_model.specs.Table.{Table, strip}
+use Rattle.btf_model.specs.Blob.{IsValid}
+use Rattle.btf_model.specs.Text.{bytes_at, text_at}
+use Rattle.btf_model.specs.Walk.{Resolves, HasSize}
+use Rattle.btf_split_model.specs.Split.{joined, IsJoined, IsJoinedRefusal, Extends, split_canon}
+
+-- Bytes are at most one table over a base, or are refused for at most one reason, and never both.
+pub record JoinedIsDetermined : Type 0 where
+  pub one_table : (order : Endianness) (base : Table) (bytes : List ℕ) (t u : Table) → IsJoined order base bytes t
+      → IsJoined order base bytes u → t ≡ u
+  pub one_refusal : (order : Endianness) (base : Table) (bytes : List ℕ) (f g : Refusal)
+      → IsJoinedRefusal order base bytes f → IsJoinedRefusal order base bytes g → f ≡ g
+  pub not_both : (order : Endianness) (base : Table) (bytes : List ℕ) (t : Table) (f : Refusal)
+      → IsJoined order base bytes t → IsJoinedRefusal order base bytes f → ⊥
+
+-- What can be read in the base is the same in the table. The table begins with the base's records and strings. Each id
+-- of the base has its record, and each text of the base is read at its offset.
+pub record BaseStays : Type 0 where
+  pub extends : (order : Endianness) (base : Table) (bytes : List ℕ) (t : Table) → IsJoined order base bytes t
+      → Extends base t
+  pub types : (base t : Table) → Extends base t → (id : ℕ) → id < length base.records
+      → slice_get t.records id ≡ slice_get base.records id
+  pub texts : (base t : Table) → Extends base t → (offset : ℕ) (text : List ℕ)
+      → text_at base.strings offset ≡ Ok text → text_at t.strings offset ≡ Ok text
+
+-- An id that resolves to a type in the base resolves to this type in the table, and a type that has a size in the base
+-- has this size. An error may change, because ids above the base may be types of the table.
+pub record BaseWalksStay : Type 0 where
+  pub resolving : (base t : Table) → Extends base t → (id end : ℕ) → Resolves base.records id (Ok end)
+      → Resolves t.records id (Ok end)
+  pub size : (base t : Table) → Extends base t → (id size : ℕ) → HasSize base.records id (Ok size)
+      → HasSize t.records id (Ok size)
+
+-- The types of a split table have the ids from the number of the base's types on, in their order, and its strings have
+-- the offsets from the length of the base's strings on.
+pub record OwnPartFollows : Type 0 where
+  pub types : (base own : Table) (id : ℕ)
+      → slice_get (joined base own).records (length base.records + id) ≡ slice_get own.records (1 + id)
+  pub texts : (base own : Table) (offset : ℕ)
+      → bytes_at (joined base own).strings (length base.strings + offset) ≡ bytes_at own.strings offset
+
+-- The written part of a table above a base is a split table, which with the base is the table again.
+pub record WrittenJoinsAgain : Type 0 where
+  pub extending : (base t : Table) → IsValid t → 0 < length base.records → Extends base t
+      → IsJoined t.order base (split_canon (length base.records) (length base.strings) t) (strip t)
+  pub parsed : (order : Endianness) (base : Table) (bytes : List ℕ) (t : Table) → All (λ byte. byte < 2 ^ 8) bytes
+      → IsJoined order base bytes t
+      → IsJoined order base (split_canon (length base.records) (length base.strings) t) t

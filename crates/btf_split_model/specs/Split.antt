@@ -1,0 +1,67 @@
+-- Split tables: the types of a kernel module, written after the types of the kernel, its base.
+-- Source: the kernel's BTF documentation, ".BTF.base section", on split BTF: the ids of the split table begin after the
+-- last id of the base; and libbpf's `btf__new_split`: the string offsets go on after the base's strings. The limits are
+-- those of one blob.
+use Rattle.std.specs.Prelude.{◌≡◌, ◌⊎◌, ℕ, ◌<◌, ◌≤◌, ◌==◌, ◌||◌, nat_lt, if◌then◌else◌, List, ◌∷◌, ◌++◌, length, take, drop, Result, Ok, Err}
+use Rattle.btf_model.specs.declared.endianness.Endianness.{Endianness}
+use Rattle.btf_model.specs.Record.{Record, unknown}
+use Rattle.btf_model.specs.Refusal.{Refusal, InvalidHeader, InvalidTypeInfo, InvalidStringOffset, UnknownBtfType}
+use Rattle.btf_model.specs.Table.{Table, no_fallbacks, type_bytes, section_limit}
+use Rattle.btf_model.specs.Blob.{IsTable, IsRefusal, canon}
+
+-- the table with these strings and records, and without fallbacks
+abbrev pub with_sections : List ℕ → List Record → Table → Table
+with_sections strings records t = record t { strings = strings; records = records; fallbacks = no_fallbacks records }
+
+-- The base with a table after it, which is read as a blob of its own: its strings follow the base's, and its records
+-- follow the base's, from its id 1 on. A split table has no id 0. Ids and string offsets stay as they are written. The
+-- byte order and the header's values are those of the table after the base.
+abbrev pub joined : Table → Table → Table
+joined base own = with_sections (base.strings ++ own.strings) (base.records ++ drop 1 own.records) own
+
+-- The bytes are a split table over the base: a blob. With the base it is the table t, whose sections are within the
+-- limit.
+pub record IsJoined (order : Endianness) (base : Table) (bytes : List ℕ) (t : Table) : Type 0 where
+  pub own : Table
+  pub blob : IsTable order bytes own
+  pub whole : t ≡ joined base own
+  pub strings : length t.strings ≤ section_limit
+  pub types : length (type_bytes t) ≤ section_limit
+
+-- The first reason why a table cannot be written: its strings are too long, or else its records are.
+pub record IsTooLong (t : Table) (refusal : Refusal) : Type 0 where
+  pub strings : section_limit < length t.strings → refusal ≡ InvalidHeader
+  pub types : length t.strings ≤ section_limit → (section_limit < length (type_bytes t)) × (refusal ≡ InvalidTypeInfo)
+
+-- The first reason to refuse the bytes as a split table over the base: the bytes are refused as a blob, or their
+-- table is too long together with the base.
+abbrev pub IsJoinedRefusal : Endianness → Table → List ℕ → Refusal → Type 0
+IsJoinedRefusal order base bytes refusal =
+    IsRefusal order bytes refusal ⊎ ((own : Table) × IsTable order bytes own × IsTooLong (joined base own) refusal)
+
+-- What parsing a split table returns: the base with the table, or the first reason to refuse the bytes.
+abbrev pub Joins : Endianness → Table → List ℕ → Result Table Refusal → Type 0
+Joins order base bytes (Ok t) = IsJoined order base bytes t
+Joins order base bytes (Err refusal) = IsJoinedRefusal order base bytes refusal
+
+-- The table begins with the records and the strings of the base.
+pub record Extends (base t : Table) : Type 0 where
+  pub records : take (length base.records) t.records ≡ base.records
+  pub strings : take (length base.strings) t.strings ≡ base.strings
+
+-- The part of a table above a base that has so many records, id 0 included, and so many bytes of strings, as a table of
+-- its own.
+abbrev pub above : ℕ → ℕ → Table → Table
+above records strings t = with_sections (drop strings t.strings) (unknown ∷ drop records t.records) t
+
+-- The one written form of a split table: the blob of the part above the base.
+abbrev pub split_canon : ℕ → ℕ → Table → List ℕ
+split_canon records strings t = canon (above records strings t)
+
+-- What writing the part above a base returns, by the base's numbers of records and of bytes of strings: its blob, or a
+-- refusal if the table has fewer records, or if the base has no id 0; or else if the table has fewer bytes of strings.
+abbrev pub split_blob : ℕ → ℕ → Table → Result (List ℕ) Refusal
+split_blob records strings t =
+    if records == 0 || nat_lt (length t.records) records then Err (UnknownBtfType records)
+    else (if nat_lt (length t.strings) strings then Err (InvalidStringOffset strings)
+      else Ok (split_canon records strings t))

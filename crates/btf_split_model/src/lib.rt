@@ -1,0 +1,33 @@
+//! What a split table is: the types of a kernel module, whose ids and string offsets go on where the kernel's end; and
+//! the laws of split tables.
+//!
+//! The definitions are in `specs/`. Each law is the contract of a function here that does nothing.
+#![tactic(auto)]
+
+ghost use Rattle.btf_split_model.specs.Laws.{JoinedIsDetermined, BaseStays, BaseWalksStay, OwnPartFollows, WrittenJoinsAgain};
+
+/// Bytes are at most one table over a base, or are refused for at most one reason, and never both.
+pub fn joined_is_determined()
+    ensures { JoinedIsDetermined }
+{}
+
+/// Each id of the base has its record in the table, and each text of the base is read at its offset.
+pub fn base_stays()
+    ensures { BaseStays }
+{}
+
+/// An id that resolves in the base resolves to the same type in the table, and a type that has a size in the base has
+/// this size. An error may change, because ids above the base may be types of the table.
+pub fn base_walks_stay()
+    ensures { BaseWalksStay }
+{}
+
+/// The types of a split table have the ids after the base's, and its strings have the offsets after the base's.
+pub fn own_part_follows()
+    ensures { OwnPartFollows }
+{}
+
+/// The written part of a table above a base is a split table, which with the base is the table again.
+pub fn written_joins_again()
+    ensures { WrittenJoinsAgain }
+{}
