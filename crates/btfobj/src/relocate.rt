@@ -15,7 +15,7 @@ pub fn relocate_file<'a>(
     out: &mut Output<'_>,
 ) -> Result<Answer, Failure<'a>> {
     let bytes = read(rt, file)?;
-    let table = read_table(rt, relocation.target)?;
+    let table = read_table(rt, relocation.target, relocation.base)?;
     let target = index(rt, relocation.target, &table)?;
     let (policy, refusals) = (relocation.policy, relocation.refusals);
     let keys = hasher(rt, file)?;
@@ -46,7 +46,7 @@ pub fn summarize<'a>(
     target: &'a str,
     out: &mut Output<'_>,
 ) -> Result<Ending, Failure<'a>> {
-    let table = read_table(rt, target)?;
+    let table = read_table(rt, target, None)?;
     let target = index(rt, target, &table)?;
     let (policy, refusals) = (CandidatePolicy::Shared, Refusals::Keep);
     let keys = hasher(rt, file)?;

@@ -8,7 +8,8 @@ use btf_rewrite_model::{BtfFeature, FeatureAnswer};
 use btf_table::Btf;
 use btf_text::Selection;
 use btfobj_cli::{
-    Blob, Ending, Fault, Request, Rewrite, check, compat, dump, ext, layout, sanitize, table_alone,
+    Blob, Ending, Fault, Request, Rewrite, check, compat, dump, ext, layout, running_base,
+    sanitize, table_alone,
 };
 use std::alloc::Global;
 use std::hash::RandomState;
@@ -114,9 +115,13 @@ fn carried_out<'a>(
     out: &mut Output<'_>,
 ) -> Result<Answer, Failure<'a>> {
     match request {
-        Request::Dump { file, selection } => write_types(rt, file, selection, out)?,
-        Request::Layout { file, name } => write_members(rt, file, name, out)?,
-        Request::Ext { file } => write_records(rt, file, out)?,
+        Request::Dump {
+            file,
+            base,
+            selection,
+        } => write_types(rt, file, *base, selection, out)?,
+        Request::Layout { file, base, name } => write_members(rt, file, *base, name, out)?,
+        Request::Ext { file, base } => write_records(rt, file, *base, out)?,
         Request::Check {
             file,
             rewrite,
@@ -131,8 +136,12 @@ fn carried_out<'a>(
         Request::Compat {
             local,
             target,
+            base,
             names,
-        } => return Ok(Answer::from(are_compatible(rt, local, target, names, out)?)),
+        } => {
+            let target = (*target, *base);
+            return Ok(Answer::from(are_compatible(rt, local, target, names, out)?));
+        }
         Request::Relocate { file, relocation } => {
             return relocate_file(rt, file, relocation, out);
         }
@@ -144,32 +153,41 @@ fn carried_out<'a>(
 fn write_types<'a>(
     rt: &HostRuntime,
     file: &'a str,
+    base: Option<&'a str>,
     selection: &Selection<'_>,
     out: &mut Output<'_>,
 ) -> Result<(), Failure<'a>> {
+    let base = read_base(rt, file, base)?;
     let bytes = read(rt, file)?;
-    blame(file, dump(rt.alloc(), &bytes, selection, out))
+    blame(
+        file,
+        dump(rt.alloc(), &bytes, base.as_ref(), selection, out),
+    )
 }
 
 /// Writes the layout of a structure or a union of a file.
 fn write_members<'a>(
     rt: &HostRuntime,
     file: &'a str,
+    base: Option<&'a str>,
     name: &str,
     out: &mut Output<'_>,
 ) -> Result<(), Failure<'a>> {
+    let base = read_base(rt, file, base)?;
     let bytes = read(rt, file)?;
-    blame(file, layout(rt.alloc(), &bytes, name, out))
+    blame(file, layout(rt.alloc(), &bytes, base.as_ref(), name, out))
 }
 
 /// Writes the contents of the `.BTF.ext` of a file.
 fn write_records<'a>(
     rt: &HostRuntime,
     file: &'a str,
+    base: Option<&'a str>,
     out: &mut Output<'_>,
 ) -> Result<(), Failure<'a>> {
+    let base = read_base(rt, file, base)?;
     let bytes = read(rt, file)?;
-    blame(file, ext(rt.alloc(), &bytes, out))
+    blame(file, ext(rt.alloc(), &bytes, base.as_ref(), out))
 }
 
 /// Writes what a rewrite of a file would change, and the relocations that the table of another file cannot satisfy, if
@@ -292,22 +310,51 @@ pub fn write<'a>(
     }
 }
 
-/// The table of a file.
-pub fn read_table<'a>(rt: &HostRuntime, file: &'a str) -> Result<Btf, Failure<'a>> {
-    let bytes = read(rt, file)?;
-    let blob = blame(file, Blob::read(rt.alloc(), &bytes))?;
-    blame(file, blob.whole_table(rt.alloc()))
+/// The table of a file, over the table of its base if it has one.
+pub fn read_table<'a>(
+    rt: &HostRuntime,
+    file: &'a str,
+    base: Option<&'a str>,
+) -> Result<Btf, Failure<'a>> {
+    let base = read_base(rt, file, base)?;
+    read_over(rt, file, base.as_ref())
 }
 
-/// Whether the types of these names are compatible in the tables of two files.
+/// The table of a file, over a base if there is one.
+fn read_over<'a>(rt: &HostRuntime, file: &'a str, base: Option<&Btf>) -> Result<Btf, Failure<'a>> {
+    let bytes = read(rt, file)?;
+    let blob = blame(file, Blob::read(rt.alloc(), &bytes))?;
+    blame(file, blob.whole_table_over(rt.alloc(), base))
+}
+
+/// The base of the table in a file: the table of the file that is given as the base; or else, for a module of the running
+/// kernel, the kernel's table, which is reported.
+fn read_base<'a>(
+    rt: &HostRuntime,
+    file: &'a str,
+    base: Option<&'a str>,
+) -> Result<Option<Btf>, Failure<'a>> {
+    if let Some(name) = base {
+        return Ok(Some(read_over(rt, name, None)?));
+    }
+    let Some(name) = running_base(file) else {
+        return Ok(None);
+    };
+    // An error of standard error cannot be reported.
+    let _ = eprintln!(rt; "btfobj: {file}: read over {name}");
+    Ok(Some(read_over(rt, name, None)?))
+}
+
+/// Whether the types of these names are compatible in the tables of two files, the second of which has a base or not.
 fn are_compatible<'a>(
     rt: &HostRuntime,
     local: &'a str,
-    target: &'a str,
+    target: (&'a str, Option<&'a str>),
     names: &[&str],
     out: &mut Output<'_>,
 ) -> Result<bool, Failure<'a>> {
-    let local_table = read_table(rt, local)?;
-    let target_table = read_table(rt, target)?;
+    let (target, base) = target;
+    let local_table = read_table(rt, local, None)?;
+    let target_table = read_table(rt, target, base)?;
     blame(local, compat(&local_table, &target_table, names, out))
 }

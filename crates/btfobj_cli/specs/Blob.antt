@@ -4,6 +4,7 @@ use Rattle.btf_model.specs.Blob as model
 use Rattle.btf_model.specs.Table as tables
 use Rattle.btf_model.specs.declared.endianness.Endianness.{Endianness}
 use Rattle.btf_model.specs.declared.endianness.Endianness.TheVariants.{Little, Big}
+use Rattle.btf_split_model.specs.Split.{IsJoined}
 use Rattle.btf_elf_model.specs.Object as elf
 use Rattle.btf_elf_model.specs.declared.section_header.SectionHeader.{SectionHeader}
 use Rattle.btf_object_model.specs.Sanitized.{index_of, table_name, ext_name}
@@ -62,6 +63,10 @@ IsTableOf file bytes = (blob : Blob) × IsBlob file blob × HasTableBytes blob b
 -- The file has this table.
 abbrev pub HasTable : Blob → tables.Table → Type 0
 HasTable blob t = (bytes : List ℕ) × HasTableBytes blob bytes × model.IsTable (order_of blob) bytes t
+
+-- The file has this table over a base: the bytes of its table are a split table over the base.
+abbrev pub HasSplitTable : Blob → tables.Table → tables.Table → Type 0
+HasSplitTable blob base t = (bytes : List ℕ) × HasTableBytes blob bytes × IsJoined (order_of blob) base bytes t
 
 -- The file is an object, and these are the bytes of its section `.BTF.ext`.
 abbrev pub HasExt : Blob → List ℕ → Type 0

@@ -8,6 +8,7 @@ use crate::fault::Fault;
 use crate::split::continues_base;
 use btf_elf::Object;
 use btf_model::Endianness;
+use btf_split::parse_split;
 use btf_table::Btf;
 use std::alloc::Global;
 
@@ -16,6 +17,10 @@ const TABLE_SECTION: &str = ".BTF";
 
 /// The name of the section that maps functions, lines and relocations to instructions.
 const EXT_SECTION: &str = ".BTF.ext";
+
+/// The name of the section with the part of the base that a module refers to (Linux 6.11). The ids and names of `.BTF`
+/// then go on after those of this part, and not after those of the kernel.
+const DISTILLED_SECTION: &str = ".BTF.base";
 
 /// A file with a table.
 #[derive(Drop)]
@@ -28,8 +33,9 @@ pub enum Blob<'a> {
 
 impl<'a> Blob<'a> {
     ghost use Rattle.std.specs.Prelude.{◌≡◌, true, Err, IfOk, IfErr, IsOkAnd, MatchResult};
+    ghost use Rattle.std.specs.Option.{MatchOption};
     ghost use Rattle.btf_model.specs.declared.endianness.Endianness.TheVariants.{Little, Big};
-    ghost use Rattle.btfobj_cli.specs.Blob.{BeginsObject, BeginsTable, HasExt, HasMagic, HasTable, HasTableBytes, IsBlob, IsTable, is_object, order_of};
+    ghost use Rattle.btfobj_cli.specs.Blob.{BeginsObject, BeginsTable, HasExt, HasMagic, HasSplitTable, HasTable, HasTableBytes, IsBlob, IsTable, is_object, order_of};
     ghost use Rattle.btfobj_cli.specs.Fault.{ReportsObject, ReportsTable, ReportsExt};
     ghost use Rattle.btfobj_cli.specs.declared.fault.Fault.TheVariants as faults;
 
@@ -84,6 +90,48 @@ impl<'a> Blob<'a> {
     {
         let bytes = self.table_bytes()?;
         Ok(Btf::parse(alloc, bytes, self.endianness())?)
+    }
+
+    /// The table over its base: the types of the base, and then those of the file. Without a base it is the file's table
+    /// alone, as `table` returns it.
+    ///
+    /// The error is `DistilledBase` for an object with a section `.BTF.base`. With a base it is then `NoSection` if an
+    /// object has no table, or `Table` with the error of `parse_split`; `OutOfMemory` at any time.
+    pub fn table_over(&self, alloc: Global, base: Option<&Btf>) -> Result<Btf, Fault>
+        ensures { IfOk result (λ table. MatchOption base (HasTable self.now table)
+            (λ base. HasSplitTable self.now base.now table)) }
+    {
+        if self.has_distilled_base() {
+            return Err(Fault::DistilledBase);
+        }
+        let Some(base) = base else {
+            return self.table(alloc);
+        };
+        let bytes = self.table_bytes()?;
+        Ok(parse_split(alloc, base, bytes, self.endianness())?)
+    }
+
+    /// Whether the file is an object with a section `.BTF.base`.
+    fn has_distilled_base(&self) -> bool {
+        match self {
+            Blob::Object(object) => object
+                .section_by_name(DISTILLED_SECTION.as_bytes())
+                .is_some(),
+            Blob::Table(_, _) => false,
+        }
+    }
+
+    /// The table over its base, as `table_over` returns it, with its errors. Without a base the error is `Split` if names
+    /// or ids of its types are not in it.
+    pub fn whole_table_over(&self, alloc: Global, base: Option<&Btf>) -> Result<Btf, Fault>
+        ensures { IfOk result (λ table. MatchOption base (HasTable self.now table)
+            (λ base. HasSplitTable self.now base.now table)) }
+    {
+        let table = self.table_over(alloc, base)?;
+        if base.is_none() && continues_base(&table) {
+            return Err(Fault::Split);
+        }
+        Ok(table)
     }
 
     /// The table, as `table` returns it, with its errors. The error is `Split` if names or ids of its types are not in

@@ -70,6 +70,19 @@ fn file<'a>(alloc: Global, id: &'a str, name: &'a str, help: &'a str) -> Arg<'a>
         .help(help)
 }
 
+/// The base of the table in a file.
+fn base<'a>(alloc: Global, of: &'a str) -> Arg<'a> {
+    let help = match of {
+        "FILE" => "The kernel's object or table, if FILE has the split table of a module",
+        "TARGET" => "The kernel's object or table, if TARGET has the split table of a module",
+        _ => "The kernel's object or table, if TABLE has the split table of a module",
+    };
+    Arg::new(alloc, "base")
+        .long("base")
+        .value_name("BASE")
+        .help(help)
+}
+
 /// The command `dump`.
 fn dump<'a>(alloc: Global) -> Result<Command<'a>, AllocError> {
     let ids = Arg::new(alloc, "ids").long("ids").value_name("A..B").help(
@@ -89,6 +102,7 @@ fn dump<'a>(alloc: Global) -> Result<Command<'a>, AllocError> {
         .about("Writes every type, as bpftool btf dump file FILE format raw does")
         .after_help("Example: btfobj dump /sys/kernel/btf/vmlinux --name task_struct --kind struct")
         .arg(file(alloc, "file", "FILE", "The object or table"))?
+        .arg(base(alloc, "FILE"))?
         .arg(ids)?
         .arg(name)?
         .arg(kind)
@@ -101,6 +115,7 @@ fn layout<'a>(alloc: Global) -> Result<Command<'a>, AllocError> {
             "Writes the members of a structure or a union with their offsets, sizes and holes, as pahole does",
         )
         .after_help("Example: btfobj layout /sys/kernel/btf/vmlinux sk_buff")
+        .arg(base(alloc, "FILE"))?
         .arg(file(alloc, "file", "FILE", "The object or table"))?
         .arg(file(
             alloc,
@@ -117,6 +132,7 @@ fn ext<'a>(alloc: Global) -> Result<Command<'a>, AllocError> {
             "Writes the functions, lines and relocations of .BTF.ext, by sections of the program",
         )
         .after_help("Example: btfobj ext prog.o")
+        .arg(base(alloc, "FILE"))?
         .arg(file(alloc, "file", "FILE", "The object"))
 }
 
@@ -229,6 +245,7 @@ fn relocate<'a>(alloc: Global) -> Result<Command<'a>, AllocError> {
         )
         .arg(file(alloc, "file", "FILE", "The program's object"))?
         .arg(target)?
+        .arg(base(alloc, "TABLE"))?
         .arg(output)?
         .arg(flag(
             alloc,
@@ -273,5 +290,6 @@ fn compat<'a>(alloc: Global) -> Result<Command<'a>, AllocError> {
         )
         .arg(file(alloc, "local", "FILE", "The program's object or table"))?
         .arg(file(alloc, "target", "TARGET", "The kernel's object or table"))?
+        .arg(base(alloc, "TARGET"))?
         .arg(names)
 }

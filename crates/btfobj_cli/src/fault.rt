@@ -33,8 +33,12 @@ pub enum Fault {
     Table(BtfError),
 
     /// The names or ids of types are not in the table.
-    #[error("names or ids are not in the table, as in split BTF, which continues a base table")]
+    #[error("names or ids are not in the table, as in split BTF, whose base --base names")]
     Split,
+
+    /// The object's table continues a part of its base, which is in the object too.
+    #[error("the table continues a distilled base, the section .BTF.base, which is not read")]
+    DistilledBase,
 
     /// The object cannot be rewritten.
     #[error("{0}")]

@@ -4,7 +4,7 @@ use crate::blob::Blob;
 use crate::fault::Fault;
 use crate::split::continues_base;
 use btf_plain::{BtfError, BtfKind};
-use btf_table::Btf;
+use btf_table::{Btf, type_count};
 use btf_text::{
     Selection, TextBuffer, find_layout, kind_name, write_dump, write_ext, write_layout,
 };
@@ -23,20 +23,22 @@ const OTHERS: [BtfKind; 8] = [
     BtfKind::DataSec,
 ];
 
-/// Writes the selected types of a file's table, as `write_dump` does. The table is parsed before anything is written.
-/// The error is `Split`, after the types are written, if names or ids of types are not in the table; and `NoType` if a
-/// name is selected, and no type has it and meets the other conditions.
+/// Writes the selected types of a file's table, as `write_dump` does; with a base, those that the file adds to it. The
+/// table is parsed before anything is written. Without a base the error is `Split`, after the types are written, if
+/// names or ids of types are not in the table. It is `NoType` if a name is selected, and no type has it and meets the
+/// other conditions.
 pub fn dump<W: Write>(
     alloc: Global,
     bytes: &[u8],
+    base: Option<&Btf>,
     selection: &Selection<'_>,
     out: &mut W,
 ) -> Result<(), Fault> {
-    let table = Blob::read(alloc, bytes)?.table(alloc)?;
+    let table = Blob::read(alloc, bytes)?.table_over(alloc, base)?;
     let mut text = TextBuffer::new(out);
-    let is_any = write_dump(&table, selection, &mut text)?;
+    let is_any = write_dump(&table, &above(base, selection), &mut text)?;
     text.flush()?;
-    if continues_base(&table) {
+    if base.is_none() && continues_base(&table) {
         return Err(Fault::Split);
     }
     if selection.name.is_some() && !is_any {
@@ -45,10 +47,28 @@ pub fn dump<W: Write>(
     Ok(())
 }
 
+/// The types of a selection that are above a base.
+fn above<'a>(base: Option<&Btf>, selection: &Selection<'a>) -> Selection<'a> {
+    let Some(base) = base else {
+        return *selection;
+    };
+    let first = type_count(base);
+    Selection {
+        from: Some(selection.from.unwrap_or(first).max(first)),
+        ..*selection
+    }
+}
+
 /// Writes the layout of the structure or union of a name, as `find_layout` finds it and `write_layout` writes it. The
 /// error is `NoLayout` if the name is that of a type of another kind.
-pub fn layout<W: Write>(alloc: Global, bytes: &[u8], name: &str, out: &mut W) -> Result<(), Fault> {
-    let table = Blob::read(alloc, bytes)?.whole_table(alloc)?;
+pub fn layout<W: Write>(
+    alloc: Global,
+    bytes: &[u8],
+    base: Option<&Btf>,
+    name: &str,
+    out: &mut W,
+) -> Result<(), Fault> {
+    let table = Blob::read(alloc, bytes)?.whole_table_over(alloc, base)?;
     let type_id = match find_layout(&table, name) {
         Ok(type_id) => type_id,
         Err(e) => return Err(no_layout(&table, name, e)),
@@ -91,9 +111,14 @@ fn kind_of_name(table: &Btf, name: &str) -> Option<BtfKind> {
 }
 
 /// Writes the functions, lines and relocations of an object's `.BTF.ext`, as `write_ext` does.
-pub fn ext<W: Write>(alloc: Global, bytes: &[u8], out: &mut W) -> Result<(), Fault> {
+pub fn ext<W: Write>(
+    alloc: Global,
+    bytes: &[u8],
+    base: Option<&Btf>,
+    out: &mut W,
+) -> Result<(), Fault> {
     let blob = Blob::read(alloc, bytes)?;
-    let table = blob.whole_table(alloc)?;
+    let table = blob.whole_table_over(alloc, base)?;
     let section = blob.ext()?;
     let mut text = TextBuffer::new(out);
     write_ext(alloc, &table, section, blob.endianness(), &mut text)?;

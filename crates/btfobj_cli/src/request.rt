@@ -15,11 +15,16 @@ use std::alloc::Global;
 /// The table of the running kernel.
 const RUNNING_KERNEL: &str = "/sys/kernel/btf/vmlinux";
 
+/// Where the tables of the running kernel and of its modules are.
+const RUNNING_TABLES: &str = "/sys/kernel/btf/";
+
 /// The settings of a relocation.
 #[derive(Clone, Copy, Debug)]
 pub struct Relocation<'a> {
     /// The file with the table of the target.
     pub target: &'a str,
+    /// The file with the base of that table, if it is split.
+    pub base: Option<&'a str>,
     /// The file for the relocated object; without one the records are listed.
     pub output: Option<&'a str>,
     /// Which candidates a record has.
@@ -32,22 +37,26 @@ pub struct Relocation<'a> {
     pub form: Form,
 }
 
-/// The request of a command line. A file `-` is standard input, and an output `-` is standard output.
+/// The request of a command line. A file `-` is standard input, and an output `-` is standard output. The file `base` has
+/// the base of a split table.
 #[derive(Debug, Drop)]
 pub enum Request<'a> {
     /// Dumps the types of a file's table.
     Dump {
         file: &'a str,
+        base: Option<&'a str>,
         selection: Selection<'a>,
     },
     /// Writes the layout of a structure or a union.
     Layout {
         file: &'a str,
+        base: Option<&'a str>,
         name: &'a str,
     },
     /// Writes the contents of `.BTF.ext`.
     Ext {
         file: &'a str,
+        base: Option<&'a str>,
     },
     /// Writes the changes that a rewrite would make, and if there is a target, the relocations that it cannot satisfy.
     Check {
@@ -67,10 +76,11 @@ pub enum Request<'a> {
         file: &'a str,
         relocation: Relocation<'a>,
     },
-    /// Compares the types of these names in two tables.
+    /// Compares the types of these names in two tables; the base is that of the second.
     Compat {
         local: &'a str,
         target: &'a str,
+        base: Option<&'a str>,
         names: Vec<&'a str>,
     },
 }
@@ -84,17 +94,19 @@ pub fn read_request<'a>(alloc: Global, words: &'a [&'a str]) -> Result<Request<'
         Some(found) => found,
         None => return Err(refusal(&mut command, "a command is missing")),
     };
-    let file = text(matches, "file");
+    let (file, base) = (text(matches, "file"), matches.get_str("base"));
     match name {
         "dump" => Ok(Request::Dump {
             file,
+            base,
             selection: read_selection(&mut command, matches)?,
         }),
         "layout" => Ok(Request::Layout {
             file,
+            base,
             name: text(matches, "name"),
         }),
-        "ext" => Ok(Request::Ext { file }),
+        "ext" => Ok(Request::Ext { file, base }),
         "check" => Ok(Request::Check {
             file,
             rewrite: read_rewrite(alloc, &mut command, matches)?,
@@ -113,6 +125,7 @@ pub fn read_request<'a>(alloc: Global, words: &'a [&'a str]) -> Result<Request<'
         _ => Ok(Request::Compat {
             local: text(matches, "local"),
             target: text(matches, "target"),
+            base,
             names: Vec::from_slice(alloc, matches.get_strs("names").unwrap_or(&[]))?,
         }),
     }
@@ -124,6 +137,7 @@ fn read_relocation<'a>(matches: &ArgMatches<'a>) -> Relocation<'a> {
     let refuses = output.is_some() && !matches.get_flag("keep-going");
     Relocation {
         target: matches.get_str("target").unwrap_or(RUNNING_KERNEL),
+        base: matches.get_str("base"),
         output,
         policy: if matches.get_flag("fresh") {
             CandidatePolicy::Fresh
@@ -141,6 +155,15 @@ fn read_relocation<'a>(matches: &ArgMatches<'a>) -> Relocation<'a> {
         } else {
             Form::Lines
         },
+    }
+}
+
+/// The file with the base of the table in a file, if that is the table of a module of the running kernel.
+pub fn running_base(file: &str) -> Option<&'static str> {
+    if file.starts_with(RUNNING_TABLES) && file != RUNNING_KERNEL {
+        Some(RUNNING_KERNEL)
+    } else {
+        None
     }
 }
 

@@ -48,6 +48,21 @@ done
 for object in clang*.bpf*.o; do
     llvm-objdump-19 -d -l -r --no-show-raw-insn "$object" | awk -f lines.awk | LC_ALL=C sort >"$object.objdump"
 done
+# Split tables over a base, and what other tools say of them.
+gcc -g -c -fno-eliminate-unused-debug-types base.c -o base.o
+pahole -J base.o
+llvm-objcopy-14 --dump-section .BTF=base.btf base.o
+for module in 1 2 3; do
+    gcc -g -c -DMODULE=$module base.c -o module.o
+    pahole -J --btf_base base.btf module.o
+    llvm-objcopy-14 --dump-section .BTF=module$module.btf module.o
+    bpftool -B base.btf btf dump file module$module.btf format raw >module$module.btf.bpftool
+    for name in port cell device tcphdr; do
+        pahole -F btf --btf_base base.btf -C $name module$module.btf || true
+    done >module$module.btf.pahole 2>/dev/null
+done
+llvm-objcopy-14 --remove-section='.debug*' --add-section .BTF.base=module3.btf module.o distilled.x86_64.module.o
+rm base.o module.o
 # What libbpf 1.1.2 does to an object, which has to be in the machine's byte order: here, and on s390x, which qemu-user
 # emulates with the packages libbpf-dev:s390x, libelf-dev:s390x and zlib1g-dev:s390x in the folder of $S390X.
 gcc -O1 core_log.c -Wl,--wrap=syscall -o core_log.el -l:libbpf.a -lelf -lz

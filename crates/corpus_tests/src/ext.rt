@@ -55,7 +55,7 @@ pub fn compare_ext(
     theirs: &[u8],
 ) -> anyhow::Result<()> {
     let mut written = Vec::new(rt.alloc());
-    ext(rt.alloc(), object, &mut written)?;
+    ext(rt.alloc(), object, None, &mut written)?;
     let ours = list(rt, str::from_utf8(&written)?)?;
     for line in str::from_utf8(theirs)?.lines() {
         if !ours.iter().any(|it| it.as_str() == line) {

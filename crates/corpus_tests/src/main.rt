@@ -12,14 +12,16 @@ mod malformed;
 mod outputs;
 mod relocations;
 mod samples;
+mod split_tables;
 
 use crate::command_lines::try_command_lines;
 use crate::ext::compare_ext;
 use crate::kernels::try_kernels;
 use crate::malformed::try_malformed;
-use crate::outputs::{compare_dump, compare_layouts, compare_sections};
+use crate::outputs::{NAMES, compare_dump, compare_layouts, compare_sections};
 use crate::relocations::{RELOCATED, compare_relocations};
 use crate::samples::SAMPLES;
+use crate::split_tables::try_split_tables;
 use std::fs;
 
 /// The bytes of a file of the corpus.
@@ -31,8 +33,15 @@ fn read(rt: &HostRuntime, sample: &str, tool: &str) -> anyhow::Result<Vec<u8>> {
 /// Tests an object of the corpus.
 fn try_sample(rt: &HostRuntime, sample: &'static str) -> anyhow::Result<()> {
     let object = read(rt, sample, "")?;
-    compare_dump(rt, sample, &object, &read(rt, sample, ".bpftool")?)?;
-    compare_layouts(rt, sample, &object, &read(rt, sample, ".pahole")?)?;
+    compare_dump(rt, sample, &object, None, &read(rt, sample, ".bpftool")?)?;
+    compare_layouts(
+        rt,
+        sample,
+        &object,
+        None,
+        &NAMES,
+        &read(rt, sample, ".pahole")?,
+    )?;
     compare_sections(rt, sample, &object, &read(rt, sample, ".readelf")?)?;
     if sample.contains(".bpf") && !sample.starts_with("gcc") {
         compare_ext(rt, sample, &object, &read(rt, sample, ".objdump")?)?;
@@ -51,6 +60,7 @@ fn main(rt: HostRuntime) -> anyhow::Result<()> {
         compare_relocations(&rt, sample, &read(&rt, sample, "")?)?;
         println!(&rt; "{sample}: relocated")?;
     }
+    try_split_tables(&rt)?;
     for sample in ["clang14.bpfel.prog", "clang14.bpfeb.prog"] {
         try_malformed(&rt, sample, &read(&rt, sample, "")?)?;
     }

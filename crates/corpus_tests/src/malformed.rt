@@ -123,8 +123,8 @@ fn set_bits(file: &mut [u8], at: usize, len: usize) {
 /// Writes all contents of an object.
 fn read_all(rt: &HostRuntime, file: &[u8]) -> Result<(), Fault> {
     let mut nowhere = std::io::sink();
-    dump(rt.alloc(), file, &Selection::default(), &mut nowhere)?;
-    ext(rt.alloc(), file, &mut nowhere)
+    dump(rt.alloc(), file, None, &Selection::default(), &mut nowhere)?;
+    ext(rt.alloc(), file, None, &mut nowhere)
 }
 
 /// Reports each malformed copy of an object without the documented error, and each prefix of the object without an

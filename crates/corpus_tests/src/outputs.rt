@@ -2,12 +2,13 @@
 
 use crate::difference::first_difference;
 use btf_elf::Object;
+use btf_table::Btf;
 use btf_text::Selection;
 use btfobj_cli::{Fault, dump, layout};
 use std::fmt::Write;
 
-/// The structures and unions whose layouts are compared, in the order in which `pahole` was asked for them.
-const NAMES: [&str; 6] = [
+/// The structures and unions of an object, in the order in which `pahole` was asked for them.
+pub const NAMES: [&str; 6] = [
     "everything",
     "bits",
     "node",
@@ -30,28 +31,32 @@ fn report(
     Ok(())
 }
 
-/// Compares the dump of an object with the dump of `bpftool`.
+/// Compares the dump of a file, over its base if it has one, with the dump of `bpftool`.
 pub fn compare_dump(
     rt: &HostRuntime,
     sample: &str,
     object: &[u8],
+    base: Option<&Btf>,
     theirs: &[u8],
 ) -> anyhow::Result<()> {
     let mut ours = Vec::new(rt.alloc());
-    dump(rt.alloc(), object, &Selection::default(), &mut ours)?;
+    dump(rt.alloc(), object, base, &Selection::default(), &mut ours)?;
     report(rt, sample, "bpftool", &ours, theirs)
 }
 
-/// Compares the layouts of an object's structures and unions with the layouts of `pahole`.
+/// Compares the layouts of the structures and unions of these names in a file, over its base if it has one, with the
+/// layouts of `pahole`.
 pub fn compare_layouts(
     rt: &HostRuntime,
     sample: &str,
     object: &[u8],
+    base: Option<&Btf>,
+    names: &[&str],
     theirs: &[u8],
 ) -> anyhow::Result<()> {
     let mut ours = Vec::new(rt.alloc());
-    for name in NAMES {
-        match layout(rt.alloc(), object, name, &mut ours) {
+    for name in names {
+        match layout(rt.alloc(), object, base, *name, &mut ours) {
             // The other source has the structures of this name.
             Ok(()) | Err(Fault::Table(_)) => {}
             Err(e) => return Err(e.into()),
