@@ -4,7 +4,7 @@ use btfobj_cli::{Request, read_request};
 
 /// Words of a command line, and their request: a command, `text` for help or the version on standard output, or `usage`
 /// for an error.
-static ROWS: [(&[&str], &str); 37] = [
+static ROWS: [(&[&str], &str); 40] = [
     (&["btfobj", "dump", "a.o"], "dump"),
     (&["btfobj", "dump", "-", "--ids", "3..9"], "dump"),
     (
@@ -28,6 +28,17 @@ static ROWS: [(&[&str], &str); 37] = [
     (&["btfobj", "dump", "-", "--kind", "POINTER"], "usage"),
     (&["btfobj", "dump"], "usage"),
     (&["btfobj", "dump", "a.o", "b.o"], "usage"),
+    (&["btfobj", "dump", "m.btf", "--base", "vmlinux"], "dump"),
+    (
+        &[
+            "btfobj", "relocate", "a.o", "--target", "m.btf", "--base", "vmlinux",
+        ],
+        "relocate",
+    ),
+    (
+        &["btfobj", "sanitize", "m.btf", "--base", "vmlinux"],
+        "usage",
+    ),
     (&["btfobj", "layout", "a.o", "node"], "layout"),
     (&["btfobj", "layout", "a.o"], "usage"),
     (&["btfobj", "ext", "a.o"], "ext"),
