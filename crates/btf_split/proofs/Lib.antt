@@ -1,1 +1,3 @@
 pub mod Blobs
+pub mod Joined
+pub mod Parts

@@ -1,6 +1,6 @@
 //! The sections and the header of a blob.
 
-ghost use Rattle.std.specs.Prelude.{◌≡◌, ◌+◌, ◌≤◌, ◌++◌, length, OnOk};
+ghost use Rattle.std.specs.Prelude.{All, ◌≡◌, ◌+◌, ◌<◌, ◌≤◌, ◌^◌, ◌++◌, length, OnOk};
 ghost use Rattle.btf_model.specs.Blob as model;
 ghost use Rattle.btf_model.specs.Blob.{header_of};
 ghost use Rattle.btf_split.specs.Blob.{HasSections, written_header};
@@ -52,12 +52,13 @@ fn section(blob: &[u8], offset_at: usize, endianness: Endianness) -> &[u8]
     &blob[start..start + len]
 }
 
-/// The sections of a blob.
+/// The sections of a blob. Each element of the blob is a byte.
 pub fn sections_of(blob: &[u8], endianness: Endianness) -> Sections<'_>
     requires { HasSections endianness blob.now }
     ensures types { result.types.now ≡ model.type_section (header_of endianness blob.now) blob.now }
     ensures strings { result.strings.now
         ≡ model.string_section (header_of endianness blob.now) blob.now }
+    ensures bytes { All (λ byte. byte < 2 ^ 8) blob.now }
 {
     Sections {
         types: section(blob, 8, endianness),

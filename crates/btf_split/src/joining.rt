@@ -1,6 +1,6 @@
 //! Reading a split table over its base.
 
-ghost use Rattle.std.specs.Prelude.{◌≡◌, ◌<◌, ◌≤◌, ◌⊎◌, ◌++◌, map, length, MatchResult, OnOk, Ok, Err};
+ghost use Rattle.std.specs.Prelude.{◌≡◌, ◌++◌, map, OnOk, Ok, Err};
 ghost use Rattle.std.specs.List.{flat_map, AllByRecursion};
 ghost use Rattle.btf_model.specs.Refusal.{Refusal};
 ghost use Rattle.btf_model.specs.Spelling.{spell, IsWhole};
@@ -8,7 +8,7 @@ ghost use Rattle.btf_model.specs.Table.{Table};
 ghost use Rattle.btf_split_model.specs.Split.{Joins, IsJoined, IsJoinedRefusal};
 ghost use Rattle.btf_plain.specs.Error.{MeetsOrNoMemory, IsOrNoMemory};
 ghost use Rattle.btf_records.specs.BtfType.{record_of};
-ghost use Rattle.btf_split.specs.Joining.{JoinsAs};
+ghost use Rattle.btf_split.specs.Joining.{JoinsAs, FitBlob};
 
 use crate::blob::{HEADER_LEN, SECTION_LIMIT, append_header, sections_of};
 use btf_plain::{BtfError, Endianness};
@@ -41,17 +41,25 @@ pub fn parse_split(
     ensures only_refusal { (f : Refusal) → IsJoinedRefusal endianness base.now «data».now f
         → IsOrNoMemory (λ b. b) result (Err f) }
 {
+    read_joined(alloc, base, data, endianness)
+}
+
+/// The base with the split table, or the first reason to refuse the data.
+fn read_joined(
+    alloc: Global,
+    base: &Btf,
+    data: &[u8],
+    endianness: Endianness,
+) -> Result<Btf, BtfError>
+    ensures { MeetsOrNoMemory (λ b. b) result (Joins endianness base.now «data».now) }
+{
     let blob = joined_blob(alloc, base, data, endianness)?;
     Btf::parse(alloc, &blob, endianness)
 }
 
 /// Fails with `InvalidHeader` if the strings are too long for a blob, or else with `InvalidTypeInfo` if the types are.
 fn check_len(strings: usize, types: usize) -> Result<(), BtfError>
-    ensures { MatchResult result
-        (λ _. (strings ≤ SECTION_LIMIT) × (types ≤ SECTION_LIMIT))
-        (λ e. (SECTION_LIMIT < strings × (e ≡ BtfError.InvalidHeader))
-        ⊎ ((strings ≤ SECTION_LIMIT) × (SECTION_LIMIT < types)
-        × (e ≡ BtfError.InvalidTypeInfo))) }
+    ensures { MeetsOrNoMemory (λ u. u) result (FitBlob strings types) }
 {
     if strings > SECTION_LIMIT {
         return Err(BtfError::InvalidHeader);

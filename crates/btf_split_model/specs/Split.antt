@@ -28,16 +28,18 @@ pub record IsJoined (order : Endianness) (base : Table) (bytes : List ℕ) (t : 
   pub strings : length t.strings ≤ section_limit
   pub types : length (type_bytes t) ≤ section_limit
 
--- The first reason why a table cannot be written: its strings are too long, or else its records are.
-pub record IsTooLong (t : Table) (refusal : Refusal) : Type 0 where
-  pub strings : section_limit < length t.strings → refusal ≡ InvalidHeader
-  pub types : length t.strings ≤ section_limit → (section_limit < length (type_bytes t)) × (refusal ≡ InvalidTypeInfo)
+-- The first reason why a blob cannot have sections of these lengths: the strings are too long, or else the types are.
+pub record IsTooLong (string_len type_len : ℕ) (refusal : Refusal) : Type 0 where
+  pub strings : section_limit < string_len → refusal ≡ InvalidHeader
+  pub types : string_len ≤ section_limit → (section_limit < type_len) × (refusal ≡ InvalidTypeInfo)
 
 -- The first reason to refuse the bytes as a split table over the base: the bytes are refused as a blob, or their
 -- table is too long together with the base.
 abbrev pub IsJoinedRefusal : Endianness → Table → List ℕ → Refusal → Type 0
 IsJoinedRefusal order base bytes refusal =
-    IsRefusal order bytes refusal ⊎ ((own : Table) × IsTable order bytes own × IsTooLong (joined base own) refusal)
+    IsRefusal order bytes refusal
+    ⊎ ((own : Table) × IsTable order bytes own
+    × IsTooLong (length (joined base own).strings) (length (type_bytes (joined base own))) refusal)
 
 -- What parsing a split table returns: the base with the table, or the first reason to refuse the bytes.
 abbrev pub Joins : Endianness → Table → List ℕ → Result Table Refusal → Type 0
@@ -64,4 +66,4 @@ abbrev pub split_blob : ℕ → ℕ → Table → Result (List ℕ) Refusal
 split_blob records strings t =
     if records == 0 || nat_lt (length t.records) records then Err (UnknownBtfType records)
     else (if nat_lt (length t.strings) strings then Err (InvalidStringOffset strings)
-      else Ok (split_canon records strings t))
+    else Ok (split_canon records strings t))
