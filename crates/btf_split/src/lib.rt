@@ -3,8 +3,10 @@
 #![tactic(auto)]
 
 mod blob;
+mod hint;
 mod joining;
 mod part;
 
+pub use hint::looks_split;
 pub use joining::parse_split;
 pub use part::{split_bytes, string_len};

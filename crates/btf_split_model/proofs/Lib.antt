@@ -1,3 +1,4 @@
 pub mod Whole
 pub mod Joining
 pub mod Staying
+pub mod Hinting

@@ -1,11 +1,13 @@
 -- The laws of split tables. Each is the contract of a public function of this crate.
-use Rattle.std.specs.Prelude.{All, ◌≡◌, ℕ, ◌+◌, ◌<◌, ◌^◌, List, length, Ok, slice_get}
+use Rattle.std.specs.Prelude.{All, suc, Some, ◌↔◌, ◌≤◌, ◌≡◌, ℕ, ◌+◌, ◌<◌, ◌^◌, List, length, Ok, slice_get}
 use Rattle.btf_model.specs.declared.endianness.Endianness.{Endianness}
+use Rattle.btf_model.specs.Record.{Record}
 use Rattle.btf_model.specs.Refusal.{Refusal}
 use Rattle.btf_model.specs.Table.{Table, strip}
-use Rattle.btf_model.specs.Blob.{IsValid}
+use Rattle.btf_model.specs.Blob.{IsTable, IsValid}
 use Rattle.btf_model.specs.Text.{bytes_at, text_at}
 use Rattle.btf_model.specs.Walk.{Resolves, HasSize}
+use Rattle.btf_split_model.specs.Hint.{LooksSplit, hint_records}
 use Rattle.btf_split_model.specs.Split.{joined, IsJoined, IsJoinedRefusal, Extends, split_canon}
 
 -- Bytes are at most one table over a base, or are refused for at most one reason, and never both.
@@ -50,3 +52,12 @@ pub record WrittenJoinsAgain : Type 0 where
   pub parsed : (order : Endianness) (base : Table) (bytes : List ℕ) (t : Table) → All (λ byte. byte < 2 ^ 8) bytes
       → IsJoined order base bytes t
       → IsJoined order base (split_canon (length base.records) (length base.strings) t) t
+
+-- A blob that represents a table looks split exactly if one of the types 1 to 64 has a name at a string offset that its
+-- strings do not have.
+abbrev pub LooksSplitByNames : Type 0
+LooksSplitByNames =
+    (order : Endianness) (bytes : List ℕ) (t : Table) → IsTable order bytes t
+    → LooksSplit order bytes
+    ↔ ((id : ℕ) × (r : Record) × (id < hint_records) × (slice_get t.records (suc id) ≡ Some r)
+    × (length t.strings ≤ r.name))

@@ -4,7 +4,7 @@
 //! The definitions are in `specs/`. Each law is the contract of a function here that does nothing.
 #![tactic(auto)]
 
-ghost use Rattle.btf_split_model.specs.Laws.{JoinedIsDetermined, BaseStays, BaseWalksStay, OwnPartFollows, WrittenJoinsAgain};
+ghost use Rattle.btf_split_model.specs.Laws.{JoinedIsDetermined, BaseStays, BaseWalksStay, OwnPartFollows, WrittenJoinsAgain, LooksSplitByNames};
 
 /// Bytes are at most one table over a base, or are refused for at most one reason, and never both.
 pub fn joined_is_determined()
@@ -30,4 +30,10 @@ pub fn own_part_follows()
 /// The written part of a table above a base is a split table, which with the base is the table again.
 pub fn written_joins_again()
     ensures { WrittenJoinsAgain }
+{}
+
+/// A blob that represents a table looks split exactly if one of the types 1 to 64 has a name at a string offset that
+/// its strings do not have.
+pub fn looks_split_by_names()
+    ensures { LooksSplitByNames }
 {}

@@ -2,7 +2,7 @@
 
 use btf_model::Endianness;
 use btf_plain::BtfError;
-use btf_split::{parse_split, split_bytes, string_len};
+use btf_split::{looks_split, parse_split, split_bytes, string_len};
 use btf_table::{Btf, type_count};
 use std::alloc::{AllocError, Global};
 use std::test::Fail;
@@ -35,7 +35,7 @@ fn digits_of(alloc: Global, bytes: &Result<Vec<u8>, BtfError>) -> Result<String,
     }
 }
 
-/// Reads the split table of a line over its base, and writes the table or the error.
+/// Writes whether the split table of a line looks like one, reads it over its base, and writes the table or the error.
 pub fn run(rt: &(impl Print + AllocGlobal), line: &str) -> Result<(), Fail> {
     let alloc = rt.alloc();
     let mut words = line.split(' ');
@@ -44,6 +44,7 @@ pub fn run(rt: &(impl Print + AllocGlobal), line: &str) -> Result<(), Fail> {
     let base = Btf::parse(alloc, &bytes_of(alloc, words.next())?, order)?;
     let order = order_of(words.next());
     let split = bytes_of(alloc, words.next())?;
+    println!(rt; "{name} looks split: {}", looks_split(&split, order))?;
     match parse_split(alloc, &base, &split, order) {
         Ok(table) => write_table(rt, name, &base, &table),
         Err(error) => {
@@ -75,8 +76,14 @@ fn write_table(
     let part = digits_of(alloc, &split_bytes(table, types, strings))?;
     println!(rt; "  part  {part}")?;
     let no_id = digits_of(alloc, &split_bytes(table, 0, strings))?;
-    let types_beyond = digits_of(alloc, &split_bytes(table, type_count(table) + 1, 0))?;
-    let strings_beyond = digits_of(alloc, &split_bytes(table, types, string_len(table)? + 1))?;
+    let types_beyond = digits_of(
+        alloc,
+        &split_bytes(table, type_count(table).saturating_add(1), 0),
+    )?;
+    let strings_beyond = digits_of(
+        alloc,
+        &split_bytes(table, types, string_len(table)?.saturating_add(1)),
+    )?;
     println!(rt; "  beyond {no_id} {types_beyond} {strings_beyond}")?;
     Ok(())
 }
