@@ -2,3 +2,4 @@ pub mod Whole
 pub mod Joining
 pub mod Staying
 pub mod Hinting
+pub mod Comparing

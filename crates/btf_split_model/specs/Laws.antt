@@ -1,5 +1,5 @@
 -- The laws of split tables. Each is the contract of a public function of this crate.
-use Rattle.std.specs.Prelude.{All, suc, Some, ◌↔◌, ◌≤◌, ◌≡◌, ℕ, ◌+◌, ◌<◌, ◌^◌, List, length, Ok, slice_get}
+use Rattle.std.specs.Prelude.{All, Bool, suc, Some, ◌↔◌, ◌≤◌, ◌≡◌, ℕ, ◌+◌, ◌<◌, ◌^◌, List, length, Ok, slice_get}
 use Rattle.btf_model.specs.declared.endianness.Endianness.{Endianness}
 use Rattle.btf_model.specs.Record.{Record}
 use Rattle.btf_model.specs.Refusal.{Refusal}
@@ -7,6 +7,8 @@ use Rattle.btf_model.specs.Table.{Table, strip}
 use Rattle.btf_model.specs.Blob.{IsTable, IsValid}
 use Rattle.btf_model.specs.Text.{bytes_at, text_at}
 use Rattle.btf_model.specs.Walk.{Resolves, HasSize}
+use Rattle.btf_model.specs.Fields.{Pair}
+use Rattle.btf_model.specs.Compat.{Plain}
 use Rattle.btf_split_model.specs.Hint.{LooksSplit, hint_records}
 use Rattle.btf_split_model.specs.Split.{joined, IsJoined, IsJoinedRefusal, Extends, split_canon}
 
@@ -36,6 +38,14 @@ pub record BaseWalksStay : Type 0 where
       → Resolves t.records id (Ok end)
   pub size : (base t : Table) → Extends base t → (id size : ℕ) → HasSize base.records id (Ok size)
       → HasSize t.records id (Ok size)
+
+-- If the comparison of two types, each in a base, returns true or false, it returns the same in tables that extend the
+-- bases, and starts the same pairs.
+abbrev pub BaseComparisonsStay : Type 0
+BaseComparisonsStay =
+    (local target l r : Table) → Extends local l → Extends target r
+    → (above : List Pair) (p : Pair) (b : Bool) (starts : List Pair) → Plain local target above p (Ok b) starts
+    → Plain l r above p (Ok b) starts
 
 -- The types of a split table have the ids from the number of the base's types on, in their order, and its strings have
 -- the offsets from the length of the base's strings on.

@@ -4,7 +4,7 @@
 //! The definitions are in `specs/`. Each law is the contract of a function here that does nothing.
 #![tactic(auto)]
 
-ghost use Rattle.btf_split_model.specs.Laws.{JoinedIsDetermined, BaseStays, BaseWalksStay, OwnPartFollows, WrittenJoinsAgain, LooksSplitByNames};
+ghost use Rattle.btf_split_model.specs.Laws.{JoinedIsDetermined, BaseStays, BaseWalksStay, BaseComparisonsStay, OwnPartFollows, WrittenJoinsAgain, LooksSplitByNames};
 
 /// Bytes are at most one table over a base, or are refused for at most one reason, and never both.
 pub fn joined_is_determined()
@@ -20,6 +20,12 @@ pub fn base_stays()
 /// this size. An error may change, because ids above the base may be types of the table.
 pub fn base_walks_stay()
     ensures { BaseWalksStay }
+{}
+
+/// If the comparison of two types, each in a base, returns true or false, it returns the same in tables that extend the
+/// bases, and starts the same pairs.
+pub fn base_comparisons_stay()
+    ensures { BaseComparisonsStay }
 {}
 
 /// The types of a split table have the ids after the base's, and its strings have the offsets after the base's.
