@@ -16,17 +16,18 @@ use btf_records::BtfType;
 use btf_table::Btf;
 use std::alloc::{AllocError, Global};
 
-/// The table of a kernel module: its split table `data`, whose words are in this byte order, over the base, which is
-/// the kernel's table.
+/// The table of a kernel module: the split table in `data`, whose words are in this byte order, over its base, the
+/// kernel's table.
 ///
 /// The result has the base's types under the base's ids, and then the types of the data; its strings are the base's and
-/// then the data's. Byte order, magic, version and flags are the data's. The base may have another byte order. Ids and
-/// string offsets are not checked, as in `Btf::parse`.
+/// then the data's. Byte order, magic, version and flags are the data's; the base may have another byte order. The
+/// 64-bit enum values that the base retains of a rewrite are not in the result. Ids and string offsets are not checked,
+/// as in `Btf::parse`.
 ///
 /// Reports the first error, in this order: the errors of `Btf::parse` for the data; `InvalidHeader` if the strings of
-/// base and data together exceed 4,294,967,295 bytes; `InvalidTypeInfo` if their records do; `OutOfMemory` at any time.
-/// Takes time linear in the base and the data. While it joins them, it holds the bytes of the base twice and those of
-/// the data once, besides its arguments; then the bytes of both once, and the result.
+/// base and data together exceed 4,294,967,295 bytes; and `InvalidTypeInfo` if their records do. Takes time linear in
+/// the base and the data. It first reads the data as a table, which it drops. Then it holds the bytes of the base twice
+/// and those of the data once, and at last the bytes of both once and the result.
 pub fn parse_split(
     alloc: Global,
     base: &Btf,
@@ -35,7 +36,7 @@ pub fn parse_split(
 ) -> Result<Btf, BtfError>
     // The base with the split table, or the first reason to refuse the data.
     ensures parsed { MeetsOrNoMemory (λ b. b) result (Joins endianness base.now «data».now) }
-    // It succeeds exactly for data that is a table over the base.
+    // Parsing succeeds exactly for data that is a split table over the base.
     ensures only_table { (t : Table) → IsJoined endianness base.now «data».now t
         → IsOrNoMemory (λ b. b) result (Ok t) }
     ensures only_refusal { (f : Refusal) → IsJoinedRefusal endianness base.now «data».now f

@@ -1,6 +1,6 @@
 -- Whether a blob looks like a split table: a hint, and no test.
--- Source: a choice of this project. Nothing in a blob marks it as a split table. Of a table of its own each name is in
--- its own strings; of a split table a name is mostly at an offset that its own strings do not have.
+-- Source: a choice of this project, because nothing in a blob marks a split table. In a table without a base, each name
+-- is in the table's strings. In a split table, most names are at offsets that the table's own strings do not have.
 use Rattle.std.specs.Prelude.{◌≡◌, ◌⊎◌, ℕ, zero, suc, ◌≤◌, List, ◌++◌, length}
 use Rattle.btf_model.specs.declared.endianness.Endianness.{Endianness}
 use Rattle.btf_model.specs.Record.{Record}

@@ -21,8 +21,8 @@ pub record JoinedIsDetermined : Type 0 where
   pub not_both : (order : Endianness) (base : Table) (bytes : List ℕ) (t : Table) (f : Refusal)
       → IsJoined order base bytes t → IsJoinedRefusal order base bytes f → ⊥
 
--- What can be read in the base is the same in the table. The table begins with the base's records and strings. Each id
--- of the base has its record, and each text of the base is read at its offset.
+-- A table over a base begins with the records and strings of the base. So each id of the base has the same record, and
+-- each text of the base is read at the same offset.
 pub record BaseStays : Type 0 where
   pub extends : (order : Endianness) (base : Table) (bytes : List ℕ) (t : Table) → IsJoined order base bytes t
       → Extends base t

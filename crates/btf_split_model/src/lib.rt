@@ -1,5 +1,5 @@
-//! What a split table is: the types of a kernel module, whose ids and string offsets go on where the kernel's end; and
-//! the laws of split tables.
+//! What a split table is, and the laws of split tables. A split table has the types of a kernel module; its ids and
+//! string offsets begin where those of its base, the kernel's table, end.
 //!
 //! The definitions are in `specs/`. Each law is the contract of a function here that does nothing.
 #![tactic(auto)]
@@ -11,7 +11,8 @@ pub fn joined_is_determined()
     ensures { JoinedIsDetermined }
 {}
 
-/// Each id of the base has its record in the table, and each text of the base is read at its offset.
+/// A table over a base begins with the records and strings of the base. So each id of the base has the same record, and
+/// each text of the base is read at the same offset.
 pub fn base_stays()
     ensures { BaseStays }
 {}
