@@ -1,1 +1,4 @@
 pub mod Blobs
+pub mod Joined
+pub mod Parts
+pub mod Hints

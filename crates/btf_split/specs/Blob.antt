@@ -1,16 +1,9 @@
 -- What the functions that read and write the parts of a blob return.
-use Rattle.std.specs.Prelude.{◌≡◌, ℕ, ◌+◌, ◌<◌, ◌≤◌, ◌^◌, List, [], ◌∷◌, ◌++◌, length, take}
+use Rattle.std.specs.Prelude.{ℕ, List, [], ◌∷◌, ◌++◌, take}
 use Rattle.std.specs.List.{flat_map}
 use Rattle.btf_model.specs.declared.endianness.Endianness.{Endianness}
 use Rattle.btf_model.specs.Word.{word}
-use Rattle.btf_model.specs.Table.{Table}
-use Rattle.btf_model.specs.Blob.{IsTable, header_len, header_of, strings_end, types_end}
-
--- Both sections of the blob are in it.
-pub record HasSections (order : Endianness) (bytes : List ℕ) : Type 0 where
-  pub header : header_len ≤ length bytes
-  pub strings : strings_end (header_of order bytes) ≤ length bytes
-  pub types : types_end (header_of order bytes) ≤ length bytes
+use Rattle.btf_model.specs.Blob.{header_len}
 
 -- The header that is written: these four bytes, which are magic, version and flags; its length; the types first, and
 -- the strings after them.

@@ -1,2 +1,3 @@
 pub mod Blob
+pub mod Hint
 pub mod Joining

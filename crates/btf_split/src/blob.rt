@@ -1,9 +1,10 @@
 //! The sections and the header of a blob.
 
-ghost use Rattle.std.specs.Prelude.{◌≡◌, ◌+◌, ◌≤◌, ◌++◌, length, OnOk};
+ghost use Rattle.std.specs.Prelude.{All, ◌≡◌, ◌+◌, ◌<◌, ◌≤◌, ◌^◌, ◌++◌, ◌↔◌, IsTrue, length, OnOk};
 ghost use Rattle.btf_model.specs.Blob as model;
 ghost use Rattle.btf_model.specs.Blob.{header_of};
-ghost use Rattle.btf_split.specs.Blob.{HasSections, written_header};
+ghost use Rattle.btf_split_model.specs.Hint.{HasSections};
+ghost use Rattle.btf_split.specs.Blob.{written_header};
 
 use btf_plain::Endianness;
 use std::alloc::AllocError;
@@ -52,12 +53,33 @@ fn section(blob: &[u8], offset_at: usize, endianness: Endianness) -> &[u8]
     &blob[start..start + len]
 }
 
-/// The sections of a blob.
+/// Whether a section is in the blob. Its offset is in the word at `offset_at`.
+fn is_within(blob: &[u8], offset_at: usize, endianness: Endianness) -> bool
+    requires words { offset_at + 8 ≤ length blob.now }
+    requires header { 24 ≤ length blob.now }
+    ensures { IsTrue result ↔ (model.word_at endianness 4 blob.now
+        + model.word_at endianness offset_at blob.now
+        + model.word_at endianness (offset_at + 4) blob.now ≤ length blob.now) }
+{
+    let header_len = word_at(blob, 4, endianness) as usize;
+    let start = header_len + word_at(blob, offset_at, endianness) as usize;
+    start + word_at(blob, offset_at + 4, endianness) as usize <= blob.len()
+}
+
+/// Whether both sections are in the blob.
+pub fn has_sections(blob: &[u8], endianness: Endianness) -> bool
+    ensures { IsTrue result ↔ HasSections endianness blob.now }
+{
+    blob.len() >= HEADER_LEN && is_within(blob, 16, endianness) && is_within(blob, 8, endianness)
+}
+
+/// The sections of a blob. Each element of the blob is a byte.
 pub fn sections_of(blob: &[u8], endianness: Endianness) -> Sections<'_>
     requires { HasSections endianness blob.now }
     ensures types { result.types.now ≡ model.type_section (header_of endianness blob.now) blob.now }
     ensures strings { result.strings.now
         ≡ model.string_section (header_of endianness blob.now) blob.now }
+    ensures bytes { All (λ byte. byte < 2 ^ 8) blob.now }
 {
     Sections {
         types: section(blob, 8, endianness),

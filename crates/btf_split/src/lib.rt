@@ -1,10 +1,12 @@
-//! Split tables: the types of a kernel module, whose ids and string offsets go on where those of its base end, the
-//! kernel's table.
+//! Split tables. A split table has the types of a kernel module; its ids and string offsets begin where those of its
+//! base, the kernel's table, end.
 #![tactic(auto)]
 
 mod blob;
+mod hint;
 mod joining;
 mod part;
 
+pub use hint::looks_split;
 pub use joining::parse_split;
 pub use part::{split_bytes, string_len};

@@ -22,16 +22,18 @@ pub fn string_len(table: &Btf) -> Result<u32, BtfError>
     Ok(sections_of(&blob, table.endianness()).strings.len() as u32)
 }
 
-/// The split table of the part of a table above a base, as a blob in the table's byte order. The base is the first
-/// `base_types` types, id 0 included, and the first `base_strings` bytes of the strings.
+/// The part of a table above a base, as a split table in the table's byte order. The base is the first `base_types`
+/// types, id 0 included, and the first `base_strings` bytes of the strings. Its numbers are `type_count` and
+/// `string_len` of its table.
 ///
 /// Fails with `UnknownBtfType` of `base_types` if it is 0 or the table has fewer types, and then with
-/// `InvalidStringOffset` of `base_strings` if the table has fewer bytes of strings. While it writes, it holds the bytes
-/// of the table once more.
+/// `InvalidStringOffset` of `base_strings` if the table has fewer bytes of strings. Takes time linear in the table, and
+/// holds the bytes of the table while it writes.
 pub fn split_bytes(table: &Btf, base_types: u32, base_strings: u32) -> Result<Vec<u8>, BtfError>
     ensures written { IsOrNoMemory (λ v. v.items) result
         (split_blob base_types base_strings table.now) }
-    // Over any base that the table begins with, the bytes are the table again, except for retained 64-bit enum values.
+    // Over any base that the table begins with, the bytes are parsed as the table again, except for retained 64-bit
+    // enum values.
     ensures joins_again { IfOk result (λ v. (base : Table) → Extends base table.now
         → length base.records ≡ base_types → length base.strings ≡ base_strings
         → IsJoined table.now.order base v.items (strip table.now)) }

@@ -21,9 +21,9 @@ use Rattle.btf_split_model.proofs.Whole.{read_valid}
 pub one_joined : (order : Endianness) (base : Table) (bytes : List ℕ) (t u : Table) → IsJoined order base bytes t → IsJoined order base bytes u → t ≡ u
 one_joined order base bytes t u h g = h.whole ∙ ap (joined base) (same_table order bytes h.own g.own h.blob g.blob) ∙ sym g.whole
 
-one_excess : (t : Table) (f g : Refusal) → IsTooLong t f → IsTooLong t g → f ≡ g
-one_excess t f g h k =
-    elim (cases_lt section_limit (length t.strings)) [
+one_excess : (n m : ℕ) (f g : Refusal) → IsTooLong n m f → IsTooLong n m g → f ≡ g
+one_excess n m f g h k =
+    elim (cases_lt section_limit n) [
       | inl lt ↦ h.strings lt ∙ sym (k.strings lt)
       | inr le ↦ (h.types le).1 ∙ sym (k.types le).1
     ]
@@ -34,16 +34,16 @@ one_refusal order base bytes f g (inl h) (inr k) = absurd (table_not_refused ord
 one_refusal order base bytes f g (inr h) (inl k) = absurd (table_not_refused order bytes h.0 g h.1 k)
 one_refusal order base bytes f g (inr h) (inr k) =
     let same = same_table order bytes h.0 k.0 h.1 k.1 in
-    one_excess (joined base k.0) f g (subst (λ (own : Table). IsTooLong (joined base own) f) same h.2) k.2
+    one_excess _ _ f g (subst (λ (own : Table). IsTooLong (length (joined base own).strings) (length (type_bytes (joined base own))) f) same h.2) k.2
 
-not_too_long : (t : Table) (f : Refusal) → length t.strings ≤ section_limit → length (type_bytes t) ≤ section_limit → IsTooLong t f → ⊥
-not_too_long t f strings types h = let long = (h.types strings).0 in omega (arith, long, types)
+not_too_long : (n m : ℕ) (f : Refusal) → n ≤ section_limit → m ≤ section_limit → IsTooLong n m f → ⊥
+not_too_long n m f strings types h = let long = (h.types strings).0 in omega (arith, long, types)
 
 pub not_both : (order : Endianness) (base : Table) (bytes : List ℕ) (t : Table) (f : Refusal) → IsJoined order base bytes t → IsJoinedRefusal order base bytes f → ⊥
 not_both order base bytes t f h (inl k) = table_not_refused order bytes h.own f h.blob k
 not_both order base bytes t f h (inr k) =
     let is : t ≡ joined base k.0 = h.whole ∙ ap (joined base) (same_table order bytes h.own k.0 h.blob k.1) in
-    not_too_long t f h.strings h.types (subst (λ (u : Table). IsTooLong u f) (sym is) k.2)
+    not_too_long (length t.strings) (length (type_bytes t)) f h.strings h.types (subst (λ (u : Table). IsTooLong (length u.strings) (length (type_bytes u)) f) (sym is) k.2)
 
 -- ---- the base is the front
 

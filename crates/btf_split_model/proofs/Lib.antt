@@ -1,3 +1,5 @@
 pub mod Whole
 pub mod Joining
 pub mod Staying
+pub mod Hinting
+pub mod Comparing

@@ -71,7 +71,7 @@ size_found : (at : Elements) (o other : Option Record) → ((r : Record) → o �
 size_found at (Some r) other same found = ap (size_in at) (same r refl)
 size_found at None other same found = absurd found
 
-known_stays : (base t : Table) → Extends base t → (id : ℕ) (r : Record) → slice_get base.records id ≡ Some r → slice_get t.records id ≡ Some r
+pub known_stays : (base t : Table) → Extends base t → (id : ℕ) (r : Record) → slice_get base.records id ≡ Some r → slice_get t.records id ≡ Some r
 known_stays base t h id r is = record_stays base t h id (slice_get_within base.records id r is) ∙ is
 
 pub resolving_stays : (base t : Table) → Extends base t → (id end : ℕ) → Resolves base.records id (Ok end) → Resolves t.records id (Ok end)

@@ -55,7 +55,8 @@ unfolding base nothing own
 empty_split = refl
 
 -- the type after the base's last has the next id
-next_id : (slice_get (joined base own).records 2 ≡ Some open_typedef) × (slice_get (joined base own).records 3 ≡ Some own_struct) × (slice_get (joined base own).records 4 ≡ None)
+next_id : (slice_get (joined base own).records 2 ≡ Some open_typedef)
+    × (slice_get (joined base own).records 3 ≡ Some own_struct) × (slice_get (joined base own).records 4 ≡ None)
 unfolding base own
 next_id = (refl, refl, refl)
 
@@ -95,6 +96,7 @@ unfolding base own own_struct
 part_written = refl
 
 -- more strings than the table has, and a base without id 0
-beyond_the_end : (split_blob 3 8 (joined base own) ≡ Err (InvalidStringOffset 8)) × (split_blob 0 8 (joined base own) ≡ Err (UnknownBtfType 0))
+beyond_the_end : (split_blob 3 8 (joined base own) ≡ Err (InvalidStringOffset 8))
+    × (split_blob 0 8 (joined base own) ≡ Err (UnknownBtfType 0))
 unfolding base own
 beyond_the_end = (refl, refl)

@@ -1,11 +1,15 @@
 -- The laws of split tables. Each is the contract of a public function of this crate.
-use Rattle.std.specs.Prelude.{All, ◌≡◌, ℕ, ◌+◌, ◌<◌, ◌^◌, List, length, Ok, slice_get}
+use Rattle.std.specs.Prelude.{All, Bool, suc, Some, ◌↔◌, ◌≤◌, ◌≡◌, ℕ, ◌+◌, ◌<◌, ◌^◌, List, length, Ok, slice_get}
 use Rattle.btf_model.specs.declared.endianness.Endianness.{Endianness}
+use Rattle.btf_model.specs.Record.{Record}
 use Rattle.btf_model.specs.Refusal.{Refusal}
 use Rattle.btf_model.specs.Table.{Table, strip}
-use Rattle.btf_model.specs.Blob.{IsValid}
+use Rattle.btf_model.specs.Blob.{IsTable, IsValid}
 use Rattle.btf_model.specs.Text.{bytes_at, text_at}
 use Rattle.btf_model.specs.Walk.{Resolves, HasSize}
+use Rattle.btf_model.specs.Fields.{Pair}
+use Rattle.btf_model.specs.Compat.{Plain}
+use Rattle.btf_split_model.specs.Hint.{LooksSplit, hint_records}
 use Rattle.btf_split_model.specs.Split.{joined, IsJoined, IsJoinedRefusal, Extends, split_canon}
 
 -- Bytes are at most one table over a base, or are refused for at most one reason, and never both.
@@ -17,8 +21,8 @@ pub record JoinedIsDetermined : Type 0 where
   pub not_both : (order : Endianness) (base : Table) (bytes : List ℕ) (t : Table) (f : Refusal)
       → IsJoined order base bytes t → IsJoinedRefusal order base bytes f → ⊥
 
--- What can be read in the base is the same in the table. The table begins with the base's records and strings. Each id
--- of the base has its record, and each text of the base is read at its offset.
+-- A table over a base begins with the records and strings of the base. So each id of the base has the same record, and
+-- each text of the base is read at the same offset.
 pub record BaseStays : Type 0 where
   pub extends : (order : Endianness) (base : Table) (bytes : List ℕ) (t : Table) → IsJoined order base bytes t
       → Extends base t
@@ -35,6 +39,14 @@ pub record BaseWalksStay : Type 0 where
   pub size : (base t : Table) → Extends base t → (id size : ℕ) → HasSize base.records id (Ok size)
       → HasSize t.records id (Ok size)
 
+-- If the comparison of two types, each in a base, returns true or false, it returns the same in tables that extend the
+-- bases, and starts the same pairs.
+abbrev pub BaseComparisonsStay : Type 0
+BaseComparisonsStay =
+    (local target l r : Table) → Extends local l → Extends target r
+    → (above : List Pair) (p : Pair) (b : Bool) (starts : List Pair) → Plain local target above p (Ok b) starts
+    → Plain l r above p (Ok b) starts
+
 -- The types of a split table have the ids from the number of the base's types on, in their order, and its strings have
 -- the offsets from the length of the base's strings on.
 pub record OwnPartFollows : Type 0 where
@@ -50,3 +62,12 @@ pub record WrittenJoinsAgain : Type 0 where
   pub parsed : (order : Endianness) (base : Table) (bytes : List ℕ) (t : Table) → All (λ byte. byte < 2 ^ 8) bytes
       → IsJoined order base bytes t
       → IsJoined order base (split_canon (length base.records) (length base.strings) t) t
+
+-- A blob that represents a table looks split exactly if one of the types 1 to 64 has a name at a string offset that its
+-- strings do not have.
+abbrev pub LooksSplitByNames : Type 0
+LooksSplitByNames =
+    (order : Endianness) (bytes : List ℕ) (t : Table) → IsTable order bytes t
+    → LooksSplit order bytes
+    ↔ ((id : ℕ) × (r : Record) × (id < hint_records) × (slice_get t.records (suc id) ≡ Some r)
+    × (length t.strings ≤ r.name))

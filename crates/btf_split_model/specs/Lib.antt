@@ -1,3 +1,4 @@
 pub mod Split
+pub mod Hint
 pub mod Laws
 pub mod Examples

@@ -13,14 +13,14 @@ use Rattle.btf_model.specs.Blob.{IsTable, IsRefusal, canon}
 abbrev pub with_sections : List ℕ → List Record → Table → Table
 with_sections strings records t = record t { strings = strings; records = records; fallbacks = no_fallbacks records }
 
--- The base with a table after it, which is read as a blob of its own: its strings follow the base's, and its records
--- follow the base's, from its id 1 on. A split table has no id 0. Ids and string offsets stay as they are written. The
--- byte order and the header's values are those of the table after the base.
+-- The base with another table after it: the base's strings and then the other's, and the base's records and then the
+-- other's, without its id 0, which a split table does not repeat. Ids and string offsets stay as they are written. The
+-- byte order and the header's values are the other table's.
 abbrev pub joined : Table → Table → Table
 joined base own = with_sections (base.strings ++ own.strings) (base.records ++ drop 1 own.records) own
 
--- The bytes are a split table over the base: a blob. With the base it is the table t, whose sections are within the
--- limit.
+-- The bytes are a split table over the base: a blob, which represents a table of its own. The base with this table
+-- after it is t, whose sections are within the limit.
 pub record IsJoined (order : Endianness) (base : Table) (bytes : List ℕ) (t : Table) : Type 0 where
   pub own : Table
   pub blob : IsTable order bytes own
@@ -28,16 +28,18 @@ pub record IsJoined (order : Endianness) (base : Table) (bytes : List ℕ) (t : 
   pub strings : length t.strings ≤ section_limit
   pub types : length (type_bytes t) ≤ section_limit
 
--- The first reason why a table cannot be written: its strings are too long, or else its records are.
-pub record IsTooLong (t : Table) (refusal : Refusal) : Type 0 where
-  pub strings : section_limit < length t.strings → refusal ≡ InvalidHeader
-  pub types : length t.strings ≤ section_limit → (section_limit < length (type_bytes t)) × (refusal ≡ InvalidTypeInfo)
+-- The first reason why a blob cannot have sections of these lengths: the strings are too long, or else the types are.
+pub record IsTooLong (string_len type_len : ℕ) (refusal : Refusal) : Type 0 where
+  pub strings : section_limit < string_len → refusal ≡ InvalidHeader
+  pub types : string_len ≤ section_limit → (section_limit < type_len) × (refusal ≡ InvalidTypeInfo)
 
 -- The first reason to refuse the bytes as a split table over the base: the bytes are refused as a blob, or their
 -- table is too long together with the base.
 abbrev pub IsJoinedRefusal : Endianness → Table → List ℕ → Refusal → Type 0
 IsJoinedRefusal order base bytes refusal =
-    IsRefusal order bytes refusal ⊎ ((own : Table) × IsTable order bytes own × IsTooLong (joined base own) refusal)
+    IsRefusal order bytes refusal
+    ⊎ ((own : Table) × IsTable order bytes own
+    × IsTooLong (length (joined base own).strings) (length (type_bytes (joined base own))) refusal)
 
 -- What parsing a split table returns: the base with the table, or the first reason to refuse the bytes.
 abbrev pub Joins : Endianness → Table → List ℕ → Result Table Refusal → Type 0
@@ -49,8 +51,8 @@ pub record Extends (base t : Table) : Type 0 where
   pub records : take (length base.records) t.records ≡ base.records
   pub strings : take (length base.strings) t.strings ≡ base.strings
 
--- The part of a table above a base that has so many records, id 0 included, and so many bytes of strings, as a table of
--- its own.
+-- The part of a table above a base with these numbers of records, id 0 included, and of bytes of strings. It is a table
+-- of its own.
 abbrev pub above : ℕ → ℕ → Table → Table
 above records strings t = with_sections (drop strings t.strings) (unknown ∷ drop records t.records) t
 
@@ -58,10 +60,10 @@ above records strings t = with_sections (drop strings t.strings) (unknown ∷ dr
 abbrev pub split_canon : ℕ → ℕ → Table → List ℕ
 split_canon records strings t = canon (above records strings t)
 
--- What writing the part above a base returns, by the base's numbers of records and of bytes of strings: its blob, or a
--- refusal if the table has fewer records, or if the base has no id 0; or else if the table has fewer bytes of strings.
+-- What writing the part above a base returns, by the base's numbers of records and of bytes of strings. It is refused
+-- if the base has no id 0 or the table has fewer records, and then if the table has fewer bytes of strings.
 abbrev pub split_blob : ℕ → ℕ → Table → Result (List ℕ) Refusal
 split_blob records strings t =
     if records == 0 || nat_lt (length t.records) records then Err (UnknownBtfType records)
     else (if nat_lt (length t.strings) strings then Err (InvalidStringOffset strings)
-      else Ok (split_canon records strings t))
+    else Ok (split_canon records strings t))

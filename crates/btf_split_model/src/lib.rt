@@ -1,17 +1,18 @@
-//! What a split table is: the types of a kernel module, whose ids and string offsets go on where the kernel's end; and
-//! the laws of split tables.
+//! What a split table is, and the laws of split tables. A split table has the types of a kernel module; its ids and
+//! string offsets begin where those of its base, the kernel's table, end.
 //!
 //! The definitions are in `specs/`. Each law is the contract of a function here that does nothing.
 #![tactic(auto)]
 
-ghost use Rattle.btf_split_model.specs.Laws.{JoinedIsDetermined, BaseStays, BaseWalksStay, OwnPartFollows, WrittenJoinsAgain};
+ghost use Rattle.btf_split_model.specs.Laws.{JoinedIsDetermined, BaseStays, BaseWalksStay, BaseComparisonsStay, OwnPartFollows, WrittenJoinsAgain, LooksSplitByNames};
 
 /// Bytes are at most one table over a base, or are refused for at most one reason, and never both.
 pub fn joined_is_determined()
     ensures { JoinedIsDetermined }
 {}
 
-/// Each id of the base has its record in the table, and each text of the base is read at its offset.
+/// A table over a base begins with the records and strings of the base. So each id of the base has the same record, and
+/// each text of the base is read at the same offset.
 pub fn base_stays()
     ensures { BaseStays }
 {}
@@ -22,6 +23,12 @@ pub fn base_walks_stay()
     ensures { BaseWalksStay }
 {}
 
+/// If the comparison of two types, each in a base, returns true or false, it returns the same in tables that extend the
+/// bases, and starts the same pairs.
+pub fn base_comparisons_stay()
+    ensures { BaseComparisonsStay }
+{}
+
 /// The types of a split table have the ids after the base's, and its strings have the offsets after the base's.
 pub fn own_part_follows()
     ensures { OwnPartFollows }
@@ -30,4 +37,10 @@ pub fn own_part_follows()
 /// The written part of a table above a base is a split table, which with the base is the table again.
 pub fn written_joins_again()
     ensures { WrittenJoinsAgain }
+{}
+
+/// A blob that represents a table looks split exactly if one of the types 1 to 64 has a name at a string offset that
+/// its strings do not have.
+pub fn looks_split_by_names()
+    ensures { LooksSplitByNames }
 {}
