@@ -48,40 +48,40 @@ own_texts base own offset = rw (drop-append-add base.strings own.strings offset)
 -- ---- walks
 
 -- The walk goes on, or ends with a value.
-abbrev IsFound : {P A : Type 0} → Finding P A → Type 0
+abbrev pub IsFound : {P A : Type 0} → Finding P A → Type 0
 IsFound (GoesOn next) = Unit {0}
 IsFound (Ends (Ok answer)) = Unit {0}
 IsFound (Ends (Err refusal)) = ⊥
 
-module _ {P A : Type 0} (find again : P → Finding P A) (stays : (place : P) → IsFound (find place) → again place ≡ find place) where
-  leads_stay : (n : ℕ) (start end : P) → Leads (By find) n start end → Leads (By again) n start end
+module _ {P A : Type 0} (Finds Again : P → Finding P A → Type 0) (stays : (place : P) (found : Finding P A) → IsFound found → Finds place found → Again place found) where
+  leads_stay : (n : ℕ) (start end : P) → Leads Finds n start end → Leads Again n start end
   leads_stay zero start end h = h
-  leads_stay (suc n) start end h = (h.0, stays start (subst IsFound (sym h.1) tt) ∙ h.1, leads_stay n h.0 end h.2)
+  leads_stay (suc n) start end h = (h.0, stays start (GoesOn h.0) tt h.1, leads_stay n h.0 end h.2)
 
   -- a value that is found is found again
-  answer_stays : (start : P) (too_deep : P → Refusal) (x : A) → WalkAnswers (By find) start too_deep (Ok x) → WalkAnswers (By again) start too_deep (Ok x)
-  answer_stays start too_deep x (inl p) = inl (p.0, p.1, p.2, leads_stay p.0 start p.1 p.3, stays p.1 (subst IsFound (sym p.4) tt) ∙ p.4)
+  pub answer_stays : (start : P) (too_deep : P → Refusal) (x : A) → WalkAnswers Finds start too_deep (Ok x) → WalkAnswers Again start too_deep (Ok x)
+  answer_stays start too_deep x (inl p) = inl (p.0, p.1, p.2, leads_stay p.0 start p.1 p.3, stays p.1 (Ends (Ok x)) tt p.4)
   answer_stays start too_deep x (inr p) = absurd (none-some x (ap result_ok (sym p.2)))
 
-resolving_found : (at : ℕ) (o other : Option Record) → ((r : Record) → o ≡ Some r → other ≡ Some r) → IsFound (unmodified_in at o) → unmodified_in at other ≡ unmodified_in at o
-resolving_found at (Some r) other same found = ap (unmodified_in at) (same r refl)
-resolving_found at None other same found = absurd found
+resolving_found : (at : ℕ) (o other : Option Record) (found : Finding ℕ ℕ) → ((r : Record) → o ≡ Some r → other ≡ Some r) → IsFound found → unmodified_in at o ≡ found → unmodified_in at other ≡ found
+resolving_found at (Some r) other found same fine is = ap (unmodified_in at) (same r refl) ∙ is
+resolving_found at None other found same fine is = absurd (subst IsFound (sym is) fine)
 
-size_found : (at : Elements) (o other : Option Record) → ((r : Record) → o ≡ Some r → other ≡ Some r) → IsFound (size_in at o) → size_in at other ≡ size_in at o
-size_found at (Some r) other same found = ap (size_in at) (same r refl)
-size_found at None other same found = absurd found
+size_found : (at : Elements) (o other : Option Record) (found : Finding Elements ℕ) → ((r : Record) → o ≡ Some r → other ≡ Some r) → IsFound found → size_in at o ≡ found → size_in at other ≡ found
+size_found at (Some r) other found same fine is = ap (size_in at) (same r refl) ∙ is
+size_found at None other found same fine is = absurd (subst IsFound (sym is) fine)
 
 pub known_stays : (base t : Table) → Extends base t → (id : ℕ) (r : Record) → slice_get base.records id ≡ Some r → slice_get t.records id ≡ Some r
 known_stays base t h id r is = record_stays base t h id (slice_get_within base.records id r is) ∙ is
 
 pub resolving_stays : (base t : Table) → Extends base t → (id end : ℕ) → Resolves base.records id (Ok end) → Resolves t.records id (Ok end)
 resolving_stays base t h id end is =
-    answer_stays (λ at. unmodified_in at (slice_get base.records at)) (λ at. unmodified_in at (slice_get t.records at))
-    (λ at. resolving_found at (slice_get base.records at) (slice_get t.records at) (known_stays base t h at))
+    answer_stays (By (λ at. unmodified_in at (slice_get base.records at))) (By (λ at. unmodified_in at (slice_get t.records at)))
+    (λ at found fine. resolving_found at (slice_get base.records at) (slice_get t.records at) found (known_stays base t h at) fine)
     id (λ _. MaximumTypeDepthReached id) end is
 
 pub size_stays : (base t : Table) → Extends base t → (id size : ℕ) → HasSize base.records id (Ok size) → HasSize t.records id (Ok size)
 size_stays base t h id size is =
-    answer_stays (λ at. size_in at (slice_get base.records at.type)) (λ at. size_in at (slice_get t.records at.type))
-    (λ at. size_found at (slice_get base.records at.type) (slice_get t.records at.type) (known_stays base t h at.type))
+    answer_stays (By (λ at. size_in at (slice_get base.records at.type))) (By (λ at. size_in at (slice_get t.records at.type)))
+    (λ at found fine. size_found at (slice_get base.records at.type) (slice_get t.records at.type) found (known_stays base t h at.type) fine)
     (record { count = 1; type = id }) (λ _. MaximumTypeDepthReached id) size is

@@ -7,7 +7,7 @@ use Rattle.btf_model.specs.Table.{Table, strip}
 use Rattle.btf_model.specs.Blob.{IsTable, IsValid}
 use Rattle.btf_model.specs.Text.{bytes_at, text_at}
 use Rattle.btf_model.specs.Walk.{Resolves, HasSize}
-use Rattle.btf_model.specs.Fields.{Pair}
+use Rattle.btf_model.specs.Fields.{Pair, Fields}
 use Rattle.btf_model.specs.Compat.{Plain}
 use Rattle.btf_split_model.specs.Hint.{LooksSplit, hint_records}
 use Rattle.btf_split_model.specs.Split.{joined, IsJoined, IsJoinedRefusal, Extends, split_canon}
@@ -39,13 +39,14 @@ pub record BaseWalksStay : Type 0 where
   pub size : (base t : Table) → Extends base t → (id size : ℕ) → HasSize base.records id (Ok size)
       → HasSize t.records id (Ok size)
 
--- If the comparison of two types, each in a base, returns true or false, it returns the same in tables that extend the
--- bases, and starts the same pairs.
-abbrev pub BaseComparisonsStay : Type 0
-BaseComparisonsStay =
-    (local target l r : Table) → Extends local l → Extends target r
-    → (above : List Pair) (p : Pair) (b : Bool) (starts : List Pair) → Plain local target above p (Ok b) starts
-    → Plain l r above p (Ok b) starts
+-- If a comparison of two types, each in a base, returns true or false, it returns the same in tables that extend the
+-- bases. The comparison of types also starts the same pairs.
+pub record BaseComparisonsStay : Type 0 where
+  pub fields : (local target l r : Table) → Extends local l → Extends target r → (id other : ℕ) (b : Bool)
+      → Fields local id target other (Ok b) → Fields l id r other (Ok b)
+  pub types : (local target l r : Table) → Extends local l → Extends target r
+      → (above : List Pair) (p : Pair) (b : Bool) (starts : List Pair) → Plain local target above p (Ok b) starts
+      → Plain l r above p (Ok b) starts
 
 -- The types of a split table have the ids from the number of the base's types on, in their order, and its strings have
 -- the offsets from the length of the base's strings on.

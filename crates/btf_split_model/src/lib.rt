@@ -23,8 +23,8 @@ pub fn base_walks_stay()
     ensures { BaseWalksStay }
 {}
 
-/// If the comparison of two types, each in a base, returns true or false, it returns the same in tables that extend the
-/// bases, and starts the same pairs.
+/// If a comparison of two types, each in a base, returns true or false, it returns the same in tables that extend the
+/// bases. The comparison of types also starts the same pairs.
 pub fn base_comparisons_stay()
     ensures { BaseComparisonsStay }
 {}
