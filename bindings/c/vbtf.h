@@ -52,13 +52,13 @@ enum vbtf_status {
 
 	/* of this binding */
 	VBTF_NO_ROOM = 100,              /* the buffer is too short; nothing was written to it */
-	VBTF_CLOSED = 101,               /* the table, or its .BTF.ext, is not open */
-	VBTF_BAD_ARGUMENT = 102,         /* an argument is invalid, or the table or .BTF.ext is open already */
+	VBTF_CLOSED = 101,               /* the table, its .BTF.ext or its index is not open */
+	VBTF_BAD_ARGUMENT = 102,         /* an argument is invalid, or the table, .BTF.ext or index is open already */
 	VBTF_NO_ITEM = 103,              /* the type has no item of the index, or no variant of the name */
 	VBTF_NOT_AN_OBJECT = 104,        /* the bytes are no ELF object that is read here; error.id has the reason */
 	VBTF_NO_TABLE = 105,             /* the object has no section .BTF */
 	VBTF_NOT_REPLACEABLE = 106,      /* the bytes of the section .BTF cannot be replaced */
-	VBTF_RELOCATION_REFUSED = 107,   /* a relocation has an error; vbtf_relocate_object names the fields */
+	VBTF_RELOCATION_REFUSED = 107,   /* a relocation has an error; vbtf_relocate and .._object name the fields */
 	VBTF_SHARED_PLACE = 108,         /* another section has bytes in the place of the section of index offset */
 	VBTF_BAD_SECTION_NAME = 109      /* the name of a section of relocations, at offset, cannot be read */
 };
@@ -274,6 +274,17 @@ struct vbtf_tally {
 	uint64_t refused;        /* with an error */
 };
 
+/* What a relocation asks to be written into its instruction. */
+struct vbtf_relocated {
+	uint64_t expected;       /* the value for the program's own table, which the compiler wrote */
+	uint64_t value;          /* the value for the target */
+	uint32_t local_size;     /* in bytes, of the field that a load or store reads or writes; 0 if there is none */
+	uint32_t target_size;    /* of the target's field */
+	bool is_poisoned;        /* the instruction becomes a call that the kernel refuses: nothing matches */
+	bool validates;          /* the instruction must have the expected value before it is patched */
+	bool is_adjustable;      /* a load or store may get the target's size */
+};
+
 /* ---- the exported calls, which the inline functions below call; slices may not be null */
 
 uint32_t vbtf_version(void);
@@ -319,6 +330,12 @@ uint32_t vbtf_raw_sanitize_object(const uint8_t *object, size_t len, const struc
 uint32_t vbtf_lent_relocate_object(const uint8_t *object, size_t len, struct vbtf_table *target, uint32_t options,
                                    uint64_t seed, uint8_t *out, size_t room, uint64_t *needed,
                                    struct vbtf_tally *tally, struct vbtf_error *error);
+
+uint32_t vbtf_raw_open_target(struct vbtf_table *table, struct vbtf_error *error);
+void vbtf_close_target(struct vbtf_table *table);
+uint32_t vbtf_lent_relocate(struct vbtf_table *local, struct vbtf_table *target,
+                            const struct vbtf_relocation *relocation, struct vbtf_relocated *relocated,
+                            struct vbtf_error *error);
 
 uint32_t vbtf_raw_open_ext(struct vbtf_table *table, const uint8_t *data, size_t len, uint32_t order, uint64_t seed,
                            struct vbtf_error *error);
@@ -439,7 +456,7 @@ static inline uint32_t vbtf_parse(struct vbtf_table *table, const void *data, si
 }
 
 /*
- * Opens a closed table with a copy of another table, without the .BTF.ext of that table. VBTF_CLOSED if `table` is not
+ * Opens a closed table with a copy of another table, without its .BTF.ext and its index. VBTF_CLOSED if `table` is not
  * open, otherwise VBTF_BAD_ARGUMENT if `copy` is open. After an error `copy` is unchanged.
  */
 static inline uint32_t vbtf_clone(const struct vbtf_table *table, struct vbtf_table *copy, struct vbtf_error *error)
@@ -449,7 +466,7 @@ static inline uint32_t vbtf_clone(const struct vbtf_table *table, struct vbtf_ta
 	return vbtf_lent_clone(&loan, copy, vbtf_error_or(error, &unread));
 }
 
-/* Closes a table and its .BTF.ext, and frees their memory: `vbtf_close`, above. A closed table stays closed. */
+/* Closes a table, its .BTF.ext and its index, and frees them: `vbtf_close`, above. A closed table stays closed. */
 
 /*
  * Writes the bytes of the table, in its own order, and their number to `needed`. VBTF_NO_ROOM if the buffer has less
@@ -752,7 +769,7 @@ static inline uint32_t vbtf_types_are_compatible(const struct vbtf_table *local,
  * Rewrites a table for a kernel that lacks some features, and reports the features that the rewrite asked about.
  * `sections` has the sizes of the program's sections, and `symbols` the offsets of its symbols; either may be null.
  * `seed` is a random number, as for vbtf_open_ext, with which their names are hashed. Ids stay, strings are only
- * appended, and at most four types are appended.
+ * appended, and at most four types are appended. Closes the index of the table.
  *
  * The first error: VBTF_INVALID_STRING_OFFSET, VBTF_UNKNOWN_TYPE, VBTF_UNEXPECTED_TYPE,
  * VBTF_INVALID_DATASEC, VBTF_UNKNOWN_SECTION_SIZE, VBTF_SYMBOL_NOT_FOUND, VBTF_INVALID_TYPE_INFO; VBTF_BAD_ARGUMENT
@@ -812,7 +829,7 @@ static inline uint32_t vbtf_sanitize_object(const void *object, size_t len, cons
  * without VBTF_KEEP_REFUSED the first record with an error as VBTF_RELOCATION_REFUSED: error.id is the number of the
  * reason in docs/C.md, error.offset the string offset of the section's name, and error.len the index of the record.
  * VBTF_CLOSED if the table is not open; VBTF_BAD_ARGUMENT if another bit of `options` is set. After an error the buffer
- * and the tally are unchanged.
+ * and the tally are unchanged. Without an open index (vbtf_open_target) the call makes one, and frees it.
  */
 static inline uint32_t vbtf_relocate_object(const void *object, size_t len, const struct vbtf_table *target,
                                             uint32_t options, uint64_t seed, void *out, size_t room,
@@ -827,11 +844,41 @@ static inline uint32_t vbtf_relocate_object(const void *object, size_t len, cons
 	                                 tally ? tally : &uncounted, vbtf_error_or(error, &unread));
 }
 
+/*
+ * Opens an index of the types of a table, for relocations to this table. It has 4 bytes for each type that has a name.
+ * A table has at most one. A call that changes the table (vbtf_add_string, vbtf_add_type, vbtf_rewrite) closes it, and
+ * may close it also if that call fails. VBTF_BAD_ARGUMENT if the table has an open index.
+ */
+static inline uint32_t vbtf_open_target(struct vbtf_table *table, struct vbtf_error *error)
+{
+	struct vbtf_error unread;
+	return vbtf_raw_open_target(table, vbtf_error_or(error, &unread));
+}
+
+/* Closes the index of a table, and frees it: `vbtf_close_target`, above. The table stays open. */
+
+/*
+ * Relocates one relocation of a program for a target: writes what it asks to be written into its instruction. `local` is
+ * the table of the program. The relocation has all candidates of the target, as in the kernel. The tables may be one.
+ *
+ * VBTF_RELOCATION_REFUSED if the relocation has an error: error.id is the number of the reason in docs/C.md. VBTF_CLOSED
+ * if a table or the index of the target is not open. After an error `relocated` is unchanged.
+ */
+static inline uint32_t vbtf_relocate(const struct vbtf_table *local, const struct vbtf_table *target,
+                                     const struct vbtf_relocation *relocation, struct vbtf_relocated *relocated,
+                                     struct vbtf_error *error)
+{
+	struct vbtf_error unread;
+	struct vbtf_table here = vbtf_loan(local), there = vbtf_loan(target);
+	return vbtf_lent_relocate(&here, &there, relocation, relocated, vbtf_error_or(error, &unread));
+}
+
 /* ---- build */
 
 /*
  * Adds a text and a zero byte to the strings, and writes its offset. VBTF_INVALID_STRING_OFFSET if the strings
  * would pass 4,294,967,295 bytes; VBTF_BAD_ARGUMENT if the text is not UTF-8. After an error the table is unchanged.
+ * Closes the index of the table.
  */
 static inline uint32_t vbtf_add_string(struct vbtf_table *table, const char *text, size_t len, uint32_t *offset,
                                        struct vbtf_error *error)
@@ -843,7 +890,8 @@ static inline uint32_t vbtf_add_string(struct vbtf_table *table, const char *tex
 /*
  * Adds the type of the record in these bytes, VBTF_LITTLE or VBTF_BIG, and writes its id. VBTF_INVALID_TYPE_INFO if
  * the record is truncated, or the types would pass 4,294,967,295 bytes; VBTF_INVALID_TYPE_KIND; VBTF_BAD_ARGUMENT if
- * bytes follow the record, or the order is no order. After an error the table is unchanged.
+ * bytes follow the record, or the order is no order. After an error the table is unchanged. Closes the index of the
+ * table.
  */
 static inline uint32_t vbtf_add_type(struct vbtf_table *table, const void *record, size_t len, uint32_t order,
                                      uint32_t *id, struct vbtf_error *error)

@@ -10,8 +10,11 @@ static uint8_t blob[TABLE_LEN], ext_blob[EXT_LEN];
 
 #define WIDTH 40
 
-/* Tables that no call changes: the one of open_wide, and one that has a .BTF.ext open. */
-static struct vbtf_table wide, with_ext;
+/* Tables that no call changes: the one of open_wide, one that has a .BTF.ext open, and one that has an index open. */
+static struct vbtf_table wide, with_ext, with_index;
+
+/* The string offset of the access string "0:1" in the last one. */
+static uint32_t access_offset;
 
 /* Whether a table has the bytes that it was opened with. */
 static int is_as_before(const struct vbtf_table *table)
@@ -153,6 +156,23 @@ static uint32_t relocations(struct vbtf_table *table)
 	return vbtf_ext_relocations(&with_ext, "run", 3, out, 2, &needed, &error);
 }
 
+static uint32_t open_target(struct vbtf_table *table)
+{
+	uint32_t status = vbtf_open_target(table, &error);
+	vbtf_close_target(table);
+	return status;
+}
+
+static uint32_t relocate(struct vbtf_table *table)
+{
+	struct vbtf_relocation relocation = { 0, 4, access_offset, 0 };
+	struct vbtf_relocated relocated = { 9, 9, 9, 9, false, false, false };
+	uint32_t status = vbtf_relocate(&with_index, &with_index, &relocation, &relocated, &error);
+	check(relocated.value == (status == VBTF_OK ? 4 : 9));
+	(void)table;
+	return status;
+}
+
 static uint32_t error_text(struct vbtf_table *table)
 {
 	const struct vbtf_error unknown = { VBTF_UNKNOWN_TYPE_NAME, 0, 0, 0, 0, 4, "name" };
@@ -183,6 +203,8 @@ static const struct {
 	{ "vbtf_ext_func_info", functions },
 	{ "vbtf_ext_line_info", lines },
 	{ "vbtf_ext_relocations", relocations },
+	{ "vbtf_open_target", open_target },
+	{ "vbtf_relocate", relocate },
 	{ "vbtf_error_text", error_text },
 };
 
@@ -226,6 +248,9 @@ int main(void)
 	open_wide();
 	with_ext = opened(VBTF_LITTLE);
 	check(vbtf_open_ext(&with_ext, ext_blob, sizeof ext_blob, VBTF_LITTLE, 7, &error) == VBTF_OK);
+	with_index = opened(VBTF_LITTLE);
+	check(vbtf_add_string(&with_index, "0:1", 3, &access_offset, &error) == VBTF_OK);
+	check(vbtf_open_target(&with_index, &error) == VBTF_OK);
 	for (size_t i = 0; i < sizeof calls / sizeof *calls; i++) {
 		unsigned long n = 1;
 		while (failed_at(i, n))
@@ -233,6 +258,7 @@ int main(void)
 		printf("%s: %lu allocations\n", calls[i].name, n - 1);
 		check(n > 1);
 	}
+	vbtf_close(&with_index);
 	vbtf_close(&with_ext);
 	vbtf_close(&wide);
 	check(live == before);

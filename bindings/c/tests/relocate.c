@@ -39,6 +39,52 @@ static void print_code(const struct file *file)
 	}
 }
 
+/* The bytes of the section of a name, of an object of 64 bits in this machine's order. */
+static struct file section(const struct file *file, const char *name)
+{
+	const Elf64_Ehdr *header = (const Elf64_Ehdr *)file->bytes;
+	const Elf64_Shdr *sections = (const Elf64_Shdr *)(file->bytes + header->e_shoff);
+	const char *names = (const char *)file->bytes + sections[header->e_shstrndx].sh_offset;
+	struct file found = { NULL, 0 };
+	for (unsigned i = 0; i < header->e_shnum; i++)
+		if (strcmp(names + sections[i].sh_name, name) == 0)
+			found = (struct file){ file->bytes + sections[i].sh_offset, sections[i].sh_size };
+	check(found.bytes != NULL);
+	return found;
+}
+
+/* What the compiler wrote into the instruction of each record of the object, and what libbpf writes. */
+static const struct {
+	const char *section;
+	uint32_t offset;
+	uint64_t expected, value;
+} records[] = {
+	{ "tc", 0, 4, 8 }, { "xdp", 0, 8, 16 }, { "xdp", 8, 20, 40 }, { "xdp", 24, 1, 0 },
+};
+
+#define RECORDS (sizeof records / sizeof *records)
+
+/* The records of the object one by one, for a target whose index is open. */
+static void one_by_one(const struct file *object, const struct vbtf_table *target)
+{
+	struct file btf = section(object, ".BTF"), ext = section(object, ".BTF.ext");
+	struct vbtf_table local = VBTF_TABLE_INIT;
+	struct vbtf_relocation relocations[RECORDS];
+	uint64_t tc = 0, xdp = 0;
+	check(vbtf_parse(&local, btf.bytes, btf.len, VBTF_LITTLE, &error) == VBTF_OK);
+	check(vbtf_open_ext(&local, ext.bytes, ext.len, VBTF_LITTLE, SEED, &error) == VBTF_OK);
+	check(vbtf_ext_relocations(&local, "tc", 2, relocations, RECORDS, &tc, &error) == VBTF_OK && tc == 1);
+	check(vbtf_ext_relocations(&local, "xdp", 3, relocations + 1, RECORDS - 1, &xdp, &error) == VBTF_OK && xdp == 3);
+	for (size_t i = 0; i < RECORDS; i++) {
+		struct vbtf_relocated relocated;
+		check(relocations[i].offset == records[i].offset);
+		check(vbtf_relocate(&local, target, &relocations[i], &relocated, &error) == VBTF_OK);
+		check(relocated.expected == records[i].expected && relocated.value == records[i].value);
+		check(relocated.validates && !relocated.is_poisoned && relocated.is_adjustable);
+	}
+	vbtf_close(&local);
+}
+
 /* The object for the table, and for a table without types, in which no field exists. */
 static struct file resolved(const struct file *object, const struct vbtf_table *target)
 {
@@ -154,7 +200,7 @@ static void without_memory(const struct file *object, const struct vbtf_table *t
 int main(int argc, char **argv)
 {
 	struct vbtf_table target = VBTF_TABLE_INIT;
-	struct file object, table, file;
+	struct file object, table, file, again;
 	if (argc != 3)
 		return 1;
 	object = read_file(argv[1]);
@@ -166,7 +212,13 @@ int main(int argc, char **argv)
 	refused(&object, &target);
 	other_bytes(&object, &target);
 	without_memory(&object, &target);
+	check(vbtf_open_target(&target, &error) == VBTF_OK);
+	one_by_one(&object, &target);
+	again = resolved(&object, &target);
+	check(memcmp(again.bytes, file.bytes, file.len) == 0);
+	without_memory(&object, &target);
 	vbtf_close(&target);
+	free(again.bytes);
 	free(file.bytes);
 	free(table.bytes);
 	free(object.bytes);

@@ -7,6 +7,9 @@
 
 static struct vbtf_table shared = VBTF_TABLE_INIT;
 
+/* The string offset of the access string "0:1" in it. */
+static uint32_t access_offset;
+
 /* The number of calls of a reader with another result than without other threads. */
 static void *reader(void *unused)
 {
@@ -18,6 +21,8 @@ static void *reader(void *unused)
 		bool answer = false;
 		struct vbtf_member member;
 		struct vbtf_line_info lines[3];
+		struct vbtf_relocation relocation = { 0, 4, access_offset, 0 };
+		struct vbtf_relocated relocated;
 		char text[8];
 		wrong += vbtf_size(&shared, 5, &size, &error) != VBTF_OK || size != 80;
 		wrong += vbtf_find(&shared, "run", 3, VBTF_KIND_FUNC, &id, &error) != VBTF_OK || id != 7;
@@ -25,6 +30,7 @@ static void *reader(void *unused)
 		wrong += vbtf_member_at(&shared, 4, 1, &member, &error) != VBTF_OK || member.bit_offset != 32;
 		wrong += vbtf_value(&shared, 11, "int", 3, &size, &error) != VBTF_OK || size != 9;
 		wrong += vbtf_ext_line_info(&shared, "run", 3, lines, 3, &needed, &error) != VBTF_OK || needed != 3;
+		wrong += vbtf_relocate(&shared, &shared, &relocation, &relocated, &error) != VBTF_OK || relocated.value != 4;
 		wrong += vbtf_types_are_compatible(&shared, 6, &shared, 6, &answer, &error) != VBTF_OK || !answer;
 	}
 	(void)unused;
@@ -55,6 +61,8 @@ int main(void)
 	ext_bytes(ext, VBTF_LITTLE);
 	shared = opened(VBTF_LITTLE);
 	check(vbtf_open_ext(&shared, ext, sizeof ext, VBTF_LITTLE, 7, &error) == VBTF_OK);
+	check(vbtf_add_string(&shared, "0:1", 3, &access_offset, &error) == VBTF_OK);
+	check(vbtf_open_target(&shared, &error) == VBTF_OK);
 	for (unsigned i = 0; i < 6; i++)
 		check(pthread_create(&threads[i], NULL, i < 4 ? reader : writer, NULL) == 0);
 	for (unsigned i = 0; i < 6; i++) {

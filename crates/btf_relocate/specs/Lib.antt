@@ -5,6 +5,7 @@ pub mod Enumerators
 pub mod Extent
 pub mod Gives
 pub mod Index
+pub mod TargetIndex
 pub mod Matching
 pub mod Members
 pub mod Patch

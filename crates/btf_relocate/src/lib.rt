@@ -27,4 +27,4 @@ pub use instruction::patch;
 pub use name::essential_name;
 pub use resolving::resolve;
 pub use section::{CandidatePolicy, Outcome, candidates_of, relocate_section};
-pub use target::Target;
+pub use target::{Target, TargetIndex};

@@ -8,6 +8,7 @@ ghost use Rattle.btf_plain.specs.Kind as kinds;
 ghost use Rattle.btf_plain.specs.declared.error.BtfError.TheVariants.{OutOfMemory};
 ghost use Rattle.btf_relocate_model.specs.Candidates.{compared_number, candidates};
 ghost use Rattle.btf_relocate.specs.Index.{IsIndex, kind_code, key_of, key_cmp, named};
+ghost use Rattle.btf_relocate.specs.TargetIndex.{IndexesTable, index_in};
 ghost use Rattle.btf_relocate.specs.Entries.{AreEntries};
 ghost use Rattle.btf_relocate_model.specs.Types as model;
 
@@ -43,33 +44,19 @@ struct Entry<'t> {
     type_id: u32,
 }
 
-/// The table that a program is relocated against, with an index of its types by their essential names and kinds. The
-/// index has 4 bytes for each type that has a name.
+/// An index of a table's types by their essential names and kinds, and the size of a pointer. It has 4 bytes for each
+/// type that has a name. It does not hold the table, so it can be stored beside the table; [`Target::with_index`] takes
+/// both.
 #[derive(Debug, Drop)]
-pub struct Target<'t> {
-    table: &'t Btf,
+pub struct TargetIndex {
     pointer_size: u32,
     ids: Vec<u32>,
 }
 
-impl<'t> Model for Target<'t> {
-    ghost use Rattle.std.specs.Prelude.{◌≡◌};
-    ghost use Rattle.btf_model.specs.Table.{Table};
-    ghost use Rattle.btf_relocate_model.specs.Types as types;
-    ghost use Rattle.btf_relocate.specs.Index.{IsIndex};
-
-    ghost Value = { Table };
-
-    ghost view = { λ g. g.table.now };
-
-    ghost invariant = { λ g. (g.pointer_size ≡ types.pointer_size g.table.now)
-        × IsIndex g.table.now g.ids.items };
-}
-
-impl<'t> Target<'t> {
+impl TargetIndex {
     /// The index of a table. `OutOfMemory` is the only error.
-    pub fn new(alloc: Global, table: &'t Btf) -> Result<Target<'t>, BtfError>
-        ensures indexed { IfOk result (λ target. target ≡ table.now) }
+    pub fn new(alloc: Global, table: &Btf) -> Result<TargetIndex, BtfError>
+        ensures indexed { IfOk result (λ index. IndexesTable table.now index) }
         ensures only { IfErr result (λ e. e ≡ OutOfMemory) }
     {
         let mut entries = named_types(alloc, table)?;
@@ -78,11 +65,87 @@ impl<'t> Target<'t> {
         for entry in &entries {
             ids.push(entry.type_id)?;
         }
-        Ok(Target {
-            table,
+        Ok(TargetIndex {
             pointer_size: pointer_size(table),
             ids,
         })
+    }
+
+    /// The ids of the types of the indexed table that [`Target::candidates`] gives.
+    fn candidates(&self, table: &Btf, name: &[u8], kind: BtfKind) -> &[u32]
+        requires { IndexesTable table.now self.now }
+        ensures { result.now ≡ candidates table.now name.now (kind_code kind) }
+    {
+        let name = essential_name(name);
+        let kind = compared_number(kind);
+        let ids = self.ids.as_slice();
+        let start = ids.partition_point(|id| compare(table, *id, name, kind).is_lt());
+        let end = ids.partition_point(|id| compare(table, *id, name, kind).is_le());
+        if start < end { &ids[start..end] } else { &[] }
+    }
+}
+
+/// The index of a target.
+#[derive(Debug, Drop)]
+enum IndexRef<'t> {
+    /// The target owns the index.
+    Owned(TargetIndex),
+    /// The index is stored elsewhere.
+    Borrowed(&'t TargetIndex),
+}
+
+impl<'t> IndexRef<'t> {
+    /// The index.
+    fn get(&self) -> &TargetIndex
+        ensures { result.now ≡ index_in self.now }
+    {
+        match self {
+            IndexRef::Owned(index) => index,
+            IndexRef::Borrowed(index) => index,
+        }
+    }
+}
+
+/// The table that a program is relocated against, with an index of its types by their essential names and kinds.
+#[derive(Debug, Drop)]
+pub struct Target<'t> {
+    table: &'t Btf,
+    index: IndexRef<'t>,
+}
+
+impl<'t> Model for Target<'t> {
+    ghost use Rattle.btf_model.specs.Table.{Table};
+    ghost use Rattle.btf_relocate.specs.TargetIndex.{IndexesTable, index_in};
+
+    ghost Value = { Table };
+
+    ghost view = { λ g. g.table.now };
+
+    ghost invariant = { λ g. IndexesTable g.table.now (index_in g.index) };
+}
+
+impl<'t> Target<'t> {
+    /// The table, with an index that the target owns. `OutOfMemory` is the only error.
+    pub fn new(alloc: Global, table: &'t Btf) -> Result<Target<'t>, BtfError>
+        ensures indexed { IfOk result (λ target. target ≡ table.now) }
+        ensures only { IfErr result (λ e. e ≡ OutOfMemory) }
+    {
+        let index = TargetIndex::new(alloc, table)?;
+        Ok(Target {
+            table,
+            index: IndexRef::Owned(index),
+        })
+    }
+
+    /// The table, with an index of it that is stored elsewhere.
+    pub fn with_index(table: &'t Btf, index: &'t TargetIndex) -> Target<'t>
+        requires { IndexesTable table.now index.now }
+        ensures { result ≡ table.now }
+    {
+        Target {
+            table,
+            index: IndexRef::Borrowed(index),
+        }
     }
 
     /// The table.
@@ -97,7 +160,7 @@ impl<'t> Target<'t> {
     pub fn pointer_size(&self) -> u32
         ensures { result ≡ model.pointer_size self.now }
     {
-        self.pointer_size
+        self.index.get().pointer_size
     }
 
     /// The ids of the types of this kind whose names have the same essential name, in rising order. An ENUM64 counts as
@@ -105,13 +168,7 @@ impl<'t> Target<'t> {
     pub fn candidates(&self, name: &[u8], kind: BtfKind) -> &[u32]
         ensures { result.now ≡ candidates self.now name.now (kind_code kind) }
     {
-        let name = essential_name(name);
-        let kind = compared_number(kind);
-        let table = self.table;
-        let ids = self.ids.as_slice();
-        let start = ids.partition_point(|id| compare(table, *id, name, kind).is_lt());
-        let end = ids.partition_point(|id| compare(table, *id, name, kind).is_le());
-        if start < end { &ids[start..end] } else { &[] }
+        self.index.get().candidates(self.table, name, kind)
     }
 }
 

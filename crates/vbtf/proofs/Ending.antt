@@ -1,9 +1,12 @@
 -- The outcome of a call in which an allocation failed, or that returned an error.
-use Rattle.std.proofs.Common.{inl, inr, ℕ, ◌≡◌, sym, ◌∙◌}
+use Rattle.std.proofs.Common.{inl, inr, ℕ, ◌≡◌, sym, subst, ◌∙◌}
 use Rattle.std.proofs.Math.Nat.{suc-ne-zero}
-use Rattle.std.specs.Prelude.{Option, Some, None, Result, Err, IfSome}
+use Rattle.std.specs.Prelude.{◌⊎◌, Option, Some, None, Result, Err, IfSome}
 use Rattle.btf_model.specs.Refusal as refusals
 use Rattle.btf_model.specs.Refusal.{Refusal}
+use Rattle.btf_plain.specs.Error.{MeetsOrNoMemory, refusal_of}
+use Rattle.btf_plain.specs.declared.error.BtfError.{BtfError}
+use Rattle.btf_plain.specs.declared.error.BtfError.TheVariants.{OutOfMemory}
 use Rattle.vbtf.specs.declared.fault.Fault.{Fault}
 use Rattle.vbtf.specs.Status.{status_of, ReportsError, Fails, EndsOrNoMemory, EndsFindingOrNoMemory}
 
@@ -12,6 +15,12 @@ pub refused : {Y : Type 0} (status : ℕ) (fault : Fault) (o : Option Refusal) (
     → IfSome o (λ r. P (Err r)) → ReportsError status fault o → Fails status fault P
 refused status fault (Some r) P holds reported = inr (r, reported, holds)
 refused status fault None P holds reported = inl reported
+
+-- the error of a call whose result is put into a box, by the refusal of the call
+pub boxed_error : {Y : Type 0} (answer : Result Y BtfError) (error : BtfError) (P : Result Y Refusal → Type 0)
+    → MeetsOrNoMemory (λ y. y) answer P → (answer ≡ Err error) ⊎ (error ≡ OutOfMemory) → IfSome (refusal_of error) (λ r. P (Err r))
+boxed_error answer error P meets (inl is) = subst (λ a. MeetsOrNoMemory (λ y. y) a P) is meets
+boxed_error answer error P meets (inr full) = subst (λ e. IfSome (refusal_of e) (λ r. P (Err r))) (sym full) tt
 
 pub ends_refused : {Y : Type 0} (status : ℕ) (value : Y) (fault : Fault) (o : Option Refusal) (P : Result Y Refusal → Type 0)
     → IfSome o (λ r. P (Err r)) → ReportsError status fault o → EndsOrNoMemory status value fault P

@@ -8,15 +8,16 @@ use Rattle.btf_model.specs.declared.endianness.Endianness.{Endianness}
 use Rattle.btf_rewrite_model.specs.Checks.{record_len}
 use Rattle.vbtf.specs.declared.fault.Fault.{Fault}
 use Rattle.vbtf.specs.declared.handle.Handle.{Handle}
+use Rattle.vbtf.specs.Changed.{ChangedTo}
 use Rattle.vbtf.specs.Status.{Reports, ReportsNoMemory, Fails}
 
 -- The outcomes of a call that adds to the table of a handle: status 0 and the position, and the handle owns the new
--- table; or an error or a failed allocation, and the handle owns the unchanged table.
+-- table; or an error or a failed allocation, and the handle owns the unchanged table. No index is open then.
 abbrev pub Adds : ℕ → Handle → Handle → ℕ → Fault → Result ℕ Refusal → Table → Type 0
 Adds status old new value fault place table =
     (new.state ≡ 1)
-    × (((status ≡ 0) × (Ok value ≡ place) × (new.opened ≡ record old.opened { btf = table }))
-    ⊎ ((new.opened ≡ old.opened) × Fails status fault (λ answer. answer ≡ place)))
+    × (((status ≡ 0) × (Ok value ≡ place) × ChangedTo old.opened new.opened table)
+    ⊎ (ChangedTo old.opened new.opened old.opened.btf × Fails status fault (λ answer. answer ≡ place)))
 
 -- The result of adding the type of a record in bytes: the id, and the table has the type; none if bytes follow the
 -- record; or the error if the bytes begin with no record or the type does not fit. In the last two cases the table is
@@ -32,10 +33,10 @@ AddsRecord order bytes old new (Err refusal) =
     × (record_len r ≡ length bytes) × (Err refusal ≡ type_place r old)))
 
 -- The outcomes of a call that adds a type: status 0 and its id, status 102 if bytes follow the record, an error, or a
--- failed allocation. The `.BTF.ext` of the handle is unchanged.
+-- failed allocation. The `.BTF.ext` of the handle is unchanged, and no index is open.
 abbrev pub EndsAddingType : ℕ → Endianness → List ℕ → Handle → Handle → ℕ → Fault → Type 0
 EndsAddingType status order bytes old new id fault =
-    (new.state ≡ 1) × (new.opened.ext ≡ old.opened.ext)
+    (new.state ≡ 1) × (new.opened.ext ≡ old.opened.ext) × (new.opened.index ≡ None)
     × (((status ≡ 0) × AddsRecord order bytes old.opened.btf new.opened.btf (Ok (Some id)))
     ⊎ ((status ≡ 102) × AddsRecord order bytes old.opened.btf new.opened.btf (Ok None))
     ⊎ (ReportsNoMemory status fault × (new.opened.btf ≡ old.opened.btf))

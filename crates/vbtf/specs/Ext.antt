@@ -20,11 +20,17 @@ use Rattle.vbtf.specs.Status.{Reports, ReportsNoMemory}
 abbrev pub OpenedExt : Type 0
 OpenedExt = BtfExt Keys DefaultHasher
 
+-- After a change of the .BTF.ext: it is this one, and the table and its index are unchanged.
+pub record ExtChangedTo (old new : Opened) (found : Option OpenedExt) : Type 0 where
+  pub btf : new.btf ≡ old.btf
+  pub ext : new.ext ≡ found
+  pub index : new.index ≡ old.index
+
 -- The result of opening: true, and the opened .BTF.ext has the contents of the bytes, with names in the table's
 -- strings; false if a .BTF.ext is open; or the error of the bytes. In the last two cases nothing changes.
 abbrev pub AddsExt : Endianness → List ℕ → Opened → Opened → Result Bool Refusal → Type 0
 AddsExt order bytes old new (Ok true) =
-    (old.ext ≡ None) × (ext : OpenedExt) × (new ≡ record old { ext = Some ext })
+    (old.ext ≡ None) × (ext : OpenedExt) × ExtChangedTo old new (Some ext)
     × IsExt order bytes old.btf.strings (Ok (said ext))
 AddsExt order bytes old new (Ok false) = (ext : OpenedExt) × (old.ext ≡ Some ext) × (new ≡ old)
 AddsExt order bytes old new (Err refusal) =

@@ -59,11 +59,12 @@ RewritesFor features policy old ids layout new (Err refusal) =
     × Rewrites {X = List FeatureAnswer} policy old ids layout answers new (Err refusal)
 
 -- The outcomes of a rewrite for C: status 0, and the handle owns the rewritten table; or an error or a failed
--- allocation, and the handle owns the unchanged table.
+-- allocation, and the handle owns the unchanged table, whose index may be closed.
 abbrev pub EndsRewriting : ℕ → Kernel → Layout → Handle → Handle → Asked → Fault → Type 0
 EndsRewriting status kernel layout old new asked fault =
     (new.state ≡ 1) × (new.opened.ext ≡ old.opened.ext)
-    × (((status ≡ 0) × (listed : List FeatureAnswer) × ListsAnswers asked listed
+    × (((status ≡ 0) × (new.opened.index ≡ None) × (listed : List FeatureAnswer) × ListsAnswers asked listed
     × RewritesFor kernel.features (policy_chosen kernel) old.opened.btf (ids_chosen kernel) layout new.opened.btf (Ok listed))
-    ⊎ ((new.opened.btf ≡ old.opened.btf) × Fails status fault
+    ⊎ ((new.opened.btf ≡ old.opened.btf)
+    × ((new.opened.index ≡ None) ⊎ (new.opened.index ≡ old.opened.index)) × Fails status fault
     (RewritesFor kernel.features (policy_chosen kernel) old.opened.btf (ids_chosen kernel) layout new.opened.btf)))

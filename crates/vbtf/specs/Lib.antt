@@ -4,9 +4,12 @@ pub mod TypeWords
 pub mod Kernel
 pub mod Program
 pub mod Orders
+pub mod Changed
+pub mod Indexed
 pub mod Items
 pub mod Adding
 pub mod Ext
 pub mod ExtRead
 pub mod Object
 pub mod Relocate
+pub mod Resolved

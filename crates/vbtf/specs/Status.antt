@@ -128,11 +128,12 @@ abbrev pub Fails : {Y : Type 0} → ℕ → Fault → (Result Y Refusal → Type
 Fails status fault P =
     ReportsNoMemory status fault ⊎ ((refusal : Refusal) × Reports status fault refusal × P (Err refusal))
 
--- The outcomes of a call that opens a handle: status 0, and the handle owns a table that meets P; or an error that
--- meets P or a failed allocation, and the handle is unchanged.
+-- The outcomes of a call that opens a handle: status 0, and the handle owns a table that meets P, without .BTF.ext and
+-- index; or an error that meets P or a failed allocation, and the handle is unchanged.
 abbrev pub Opens : ℕ → Handle → Handle → Fault → (Result Table Refusal → Type 0) → Type 0
 Opens status old new fault P =
-    ((status ≡ 0) × (new.state ≡ 1) × (new.opened.ext ≡ None) × P (Ok new.opened.btf))
+    ((status ≡ 0) × (new.state ≡ 1) × (new.opened.ext ≡ None) × (new.opened.index ≡ None)
+    × P (Ok new.opened.btf))
     ⊎ ((new ≡ old) × Fails status fault P)
 
 -- A call that only reads leaves the handle unchanged.

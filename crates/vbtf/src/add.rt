@@ -8,12 +8,12 @@ ghost use Rattle.vbtf.specs.Adding.{AddsRecord, EndsAddingType, Adds};
 ghost use Rattle.vbtf.specs.Orders.{order_named};
 
 use crate::fault::{CLOSED, Fault, INVALID_ARGUMENT, report};
-use crate::handle::{Handle, owner, taken};
+use crate::handle::{Handle, owner, taken_to_change};
 use crate::orders::named_order;
 use btf::{Btf, BtfError, BtfType, Endianness};
 use std::alloc::Global;
 
-/// Adds a text and a zero byte to the strings of the table that a handle owns.
+/// Closes the index of the table that a handle owns, and adds a text and a zero byte to its strings.
 ///
 /// Status 6 if the strings would be too long, 20 if an allocation fails, 101 if the handle's state is not 1,
 /// and 102 if the text is not UTF-8; the table is then unchanged.
@@ -36,7 +36,7 @@ pub extern "C" fn vbtf_raw_add_string(
     let Ok(text) = str::from_utf8(text) else {
         return INVALID_ARGUMENT;
     };
-    let Some(mut whole) = taken(alloc, table) else {
+    let Some(mut whole) = taken_to_change(alloc, table) else {
         return CLOSED;
     };
     let answer = whole.btf.add_string(text);
@@ -50,8 +50,8 @@ pub extern "C" fn vbtf_raw_add_string(
     }
 }
 
-/// Adds a type to the table that a handle owns, and writes its id. The bytes are its record. `order` is the byte order
-/// of the record: 0 for little, 1 for big.
+/// Closes the index of the table that a handle owns, adds a type to the table, and writes its id. The bytes are its
+/// record. `order` is the byte order of the record: 0 for little, 1 for big.
 ///
 /// Status 4 if no kind has the number of the record's kind; 2 if the bytes end before the record does, or the
 /// types would be too long; 20 if an allocation fails; 101 if the handle's state is not 1; 102 if bytes follow
@@ -74,7 +74,7 @@ pub extern "C" fn vbtf_raw_add_type(
     let Some(endianness) = named_order(order) else {
         return INVALID_ARGUMENT;
     };
-    let Some(mut whole) = taken(alloc, table) else {
+    let Some(mut whole) = taken_to_change(alloc, table) else {
         return CLOSED;
     };
     let answer = add_record(alloc, &mut whole.btf, bytes, endianness);

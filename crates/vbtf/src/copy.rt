@@ -9,7 +9,7 @@ use crate::open::boxed;
 use btf::Btf;
 use std::alloc::Global;
 
-/// Opens a handle with a table that equals the table of another handle, and has no `.BTF.ext`.
+/// Opens a handle with a table that equals the table of another handle, and has no `.BTF.ext` and no index.
 ///
 /// Status 20 if an allocation fails, 101 if the state of `table` is not 2, and 102 if `copy` is not closed; `copy` is
 /// then unchanged.

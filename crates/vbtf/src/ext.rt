@@ -3,7 +3,7 @@
 ghost use Rattle.std.specs.Prelude.{◌≡◌, ◌≢◌, ◌<◌, ◌≤◌, Some, None, OnErr};
 ghost use Rattle.std.specs.Option.{MatchOption};
 ghost use Rattle.btf_plain.specs.Error.{MeetsOrNoMemory};
-ghost use Rattle.vbtf.specs.Ext.{OpenedExt, AddsExt, EndsOpeningExt, HasSizes};
+ghost use Rattle.vbtf.specs.Ext.{OpenedExt, ExtChangedTo, AddsExt, EndsOpeningExt, HasSizes};
 ghost use Rattle.vbtf.specs.Orders.{order_chosen};
 ghost use Rattle.vbtf.specs.Status.{Keeps};
 
@@ -73,7 +73,7 @@ pub extern "C" fn vbtf_raw_open_ext(
 #[unsafe(no_mangle)]
 pub extern "C" fn vbtf_close_ext(alloc: Global, table: &mut Handle)
     ensures closed { table.old.state ≡ 1 → (table.new.state ≡ 1)
-        × (table.new.opened ≡ record table.old.opened { ext = None }) }
+        × ExtChangedTo table.old.opened table.new.opened None }
     ensures other { table.old.state ≢ 1 → table.new ≡ table.old }
 {
     if let Some(mut whole) = taken(alloc, table) {

@@ -4,6 +4,7 @@ ghost use Rattle.std.specs.Prelude.{◌≡◌, ◌≢◌, ℕ};
 ghost use Rattle.std.specs.Option.{MatchOption};
 ghost use base.Fml.{Share};
 ghost use Rattle.vbtf.specs.declared.opened.Opened.{Opened};
+ghost use Rattle.vbtf.specs.Changed.{ChangedTo};
 ghost use Rattle.vbtf.specs.Held.{held, coded_opened, coded_share};
 
 use crate::loan::Loan;
@@ -29,7 +30,7 @@ pub(crate) const LENT: u32 = 2;
 pub struct Handle {
     at: *mut u8,
     state: u32,
-    /// The table and the `.BTF.ext` of the handle, if it is not closed.
+    /// The table, the `.BTF.ext` and the index of the handle, if it is not closed.
     pub ghost opened: { Opened } by { coded_opened },
     /// The lifetime of the loan, and the share of its token, in state 2.
     pub ghost life: { ℕ },
@@ -129,6 +130,18 @@ pub(crate) fn taken(alloc: Global, table: &mut Handle) -> Option<Box<Opened>>
         return None;
     }
     Some(replace(table, Handle::none()).to_parts(alloc).into_box())
+}
+
+/// Takes the table out of a handle, to change it, without its index, and closes the handle. None if it is not in state
+/// 1.
+pub(crate) fn taken_to_change(alloc: Global, table: &mut Handle) -> Option<Box<Opened>>
+    ensures { MatchOption result ((table.old.state ≢ 1) × (table.new ≡ table.old))
+        (λ whole. (table.old.state ≡ 1) × (table.new.state ≡ 0)
+        × ChangedTo table.old.opened whole.value table.old.opened.btf) }
+{
+    let mut whole = taken(alloc, table)?;
+    whole.index = None;
+    Some(whole)
 }
 
 /// The handle that owns a table.

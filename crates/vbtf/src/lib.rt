@@ -41,6 +41,7 @@ mod read;
 mod relocate;
 mod rewrite;
 mod seed;
+mod target;
 mod value;
 mod version;
 mod walk;

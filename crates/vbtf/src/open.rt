@@ -84,15 +84,17 @@ pub extern "C" fn vbtf_close(alloc: Global, table: &mut Handle)
     }
 }
 
-/// The table of a result, in a box, without a `.BTF.ext`.
+/// The table of a result, in a box, without `.BTF.ext` and index.
 pub(crate) fn boxed(alloc: Global, answer: Result<Btf, BtfError>) -> Result<Box<Opened>, BtfError>
     ensures { MatchResult result
-        (λ whole. (answer ≡ Ok whole.value.btf) × (whole.value.ext ≡ None))
+        (λ whole. (answer ≡ Ok whole.value.btf) × (whole.value.ext ≡ None)
+        × (whole.value.index ≡ None))
         (λ error. (answer ≡ Err error) ⊎ (error ≡ OutOfMemory)) }
 {
     let opened = Opened {
         btf: answer?,
         ext: None,
+        index: None,
     };
     Ok(Box::new(alloc, opened)?)
 }

@@ -1,6 +1,6 @@
 //! Objects whose code is relocated for a table.
 
-ghost use Rattle.std.specs.Prelude.{◌≡◌, ◌≢◌, ◌<◌, ◌≤◌, ◌++◌, ◌∷◌, [], List, map};
+ghost use Rattle.std.specs.Prelude.{◌≡◌, ◌≢◌, ◌<◌, ◌≤◌, ◌++◌, ◌∷◌, [], List, map, IfOk};
 ghost use Rattle.btf_loader.specs.Results.{outcomes_of, refuses_errors};
 ghost use Rattle.btf_relocate.specs.Sections.{is_shared};
 ghost use Rattle.vbtf.specs.Relocate.{Outcome as Said, shares_candidates, refuses_records, outcomes_in, all_outcomes, Counts, place_of, ReportsReason, EndsRelocating};
@@ -11,9 +11,10 @@ use crate::fault::{
 };
 use crate::handle::{Handle, lent};
 use crate::object::{NO_TABLE, report_parse};
+use crate::opened::Opened;
 use crate::seed::Keys;
 use crate::write::fill;
-use btf::Btf;
+use btf::BtfError;
 use btf_elf::ObjectError;
 use btf_loader::{
     CandidatePolicy, LoaderError, Outcome, Refusals, SectionOutcomes, Target, relocate_object_with,
@@ -22,7 +23,7 @@ use btf_relocate::{Patched, RelocationError};
 use std::alloc::Global;
 
 /// A relocation record has an error.
-const RELOCATION_REFUSED: u32 = 107;
+pub(crate) const RELOCATION_REFUSED: u32 = 107;
 
 /// Another section has bytes in the place of a section with relocations.
 const SHARED_PLACE: u32 = 108;
@@ -48,6 +49,8 @@ pub struct Tally {
 /// Relocates the code of an object for a table: each relocation record of `.BTF.ext` is resolved against the table, and
 /// its instruction patched. Writes the new object, which is as long as the old one, to a buffer, its length in bytes to
 /// `needed`, and the numbers of records to `tally`.
+///
+/// An open index of the target is used; without one, the call makes one of its own, which it frees.
 ///
 /// Bit 0 of `options`: each record has all candidates of the target, as in the kernel; otherwise the records of one
 /// type share them, as in libbpf. Bit 1: a record with an error changes nothing; otherwise it is status 107. `seed` is
@@ -84,9 +87,16 @@ pub extern "C" fn vbtf_lent_relocate_object(
     let Some(loan) = lent(target) else {
         return CLOSED;
     };
-    let table = &loan.get().btf;
     let status = relocate(
-        alloc, object, table, options, seed, out, needed, tally, fault,
+        alloc,
+        object,
+        loan.get(),
+        options,
+        seed,
+        out,
+        needed,
+        tally,
+        fault,
     );
     *target = Handle::from_loan(loan);
     status
@@ -96,7 +106,7 @@ pub extern "C" fn vbtf_lent_relocate_object(
 fn relocate(
     alloc: Global,
     object: &[u8],
-    table: &Btf,
+    opened: &Opened,
     options: u32,
     seed: u64,
     out: &mut [u8],
@@ -104,7 +114,7 @@ fn relocate(
     tally: &mut Tally,
     fault: &mut Fault,
 ) -> u32
-    ensures relocated { options ≤ 3 → EndsRelocating result object.now table.now options out.old
+    ensures relocated { options ≤ 3 → EndsRelocating result object.now opened.now.btf options out.old
         out.new needed.new tally.old tally.new fault.new }
     ensures options { 3 < options
         → (result ≡ INVALID_ARGUMENT) × (out.new ≡ out.old) × (tally.new ≡ tally.old) }
@@ -112,7 +122,7 @@ fn relocate(
     if options > ALL_OPTIONS {
         return INVALID_ARGUMENT;
     }
-    let Ok(target) = Target::new(alloc, table) else {
+    let Ok(target) = target_of(alloc, opened) else {
         return report_reason(LoaderError::OutOfMemory, fault);
     };
     let policy = policy(options);
@@ -123,6 +133,16 @@ fn relocate(
             fill(&file, out, needed)
         }
         Err(error) => report_reason(error, fault),
+    }
+}
+
+/// The table as a target, with the open index, or with an index of its own if none is open.
+fn target_of(alloc: Global, opened: &Opened) -> Result<Target<'_>, BtfError>
+    ensures { IfOk result (λ target. target ≡ opened.now.btf) }
+{
+    match &opened.index {
+        Some(index) => Ok(Target::with_index(&opened.btf, index)),
+        None => Target::new(alloc, &opened.btf),
     }
 }
 
@@ -221,7 +241,7 @@ fn report_reason(error: LoaderError, fault: &mut Fault) -> u32
 }
 
 /// The position of an error in `RelocationError`, from 1 on.
-fn error_place(error: RelocationError) -> u32
+pub(crate) fn error_place(error: RelocationError) -> u32
     ensures { result ≡ place_of error }
 {
     match error {

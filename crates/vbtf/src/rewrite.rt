@@ -12,7 +12,7 @@ ghost use Rattle.vbtf.specs.Program.{layout_named, AreReadable};
 ghost use Rattle.vbtf.specs.Status.{no_memory};
 
 use crate::fault::{CLOSED, Fault, INVALID_ARGUMENT, report};
-use crate::handle::{Handle, OWNED, owner, taken};
+use crate::handle::{Handle, OWNED, owner, taken_to_change};
 use crate::kernel::{Asked, Kernel};
 use crate::program::{Named, Program};
 use crate::seed::Keys;
@@ -20,7 +20,8 @@ use arrayvec::ArrayVec;
 use btf::{Btf, BtfError, BtfFeature, BtfFeatureResolver, FeatureAnswer};
 use std::alloc::Global;
 
-/// Rewrites the table that a handle owns for a kernel, and reports the features that the rewrite asked about.
+/// Closes the index of the table that a handle owns, rewrites the table for a kernel, and reports the features that the
+/// rewrite asked about.
 /// `sections` has the sizes of the program's sections, and `symbols` the offsets of its symbols. Their names are in
 /// `section_names` and `symbol_names`, which can be the string tables of an object. `seed` is a random number, with
 /// which the names are hashed.
@@ -79,7 +80,7 @@ pub extern "C" fn vbtf_raw_rewrite(
         Ok(None) => return INVALID_ARGUMENT,
         Err(_) => return report(BtfError::OutOfMemory, fault),
     };
-    let Some(mut whole) = taken(alloc, table) else {
+    let Some(mut whole) = taken_to_change(alloc, table) else {
         return CLOSED;
     };
     let answer = rewritten(&mut whole.btf, &program, kernel, asked);

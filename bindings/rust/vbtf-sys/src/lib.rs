@@ -93,6 +93,29 @@ pub struct vbtf_tally {
     pub refused: u64,
 }
 
+/// A relocation record.
+#[repr(C)]
+#[derive(Debug, Clone, Copy, Default)]
+pub struct vbtf_relocation {
+    pub offset: u32,
+    pub type_: u32,
+    pub access_offset: u32,
+    pub kind: u32,
+}
+
+/// What a relocation asks to be written into its instruction.
+#[repr(C)]
+#[derive(Debug, Clone, Copy, Default)]
+pub struct vbtf_relocated {
+    pub expected: u64,
+    pub value: u64,
+    pub local_size: u32,
+    pub target_size: u32,
+    pub is_poisoned: bool,
+    pub validates: bool,
+    pub is_adjustable: bool,
+}
+
 extern "C" {
     pub fn vbtf_raw_rewrite(
         table: *mut vbtf_table,
@@ -132,6 +155,15 @@ extern "C" {
         room: usize,
         needed: *mut u64,
         tally: *mut vbtf_tally,
+        error: *mut vbtf_error,
+    ) -> u32;
+    pub fn vbtf_raw_open_target(table: *mut vbtf_table, error: *mut vbtf_error) -> u32;
+    pub fn vbtf_close_target(table: *mut vbtf_table);
+    pub fn vbtf_lent_relocate(
+        local: *mut vbtf_table,
+        target: *mut vbtf_table,
+        relocation: *const vbtf_relocation,
+        relocated: *mut vbtf_relocated,
         error: *mut vbtf_error,
     ) -> u32;
     pub fn vbtf_version() -> u32;

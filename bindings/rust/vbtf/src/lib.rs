@@ -28,6 +28,7 @@ mod kernel;
 mod kind;
 mod object;
 mod table;
+mod target;
 mod types;
 
 pub use error::Error;
@@ -36,6 +37,7 @@ pub use kernel::{Feature, FeatureAnswer, Kernel};
 pub use kind::{Endianness, Kind};
 pub use object::{Relocate, Tally};
 pub use table::{fields_are_compatible, types_are_compatible, Table};
+pub use target::{Relocated, Target};
 pub use types::{Array, Entry, Int, Items, Linkage, Member, Param, Type, Types, Variant};
 
 /// The example of the README, for `cargo test`.

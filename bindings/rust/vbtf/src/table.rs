@@ -215,6 +215,20 @@ impl Table {
     }
 }
 
+impl Table {
+    /// Opens the index of the types.
+    pub(crate) fn open_target(&mut self) -> Result<(), Error> {
+        // SAFETY: the table is open, and nobody reads it meanwhile.
+        called(|_, error| unsafe { vbtf_raw_open_target(&mut self.handle, error) })
+    }
+
+    /// Closes the index of the types.
+    pub(crate) fn close_target(&mut self) {
+        // SAFETY: as above.
+        unsafe { vbtf_close_target(&mut self.handle) }
+    }
+}
+
 /// `.BTF.ext`, which a table has at most one of.
 impl Table {
     /// Opens the `.BTF.ext` that bytes represent, whose order has this number.

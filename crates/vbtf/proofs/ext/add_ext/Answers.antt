@@ -18,4 +18,4 @@ returns-in_err-ext-clause-added c =
 
 pub returns-clause-added : goal.returns-clause-added
 returns-clause-added c =
-    (none_by_test c.args.opened.now.ext (sym c.is_some.ensures ∙ c.if-is_some.false), c.in_ok-ext.ext, refl, c.in_ok-ext.ensures)
+    (none_by_test c.args.opened.now.ext (sym c.is_some.ensures ∙ c.if-is_some.false), c.in_ok-ext.ext, record { btf = refl; ext = refl; index = refl }, c.in_ok-ext.ensures)

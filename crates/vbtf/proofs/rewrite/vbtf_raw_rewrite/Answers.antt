@@ -1,5 +1,5 @@
 use Rattle.std.proofs.Common.{◌≡◌, List, Ok, Err, refl, ap, subst, ◌∙◌, inl, inr}
-use Rattle.std.specs.Prelude.{IfSome}
+use Rattle.std.specs.Prelude.{IfSome, None}
 use Rattle.btf_rewrite_model.specs.declared.feature.FeatureAnswer.{FeatureAnswer}
 use Rattle.btf_table.specs.Rewrites.{NeedsAreGranted, KeepsSizes, KeepsResolutions, KeepsValues}
 use Rattle.btf_types.specs.Layout.{layout_of}
@@ -15,13 +15,9 @@ use Rattle.vbtf.proofs.Kernels.{carried, for_handle}
 use Rattle.vbtf.proofs.rewrite.vbtf_raw_rewrite.Goals as goal
 use Rattle.vbtf.proofs.rewrite.vbtf_raw_rewrite.Goals.{After-owner}
 
--- the handle's opened table is rewritten
-same_opened : (c : After-owner) → c.deref_mut.result.now ≡ c.args.table.now.opened
-same_opened c = c.deref_mut.ensures.value ∙ c.in-Some.ensures.2 ∙ ap (λ h. h.opened) c.seen.ensures.1
-
 -- the table that is rewritten is the handle's
 same_old : (c : After-owner) → c.deref_mut.result.now.btf ≡ c.args.table.now.opened.btf
-same_old c = ap (λ o. o.btf) (same_opened c)
+same_old c = ap (λ o. o.btf) c.deref_mut.ensures.value ∙ c.in-Some.ensures.2.btf ∙ ap (λ h. h.opened.btf) c.seen.ensures.1
 
 -- the rewritten table is the handle's
 same_new : (c : After-owner) → c.owner.result.opened.btf ≡ c.rewritten-answer.new.btf
@@ -29,7 +25,11 @@ same_new c = ap (λ o. o.btf) c.owner.ensures.1
 
 -- the .BTF.ext is the one that was open
 same_ext : (c : After-owner) → c.owner.result.opened.ext ≡ c.args.table.now.opened.ext
-same_ext c = ap (λ o. o.ext) c.owner.ensures.1 ∙ ap (λ o. o.ext) (same_opened c)
+same_ext c = ap (λ o. o.ext) c.owner.ensures.1 ∙ ap (λ o. o.ext) c.deref_mut.ensures.value ∙ c.in-Some.ensures.2.ext ∙ ap (λ h. h.opened.ext) c.seen.ensures.1
+
+-- no index is open
+no_index : (c : After-owner) → c.owner.result.opened.index ≡ None
+no_index c = ap (λ o. o.index) c.owner.ensures.1 ∙ ap (λ o. o.index) c.deref_mut.ensures.value ∙ c.in-Some.ensures.2.index
 
 -- the maps have the numbers of the entries
 same_layout : (c : After-owner) → layout_of c.in-Ok-Some.program.sections c.in-Ok-Some.program.symbols ≡ layout_named c.args.section_names.now c.args.sections.now c.args.symbol_names.now c.args.symbols.now
@@ -91,6 +91,7 @@ returns-in-Ok-clause-rewritten c = λ owned sections symbols.
       same_ext w,
       inl (
         refl,
+        no_index w,
         listed,
         c.in-Ok.ensures.listed,
         for_handle kernel.features (policy_chosen kernel) (ids_chosen kernel) c.deref_mut.result.now.btf c.args.table.now.opened.btf _ (layout_named c.args.section_names.now c.args.sections.now c.args.symbol_names.now c.args.symbols.now) c.rewritten-answer.new.btf c.owner.result.opened.btf (Ok listed) (same_old w) (same_layout w) (same_new w) c.in-Ok.ensures.rewrites,
@@ -108,6 +109,7 @@ returns-clause-rewritten c = λ owned sections symbols.
       same_ext w,
       inr (
         same_new w ∙ c.in-Err-answer.ensures.err ∙ same_old w,
+        inl (no_index w),
         elim ended [
           | inl full ↦ inl full
           | inr (refusal, reported, found) ↦ inr (

@@ -24,7 +24,7 @@ none_spec 𝓤 𝓛 𝓜 𝓡 wired =
     f.Key.name code.function (code.unfolded 𝓤 𝓛.H 𝓜 𝓡 wired)
     (λ κs. tt) (λ κs. tt) (λ κs qs bounds a g are.
     let y : (walk_of 𝓛 f.ended stayed c).Ghost = ((κs, qs, bounds, a, tt), g) in
-    let made : R.Denot = record { at = null_ptr; state = 0; opened = record { btf = empty_table; ext = None }; life = 0; share = full_share } in
+    let made : R.Denot = record { at = null_ptr; state = 0; opened = record { btf = empty_table; ext = None; index = None; indexed = tt }; life = 0; share = full_share } in
     let Same : Type 0 = 0 ≡ 0 in
     qed 𝓛 (raw (on_entry 𝓛 f.signature κs qs a tt) ∷ ‵ ftrue ∷ []) ∵ drop ! $ keep ! (0 ∷ []) $
     enter ! _ _ _ _ _ $ alloc_all ! (λ l. pass_all ! refl tt $

@@ -3,10 +3,10 @@ use Rattle.std.proofs.lemmas.List.Sorted.{answers_always}
 use Rattle.btf_relocate.specs.Entries.{id_of}
 use Rattle.btf_relocate.specs.declared.target.Entry.{Entry}
 use Rattle.btf_relocate.proofs.Indexes.{index_made}
-use Rattle.btf_relocate.proofs.target.Target.new.Goals as goal
+use Rattle.btf_relocate.proofs.target.TargetIndex.new.Goals as goal
 
-pub invariant_of-result : goal.invariant_of-result
-invariant_of-result c =
+pub returns-clause-indexed : goal.returns-clause-indexed
+returns-clause-indexed c =
     let key : Entry → Bor (List ℕ) × ℕ = λ e. (e.name, e.kind) in
     let keys = answers_always _ _ _ (λ f a r next called. search rules) in
     let all : c.loop-entry.ids.items ≡ map id_of c.sort_by_key.new.self.items = c.loop-entry.invariant ∙ ap (map id_of) (take_all c.loop-entry.entry-index c.deref-entry-items.result.now c.loop-entry-test.false ∙ c.deref-entry-items.ensures.value) in (

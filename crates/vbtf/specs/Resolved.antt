@@ -1,0 +1,56 @@
+-- The relocation of one record, for C.
+use Rattle.std.specs.Prelude.{◌≡◌, ◌⊎◌, ℕ, Bool, List, [], ◌∷◌, if◌then◌else◌, Result, Ok, Err}
+use Rattle.btf_model.specs.Table.{Table}
+use Rattle.btf_relocate_model.specs.Resolution.{Setting, resolution}
+use Rattle.btf_relocate_model.specs.Section.{candidates_of}
+use Rattle.btf_relocate_model.specs.declared.error.RelocationError.{RelocationError}
+use Rattle.btf_relocate_model.specs.declared.error.RelocationError.TheVariants.{OutOfMemory}
+use Rattle.btf_relocate_model.specs.declared.resolved.Resolved.{Resolved}
+use Rattle.vbtf.specs.Object.{ReportsNumber}
+use Rattle.vbtf.specs.Relocate.{place_of}
+use Rattle.vbtf.specs.Status.{no_details, ReportsNoMemory}
+use Rattle.vbtf.specs.declared.fault.Fault.{Fault}
+use Rattle.vbtf.specs.declared.target.Relocated.{Relocated}
+use Rattle.vbtf.specs.declared.target.Relocation.{Relocation}
+
+-- the words of a record
+abbrev pub words_of : Relocation → List ℕ
+words_of r = r.offset ∷ r.type_id ∷ r.access_offset ∷ r.kind ∷ []
+
+-- 1 for true, and otherwise 0
+abbrev pub flag : Bool → ℕ
+flag b = if b then 1 else 0
+
+-- what C reads of a resolved record
+abbrev pub relocated_of : Resolved → Relocated
+relocated_of r = record {
+  expected = r.expected;
+  value = r.value;
+  local_size = r.local_size;
+  target_size = r.target_size;
+  is_poisoned = flag r.is_poisoned;
+  validates = flag r.validates;
+  is_adjustable = flag r.is_adjustable;
+}
+
+-- The status and the fault report the error of a record, or a failed allocation.
+abbrev pub ReportsRelocation : ℕ → Fault → RelocationError → Type 0
+ReportsRelocation status fault OutOfMemory = ReportsNoMemory status fault
+ReportsRelocation status fault e = ReportsNumber status fault 107 (record no_details { id = place_of e })
+
+-- The result for a record that has all candidates of the target, or its first error, or a failed allocation.
+abbrev pub Resolves : Table → Table → Relocation → Result Resolved RelocationError → Type 0
+Resolves local target relocation (Ok r) =
+    (rest : List ℕ) × (resolution (record { local = local; target = target })
+    (candidates_of local target relocation.type_id) (words_of relocation) ≡ Ok (r, rest))
+Resolves local target relocation (Err e) =
+    (e ≡ OutOfMemory) ⊎ (resolution (record { local = local; target = target })
+    (candidates_of local target relocation.type_id) (words_of relocation) ≡ Err e)
+
+-- The outcomes of the relocation of one record: status 0 and the result; or its error or a failed allocation, and the
+-- result is unchanged.
+abbrev pub EndsResolving : ℕ → Table → Table → Relocation → Relocated → Relocated → Fault → Type 0
+EndsResolving status local target relocation old new fault =
+    ((r : Resolved) × (status ≡ 0) × (new ≡ relocated_of r) × Resolves local target relocation (Ok r))
+    ⊎ ((e : RelocationError) × (new ≡ old) × ReportsRelocation status fault e
+    × Resolves local target relocation (Err e))
