@@ -3,3 +3,4 @@ pub mod Joining
 pub mod Staying
 pub mod Hinting
 pub mod Comparing
+pub mod Alone

@@ -1,7 +1,7 @@
 -- The laws of split tables. Each is the contract of a public function of this crate.
-use Rattle.std.specs.Prelude.{All, Bool, suc, Some, ◌↔◌, ◌≤◌, ◌≡◌, ℕ, ◌+◌, ◌<◌, ◌^◌, List, length, Ok, slice_get}
+use Rattle.std.specs.Prelude.{All, [], ◌∷◌, Bool, suc, Some, ◌↔◌, ◌≤◌, ◌≡◌, ℕ, ◌+◌, ◌<◌, ◌^◌, List, length, Ok, slice_get}
 use Rattle.btf_model.specs.declared.endianness.Endianness.{Endianness}
-use Rattle.btf_model.specs.Record.{Record}
+use Rattle.btf_model.specs.Record.{Record, unknown}
 use Rattle.btf_model.specs.Refusal.{Refusal}
 use Rattle.btf_model.specs.Table.{Table, strip}
 use Rattle.btf_model.specs.Blob.{IsTable, IsValid}
@@ -55,6 +55,12 @@ pub record OwnPartFollows : Type 0 where
       → slice_get (joined base own).records (length base.records + id) ≡ slice_get own.records (1 + id)
   pub texts : (base own : Table) (offset : ℕ)
       → bytes_at (joined base own).strings (length base.strings + offset) ≡ bytes_at own.strings offset
+
+-- Over a base that has only id 0 and no strings, a split table is a table without a base.
+abbrev pub EmptyBaseAddsNothing : Type 0
+EmptyBaseAddsNothing =
+    (order : Endianness) (base : Table) (bytes : List ℕ) (t : Table) → All (λ byte. byte < 2 ^ 8) bytes
+    → base.records ≡ unknown ∷ [] → base.strings ≡ [] → IsJoined order base bytes t ↔ IsTable order bytes t
 
 -- The written part of a table above a base is a split table, which with the base is the table again.
 pub record WrittenJoinsAgain : Type 0 where

@@ -4,7 +4,7 @@
 //! The definitions are in `specs/`. Each law is the contract of a function here that does nothing.
 #![tactic(auto)]
 
-ghost use Rattle.btf_split_model.specs.Laws.{JoinedIsDetermined, BaseStays, BaseWalksStay, BaseComparisonsStay, OwnPartFollows, WrittenJoinsAgain, LooksSplitByNames};
+ghost use Rattle.btf_split_model.specs.Laws.{JoinedIsDetermined, BaseStays, BaseWalksStay, BaseComparisonsStay, OwnPartFollows, EmptyBaseAddsNothing, WrittenJoinsAgain, LooksSplitByNames};
 
 /// Bytes are at most one table over a base, or are refused for at most one reason, and never both.
 pub fn joined_is_determined()
@@ -32,6 +32,11 @@ pub fn base_comparisons_stay()
 /// The types of a split table have the ids after the base's, and its strings have the offsets after the base's.
 pub fn own_part_follows()
     ensures { OwnPartFollows }
+{}
+
+/// Over a base that has only id 0 and no strings, a split table is a table without a base.
+pub fn empty_base_adds_nothing()
+    ensures { EmptyBaseAddsNothing }
 {}
 
 /// The written part of a table above a base is a split table, which with the base is the table again.
