@@ -132,6 +132,27 @@ static void read_all(const struct vbtf_table *table)
 	check(is_described(vbtf_find(table, "int", 3, drawn(20), &to, &error), &error));
 }
 
+/* Relocations of each kind about each type, for the table itself. */
+static void relocate_all(struct vbtf_table *table)
+{
+	static const char *const texts[] = { "0", "1", "0:1" };
+	struct vbtf_error error;
+	struct vbtf_relocated relocated;
+	uint32_t access[3];
+	uint64_t count = 0;
+	for (size_t i = 0; i < 3; i++)
+		check(vbtf_add_string(table, texts[i], strlen(texts[i]), &access[i], &error) == VBTF_OK);
+	check(vbtf_open_target(table, &error) == VBTF_OK);
+	check(vbtf_count(table, &count) == VBTF_OK);
+	for (uint32_t id = 0; id <= count; id++) {
+		struct vbtf_relocation relocation = { 0, id, access[drawn(3)], drawn(14) };
+		uint32_t status = vbtf_relocate(table, table, &relocation, &relocated, &error);
+		check(status == VBTF_OK || (status == VBTF_RELOCATION_REFUSED && error.number == status));
+		check(status == VBTF_OK || (error.id >= 1 && error.id <= 27));
+	}
+	vbtf_close_target(table);
+}
+
 int main(int argc, char **argv)
 {
 	time_t end = time(NULL) + (argc > 1 ? atoi(argv[1]) : 10);
@@ -148,6 +169,7 @@ int main(int argc, char **argv)
 			read_all(&table);
 			opened_exts += open_ext(&table, order);
 			add_record(&table, order);
+			relocate_all(&table);
 		} else {
 			refused++;
 			check(error.number >= VBTF_INVALID_HEADER && error.number <= VBTF_INVALID_TYPE_KIND);
