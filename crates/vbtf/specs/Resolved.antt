@@ -1,7 +1,7 @@
 -- The relocation of one record, for C.
 use Rattle.std.specs.Prelude.{◌≡◌, ◌⊎◌, ℕ, Bool, List, [], ◌∷◌, if◌then◌else◌, Result, Ok, Err}
 use Rattle.btf_model.specs.Table.{Table}
-use Rattle.btf_relocate_model.specs.Resolution.{Setting, resolution}
+use Rattle.btf_relocate_model.specs.Resolution.{resolution}
 use Rattle.btf_relocate_model.specs.Section.{candidates_of}
 use Rattle.btf_relocate_model.specs.declared.error.RelocationError.{RelocationError}
 use Rattle.btf_relocate_model.specs.declared.error.RelocationError.TheVariants.{OutOfMemory}

@@ -1,7 +1,8 @@
 //! Objects whose code is relocated for a table.
 
-ghost use Rattle.std.specs.Prelude.{◌≡◌, ◌≢◌, ◌<◌, ◌≤◌, ◌++◌, ◌∷◌, [], List, map, IfOk};
+ghost use Rattle.std.specs.Prelude.{◌≡◌, ◌≢◌, ◌<◌, ◌≤◌, ◌++◌, ◌∷◌, [], List, map, IfOk, IfErr};
 ghost use Rattle.btf_loader.specs.Results.{outcomes_of, refuses_errors};
+ghost use Rattle.btf_plain.specs.declared.error.BtfError.TheVariants.{OutOfMemory as NoMemory};
 ghost use Rattle.btf_relocate.specs.Sections.{is_shared};
 ghost use Rattle.vbtf.specs.Relocate.{Outcome as Said, shares_candidates, refuses_records, outcomes_in, all_outcomes, Counts, place_of, ReportsReason, EndsRelocating};
 ghost use Rattle.vbtf.specs.Status.{Keeps};
@@ -136,9 +137,11 @@ fn relocate(
     }
 }
 
-/// The table as a target, with the open index, or with an index of its own if none is open.
+/// The table as a target, with the open index, or with an index of its own if none is open. `OutOfMemory` is the only
+/// error.
 fn target_of(alloc: Global, opened: &Opened) -> Result<Target<'_>, BtfError>
-    ensures { IfOk result (λ target. target ≡ opened.now.btf) }
+    ensures indexed { IfOk result (λ target. target ≡ opened.now.btf) }
+    ensures only { IfErr result (λ e. e ≡ NoMemory) }
 {
     match &opened.index {
         Some(index) => Ok(Target::with_index(&opened.btf, index)),

@@ -1,4 +1,4 @@
-use Rattle.std.proofs.Common.{◌∙◌, inr, sym, subst}
+use Rattle.std.proofs.Common.{inr, subst}
 use Rattle.btf_model.specs.Blob.{Parses}
 use Rattle.btf_model.specs.declared.endianness.Endianness.{Endianness}
 use Rattle.btf_plain.specs.Error.{MeetsOrNoMemory, refusal_of}

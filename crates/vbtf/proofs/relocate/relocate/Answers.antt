@@ -4,7 +4,7 @@ use Rattle.btf_loader.specs.declared.error.LoaderError.TheVariants.{OutOfMemory}
 use Rattle.btf_loader_model.specs.Loader.{IsRelocated, Outcomes}
 use Rattle.btf_loader_model.specs.Refused.{IsReason}
 use Rattle.btf_model.specs.Table.{Table}
-use Rattle.vbtf.specs.Relocate.{Counts, all_outcomes, shares_candidates, refuses_records}
+use Rattle.vbtf.specs.Relocate.{Counts, all_outcomes, refuses_records}
 use Rattle.vbtf.specs.Status.{Fills}
 use Rattle.vbtf.proofs.Relocations.{refuse_is}
 use Rattle.vbtf.proofs.relocate.relocate.Goals as goal
@@ -17,7 +17,7 @@ pub returns-in-Ok-relocate_object_with-clause-relocated :
 returns-in-Ok-relocate_object_with-clause-relocated c = λ small.
     let file : List ℕ = c.in-Ok-relocate_object_with.file.items in
     let outcomes : List (ℕ × Outcomes) = map outcomes_of c.in-Ok-relocate_object_with.outcomes.items in
-    let table : c.in-Ok.target ≡ c.args.opened.now.btf = c.in-Ok.ensures in
+    let table : c.in-Ok.target ≡ c.args.opened.now.btf = c.in-Ok.ensures.indexed in
     let relocated = subst (λ (p : Table × Bool). IsRelocated c.args.object.now p.0 p.1 outcomes file) (λ i. (table i, c.policy-policy.ensures i)) c.in-Ok-relocate_object_with.ensures.relocated in
     let accepted = subst (λ (p : Table × Bool × Bool). IsReason c.args.object.now p.0 p.1 p.2 None) (λ i. (table i, c.policy-policy.ensures i, c.refusals-refusals.ensures i)) c.in-Ok-relocate_object_with.ensures.accepted in
     let none = λ (refuses : refuses_records c.args.options ≡ true). c.in-Ok-relocate_object_with.ensures.refused (refuse_is c.refusals-refusals.result (c.refusals-refusals.ensures ∙ refuses)) in
