@@ -58,7 +58,7 @@ enum vbtf_status {
 	VBTF_NOT_AN_OBJECT = 104,        /* the bytes are no ELF object that is read here; error.id has the reason */
 	VBTF_NO_TABLE = 105,             /* the object has no section .BTF */
 	VBTF_NOT_REPLACEABLE = 106,      /* the bytes of the section .BTF cannot be replaced */
-	VBTF_RELOCATION_REFUSED = 107,   /* a relocation has an error; vbtf_relocate and .._object name the fields */
+	VBTF_RELOCATION_REFUSED = 107,   /* a relocation has an error: see vbtf_relocate and vbtf_relocate_object */
 	VBTF_SHARED_PLACE = 108,         /* another section has bytes in the place of the section of index offset */
 	VBTF_BAD_SECTION_NAME = 109      /* the name of a section of relocations, at offset, cannot be read */
 };
