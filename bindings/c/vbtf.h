@@ -58,7 +58,7 @@ enum vbtf_status {
 	VBTF_NOT_AN_OBJECT = 104,        /* the bytes are no ELF object that is read here; error.id has the reason */
 	VBTF_NO_TABLE = 105,             /* the object has no section .BTF */
 	VBTF_NOT_REPLACEABLE = 106,      /* the bytes of the section .BTF cannot be replaced */
-	VBTF_RELOCATION_REFUSED = 107,   /* a relocation has an error; vbtf_relocate and .._object name the fields */
+	VBTF_RELOCATION_REFUSED = 107,   /* a relocation has an error: see vbtf_relocate and vbtf_relocate_object */
 	VBTF_SHARED_PLACE = 108,         /* another section has bytes in the place of the section of index offset */
 	VBTF_BAD_SECTION_NAME = 109      /* the name of a section of relocations, at offset, cannot be read */
 };
@@ -858,11 +858,12 @@ static inline uint32_t vbtf_open_target(struct vbtf_table *table, struct vbtf_er
 /* Closes the index of a table, and frees it: `vbtf_close_target`, above. The table stays open. */
 
 /*
- * Relocates one relocation of a program for a target: writes what it asks to be written into its instruction. `local` is
- * the table of the program. The relocation has all candidates of the target, as in the kernel. The tables may be one.
+ * Relocates one relocation of a program for a target: writes what it asks to be written into its instruction. `local`
+ * is the table of the program. The relocation has all candidates of the target, as in the kernel. Both tables may be
+ * one.
  *
- * VBTF_RELOCATION_REFUSED if the relocation has an error: error.id is the number of the reason in docs/C.md. VBTF_CLOSED
- * if a table or the index of the target is not open. After an error `relocated` is unchanged.
+ * VBTF_RELOCATION_REFUSED if the relocation has an error: error.id is the number of the reason in docs/C.md.
+ * VBTF_CLOSED if a table or the index of the target is not open. After an error `relocated` is unchanged.
  */
 static inline uint32_t vbtf_relocate(const struct vbtf_table *local, const struct vbtf_table *target,
                                      const struct vbtf_relocation *relocation, struct vbtf_relocated *relocated,
