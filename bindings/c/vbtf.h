@@ -331,8 +331,8 @@ uint32_t vbtf_lent_relocate_object(const uint8_t *object, size_t len, struct vbt
                                    uint64_t seed, uint8_t *out, size_t room, uint64_t *needed,
                                    struct vbtf_tally *tally, struct vbtf_error *error);
 
-uint32_t vbtf_raw_open_target(struct vbtf_table *table, struct vbtf_error *error);
-void vbtf_close_target(struct vbtf_table *table);
+uint32_t vbtf_raw_target_open(struct vbtf_table *table, struct vbtf_error *error);
+void vbtf_target_close(struct vbtf_table *table);
 uint32_t vbtf_lent_relocate(struct vbtf_table *local, struct vbtf_table *target,
                             const struct vbtf_relocation *relocation, struct vbtf_relocated *relocated,
                             struct vbtf_error *error);
@@ -829,7 +829,7 @@ static inline uint32_t vbtf_sanitize_object(const void *object, size_t len, cons
  * without VBTF_KEEP_REFUSED the first record with an error as VBTF_RELOCATION_REFUSED: error.id is the number of the
  * reason in docs/C.md, error.offset the string offset of the section's name, and error.len the index of the record.
  * VBTF_CLOSED if the table is not open; VBTF_BAD_ARGUMENT if another bit of `options` is set. After an error the buffer
- * and the tally are unchanged. Without an open index (vbtf_open_target) the call makes one, and frees it.
+ * and the tally are unchanged. Without an open index (vbtf_target_open) the call makes one, and frees it.
  */
 static inline uint32_t vbtf_relocate_object(const void *object, size_t len, const struct vbtf_table *target,
                                             uint32_t options, uint64_t seed, void *out, size_t room,
@@ -849,13 +849,13 @@ static inline uint32_t vbtf_relocate_object(const void *object, size_t len, cons
  * A table has at most one. A call that changes the table (vbtf_add_string, vbtf_add_type, vbtf_rewrite) closes it, and
  * may close it also if that call fails. VBTF_BAD_ARGUMENT if the table has an open index.
  */
-static inline uint32_t vbtf_open_target(struct vbtf_table *table, struct vbtf_error *error)
+static inline uint32_t vbtf_target_open(struct vbtf_table *table, struct vbtf_error *error)
 {
 	struct vbtf_error unread;
-	return vbtf_raw_open_target(table, vbtf_error_or(error, &unread));
+	return vbtf_raw_target_open(table, vbtf_error_or(error, &unread));
 }
 
-/* Closes the index of a table, and frees it: `vbtf_close_target`, above. The table stays open. */
+/* Closes the index of a table, and frees it: `vbtf_target_close`, above. The table stays open. */
 
 /*
  * Relocates one relocation of a program for a target: writes what it asks to be written into its instruction. `local`

@@ -142,7 +142,7 @@ static void relocate_all(struct vbtf_table *table)
 	uint64_t count = 0;
 	for (size_t i = 0; i < 3; i++)
 		check(vbtf_add_string(table, texts[i], strlen(texts[i]), &access[i], &error) == VBTF_OK);
-	check(vbtf_open_target(table, &error) == VBTF_OK);
+	check(vbtf_target_open(table, &error) == VBTF_OK);
 	check(vbtf_count(table, &count) == VBTF_OK);
 	for (uint32_t id = 0; id <= count; id++) {
 		struct vbtf_relocation relocation = { 0, id, access[drawn(3)], drawn(14) };
@@ -150,7 +150,7 @@ static void relocate_all(struct vbtf_table *table)
 		check(status == VBTF_OK || (status == VBTF_RELOCATION_REFUSED && error.number == status));
 		check(status == VBTF_OK || (error.id >= 1 && error.id <= 27));
 	}
-	vbtf_close_target(table);
+	vbtf_target_close(table);
 }
 
 int main(int argc, char **argv)

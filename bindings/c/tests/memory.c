@@ -158,8 +158,8 @@ static uint32_t relocations(struct vbtf_table *table)
 
 static uint32_t open_target(struct vbtf_table *table)
 {
-	uint32_t status = vbtf_open_target(table, &error);
-	vbtf_close_target(table);
+	uint32_t status = vbtf_target_open(table, &error);
+	vbtf_target_close(table);
 	return status;
 }
 
@@ -203,7 +203,7 @@ static const struct {
 	{ "vbtf_ext_func_info", functions },
 	{ "vbtf_ext_line_info", lines },
 	{ "vbtf_ext_relocations", relocations },
-	{ "vbtf_open_target", open_target },
+	{ "vbtf_target_open", open_target },
 	{ "vbtf_relocate", relocate },
 	{ "vbtf_error_text", error_text },
 };
@@ -250,7 +250,7 @@ int main(void)
 	check(vbtf_open_ext(&with_ext, ext_blob, sizeof ext_blob, VBTF_LITTLE, 7, &error) == VBTF_OK);
 	with_index = opened(VBTF_LITTLE);
 	check(vbtf_add_string(&with_index, "0:1", 3, &access_offset, &error) == VBTF_OK);
-	check(vbtf_open_target(&with_index, &error) == VBTF_OK);
+	check(vbtf_target_open(&with_index, &error) == VBTF_OK);
 	for (size_t i = 0; i < sizeof calls / sizeof *calls; i++) {
 		unsigned long n = 1;
 		while (failed_at(i, n))

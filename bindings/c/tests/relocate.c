@@ -212,7 +212,7 @@ int main(int argc, char **argv)
 	refused(&object, &target);
 	other_bytes(&object, &target);
 	without_memory(&object, &target);
-	check(vbtf_open_target(&target, &error) == VBTF_OK);
+	check(vbtf_target_open(&target, &error) == VBTF_OK);
 	one_by_one(&object, &target);
 	again = resolved(&object, &target);
 	check(memcmp(again.bytes, file.bytes, file.len) == 0);

@@ -37,18 +37,18 @@ static void opening(void)
 	struct vbtf_asked asked;
 	uint32_t id;
 	table = with_access(VBTF_LITTLE, &access);
-	check(vbtf_open_target(&closed, &error) == VBTF_CLOSED && closed.state == 0);
-	vbtf_close_target(&closed);
-	vbtf_close_target(&table);
+	check(vbtf_target_open(&closed, &error) == VBTF_CLOSED && closed.state == 0);
+	vbtf_target_close(&closed);
+	vbtf_target_close(&table);
 	for (unsigned change = 0; change < 5; change++) {
 		check(status_for(&table, &table, access.member) == VBTF_CLOSED);
-		check(vbtf_open_target(&table, &error) == VBTF_OK);
-		check(vbtf_open_target(&table, &error) == VBTF_BAD_ARGUMENT && table.state == 1);
+		check(vbtf_target_open(&table, &error) == VBTF_OK);
+		check(vbtf_target_open(&table, &error) == VBTF_BAD_ARGUMENT && table.state == 1);
 		check(status_for(&table, &table, access.member) == VBTF_OK);
 		check(status_for(&closed, &table, access.member) == VBTF_CLOSED);
 		check(status_for(&table, &closed, access.member) == VBTF_CLOSED);
 		if (change == 0)
-			vbtf_close_target(&table);
+			vbtf_target_close(&table);
 		else if (change == 1)
 			check(vbtf_add_string(&table, "new", 3, &id, NULL) == VBTF_OK);
 		else if (change == 2)
@@ -58,7 +58,7 @@ static void opening(void)
 		else
 			check(vbtf_rewrite(&table, NULL, NULL, &all, 7, &asked, NULL) == VBTF_OK);
 	}
-	check(vbtf_open_target(&table, &error) == VBTF_OK);
+	check(vbtf_target_open(&table, &error) == VBTF_OK);
 	check(vbtf_clone(&table, &copy, &error) == VBTF_OK);
 	check(status_for(&table, &copy, access.member) == VBTF_CLOSED);
 	check(status_for(&copy, &table, access.member) == VBTF_OK);
@@ -87,7 +87,7 @@ static void kinds(void)
 		{ 0, 4, access.type, 12 },
 	};
 	static const uint64_t values[] = { 4, 4, 1, 1, 32, 32, 4, 4, 1, 8, 1, 9, 1 };
-	check(vbtf_open_target(&table, &error) == VBTF_OK);
+	check(vbtf_target_open(&table, &error) == VBTF_OK);
 	for (uint32_t kind = 0; kind < sizeof values / sizeof *values; kind++) {
 		struct vbtf_relocated relocated = { 0, 0, 0, 0, true, false, false };
 		check(vbtf_relocate(&table, &table, &relocations[kind], &relocated, NULL) == VBTF_OK);
@@ -106,7 +106,7 @@ static void missing(void)
 	struct vbtf_table table = with_access(VBTF_LITTLE, &access), empty = VBTF_TABLE_INIT;
 	struct vbtf_relocation offset = { 0, 4, access.member, 0 }, exists = { 0, 4, access.member, 2 };
 	struct vbtf_relocated relocated;
-	check(vbtf_new(&empty, &error) == VBTF_OK && vbtf_open_target(&empty, &error) == VBTF_OK);
+	check(vbtf_new(&empty, &error) == VBTF_OK && vbtf_target_open(&empty, &error) == VBTF_OK);
 	check(vbtf_relocate(&table, &empty, &offset, &relocated, &error) == VBTF_OK);
 	check(relocated.is_poisoned && relocated.expected == 4 && relocated.local_size == 4 && relocated.target_size == 0);
 	check(vbtf_relocate(&table, &empty, &exists, &relocated, &error) == VBTF_OK);
@@ -130,7 +130,7 @@ static void refused(void)
 		{ { 0, 5, access.type, 7 }, 6 },
 		{ { 0, 4, access.bad, 0 }, 7 },
 	};
-	check(vbtf_open_target(&table, &error) == VBTF_OK);
+	check(vbtf_target_open(&table, &error) == VBTF_OK);
 	for (size_t i = 0; i < sizeof rows / sizeof *rows; i++) {
 		struct vbtf_relocated relocated = { 9, 9, 9, 9, true, true, true };
 		memset(&error, 1, sizeof error);

@@ -62,7 +62,7 @@ int main(void)
 	shared = opened(VBTF_LITTLE);
 	check(vbtf_open_ext(&shared, ext, sizeof ext, VBTF_LITTLE, 7, &error) == VBTF_OK);
 	check(vbtf_add_string(&shared, "0:1", 3, &access_offset, &error) == VBTF_OK);
-	check(vbtf_open_target(&shared, &error) == VBTF_OK);
+	check(vbtf_target_open(&shared, &error) == VBTF_OK);
 	for (unsigned i = 0; i < 6; i++)
 		check(pthread_create(&threads[i], NULL, i < 4 ? reader : writer, NULL) == 0);
 	for (unsigned i = 0; i < 6; i++) {

@@ -55,7 +55,7 @@ pub struct Relocated {
 /// A call that changes the table closes the index. Status 20 if an allocation fails, 101 if the handle's state is not 1,
 /// and 102 if the table has an open index; the handle is then unchanged.
 #[unsafe(no_mangle)]
-pub extern "C" fn vbtf_raw_open_target(alloc: Global, table: &mut Handle, fault: &mut Fault) -> u32
+pub extern "C" fn vbtf_raw_target_open(alloc: Global, table: &mut Handle, fault: &mut Fault) -> u32
     ensures opened { table.old.state ≡ 1 → EndsIndexing result table.old table.new fault.new }
     ensures closed { table.old.state ≢ 1 → (result ≡ CLOSED) × (table.new ≡ table.old) }
 {
@@ -73,7 +73,7 @@ pub extern "C" fn vbtf_raw_open_target(alloc: Global, table: &mut Handle, fault:
 
 /// Closes the index of the table that a handle owns, and frees its memory. A handle whose state is not 1 is unchanged.
 #[unsafe(no_mangle)]
-pub extern "C" fn vbtf_close_target(alloc: Global, table: &mut Handle)
+pub extern "C" fn vbtf_target_close(alloc: Global, table: &mut Handle)
     ensures closed { table.old.state ≡ 1 → (table.new.state ≡ 1)
         × ChangedTo table.old.opened table.new.opened table.old.opened.btf }
     ensures other { table.old.state ≢ 1 → table.new ≡ table.old }

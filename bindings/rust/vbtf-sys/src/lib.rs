@@ -157,8 +157,8 @@ extern "C" {
         tally: *mut vbtf_tally,
         error: *mut vbtf_error,
     ) -> u32;
-    pub fn vbtf_raw_open_target(table: *mut vbtf_table, error: *mut vbtf_error) -> u32;
-    pub fn vbtf_close_target(table: *mut vbtf_table);
+    pub fn vbtf_raw_target_open(table: *mut vbtf_table, error: *mut vbtf_error) -> u32;
+    pub fn vbtf_target_close(table: *mut vbtf_table);
     pub fn vbtf_lent_relocate(
         local: *mut vbtf_table,
         target: *mut vbtf_table,

@@ -219,13 +219,13 @@ impl Table {
     /// Opens the index of the types.
     pub(crate) fn open_target(&mut self) -> Result<(), Error> {
         // SAFETY: the table is open, and nobody reads it meanwhile.
-        called(|_, error| unsafe { vbtf_raw_open_target(&mut self.handle, error) })
+        called(|_, error| unsafe { vbtf_raw_target_open(&mut self.handle, error) })
     }
 
     /// Closes the index of the types.
     pub(crate) fn close_target(&mut self) {
         // SAFETY: as above.
-        unsafe { vbtf_close_target(&mut self.handle) }
+        unsafe { vbtf_target_close(&mut self.handle) }
     }
 }
 
