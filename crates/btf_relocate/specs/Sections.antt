@@ -36,11 +36,11 @@ left_in Shared local target m id = items_or (candidates_of local target id) (get
 left_in Fresh local target m id = candidates_of local target id
 
 -- the lists of the types other than this one are as they were
-abbrev pub HasOthers : ℕ → BTreeMap ℕ (Vec ℕ) → BTreeMap ℕ (Vec ℕ) → Type 0
+abbrev pub HasOthers : {A : Type 0} → ℕ → BTreeMap ℕ A → BTreeMap ℕ A → Type 0
 HasOthers id old new = (q : ℕ) → is_at (nat_cmp id) q ≡ false → get nat_cmp new q ≡ get nat_cmp old q
 
 -- the candidates for later records, where `after` remain of those of a type
-abbrev pub left_with : Bool → ℕ → List ℕ → (ℕ → List ℕ) → ℕ → List ℕ
+abbrev pub left_with : {A : Type 0} → Bool → ℕ → A → (ℕ → A) → ℕ → A
 left_with is_shared id after left = if is_shared then changed_at id after left else left
 
 -- two tables
