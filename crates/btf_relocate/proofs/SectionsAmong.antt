@@ -1,7 +1,7 @@
 -- The records of a section, one after another, for a kernel with modules.
 use Rattle.std.proofs.Common.{◌≡◌, ℕ, ◌+◌, List, [], ◌∷◌, ◌++◌, drop, Bool, true, false, Result, Ok, Err, refl, sym, ap, subst, ◌∙◌, inl, inr, append_assoc}
 use Rattle.std.proofs.Math.Path.{fun_ext}
-use Rattle.std.specs.Prelude.{◌⊎◌, cond, if◌then◌else◌, Some}
+use Rattle.std.specs.Prelude.{cond, if◌then◌else◌, Some}
 use Rattle.std.specs.BTreeMap.{BTreeMap, get, is_at, IsEmpty}
 use Rattle.std.specs.Cmp.{unsigned_tied}
 use Rattle.std.specs.Map.{lookup}
@@ -13,9 +13,8 @@ use Rattle.btf_relocate_model.specs.Instruction.{patched_code}
 use Rattle.btf_relocate_model.specs.Modules as model
 use Rattle.btf_relocate_model.specs.Modules.{candidates_among, relocated_section_among, resolution_among}
 use Rattle.btf_relocate_model.specs.Resolution.{type_word, instruction_word}
-use Rattle.btf_relocate_model.specs.Section.{outcome_of, code_after, candidates_after, changed_at, left_after, patch_in, then_outcomes, relocated_by}
+use Rattle.btf_relocate_model.specs.Section.{outcome_of, code_after, candidates_after, changed_at, patch_in, then_outcomes, relocated_by}
 use Rattle.btf_relocate_model.specs.declared.error.RelocationError.{RelocationError}
-use Rattle.btf_relocate_model.specs.declared.error.RelocationError.TheVariants.{OutOfMemory}
 use Rattle.btf_relocate_model.specs.declared.instruction.Patched.{Patched}
 use Rattle.btf_relocate_model.specs.declared.resolved.Resolved.{Resolved}
 use Rattle.btf_relocate.specs.Modules.{HasResolvedAmong, candidates_view}

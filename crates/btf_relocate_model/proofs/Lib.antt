@@ -8,4 +8,4 @@ mod OwnSubjects
 mod OwnTable
 mod PlainExample
 mod OwnSection
-mod Modules
+pub mod Modules

@@ -1,4 +1,4 @@
-use Rattle.std.proofs.Common.{◌≡◌, ◌∙◌, ℕ, List, Option, None, Ok, map, ap, sym}
+use Rattle.std.proofs.Common.{◌∙◌, None, map, ap, sym}
 use Rattle.btf_relocate_model.specs.Modules as model
 use Rattle.btf_relocate_model.specs.Resolution.{answers}
 use Rattle.btf_relocate.specs.Modules.{found_view}

@@ -1,5 +1,5 @@
 use Rattle.btf_relocate.specs.Modules.{targets_view}
-use Rattle.btf_relocate.proofs.Among.{in_kernel, in_modules}
+use Rattle.btf_relocate.proofs.Among.{in_kernel}
 use Rattle.btf_relocate.proofs.modules.resolve_among.Goals as goal
 
 pub returns-in-InKernel : goal.returns-in-InKernel

@@ -4,7 +4,7 @@ use Rattle.btf_relocate_model.specs.Resolution.{type_word}
 use Rattle.btf_relocate.specs.Modules.{targets_view}
 use Rattle.btf_relocate.proofs.Sections.{is_out_of_memory}
 use Rattle.btf_relocate.proofs.SectionsAmong.{HasLeft, continues, all_done}
-use Rattle.btf_relocate.proofs.section_among.relocate_section_among.Goals as goal
+use Rattle.btf_relocate.proofs.section.relocate_section_among.Goals as goal
 
 pub loop-record-preserved : goal.loop-record-preserved
 loop-record-preserved c =
