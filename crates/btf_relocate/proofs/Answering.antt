@@ -21,29 +21,29 @@ before_one kept c (Some a) (Ok q) = ap (λ (xs : List ℕ). let p : Option Answe
 before_one kept c None (Ok q) = ap (λ (xs : List ℕ). let p : Option Answer × List ℕ = (q.0, xs ++ q.1) in Ok p) (sym (append-nil kept))
 before_one kept c a (Err e) = refl
 
-module _ (answer : ℕ → Result (Option Answer) RelocationError) (cs : List ℕ) where
+module _ (answer : ℕ → Result (Option Answer) RelocationError) (start : Option Answer) (cs : List ℕ) where
   abbrev pub Left : Option Answer → List ℕ → ℕ → Type 0
-  Left first kept i = before kept (answers answer first (drop i cs)) ≡ answers answer None cs
+  Left first kept i = before kept (answers answer first (drop i cs)) ≡ answers answer start cs
 
-  pub starts : Left None [] 0
-  starts = before_nothing (answers answer None cs)
+  pub starts : Left start [] 0
+  starts = before_nothing (answers answer start cs)
 
-  here : (first : Option Answer) (kept : List ℕ) (i : ℕ) → i < length cs → Left first kept i → before kept (answers answer first (get_or cs i 0 ∷ drop (i + 1) cs)) ≡ answers answer None cs
+  here : (first : Option Answer) (kept : List ℕ) (i : ℕ) → i < length cs → Left first kept i → before kept (answers answer first (get_or cs i 0 ∷ drop (i + 1) cs)) ≡ answers answer start cs
   here first kept i lt left =
       ap (λ (xs : List ℕ). before kept (answers answer first xs)) (sym (drop-cons cs i 0 lt ∙ ap (λ (n : ℕ). get_or cs i 0 ∷ drop n cs) (sym (add-one i)))) ∙ left
 
-  pub refused : (first : Option Answer) (kept : List ℕ) (i : ℕ) → i < length cs → Left first kept i → (e : RelocationError) → answer (get_or cs i 0) ≡ Err e → answers answer None cs ≡ Err e
+  pub refused : (first : Option Answer) (kept : List ℕ) (i : ℕ) → i < length cs → Left first kept i → (e : RelocationError) → answer (get_or cs i 0) ≡ Err e → answers answer start cs ≡ Err e
   refused first kept i lt left e is = sym (here first kept i lt left) ∙ rw is refl
 
-  pub apart : (first : Option Answer) (kept : List ℕ) (i : ℕ) → i < length cs → Left first kept i → (a : Option Answer) (e : RelocationError) → answer (get_or cs i 0) ≡ Ok a → joined first a ≡ Err e → answers answer None cs ≡ Err e
+  pub apart : (first : Option Answer) (kept : List ℕ) (i : ℕ) → i < length cs → Left first kept i → (a : Option Answer) (e : RelocationError) → answer (get_or cs i 0) ≡ Ok a → joined first a ≡ Err e → answers answer start cs ≡ Err e
   apart first kept i lt left a e is differs = sym (here first kept i lt left) ∙ rw (is, differs) refl
 
   pub goes_on : (first : Option Answer) (kept : List ℕ) (i : ℕ) → i < length cs → Left first kept i → (a next : Option Answer) → answer (get_or cs i 0) ≡ Ok a → joined first a ≡ Ok next
       → Left next (kept ++ retained (get_or cs i 0) a []) (i + 1)
   goes_on first kept i lt left a next is same =
-      let step : before kept (answers answer next (drop (i + 1) cs) >>= λ rest. Ok (rest.0, retained (get_or cs i 0) a rest.1)) ≡ answers answer None cs = rw (is, same) at (here first kept i lt left) in
+      let step : before kept (answers answer next (drop (i + 1) cs) >>= λ rest. Ok (rest.0, retained (get_or cs i 0) a rest.1)) ≡ answers answer start cs = rw (is, same) at (here first kept i lt left) in
       sym (before_one kept (get_or cs i 0) a (answers answer next (drop (i + 1) cs))) ∙ step
 
-  pub all_answered : (first : Option Answer) (kept : List ℕ) (i : ℕ) → length cs ≤ i → Left first kept i → answers answer None cs ≡ Ok (first, kept)
+  pub all_answered : (first : Option Answer) (kept : List ℕ) (i : ℕ) → length cs ≤ i → Left first kept i → answers answer start cs ≡ Ok (first, kept)
   all_answered first kept i le left =
       sym left ∙ ap (λ (xs : List ℕ). before kept (answers answer first xs)) (drop_all i cs le) ∙ ap (λ (xs : List ℕ). let p : Option Answer × List ℕ = (first, xs) in Ok p) (append-nil kept)

@@ -18,3 +18,5 @@ mod Pairs
 mod Comparing
 mod Definitions
 mod Measures
+mod Among
+mod SectionsAmong

@@ -8,10 +8,12 @@ pub mod Index
 pub mod TargetIndex
 pub mod Matching
 pub mod Members
+pub mod Modules
 pub mod Patch
 pub mod Paths
 pub mod Resolving
 pub mod Searching
 pub mod Sections
+pub mod SectionsAmong
 pub mod Steps
 pub mod Placed

@@ -1,12 +1,15 @@
 -- What `resolve` and its parts return, as the definitions see it.
-use Rattle.std.specs.Prelude.{◌≡◌, ◌⊎◌, ℕ, List, Option, Result, Ok, Err}
+use Rattle.std.specs.Prelude.{◌≡◌, ◌⊎◌, ℕ, if◌then◌else◌, List, Option, Result, Ok, Err}
 use Rattle.std.specs.Global.{Vec}
 use Rattle.btf_model.specs.Table.{Table}
+use Rattle.btf_relocate_model.specs.Candidates.{is_nameless}
+use Rattle.btf_relocate_model.specs.Path.{local_pointer}
 use Rattle.btf_relocate_model.specs.Resolution as model
 use Rattle.btf_relocate_model.specs.Types.{◌>>=◌, pointer_size}
 use Rattle.btf_relocate_model.specs.declared.answer.Answer.{Answer}
 use Rattle.btf_relocate_model.specs.declared.error.RelocationError.{RelocationError}
-use Rattle.btf_relocate_model.specs.declared.error.RelocationError.TheVariants.{OutOfMemory}
+use Rattle.btf_relocate_model.specs.declared.error.RelocationError.TheVariants.{AnonymousType, OutOfMemory}
+use Rattle.btf_relocate_model.specs.declared.field.Value.{Value}
 use Rattle.btf_relocate_model.specs.declared.kind.RelocationKind.{RelocationKind}
 use Rattle.btf_relocate_model.specs.declared.resolved.Resolved.{Resolved}
 use Rattle.btf_relocate.specs.Paths.{path_of}
@@ -24,6 +27,12 @@ question_view q = record { kind = q.kind; name = q.name.now; subject = subject_v
 
 abbrev pub answers_view : Option Answer × Vec ℕ → Option Answer × List ℕ
 answers_view p = (p.0, p.1.items)
+
+-- the value of a question about a type of this id for the program's own table, where the kind needs a search
+abbrev pub expected_of : Table → ℕ → model.Question → Result Value RelocationError
+expected_of local id q =
+    if is_nameless q.name then Err (AnonymousType id)
+    else model.value_of local_pointer local q.kind (model.local_match q.subject)
 
 -- the answer that a candidate has for a subject
 abbrev pub answer_at : Table → Table → RelocationKind → model.Subject → ℕ → Result (Option Answer) RelocationError

@@ -1,15 +1,13 @@
 -- What `relocate_section` and its parts return.
-use Rattle.std.specs.Prelude.{◌≡◌, ◌⊎◌, ℕ, if◌then◌else◌, Bool, true, false, List, [], ◌∷◌, Option, Some, None, Result, Ok, Err}
+use Rattle.std.specs.Prelude.{◌≡◌, ℕ, if◌then◌else◌, Bool, true, false, List, [], ◌∷◌, Result, Ok, Err}
 use Rattle.std.specs.BTreeMap.{BTreeMap, get, is_at}
-use Rattle.std.specs.Global.{Vec}
 use Rattle.std.specs.Ordering.{nat_cmp}
 use Rattle.btf_model.specs.Table.{Table}
 use Rattle.btf_model.specs.declared.endianness.Endianness.{Endianness}
 use Rattle.btf_relocate_model.specs.Instruction.{patched_code}
 use Rattle.btf_relocate_model.specs.Resolution.{Setting, resolution, type_word, instruction_word}
-use Rattle.btf_relocate_model.specs.Section.{outcome_of, code_after, candidates_of, candidates_after, changed_at}
+use Rattle.btf_relocate_model.specs.Section.{outcome_of, code_after, candidates_after, changed_at}
 use Rattle.btf_relocate_model.specs.declared.error.RelocationError.{RelocationError}
-use Rattle.btf_relocate_model.specs.declared.error.RelocationError.TheVariants.{OutOfMemory}
 use Rattle.btf_relocate_model.specs.declared.instruction.Patched.{Patched}
 use Rattle.btf_relocate_model.specs.declared.resolved.Resolved.{Resolved}
 use Rattle.btf_relocate.specs.declared.section.CandidatePolicy.{CandidatePolicy}
@@ -25,22 +23,12 @@ abbrev pub is_shared : CandidatePolicy → Bool
 is_shared Shared = true
 is_shared Fresh = false
 
--- the candidates in a list of the map, and others if it has none
-abbrev pub items_or : List ℕ → Option (Vec ℕ) → List ℕ
-items_or others (Some v) = v.items
-items_or others None = others
-
--- the candidates of each type, where records before have left these lists
-abbrev pub left_in : CandidatePolicy → Table → Table → BTreeMap ℕ (Vec ℕ) → ℕ → List ℕ
-left_in Shared local target m id = items_or (candidates_of local target id) (get nat_cmp m id)
-left_in Fresh local target m id = candidates_of local target id
-
 -- the lists of the types other than this one are as they were
-abbrev pub HasOthers : ℕ → BTreeMap ℕ (Vec ℕ) → BTreeMap ℕ (Vec ℕ) → Type 0
+abbrev pub HasOthers : {A : Type 0} → ℕ → BTreeMap ℕ A → BTreeMap ℕ A → Type 0
 HasOthers id old new = (q : ℕ) → is_at (nat_cmp id) q ≡ false → get nat_cmp new q ≡ get nat_cmp old q
 
 -- the candidates for later records, where `after` remain of those of a type
-abbrev pub left_with : Bool → ℕ → List ℕ → (ℕ → List ℕ) → ℕ → List ℕ
+abbrev pub left_with : {A : Type 0} → Bool → ℕ → A → (ℕ → A) → ℕ → A
 left_with is_shared id after left = if is_shared then changed_at id after left else left
 
 -- two tables
@@ -58,14 +46,6 @@ abbrev pub patch_by : Endianness → List ℕ → List ℕ → Result Resolved R
     → Result (Patched × List ℕ) RelocationError
 patch_by order code words (Ok r) = patched_code order r code (instruction_word words)
 patch_by order code words (Err e) = Err e
-
--- A record was resolved for these candidates, and its instruction patched; or an allocation failed.
-abbrev pub Relocated : Table → Table → List ℕ → List ℕ → List ℕ → List ℕ → List ℕ → Result Patched RelocationError
-    → Type 0
-Relocated local target words candidates after old new outcome =
-    (outcome ≡ Err OutOfMemory) ⊎ ((r : Result Resolved RelocationError)
-    × ResolvedFor local target words candidates after r × (outcome ≡ outcome_of (patch_by local.order old words r))
-    × (new ≡ code_after old (patch_by local.order old words r)))
 
 -- Each record was resolved for the candidates of its type, and its instruction patched, one after another, where `left`
 -- has the candidates of each type. A record with an error changes no byte.

@@ -9,6 +9,7 @@ mod field;
 mod instruction;
 mod lookup;
 mod matching;
+mod modules;
 mod name;
 mod path;
 mod resolving;
@@ -24,7 +25,8 @@ pub use btf_relocate_model::{
     Field, Instruction, Patched, RelocationError, RelocationKind, Resolved, Slot,
 };
 pub use instruction::patch;
+pub use modules::{Candidates, InModule, Targets, candidates_among, resolve_among};
 pub use name::essential_name;
 pub use resolving::resolve;
-pub use section::{CandidatePolicy, Outcome, candidates_of, relocate_section};
+pub use section::{CandidatePolicy, Outcome, candidates_of, relocate_section, relocate_section_among};
 pub use target::{Target, TargetIndex};

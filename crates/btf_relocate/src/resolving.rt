@@ -5,7 +5,7 @@ ghost use Rattle.std.specs.Option.{option_map};
 ghost use Rattle.btf_relocate_model.specs.Resolution as model;
 ghost use Rattle.btf_relocate_model.specs.Types.{pointer_size};
 ghost use Rattle.btf_relocate.specs.Gives.{GivesBy};
-ghost use Rattle.btf_relocate.specs.Resolving.{subject_view, question_view, answer_at, answers_view, HasResolved};
+ghost use Rattle.btf_relocate.specs.Resolving.{subject_view, question_view, answer_at, answers_view, expected_of, HasResolved};
 
 use crate::access::Access;
 use crate::enumerator::{enumerator_at, find_enumerator};
@@ -24,7 +24,7 @@ use std::alloc::Global;
 
 /// What a record is about, in the program's own table.
 #[derive(Debug, Drop)]
-enum Subject<'t> {
+pub enum Subject<'t> {
     /// A field.
     OfField(Path<'t>),
     /// The type itself.
@@ -35,13 +35,13 @@ enum Subject<'t> {
 
 /// What a record asks.
 #[derive(Debug, Drop)]
-struct Question<'t> {
+pub struct Question<'t> {
     /// The kind.
-    kind: RelocationKind,
+    pub kind: RelocationKind,
     /// The name of the record's type.
-    name: &'t [u8],
+    pub name: &'t [u8],
     /// What the record is about.
-    subject: Subject<'t>,
+    pub subject: Subject<'t>,
 }
 
 /// The value of a record for a target: the words of the record are the offset of its instruction, the id of a type,
@@ -65,16 +65,10 @@ pub fn resolve(
     if let RelocationKind::TypeIdLocal = question.kind {
         return Ok(local_id(type_id));
     }
-    if question.name.is_empty() {
-        return Err(RelocationError::AnonymousType { type_id });
-    }
-    let found = match &question.subject {
-        Subject::OfField(path) => Match::AtField(path.field),
-        Subject::OfType(type_id) => Match::AtType(*type_id),
-        Subject::OfEnumerator(_, value) => Match::AtEnumerator(*value),
-    };
-    let expected = value_of(local, LOCAL_POINTER_SIZE, question.kind, &found)?;
-    let (answer, matching) = answers(alloc, local, target, &question, candidates.as_slice())?;
+    let expected = expected_of(local, type_id, &question)?;
+    let first = None;
+    let (answer, matching) =
+        answers(alloc, local, target, &question, first, candidates.as_slice())?;
     if answer.is_some() {
         *candidates = matching;
     }
@@ -89,8 +83,27 @@ pub fn resolve(
     ))
 }
 
+/// The value of a question about a type of this id for the program's own table, where the kind needs a search.
+pub fn expected_of(
+    local: &Btf,
+    type_id: u32,
+    question: &Question<'_>,
+) -> Result<Value, RelocationError>
+    ensures { result ≡ expected_of local.now type_id (question_view question.now) }
+{
+    if question.name.is_empty() {
+        return Err(RelocationError::AnonymousType { type_id });
+    }
+    let found = match &question.subject {
+        Subject::OfField(path) => Match::AtField(path.field),
+        Subject::OfType(type_id) => Match::AtType(*type_id),
+        Subject::OfEnumerator(_, value) => Match::AtEnumerator(*value),
+    };
+    value_of(local, LOCAL_POINTER_SIZE, question.kind, &found)
+}
+
 /// What a record asks, for a target of this byte order.
-fn question_of<'t>(
+pub fn question_of<'t>(
     alloc: Global,
     local: &'t Btf,
     order: Endianness,
@@ -213,19 +226,20 @@ fn value_of(
     }
 }
 
-/// The answer of all candidates that match, and these candidates.
-fn answers(
+/// The answer of all candidates that match, where an earlier answer is the first, and these candidates.
+pub fn answers(
     alloc: Global,
     local: &Btf,
     target: &Target<'_>,
     question: &Question<'_>,
+    first: Option<Answer>,
     candidates: &[u32],
 ) -> Result<(Option<Answer>, Vec<u32>), RelocationError>
     ensures { GivesBy answers_view (model.answers (answer_at local.now target.now question.now.kind
-        (subject_view question.now.subject)) None candidates.now) result }
+        (subject_view question.now.subject)) first candidates.now) result }
 {
     let kind = question.kind;
-    let mut common: Option<Answer> = None;
+    let mut common = first;
     let mut kept = Vec::new(alloc);
     for candidate in candidates {
         let found = matching(alloc, local, target, kind, &question.subject, *candidate)?;
@@ -251,7 +265,7 @@ fn answers(
 }
 
 /// What is written for the answer of the candidates, or if there is none.
-fn resolved_by(
+pub fn resolved_by(
     local: &Btf,
     target: &Btf,
     kind: RelocationKind,
@@ -297,7 +311,7 @@ fn resolved_by(
 }
 
 /// What is written for a record that asks for the id of the program's own type.
-fn local_id(type_id: u32) -> Resolved
+pub fn local_id(type_id: u32) -> Resolved
     ensures { result ≡ model.local_id type_id }
 {
     Resolved {
@@ -313,7 +327,7 @@ fn local_id(type_id: u32) -> Resolved
 
 /// Whether an instruction must have the expected value before it is patched. Compilers write other values for
 /// bit-fields, and for the ids of types.
-fn validates(kind: RelocationKind, subject: &Subject<'_>) -> bool
+pub fn validates(kind: RelocationKind, subject: &Subject<'_>) -> bool
     ensures { result ≡ model.validates kind (subject_view subject.now) }
 {
     match kind {

@@ -8,3 +8,4 @@ mod OwnSubjects
 mod OwnTable
 mod PlainExample
 mod OwnSection
+pub mod Modules

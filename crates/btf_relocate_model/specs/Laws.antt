@@ -12,6 +12,7 @@ use Rattle.btf_relocate_model.specs.Field.{Member, members_of}
 use Rattle.btf_relocate_model.specs.Instruction.{relocated, poisoned, sign_extended, wide_immediate, slot_len, ld_imm64, patched_code}
 use Rattle.btf_relocate_model.specs.Kind.{relocation_kinds}
 use Rattle.btf_relocate_model.specs.Match.{match_path}
+use Rattle.btf_relocate_model.specs.Modules.{alone, relocated_section_among}
 use Rattle.btf_relocate_model.specs.Name.{essential}
 use Rattle.btf_relocate_model.specs.Path.{Path, path_of, local_pointer}
 use Rattle.btf_relocate_model.specs.Resolution.{Setting, Question, Subject, Fields, OfField, OfType, OfEnumerator, topic_of, poisons, resolution, question, instruction_word, type_word, rule_of, kind_at, kind_word, match_of, local_match, value_of, validates}
@@ -293,3 +294,12 @@ OwnTableKeepsTheSection =
     (g : Setting) (is_shared : Bool) (code : List ℕ) (records : List (List ℕ)) → AreBytes code → IsOwn g
     → ((i : ℕ) (words : List ℕ) → slice_get records i ≡ Some words → IsOwnRecord g words)
     → (relocated_section g is_shared code records).1 ≡ code
+
+-- ---- a kernel with modules
+
+-- The records of a section for a kernel without modules become what they become for its one table.
+abbrev pub WithoutModules : Type 0
+WithoutModules =
+    (local kernel : Table) (is_shared : Bool) (code : List ℕ) (records : List (List ℕ))
+    → relocated_section_among local (alone kernel) is_shared code records
+    ≡ relocated_section (record { local = local; target = kernel }) is_shared code records

@@ -14,6 +14,7 @@ pub mod Value
 pub mod Comparison
 pub mod Resolution
 pub mod Section
+pub mod Modules
 pub mod Laws
 pub mod Examples
 pub mod ResolutionExamples

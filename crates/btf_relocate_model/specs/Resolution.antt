@@ -251,7 +251,7 @@ resolved_by local t k is_validated expected None = record {
 }
 
 -- the candidates that remain for the next record: those that match, if there are any
-abbrev pub remaining : List ℕ → Option Answer → List ℕ → List ℕ
+abbrev pub remaining : {A : Type 0} → A → Option Answer → A → A
 remaining before (Some a) matching = matching
 remaining before None matching = before
 
@@ -282,13 +282,17 @@ abbrev pub is_local : RelocationKind → Bool
 is_local TypeIdLocal = true
 is_local k = false
 
--- the answer to a question about a type of this id
-abbrev pub answered : Setting → ℕ → List ℕ → Question → Result (Resolved × List ℕ) RelocationError
-answered g id candidates q =
+-- The answer to a question about a type of this id in a program's table, where `search` looks for the answer after the
+-- local value.
+abbrev pub answered_by : {A : Type 0} → Table → (RelocationKind → Subject → Value → Result (Resolved × A) RelocationError)
+    → ℕ → A → Question → Result (Resolved × A) RelocationError
+answered_by local search id candidates q =
     if is_local q.kind then Ok (local_id id, candidates)
     else (if is_nameless q.name then Err (AnonymousType id)
-    else (value_of local_pointer g.local q.kind (local_match q.subject)
-    >>= searched g q.kind q.subject candidates))
+    else (value_of local_pointer local q.kind (local_match q.subject) >>= search q.kind q.subject))
+
+abbrev pub answered : Setting → ℕ → List ℕ → Question → Result (Resolved × List ℕ) RelocationError
+answered g id candidates q = answered_by g.local (λ k s. searched g k s candidates) id candidates q
 
 -- two tables have one byte order
 abbrev pub same_order : Endianness → Endianness → Bool

@@ -4,6 +4,7 @@
 use Rattle.std.specs.Prelude.{ℕ, ◌==◌, if◌then◌else◌, Bool, List, [], ◌∷◌, slice_get, Option, Some, None, Result, Ok, Err}
 use Rattle.btf_model.specs.Record.{Record, kind_number}
 use Rattle.btf_model.specs.Table.{Table}
+use Rattle.btf_model.specs.declared.endianness.Endianness.{Endianness}
 use Rattle.btf_relocate_model.specs.Candidates.{candidates}
 use Rattle.btf_relocate_model.specs.Instruction.{patched_code}
 use Rattle.btf_relocate_model.specs.Resolution.{Setting, resolution, type_word, instruction_word}
@@ -31,25 +32,29 @@ abbrev pub outcome_of : Result (Patched × List ℕ) RelocationError → Result 
 outcome_of (Ok p) = Ok p.0
 outcome_of (Err e) = Err e
 
--- the patch of a record
+-- the patch of a record of a program of this byte order
+abbrev pub patch_in : {A : Type 0} → Endianness → List ℕ → List ℕ → Result (Resolved × A) RelocationError
+    → Result (Patched × List ℕ) RelocationError
+patch_in order code words (Ok r) = patched_code order r.0 code (instruction_word words)
+patch_in order code words (Err e) = Err e
+
 abbrev pub patch_of : Setting → List ℕ → List ℕ → Result (Resolved × List ℕ) RelocationError
     → Result (Patched × List ℕ) RelocationError
-patch_of g code words (Ok r) = patched_code g.local.order r.0 code (instruction_word words)
-patch_of g code words (Err e) = Err e
+patch_of g code words r = patch_in g.local.order code words r
 
 -- the candidates that remain after a record
-abbrev pub candidates_after : List ℕ → Result (Resolved × List ℕ) RelocationError → List ℕ
+abbrev pub candidates_after : {A : Type 0} → A → Result (Resolved × A) RelocationError → A
 candidates_after before (Ok r) = r.1
 candidates_after before (Err e) = before
 
 -- ---- all records
 
 -- the candidates of each type of the program's table, after those of one type have changed
-abbrev pub changed_at : ℕ → List ℕ → (ℕ → List ℕ) → ℕ → List ℕ
+abbrev pub changed_at : {A : Type 0} → ℕ → A → (ℕ → A) → ℕ → A
 changed_at id new left other = if id == other then new else left other
 
 -- the candidates for later records, by whether the records of a type share them
-abbrev pub left_after : Bool → List ℕ → Result (Resolved × List ℕ) RelocationError → (ℕ → List ℕ) → ℕ → List ℕ
+abbrev pub left_after : {A : Type 0} → Bool → List ℕ → Result (Resolved × A) RelocationError → (ℕ → A) → ℕ → A
 left_after is_shared words r left =
     if is_shared then changed_at (type_word words) (candidates_after (left (type_word words)) r) left else left
 
@@ -58,15 +63,22 @@ abbrev pub then_outcomes : Result Patched RelocationError → List (Result Patch
     → List (Result Patched RelocationError) × List ℕ
 then_outcomes o rest = (o ∷ rest.0, rest.1)
 
--- the outcome of each record, and the code after all of them, where `left` has the candidates of each type
+-- The outcome of each record of a program of this byte order, and the code after all of them, where `resolve` has what
+-- a record asks to be written for its candidates, and `left` has the candidates of each type.
+abbrev pub relocated_by : {A : Type 0} → Endianness → (A → List ℕ → Result (Resolved × A) RelocationError) → Bool
+    → (ℕ → A) → List ℕ → List (List ℕ) → List (Result Patched RelocationError) × List ℕ
+relocated_by order resolve is_shared left code [] = ([], code)
+relocated_by order resolve is_shared left code (words ∷ records) =
+    let r = resolve (left (type_word words)) words in
+    let p = patch_in order code words r in
+    then_outcomes (outcome_of p)
+    (relocated_by order resolve is_shared (left_after is_shared words r left) (code_after code p) records)
+
+-- the same for one target table
 abbrev pub relocated_from : Setting → Bool → (ℕ → List ℕ) → List ℕ → List (List ℕ)
     → List (Result Patched RelocationError) × List ℕ
-relocated_from g is_shared left code [] = ([], code)
-relocated_from g is_shared left code (words ∷ records) =
-    let r = resolution g (left (type_word words)) words in
-    let p = patch_of g code words r in
-    then_outcomes (outcome_of p)
-    (relocated_from g is_shared (left_after is_shared words r left) (code_after code p) records)
+relocated_from g is_shared left code records =
+    relocated_by g.local.order (resolution g) is_shared left code records
 
 -- The outcome of each record of a section, and its code after all of them.
 abbrev pub relocated_section : Setting → Bool → List ℕ → List (List ℕ)

@@ -4,7 +4,7 @@
 //! contract of a function that does nothing.
 #![tactic(auto)]
 
-ghost use Rattle.btf_relocate_model.specs.Laws.{WrittenReadsBack, WrittenKeepsTheRest, PoisonHasAReason, ExistenceAgrees, PatchesCommute, NeighboursExchange, StringsMayBeAppended, OwnTableGivesTheExpected, ExpectedKeepsTheCode, OwnTableKeepsTheCode, OwnTableKeepsTheSection, PathsMatchThemselves};
+ghost use Rattle.btf_relocate_model.specs.Laws.{WrittenReadsBack, WrittenKeepsTheRest, PoisonHasAReason, ExistenceAgrees, PatchesCommute, NeighboursExchange, StringsMayBeAppended, OwnTableGivesTheExpected, ExpectedKeepsTheCode, OwnTableKeepsTheCode, OwnTableKeepsTheSection, PathsMatchThemselves, WithoutModules};
 
 mod answer;
 mod comparison;
@@ -87,4 +87,9 @@ pub fn paths_match_themselves()
 /// candidates, leave the code of a section as it is.
 pub fn own_table_keeps_the_section()
     ensures { OwnTableKeepsTheSection }
+{}
+
+/// For a kernel without modules, the records of a section become what they become for the kernel's table alone.
+pub fn without_modules()
+    ensures { WithoutModules }
 {}

@@ -5,4 +5,4 @@ use Rattle.btf_relocate.proofs.resolving.answers.Given as goal
 
 abbrev pub invariant-loop-candidate : goal.invariant-loop-candidate
 invariant-loop-candidate l =
-    Left (answer_at l.local l.target l.question.kind (subject_view l.question.subject)) l.candidates l.common l.kept.items l.candidate-index
+    Left (answer_at l.local l.target l.question.kind (subject_view l.question.subject)) l.fn.first l.candidates l.common l.kept.items l.candidate-index

@@ -3,15 +3,13 @@ use Rattle.std.specs.Prelude.{◌⊎◌}
 use Rattle.std.specs.Global.{Vec}
 use Rattle.btf_model.specs.Table.{Table}
 use Rattle.btf_model.specs.declared.endianness.Endianness.{Endianness}
-use Rattle.btf_relocate_model.specs.Path.{local_pointer}
 use Rattle.btf_relocate_model.specs.Resolution as model
 use Rattle.btf_relocate_model.specs.Resolution.{Setting, Question, question, answers, candidate_answer, resolution, resolved_by, remaining, is_local}
 use Rattle.btf_relocate_model.specs.declared.answer.Answer.{Answer}
-use Rattle.btf_relocate_model.specs.declared.answer.Match.{Match}
 use Rattle.btf_relocate_model.specs.declared.error.RelocationError.TheVariants.{OutOfMemory}
 use Rattle.btf_relocate_model.specs.declared.resolved.Resolved.{Resolved}
 use Rattle.btf_relocate.specs.Resolving.{question_view}
-use Rattle.btf_relocate.proofs.Resolves.{has_name, Asked, refused, answered_by, remain_some, remain_none, left_refused}
+use Rattle.btf_relocate.proofs.Resolves.{Asked, refused, answered_by, remain_some, remain_none, left_refused}
 use Rattle.btf_relocate.proofs.resolving.resolve.Goals as goal
 use Rattle.btf_relocate.proofs.resolving.resolve.Goals.{then-is_some, else-is_some}
 
@@ -23,13 +21,11 @@ returns-in_err-answer c =
     let e = c.in_err-answer.field-0.0 in
     let order : c.endianness.result ≡ c.args.target.now.order = c.endianness.ensures ∙ ap (λ (t : Table). t.order) c.table.ensures in
     let asks : question g.local g.target.order words ≡ Ok q = ap (λ (o : Endianness). question g.local o words) (sym order) ∙ c.in_ok-question.ensures in
-    let own : model.local_match q.subject ≡ c.match-question-4.found = search rules in
     let searches : is_local q.kind ≡ false = search rules in
     let asked : Asked g c.args.candidates.now.items words q c.in_ok-expected.expected = record {
       asks = asks;
       searches = searches;
-      named = has_name q.name c.is_empty.result c.is_empty.ensures c.if-is_empty.false;
-      local_value = ap (λ (m : Match). model.value_of local_pointer g.local q.kind m) own ∙ sym c.in_ok-expected.ensures;
+      expects = sym c.in_ok-expected.ensures;
     } in
     let known = c.in_err-answer.ensures in
     left_refused c.args.candidates.now.items (resolution g c.args.candidates.now.items words) c.from_residual-in_err-answer.result e c.from_residual-in_err-answer.ensures.1
@@ -46,13 +42,11 @@ returns c =
     let q : Question = question_view c.in_ok-question.question in
     let order : c.endianness.result ≡ c.args.target.now.order = c.endianness.ensures ∙ ap (λ (t : Table). t.order) c.table.ensures in
     let asks : question g.local g.target.order words ≡ Ok q = ap (λ (o : Endianness). question g.local o words) (sym order) ∙ c.in_ok-question.ensures in
-    let own : model.local_match q.subject ≡ c.match-question-4.found = search rules in
     let searches : is_local q.kind ≡ false = search rules in
     let asked : Asked g c.args.candidates.now.items words q c.in_ok-expected.expected = record {
       asks = asks;
       searches = searches;
-      named = has_name q.name c.is_empty.result c.is_empty.ensures c.if-is_empty.false;
-      local_value = ap (λ (m : Match). model.value_of local_pointer g.local q.kind m) own ∙ sym c.in_ok-expected.ensures;
+      expects = sym c.in_ok-expected.ensures;
     } in
     let found : Option Answer × List ℕ = (c.in_ok-answer.answer, c.in_ok-answer.matching.items) in
     let known : answers (candidate_answer g q.kind q.subject) None c.as_slice.result.now ≡ Ok found =

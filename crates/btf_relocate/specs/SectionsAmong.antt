@@ -1,0 +1,35 @@
+-- What the parts of `relocate_section_among` return.
+use Rattle.std.specs.Prelude.{◌≡◌, ◌⊎◌, ℕ, List, Option, Some, None, Result, Err}
+use Rattle.std.specs.BTreeMap.{BTreeMap, get}
+use Rattle.std.specs.Ordering.{nat_cmp}
+use Rattle.btf_model.specs.Table.{Table}
+use Rattle.btf_relocate_model.specs.Modules as model
+use Rattle.btf_relocate_model.specs.Modules.{candidates_among, resolution_among}
+use Rattle.btf_relocate_model.specs.Section.{outcome_of, code_after, candidates_after, patch_in}
+use Rattle.btf_relocate_model.specs.declared.error.RelocationError.{RelocationError}
+use Rattle.btf_relocate_model.specs.declared.error.RelocationError.TheVariants.{OutOfMemory}
+use Rattle.btf_relocate_model.specs.declared.instruction.Patched.{Patched}
+use Rattle.btf_relocate.specs.Modules.{candidates_view}
+use Rattle.btf_relocate.specs.declared.modules.Candidates.{Candidates}
+use Rattle.btf_relocate.specs.declared.section.CandidatePolicy.{CandidatePolicy}
+use Rattle.btf_relocate.specs.declared.section.CandidatePolicy.TheVariants.{Shared, Fresh}
+
+-- the candidates in a map, and others if it has none
+abbrev pub view_or : model.Candidates → Option Candidates → model.Candidates
+view_or others (Some c) = candidates_view c
+view_or others None = others
+
+-- the candidates of each type, where records before have left these lists
+abbrev pub left_among : CandidatePolicy → Table → model.Targets → BTreeMap ℕ Candidates → ℕ → model.Candidates
+left_among Shared local ts m id = view_or (candidates_among local ts id) (get nat_cmp m id)
+left_among Fresh local ts m id = candidates_among local ts id
+
+-- A record was resolved for candidates of which `after` remain, and its instruction patched; or an allocation failed.
+abbrev pub RelocatedAmong : Table → model.Targets → List ℕ → Candidates → Candidates → List ℕ → List ℕ
+    → Result Patched RelocationError → Type 0
+RelocatedAmong local ts words before after old new outcome =
+    (outcome ≡ Err OutOfMemory)
+    ⊎ (let r = resolution_among local ts (candidates_view before) words in
+    let p = patch_in local.order old words r in
+    (candidates_view after ≡ candidates_after (candidates_view before) r) × (outcome ≡ outcome_of p)
+    × (new ≡ code_after old p))

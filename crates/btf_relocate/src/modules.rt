@@ -1,0 +1,183 @@
+//! Records for a kernel with modules.
+//!
+//! A type that the kernel's table does not have may be in the tables of modules. The tables of modules are searched only
+//! if the kernel's table has no candidate. All candidates of all modules must then have the same value.
+
+ghost use Rattle.std.specs.Prelude.{◌≡◌, map, None, IfOk};
+ghost use Rattle.btf_relocate_model.specs.Modules as model;
+ghost use Rattle.btf_relocate.specs.Gives.{GivesBy};
+ghost use Rattle.btf_relocate.specs.Modules.{HasResolvedAmong, answers_view, candidates_view, found_view, targets_view};
+ghost use Rattle.btf_relocate.specs.Resolving.{subject_view};
+
+use crate::resolving::{
+    Question, answers, expected_of, local_id, question_of, resolve, resolved_by, validates,
+};
+use crate::section::candidates_of;
+use crate::target::Target;
+use btf_relocate_model::{Answer, RelocationError, RelocationKind, Resolved};
+use btf_table::Btf;
+use std::alloc::{AllocError, Global};
+
+/// The tables that a program is relocated against: the kernel's, and those of its modules.
+#[derive(Clone, Copy, Debug)]
+pub struct Targets<'a, 't> {
+    /// The kernel's table.
+    pub kernel: &'a Target<'t>,
+    /// The tables of modules, in the order in which they are searched. Each is whole: the kernel's types and then the
+    /// module's own. They have the byte order of the kernel's table.
+    pub modules: &'a [Target<'t>],
+}
+
+/// Candidates in the table of a module.
+#[derive(Debug, Drop)]
+pub struct InModule<'a, 't> {
+    /// The table.
+    pub target: &'a Target<'t>,
+    /// The ids of the candidates.
+    pub ids: Vec<u32>,
+}
+
+/// The candidates of a type.
+#[derive(Debug, Drop)]
+pub enum Candidates<'a, 't> {
+    /// All are in the kernel's table.
+    InKernel(Vec<u32>),
+    /// All are in the tables of modules.
+    InModules(Vec<InModule<'a, 't>>),
+}
+
+/// The candidates of a type of the program's table, for [`resolve_among`]; none if the id has no type. The tables of
+/// modules are searched only if the kernel's table has no candidate. `OutOfMemory` is the only error.
+pub fn candidates_among<'a, 't>(
+    alloc: Global,
+    local: &Btf,
+    targets: &Targets<'a, 't>,
+    type_id: u32,
+) -> Result<Candidates<'a, 't>, AllocError>
+    ensures { IfOk result (λ c. candidates_view c
+        ≡ model.candidates_among local.now (targets_view targets.now) type_id) }
+{
+    let ids = candidates_of(alloc, local, targets.kernel, type_id)?;
+    if !ids.is_empty() || targets.modules.is_empty() {
+        return Ok(Candidates::InKernel(ids));
+    }
+    let found = found_in(alloc, local, targets.modules, type_id)?;
+    Ok(Candidates::InModules(found))
+}
+
+/// The candidates of a type of the program's table in each of these tables.
+fn found_in<'a, 't>(
+    alloc: Global,
+    local: &Btf,
+    targets: &'a [Target<'t>],
+    type_id: u32,
+) -> Result<Vec<InModule<'a, 't>>, AllocError>
+    ensures { IfOk result (λ found. map found_view found.items
+        ≡ map (model.found_in local.now type_id) targets.now) }
+{
+    let mut found = Vec::with_capacity(alloc, targets.len())?;
+    for target in targets {
+        let ids = candidates_of(alloc, local, target, type_id)?;
+        found.push(InModule { target, ids })?;
+    }
+    Ok(found)
+}
+
+/// The value of a record for a kernel with modules; see [`resolve`], which does the same for one table.
+///
+/// `candidates` are those of the record's type, as [`candidates_among`] gives them. If at least one of them matches, the
+/// others are removed. All that match must have the same value, also those in different tables.
+pub fn resolve_among(
+    alloc: Global,
+    local: &Btf,
+    targets: &Targets<'_, '_>,
+    record: &[u32; 4],
+    candidates: &mut Candidates<'_, '_>,
+) -> Result<Resolved, RelocationError>
+    ensures { HasResolvedAmong candidates_view candidates.old candidates.new (model.resolution_among
+        local.now (targets_view targets.now) (candidates_view candidates.old) «record».now) result }
+{
+    match candidates {
+        Candidates::InKernel(ids) => resolve(alloc, local, targets.kernel, record, ids),
+        Candidates::InModules(found) => {
+            resolve_in_modules(alloc, local, targets.kernel, record, found)
+        }
+    }
+}
+
+/// The value of a record whose candidates are in the tables of modules.
+fn resolve_in_modules<'a, 't>(
+    alloc: Global,
+    local: &Btf,
+    kernel: &Target<'_>,
+    record: &[u32; 4],
+    found: &mut Vec<InModule<'a, 't>>,
+) -> Result<Resolved, RelocationError>
+    ensures { HasResolvedAmong (λ v. map found_view v.items) found.old found.new
+        (model.resolution_in_modules local.now kernel.now (map found_view found.old.items)
+        «record».now) result }
+{
+    let type_id = record[1];
+    let question = question_of(alloc, local, kernel.table().endianness(), record)?;
+    if let RelocationKind::TypeIdLocal = question.kind {
+        return Ok(local_id(type_id));
+    }
+    let expected = expected_of(local, type_id, &question)?;
+    let (answer, matching) = answers_among(alloc, local, &question, found.as_slice())?;
+    let validates = validates(question.kind, &question.subject);
+    let target = first_table(kernel.table(), &matching);
+    let resolved = resolved_by(
+        local,
+        target,
+        question.kind,
+        validates,
+        &expected,
+        answer,
+    );
+    if answer.is_some() {
+        *found = matching;
+    }
+    Ok(resolved)
+}
+
+/// The answer of all candidates that match, and these candidates. Each is compared in its own table.
+fn answers_among<'a, 't>(
+    alloc: Global,
+    local: &Btf,
+    question: &Question<'_>,
+    found: &[InModule<'a, 't>],
+) -> Result<(Option<Answer>, Vec<InModule<'a, 't>>), RelocationError>
+    ensures { GivesBy answers_view (model.answers_among (model.answer_in local.now question.now.kind
+        (subject_view question.now.subject)) None (map found_view found.now)) result }
+{
+    let mut common = None;
+    let mut matching = Vec::with_capacity(alloc, found.len())?;
+    for one in found {
+        let (answer, ids) = answers(
+            alloc,
+            local,
+            one.target,
+            question,
+            common,
+            one.ids.as_slice(),
+        )?;
+        common = answer;
+        matching.push(InModule {
+            target: one.target,
+            ids,
+        })?;
+    }
+    Ok((common, matching))
+}
+
+/// The table of the first of these candidates, and another if there is none.
+fn first_table<'b>(other: &'b Btf, found: &'b [InModule<'_, '_>]) -> &'b Btf
+    ensures { result.now ≡ model.first_table other.now (map found_view found.now) }
+{
+    for one in found {
+        if !one.ids.is_empty() {
+            return one.target.table();
+        }
+    }
+    other
+}
