@@ -377,8 +377,9 @@ static inline struct vbtf_error *vbtf_error_or(struct vbtf_error *error, struct 
 
 /*
  * Writes the text of a status, and of the error that the call described, to the buffer, with a zero byte after it, and
- * returns the buffer. Without an error, the text has 0 in place of its number, and no name. If the buffer is too short,
- * the text is truncated. If an allocation for the text fails, the text is "out of memory".
+ * returns the buffer. Without an error, the text has 0 in place of its number, and no name. For VBTF_RELOCATION_REFUSED
+ * it is the reason of the error; without an error, "a relocation has an error". If the buffer is too short, the text is
+ * truncated. If an allocation for the text fails, the text is "out of memory".
  */
 static inline const char *vbtf_error_text(uint32_t status, const struct vbtf_error *error, char *out, size_t room)
 {
@@ -394,11 +395,11 @@ static inline const char *vbtf_error_text(uint32_t status, const struct vbtf_err
 	uint64_t len = 0;
 	uint32_t answer;
 	size_t end = 0;
-	if (status == VBTF_OK) {
+	if (status == VBTF_OK)
 		text = "no error";
-	} else if (status >= VBTF_NO_ROOM) {
-		text = status - VBTF_NO_ROOM < sizeof texts / sizeof *texts ? texts[status - VBTF_NO_ROOM] : text;
-	} else {
+	else if (status >= VBTF_NO_ROOM && status - VBTF_NO_ROOM < sizeof texts / sizeof *texts)
+		text = texts[status - VBTF_NO_ROOM];
+	if (status < VBTF_NO_ROOM || status == VBTF_RELOCATION_REFUSED) {
 		unknown.number = status;
 		answer = vbtf_raw_error_text(error ? error : &unknown, written, sizeof written - 1, &len);
 		written[len < sizeof written ? len : 0] = 0;
@@ -827,7 +828,8 @@ static inline uint32_t vbtf_sanitize_object(const void *object, size_t len, cons
  * VBTF_NOT_AN_OBJECT, as of vbtf_sanitize_object; VBTF_NO_TABLE; those of vbtf_parse for the object's table, and those
  * of vbtf_open_ext for its .BTF.ext; then for each section of relocations VBTF_BAD_SECTION_NAME, VBTF_SHARED_PLACE, and
  * without VBTF_KEEP_REFUSED the first record with an error as VBTF_RELOCATION_REFUSED: error.id is the number of the
- * reason in docs/C.md, error.offset the string offset of the section's name, and error.len the index of the record.
+ * reason in docs/C.md, error.section_len its kind, id or offset, error.offset the string offset of the section's name,
+ * and error.len the index of the record.
  * VBTF_CLOSED if the table is not open; VBTF_BAD_ARGUMENT if another bit of `options` is set. After an error the buffer
  * and the tally are unchanged. Without an open index (vbtf_target_open) the call makes one, and frees it.
  */
@@ -862,8 +864,9 @@ static inline uint32_t vbtf_target_open(struct vbtf_table *table, struct vbtf_er
  * is the table of the program. The relocation has all candidates of the target, as in the kernel. Both tables may be
  * one.
  *
- * VBTF_RELOCATION_REFUSED if the relocation has an error: error.id is the number of the reason in docs/C.md.
- * VBTF_CLOSED if a table or the index of the target is not open. After an error `relocated` is unchanged.
+ * VBTF_RELOCATION_REFUSED if the relocation has an error: error.id is the number of the reason in docs/C.md, and
+ * error.section_len its kind, id or offset. VBTF_CLOSED if a table or the index of the target is not open. After an
+ * error `relocated` is unchanged.
  */
 static inline uint32_t vbtf_relocate(const struct vbtf_table *local, const struct vbtf_table *target,
                                      const struct vbtf_relocation *relocation, struct vbtf_relocated *relocated,

@@ -39,6 +39,7 @@ mod orders;
 mod parts;
 mod program;
 mod read;
+mod refused;
 mod relocate;
 mod rewrite;
 mod seed;
