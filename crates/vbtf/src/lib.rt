@@ -43,6 +43,7 @@ mod refused;
 mod relocate;
 mod rewrite;
 mod seed;
+mod split;
 mod target;
 mod value;
 mod version;
