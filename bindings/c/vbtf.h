@@ -293,6 +293,11 @@ void vbtf_close(struct vbtf_table *table);
 uint32_t vbtf_raw_parse(struct vbtf_table *table, const uint8_t *data, size_t len, uint32_t order,
                         struct vbtf_error *error);
 uint32_t vbtf_lent_clone(struct vbtf_table *table, struct vbtf_table *copy, struct vbtf_error *error);
+uint32_t vbtf_lent_parse_over(struct vbtf_table *base, struct vbtf_table *table, const uint8_t *data, size_t len,
+                              uint32_t order, struct vbtf_error *error);
+uint32_t vbtf_lent_split_bytes(struct vbtf_table *table, uint32_t base_types, uint32_t base_strings, uint8_t *out,
+                               size_t room, uint64_t *needed, struct vbtf_error *error);
+uint32_t vbtf_lent_string_len(struct vbtf_table *table, uint32_t *len, struct vbtf_error *error);
 uint32_t vbtf_raw_add_string(struct vbtf_table *table, const uint8_t *text, size_t len, uint32_t *offset,
                              struct vbtf_error *error);
 uint32_t vbtf_raw_add_type(struct vbtf_table *table, const uint8_t *record, size_t len, uint32_t order, uint32_t *id,
@@ -480,6 +485,49 @@ static inline uint32_t vbtf_bytes(const struct vbtf_table *table, void *out, siz
 	struct vbtf_table loan = vbtf_loan(table);
 	uint8_t none;
 	return vbtf_lent_bytes(&loan, out ? (uint8_t *)out : &none, out ? room : 0, needed, vbtf_error_or(error, &unread));
+}
+
+/* ---- split tables */
+
+/*
+ * Opens a closed table with the types of a base and those of a split table over it, such as the BTF of a kernel module
+ * over that of the kernel. The ids of the split table begin after the last id of the base, and its string offsets after
+ * the strings of the base. The table has its own copy of the base, which may then be closed.
+ *
+ * The errors are those of vbtf_parse for the data; also VBTF_INVALID_HEADER if the strings of both are longer than
+ * 4294967295 bytes, or VBTF_INVALID_TYPE_INFO if the types are. VBTF_CLOSED if the base is not open. After an error
+ * the table is unchanged.
+ */
+static inline uint32_t vbtf_parse_over(struct vbtf_table *table, const struct vbtf_table *base, const void *data,
+                                       size_t len, uint32_t order, struct vbtf_error *error)
+{
+	struct vbtf_error unread;
+	struct vbtf_table loan = vbtf_loan(base);
+	return vbtf_lent_parse_over(&loan, table, vbtf_bytes_or_none(data), len, order, vbtf_error_or(error, &unread));
+}
+
+/*
+ * Writes the types of a table above a base as the bytes of a split table, as vbtf_bytes writes the whole. The base is
+ * the first `base_types` types, including the type of id 0, and the first `base_strings` bytes of the strings: the
+ * vbtf_count and the vbtf_string_len of the base. VBTF_UNKNOWN_TYPE if `base_types` is 0 or the table has fewer types;
+ * otherwise VBTF_INVALID_STRING_OFFSET if the table has fewer bytes of strings.
+ */
+static inline uint32_t vbtf_split_bytes(const struct vbtf_table *table, uint32_t base_types, uint32_t base_strings,
+                                        void *out, size_t room, uint64_t *needed, struct vbtf_error *error)
+{
+	struct vbtf_error unread;
+	struct vbtf_table loan = vbtf_loan(table);
+	uint8_t none;
+	return vbtf_lent_split_bytes(&loan, base_types, base_strings, out ? (uint8_t *)out : &none, out ? room : 0,
+	                             needed, vbtf_error_or(error, &unread));
+}
+
+/* The length of the strings of a table in bytes. */
+static inline uint32_t vbtf_string_len(const struct vbtf_table *table, uint32_t *len, struct vbtf_error *error)
+{
+	struct vbtf_error unread;
+	struct vbtf_table loan = vbtf_loan(table);
+	return vbtf_lent_string_len(&loan, len, vbtf_error_or(error, &unread));
 }
 
 /* ---- read */

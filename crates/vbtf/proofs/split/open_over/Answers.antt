@@ -1,5 +1,4 @@
 use Rattle.std.proofs.Common.{◌≡◌, ◌∙◌, ap, inl, inr, refl, subst, sym, Ok}
-use Rattle.btf_model.specs.Table.{Table}
 use Rattle.btf_model.specs.declared.endianness.Endianness.{Endianness}
 use Rattle.btf_plain.specs.Error.{MeetsOrNoMemory, refusal_of}
 use Rattle.btf_split_model.specs.Split.{IsJoined, Joins}
