@@ -293,6 +293,11 @@ void vbtf_close(struct vbtf_table *table);
 uint32_t vbtf_raw_parse(struct vbtf_table *table, const uint8_t *data, size_t len, uint32_t order,
                         struct vbtf_error *error);
 uint32_t vbtf_lent_clone(struct vbtf_table *table, struct vbtf_table *copy, struct vbtf_error *error);
+uint32_t vbtf_lent_parse_over(struct vbtf_table *base, struct vbtf_table *table, const uint8_t *data, size_t len,
+                              uint32_t order, struct vbtf_error *error);
+uint32_t vbtf_lent_split_bytes(struct vbtf_table *table, uint32_t base_types, uint32_t base_strings, uint8_t *out,
+                               size_t room, uint64_t *needed, struct vbtf_error *error);
+uint32_t vbtf_lent_string_len(struct vbtf_table *table, uint32_t *len, struct vbtf_error *error);
 uint32_t vbtf_raw_add_string(struct vbtf_table *table, const uint8_t *text, size_t len, uint32_t *offset,
                              struct vbtf_error *error);
 uint32_t vbtf_raw_add_type(struct vbtf_table *table, const uint8_t *record, size_t len, uint32_t order, uint32_t *id,
@@ -377,8 +382,9 @@ static inline struct vbtf_error *vbtf_error_or(struct vbtf_error *error, struct 
 
 /*
  * Writes the text of a status, and of the error that the call described, to the buffer, with a zero byte after it, and
- * returns the buffer. Without an error, the text has 0 in place of its number, and no name. If the buffer is too short,
- * the text is truncated. If an allocation for the text fails, the text is "out of memory".
+ * returns the buffer. Without an error, the text has 0 in place of its number, and no name. For VBTF_RELOCATION_REFUSED
+ * it is the reason of the error; without an error, "a relocation has an error". If the buffer is too short, the text is
+ * truncated. If an allocation for the text fails, the text is "out of memory".
  */
 static inline const char *vbtf_error_text(uint32_t status, const struct vbtf_error *error, char *out, size_t room)
 {
@@ -394,11 +400,11 @@ static inline const char *vbtf_error_text(uint32_t status, const struct vbtf_err
 	uint64_t len = 0;
 	uint32_t answer;
 	size_t end = 0;
-	if (status == VBTF_OK) {
+	if (status == VBTF_OK)
 		text = "no error";
-	} else if (status >= VBTF_NO_ROOM) {
-		text = status - VBTF_NO_ROOM < sizeof texts / sizeof *texts ? texts[status - VBTF_NO_ROOM] : text;
-	} else {
+	else if (status >= VBTF_NO_ROOM && status - VBTF_NO_ROOM < sizeof texts / sizeof *texts)
+		text = texts[status - VBTF_NO_ROOM];
+	if (status < VBTF_NO_ROOM || status == VBTF_RELOCATION_REFUSED) {
 		unknown.number = status;
 		answer = vbtf_raw_error_text(error ? error : &unknown, written, sizeof written - 1, &len);
 		written[len < sizeof written ? len : 0] = 0;
@@ -479,6 +485,49 @@ static inline uint32_t vbtf_bytes(const struct vbtf_table *table, void *out, siz
 	struct vbtf_table loan = vbtf_loan(table);
 	uint8_t none;
 	return vbtf_lent_bytes(&loan, out ? (uint8_t *)out : &none, out ? room : 0, needed, vbtf_error_or(error, &unread));
+}
+
+/* ---- split tables */
+
+/*
+ * Opens a closed table with the types of a base and those of a split table over it, such as the BTF of a kernel module
+ * over that of the kernel. The ids of the split table begin after the last id of the base, and its string offsets after
+ * the strings of the base. The table has its own copy of the base, which may then be closed.
+ *
+ * The errors are those of vbtf_parse for the data; also VBTF_INVALID_HEADER if the strings of both are longer than
+ * 4294967295 bytes, or VBTF_INVALID_TYPE_INFO if the types are. VBTF_CLOSED if the base is not open. After an error
+ * the table is unchanged.
+ */
+static inline uint32_t vbtf_parse_over(struct vbtf_table *table, const struct vbtf_table *base, const void *data,
+                                       size_t len, uint32_t order, struct vbtf_error *error)
+{
+	struct vbtf_error unread;
+	struct vbtf_table loan = vbtf_loan(base);
+	return vbtf_lent_parse_over(&loan, table, vbtf_bytes_or_none(data), len, order, vbtf_error_or(error, &unread));
+}
+
+/*
+ * Writes the types of a table above a base as the bytes of a split table, as vbtf_bytes writes the whole. The base is
+ * the first `base_types` types, including the type of id 0, and the first `base_strings` bytes of the strings: the
+ * vbtf_count and the vbtf_string_len of the base. VBTF_UNKNOWN_TYPE if `base_types` is 0 or the table has fewer types;
+ * otherwise VBTF_INVALID_STRING_OFFSET if the table has fewer bytes of strings.
+ */
+static inline uint32_t vbtf_split_bytes(const struct vbtf_table *table, uint32_t base_types, uint32_t base_strings,
+                                        void *out, size_t room, uint64_t *needed, struct vbtf_error *error)
+{
+	struct vbtf_error unread;
+	struct vbtf_table loan = vbtf_loan(table);
+	uint8_t none;
+	return vbtf_lent_split_bytes(&loan, base_types, base_strings, out ? (uint8_t *)out : &none, out ? room : 0,
+	                             needed, vbtf_error_or(error, &unread));
+}
+
+/* The length of the strings of a table in bytes. */
+static inline uint32_t vbtf_string_len(const struct vbtf_table *table, uint32_t *len, struct vbtf_error *error)
+{
+	struct vbtf_error unread;
+	struct vbtf_table loan = vbtf_loan(table);
+	return vbtf_lent_string_len(&loan, len, vbtf_error_or(error, &unread));
 }
 
 /* ---- read */
@@ -827,7 +876,8 @@ static inline uint32_t vbtf_sanitize_object(const void *object, size_t len, cons
  * VBTF_NOT_AN_OBJECT, as of vbtf_sanitize_object; VBTF_NO_TABLE; those of vbtf_parse for the object's table, and those
  * of vbtf_open_ext for its .BTF.ext; then for each section of relocations VBTF_BAD_SECTION_NAME, VBTF_SHARED_PLACE, and
  * without VBTF_KEEP_REFUSED the first record with an error as VBTF_RELOCATION_REFUSED: error.id is the number of the
- * reason in docs/C.md, error.offset the string offset of the section's name, and error.len the index of the record.
+ * reason in docs/C.md, error.section_len its kind, id or offset, error.offset the string offset of the section's name,
+ * and error.len the index of the record.
  * VBTF_CLOSED if the table is not open; VBTF_BAD_ARGUMENT if another bit of `options` is set. After an error the buffer
  * and the tally are unchanged. Without an open index (vbtf_target_open) the call makes one, and frees it.
  */
@@ -862,8 +912,9 @@ static inline uint32_t vbtf_target_open(struct vbtf_table *table, struct vbtf_er
  * is the table of the program. The relocation has all candidates of the target, as in the kernel. Both tables may be
  * one.
  *
- * VBTF_RELOCATION_REFUSED if the relocation has an error: error.id is the number of the reason in docs/C.md.
- * VBTF_CLOSED if a table or the index of the target is not open. After an error `relocated` is unchanged.
+ * VBTF_RELOCATION_REFUSED if the relocation has an error: error.id is the number of the reason in docs/C.md, and
+ * error.section_len its kind, id or offset. VBTF_CLOSED if a table or the index of the target is not open. After an
+ * error `relocated` is unchanged.
  */
 static inline uint32_t vbtf_relocate(const struct vbtf_table *local, const struct vbtf_table *target,
                                      const struct vbtf_relocation *relocation, struct vbtf_relocated *relocated,

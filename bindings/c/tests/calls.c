@@ -327,6 +327,31 @@ static void error_texts(void)
 	}
 }
 
+/* The texts of the errors of relocations, by their numbers. */
+static void relocation_texts(void)
+{
+	static const char *const texts[] = {
+		"the tables have different byte orders", "unknown relocation kind 7", "unknown BTF type 7",
+		"invalid string offset 7", "maximum depth of types reached at 7", "type 7 has no name", "invalid access string",
+		"an index of the access is out of range", "type 7 has no size", "a field begins past bit 4294967295",
+		"the relocation needs a member", "no load of 8 bytes holds the bit-field",
+		"type 7 cannot be the type of a bit-field", "a member of more than 8 bytes has no shift",
+		"the path to a field is deeper than 64 levels", "candidates of the target give different values",
+		"the instruction's offset is not a multiple of 8", "the instruction is outside the section",
+		"the second slot of the instruction is outside the section", "the instruction has no immediate",
+		"the instruction does not have the value of the local type", "the value does not fit in the immediate",
+		"the value does not fit in the offset", "the size of the access is not the size of the local field",
+		"the size of the target's field is not 1, 2, 4 or 8", "the instruction is no load of a 64-bit immediate",
+		"the instruction cannot be patched", "out of memory",
+	};
+	for (uint32_t i = 0; i < sizeof texts / sizeof *texts; i++) {
+		const struct vbtf_error error = AN_ERROR(VBTF_RELOCATION_REFUSED, i + 1, 0, 0, 7);
+		text_of(error.number, &error, texts[i]);
+	}
+	const struct vbtf_error unknown = AN_ERROR(VBTF_RELOCATION_REFUSED, 29, 0, 0, 0);
+	text_of(unknown.number, &unknown, "a relocation has an error");
+}
+
 /* The longest text of an error fits. */
 static void longest_error_text(void)
 {
@@ -352,6 +377,7 @@ int main(void)
 	rewritten();
 	denied();
 	error_texts();
+	relocation_texts();
 	longest_error_text();
 	struct vbtf_table little = opened(VBTF_LITTLE), big = opened(VBTF_BIG);
 	types(&little);

@@ -54,6 +54,30 @@ static uint32_t copy(struct vbtf_table *table)
 	return status;
 }
 
+/* The table over itself: the ids of the second one are not checked. */
+static uint32_t parse_over(struct vbtf_table *table)
+{
+	struct vbtf_table made = VBTF_TABLE_INIT;
+	uint32_t status = vbtf_parse_over(&made, table, blob, sizeof blob, VBTF_LITTLE, &error);
+	check((status == VBTF_OK) == (made.state == 1));
+	vbtf_close(&made);
+	return status;
+}
+
+static uint32_t split_bytes(struct vbtf_table *table)
+{
+	uint8_t bytes[TABLE_LEN];
+	uint64_t needed;
+	return vbtf_split_bytes(table, 2, 1, bytes, sizeof bytes, &needed, &error);
+}
+
+static uint32_t string_len(struct vbtf_table *table)
+{
+	uint32_t len = 0, status = vbtf_string_len(table, &len, &error);
+	check(len == (status == VBTF_OK ? sizeof STRINGS : 0));
+	return status;
+}
+
 static uint32_t write_out(struct vbtf_table *table)
 {
 	uint8_t bytes[TABLE_LEN];
@@ -190,6 +214,9 @@ static const struct {
 	{ "vbtf_parse", parse },
 	{ "vbtf_new", make },
 	{ "vbtf_clone", copy },
+	{ "vbtf_parse_over", parse_over },
+	{ "vbtf_split_bytes", split_bytes },
+	{ "vbtf_string_len", string_len },
 	{ "vbtf_bytes", write_out },
 	{ "vbtf_text_at", text },
 	{ "vbtf_find", missing },

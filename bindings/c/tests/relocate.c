@@ -109,11 +109,14 @@ static void repeated(const struct file *file, const struct vbtf_table *target)
 {
 	struct vbtf_tally tally = { 9, 9, 9 };
 	struct file again;
+	char text[VBTF_ERROR_ROOM];
 	uint8_t byte = 1;
 	uint64_t needed = 0;
 	check(vbtf_relocate_object(file->bytes, file->len, target, 0, SEED, &byte, 1, &needed, &tally, &error)
 	      == VBTF_RELOCATION_REFUSED);
 	check(error.number == VBTF_RELOCATION_REFUSED && error.id == 21 && error.offset != 0 && error.len == 0);
+	check(strcmp(vbtf_error_text(error.number, &error, text, sizeof text),
+	             "the instruction does not have the value of the local type") == 0);
 	check(byte == 1 && tally.records == 9 && tally.poisoned == 9 && tally.refused == 9);
 	again = relocated(file, target, VBTF_KEEP_REFUSED, &tally);
 	check(tally.records == 4 && tally.poisoned == 0 && tally.refused == 4);

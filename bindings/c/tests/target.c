@@ -122,24 +122,29 @@ static void refused(void)
 	struct vbtf_table table = with_access(VBTF_LITTLE, &access), big = with_access(VBTF_BIG, &other);
 	const struct {
 		struct vbtf_relocation relocation;
-		uint32_t id;
+		uint32_t id, field;
+		const char *text;
 	} rows[] = {
-		{ { 0, 4, access.member, 13 }, 2 },
-		{ { 0, 99, access.member, 0 }, 3 },
-		{ { 0, 4, 100000, 0 }, 4 },
-		{ { 0, 5, access.type, 7 }, 6 },
-		{ { 0, 4, access.bad, 0 }, 7 },
+		{ { 0, 4, access.member, 13 }, 2, 13, "unknown relocation kind 13" },
+		{ { 0, 99, access.member, 0 }, 3, 99, "unknown BTF type 99" },
+		{ { 0, 4, 100000, 0 }, 4, 100000, "invalid string offset 100000" },
+		{ { 0, 5, access.type, 7 }, 6, 5, "type 5 has no name" },
+		{ { 0, 4, access.bad, 0 }, 7, 0, "invalid access string" },
 	};
+	char text[VBTF_ERROR_ROOM];
 	check(vbtf_target_open(&table, &error) == VBTF_OK);
 	for (size_t i = 0; i < sizeof rows / sizeof *rows; i++) {
 		struct vbtf_relocated relocated = { 9, 9, 9, 9, true, true, true };
 		memset(&error, 1, sizeof error);
 		check(vbtf_relocate(&table, &table, &rows[i].relocation, &relocated, &error) == VBTF_RELOCATION_REFUSED);
 		check(error.number == VBTF_RELOCATION_REFUSED && error.id == rows[i].id);
-		check(error.offset == 0 && error.len == 0 && error.section_len == 0 && error.name_len == 0);
+		check(error.offset == 0 && error.len == 0 && error.section_len == rows[i].field && error.name_len == 0);
+		check(strcmp(vbtf_error_text(error.number, &error, text, sizeof text), rows[i].text) == 0);
 		check(relocated.expected == 9 && relocated.value == 9 && relocated.local_size == 9);
 	}
 	check(status_for(&big, &table, other.member) == VBTF_RELOCATION_REFUSED && error.id == 1);
+	check(strcmp(vbtf_error_text(error.number, &error, text, sizeof text), "the tables have different byte orders") == 0);
+	check(strcmp(vbtf_error_text(error.number, NULL, text, sizeof text), "a relocation has an error") == 0);
 	vbtf_close(&big);
 	vbtf_close(&table);
 }

@@ -1,10 +1,10 @@
 -- The outcome of a call in which an allocation failed, or that returned an error.
 use Rattle.std.proofs.Common.{inl, inr, ℕ, ◌≡◌, sym, subst, ◌∙◌}
 use Rattle.std.proofs.Math.Nat.{suc-ne-zero}
-use Rattle.std.specs.Prelude.{◌⊎◌, Option, Some, None, Result, Err, IfSome}
+use Rattle.std.specs.Prelude.{◌⊎◌, Option, Some, None, Result, Ok, Err, IfSome}
 use Rattle.btf_model.specs.Refusal as refusals
 use Rattle.btf_model.specs.Refusal.{Refusal}
-use Rattle.btf_plain.specs.Error.{MeetsOrNoMemory, refusal_of}
+use Rattle.btf_plain.specs.Error.{IsOrNoMemory, MeetsOrNoMemory, refusal_of}
 use Rattle.btf_plain.specs.declared.error.BtfError.{BtfError}
 use Rattle.btf_plain.specs.declared.error.BtfError.TheVariants.{OutOfMemory}
 use Rattle.vbtf.specs.declared.fault.Fault.{Fault}
@@ -21,6 +21,11 @@ pub boxed_error : {Y : Type 0} (answer : Result Y BtfError) (error : BtfError) (
     → MeetsOrNoMemory (λ y. y) answer P → (answer ≡ Err error) ⊎ (error ≡ OutOfMemory) → IfSome (refusal_of error) (λ r. P (Err r))
 boxed_error answer error P meets (inl is) = subst (λ a. MeetsOrNoMemory (λ y. y) a P) is meets
 boxed_error answer error P meets (inr full) = subst (λ e. IfSome (refusal_of e) (λ r. P (Err r))) (sym full) tt
+
+-- the value of a call that has no other
+pub only_value : {Y : Type 0} (answer : Result Y BtfError) (found t : Y) → IsOrNoMemory (λ y. y) answer (Ok t)
+    → answer ≡ Ok found → (λ (a : Result Y Refusal). a ≡ Ok t) (Ok found)
+only_value answer found t only is = subst (λ a. IsOrNoMemory (λ y. y) a (Ok t)) is only
 
 pub ends_refused : {Y : Type 0} (status : ℕ) (value : Y) (fault : Fault) (o : Option Refusal) (P : Result Y Refusal → Type 0)
     → IfSome o (λ r. P (Err r)) → ReportsError status fault o → EndsOrNoMemory status value fault P

@@ -86,6 +86,23 @@ place_of relocation.BadLdImm64 = 26
 place_of relocation.NotPatchable = 27
 place_of relocation.OutOfMemory = 28
 
+-- The field of an error: a kind, the id of a type, or a string offset; 0 if it has none.
+abbrev pub detail_of : RelocationError → ℕ
+detail_of (relocation.UnknownKind kind) = kind
+detail_of (relocation.UnknownBtfType type_id) = type_id
+detail_of (relocation.InvalidStringOffset offset) = offset
+detail_of (relocation.MaximumTypeDepthReached type_id) = type_id
+detail_of (relocation.AnonymousType type_id) = type_id
+detail_of (relocation.NoSize type_id) = type_id
+detail_of (relocation.BadBitfield type_id) = type_id
+detail_of e = 0
+
+-- The status and the fault report the error of a record, with its field, the string offset of the section's name and
+-- the index of the record in the section.
+abbrev pub ReportsRefused : ℕ → Fault → RelocationError → ℕ → ℕ → Type 0
+ReportsRefused status fault e name_offset index = ReportsNumber status fault 107
+    (record no_details { id = place_of e; offset = name_offset; len = index; section_len = detail_of e })
+
 -- The status and the fault report the reason for which an object is not relocated, or a failed allocation.
 abbrev pub ReportsReason : ℕ → Fault → LoaderError → Type 0
 ReportsReason status fault (Object (elf.Parse e)) =
@@ -94,8 +111,7 @@ ReportsReason status fault (Object elf.OutOfMemory) = ReportsNoMemory status fau
 ReportsReason status fault NoTable = ReportsNumber status fault 105 no_details
 ReportsReason status fault (Table e) = ReportsError status fault (refusal_of e)
 ReportsReason status fault (Ext e) = ReportsError status fault (refusal_of e)
-ReportsReason status fault (Refused name_offset index cause) =
-    ReportsNumber status fault 107 (record no_details { id = place_of cause; offset = name_offset; len = index })
+ReportsReason status fault (Refused name_offset index cause) = ReportsRefused status fault cause name_offset index
 ReportsReason status fault (SharedPlace index) = ReportsNumber status fault 108 (record no_details { offset = index })
 ReportsReason status fault (SectionName name_offset) =
     ReportsNumber status fault 109 (record no_details { offset = name_offset })

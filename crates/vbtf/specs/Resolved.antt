@@ -6,9 +6,8 @@ use Rattle.btf_relocate_model.specs.Section.{candidates_of}
 use Rattle.btf_relocate_model.specs.declared.error.RelocationError.{RelocationError}
 use Rattle.btf_relocate_model.specs.declared.error.RelocationError.TheVariants.{OutOfMemory}
 use Rattle.btf_relocate_model.specs.declared.resolved.Resolved.{Resolved}
-use Rattle.vbtf.specs.Object.{ReportsNumber}
-use Rattle.vbtf.specs.Relocate.{place_of}
-use Rattle.vbtf.specs.Status.{no_details, ReportsNoMemory}
+use Rattle.vbtf.specs.Relocate.{ReportsRefused}
+use Rattle.vbtf.specs.Status.{ReportsNoMemory}
 use Rattle.vbtf.specs.declared.fault.Fault.{Fault}
 use Rattle.vbtf.specs.declared.target.Relocated.{Relocated}
 use Rattle.vbtf.specs.declared.target.Relocation.{Relocation}
@@ -36,7 +35,7 @@ relocated_of r = record {
 -- The status and the fault report the error of a record, or a failed allocation.
 abbrev pub ReportsRelocation : ℕ → Fault → RelocationError → Type 0
 ReportsRelocation status fault OutOfMemory = ReportsNoMemory status fault
-ReportsRelocation status fault e = ReportsNumber status fault 107 (record no_details { id = place_of e })
+ReportsRelocation status fault e = ReportsRefused status fault e 0 0
 
 -- The result for a record that has all candidates of the target, or its first error, or a failed allocation.
 abbrev pub Resolves : Table → Table → Relocation → Result Resolved RelocationError → Type 0

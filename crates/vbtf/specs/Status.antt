@@ -152,6 +152,11 @@ Fills items old new needed status =
     × (((status ≡ 0) × (length items ≤ length old) × (new ≡ items ++ drop (length items) old))
     ⊎ ((status ≡ 100) × (length old < length items) × (new ≡ old)))
 
+-- The outcomes of a call that writes a text to a buffer: a text, or a failed allocation, and the buffer is unchanged.
+abbrev pub WritesText : List ℕ → List ℕ → ℕ → ℕ → Type 0
+WritesText old new needed status =
+    ((status ≡ no_memory) × (new ≡ old)) ⊎ ((text : List ℕ) × Fills text old new needed status)
+
 -- The outcomes of a call that writes bytes to a buffer: bytes that meet P; or an error that meets P or a failed
 -- allocation, and the buffer is unchanged.
 abbrev pub EndsFilling : ℕ → List ℕ → List ℕ → ℕ → Fault → (Result (List ℕ) Refusal → Type 0) → Type 0

@@ -1,17 +1,20 @@
 //! The texts of errors.
 
-ghost use Rattle.std.specs.Prelude.{◌≡◌, ◌⊎◌, ◌<◌, ◌≤◌, List, ℕ};
-ghost use Rattle.vbtf.specs.Status.{Fills, no_memory};
+ghost use Rattle.std.specs.Prelude.{◌≡◌, ◌≢◌, ◌⊎◌, ◌<◌, ◌≤◌};
+ghost use Rattle.vbtf.specs.Status.{WritesText, no_memory};
 
 use crate::fault::{Fault, INVALID_ARGUMENT, OUT_OF_MEMORY};
+use crate::refused::{RELOCATION_REFUSED, error_at};
 use crate::write::fill;
 use btf::BtfError;
 use std::alloc::{AllocError, Global};
 
 /// The library's text of an error, in UTF-8, without a zero byte at the end. It has as much of a name as the error has.
+/// The error of a relocation record has number 107, and the text of the `RelocationError` at the position `id`, whose
+/// field is `section_len`.
 ///
 /// Status 100 if the buffer is too small (it is then unchanged); 20 if an allocation fails; 102 if the
-/// number is that of no error of the library.
+/// number is that of no error of the library, or the position that of no `RelocationError`.
 #[unsafe(no_mangle)]
 pub extern "C" fn vbtf_raw_error_text(
     alloc: Global,
@@ -20,18 +23,37 @@ pub extern "C" fn vbtf_raw_error_text(
     needed: &mut u64,
 ) -> u32
     ensures text { 1 ≤ fault.now.number → fault.now.number ≤ no_memory
-        → ((result ≡ no_memory) × (out.new ≡ out.old))
-        ⊎ ((text : List ℕ) × Fills text out.old out.new needed.new result) }
-    ensures no_error { (fault.now.number < 1) ⊎ (no_memory < fault.now.number)
+        → WritesText out.old out.new needed.new result }
+    ensures relocation { fault.now.number ≡ 107 → 1 ≤ fault.now.id → fault.now.id ≤ 28
+        → WritesText out.old out.new needed.new result }
+    ensures no_relocation { fault.now.number ≡ 107 → (fault.now.id < 1) ⊎ (28 < fault.now.id)
         → (result ≡ INVALID_ARGUMENT) × (out.new ≡ out.old) }
+    ensures no_error { (fault.now.number < 1) ⊎ (no_memory < fault.now.number)
+        → fault.now.number ≢ 107 → (result ≡ INVALID_ARGUMENT) × (out.new ≡ out.old) }
 {
-    if fault.number < 1 || fault.number > OUT_OF_MEMORY {
-        return INVALID_ARGUMENT;
+    match fault.number {
+        1..=OUT_OF_MEMORY => write(text_of(alloc, fault), out, needed),
+        RELOCATION_REFUSED => match error_at(fault.id, field_of(fault)) {
+            Some(error) => write(error.to_string(alloc), out, needed),
+            None => INVALID_ARGUMENT,
+        },
+        _ => INVALID_ARGUMENT,
     }
-    match text_of(alloc, fault) {
+}
+
+/// Writes a text to a buffer if there is one.
+fn write(text: Result<String, AllocError>, out: &mut [u8], needed: &mut u64) -> u32
+    ensures { WritesText out.old out.new needed.new result }
+{
+    match text {
         Ok(text) => fill(text.as_bytes(), out, needed),
         Err(_) => OUT_OF_MEMORY,
     }
+}
+
+/// The field of the error of a relocation record. A fault of the library has one of 32 bits.
+fn field_of(fault: &Fault) -> u32 {
+    u32::try_from(fault.section_len).unwrap_or(u32::MAX)
 }
 
 /// The text of the error that a fault describes.

@@ -45,7 +45,14 @@ pub struct Fault {
 }
 
 /// Writes a status without a name.
-fn write(fault: &mut Fault, number: u32, id: u32, offset: u64, len: u64, section_len: u64) -> u32
+pub(crate) fn write(
+    fault: &mut Fault,
+    number: u32,
+    id: u32,
+    offset: u64,
+    len: u64,
+    section_len: u64,
+) -> u32
     ensures status { result ≡ number }
     ensures number { fault.new.number ≡ number }
     ensures details { HasDetails fault.new
@@ -67,16 +74,6 @@ pub(crate) fn report_number(fault: &mut Fault, number: u32, id: u32, offset: u64
     ensures details { HasDetails fault.new (record no_details { id = id; offset = offset }) }
 {
     write(fault, number, id, offset, 0, 0)
-}
-
-/// Writes a status that is no error of `btf`, with a number, an offset and a length or index.
-pub(crate) fn report_numbers(fault: &mut Fault, number: u32, id: u32, offset: u64, len: u64) -> u32
-    ensures status { result ≡ number }
-    ensures number { fault.new.number ≡ number }
-    ensures details { HasDetails fault.new
-        (record no_details { id = id; offset = offset; len = len }) }
-{
-    write(fault, number, id, offset, len, 0)
 }
 
 /// The number of bytes of a name that fit in a fault.

@@ -4,15 +4,14 @@ ghost use Rattle.std.specs.Prelude.{◌≡◌, ◌≢◌, ◌<◌, ◌≤◌, �
 ghost use Rattle.btf_loader.specs.Results.{outcomes_of, refuses_errors};
 ghost use Rattle.btf_plain.specs.declared.error.BtfError.TheVariants.{OutOfMemory as NoMemory};
 ghost use Rattle.btf_relocate.specs.Sections.{is_shared};
-ghost use Rattle.vbtf.specs.Relocate.{Outcome as Said, shares_candidates, refuses_records, outcomes_in, all_outcomes, Counts, place_of, ReportsReason, EndsRelocating};
+ghost use Rattle.vbtf.specs.Relocate.{Outcome as Said, shares_candidates, refuses_records, outcomes_in, all_outcomes, Counts, ReportsReason, EndsRelocating};
 ghost use Rattle.vbtf.specs.Status.{Keeps};
 
-use crate::fault::{
-    CLOSED, Fault, INVALID_ARGUMENT, OUT_OF_MEMORY, report, report_number, report_numbers,
-};
+use crate::fault::{CLOSED, Fault, INVALID_ARGUMENT, OUT_OF_MEMORY, report, report_number};
 use crate::handle::{Handle, lent};
 use crate::object::{NO_TABLE, report_parse};
 use crate::opened::Opened;
+use crate::refused::report_refused;
 use crate::seed::Keys;
 use crate::write::fill;
 use btf::BtfError;
@@ -20,11 +19,8 @@ use btf_elf::ObjectError;
 use btf_loader::{
     CandidatePolicy, LoaderError, Outcome, Refusals, SectionOutcomes, Target, relocate_object_with,
 };
-use btf_relocate::{Patched, RelocationError};
+use btf_relocate::Patched;
 use std::alloc::Global;
-
-/// A relocation record has an error.
-pub(crate) const RELOCATION_REFUSED: u32 = 107;
 
 /// Another section has bytes in the place of a section with relocations.
 const SHARED_PLACE: u32 = 108;
@@ -61,9 +57,9 @@ pub struct Tally {
 /// as in `vbtf_raw_sanitize_object`; 105 if no section is `.BTF`; 1 to 19 with the first error of the table or of
 /// `.BTF.ext`. Then for each section of records: 109 if its name cannot be read; `offset` is the string offset. 108 if
 /// another section has bytes in the place of its code; `offset` is the index of the section with code. 107 if a record
-/// has an error; `id` is the position of the error in `RelocationError`, from 1 on, `offset` the string offset of the
-/// section's name, and `len` the index of the record. 20 if an allocation fails; 101 if the handle's state is not 2;
-/// 102 if another bit of the options is set.
+/// has an error; `id` is the position of the error in `RelocationError`, from 1 on, `section_len` its field or 0,
+/// `offset` the string offset of the section's name, and `len` the index of the record. 20 if an allocation fails; 101
+/// if the handle's state is not 2; 102 if another bit of the options is set.
 #[unsafe(no_mangle)]
 pub extern "C" fn vbtf_lent_relocate_object(
     alloc: Global,
@@ -230,51 +226,9 @@ fn report_reason(error: LoaderError, fault: &mut Fault) -> u32
             name_offset,
             index,
             cause,
-        } => report_numbers(
-            fault,
-            RELOCATION_REFUSED,
-            error_place(cause),
-            name_offset as u64,
-            index as u64,
-        ),
+        } => report_refused(cause, name_offset as u64, index as u64, fault),
         LoaderError::Object(ObjectError::OutOfMemory) | LoaderError::OutOfMemory => {
             report_number(fault, OUT_OF_MEMORY, 0, 0)
         }
-    }
-}
-
-/// The position of an error in `RelocationError`, from 1 on.
-pub(crate) fn error_place(error: RelocationError) -> u32
-    ensures { result ≡ place_of error }
-{
-    match error {
-        RelocationError::OrderMismatch => 1,
-        RelocationError::UnknownKind { .. } => 2,
-        RelocationError::UnknownBtfType { .. } => 3,
-        RelocationError::InvalidStringOffset { .. } => 4,
-        RelocationError::MaximumTypeDepthReached { .. } => 5,
-        RelocationError::AnonymousType { .. } => 6,
-        RelocationError::BadAccess => 7,
-        RelocationError::BadIndex => 8,
-        RelocationError::NoSize { .. } => 9,
-        RelocationError::BitOffsetTooBig => 10,
-        RelocationError::NotForElement => 11,
-        RelocationError::BitfieldTooWide => 12,
-        RelocationError::BadBitfield { .. } => 13,
-        RelocationError::ShiftTooWide => 14,
-        RelocationError::TooDeep => 15,
-        RelocationError::Ambiguous => 16,
-        RelocationError::Misaligned => 17,
-        RelocationError::NoInstruction => 18,
-        RelocationError::NoSecondSlot => 19,
-        RelocationError::NotImmediate => 20,
-        RelocationError::WrongImmediate => 21,
-        RelocationError::ImmediateOverflow => 22,
-        RelocationError::OffsetTooBig => 23,
-        RelocationError::WrongAccessSize => 24,
-        RelocationError::BadAccessSize => 25,
-        RelocationError::BadLdImm64 => 26,
-        RelocationError::NotPatchable => 27,
-        RelocationError::OutOfMemory => 28,
     }
 }

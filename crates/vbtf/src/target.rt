@@ -10,7 +10,7 @@ ghost use Rattle.vbtf.specs.Status.{Keeps};
 use crate::fault::{CLOSED, Fault, INVALID_ARGUMENT, OUT_OF_MEMORY, report, report_number};
 use crate::handle::{Handle, lent, owner, taken, taken_to_change};
 use crate::opened::Opened;
-use crate::relocate::{RELOCATION_REFUSED, error_place};
+use crate::refused::report_refused;
 use btf::{Btf, BtfError};
 use btf_relocate::{RelocationError, Resolved, Target, TargetIndex, candidates_of, resolve};
 use std::alloc::Global;
@@ -86,9 +86,9 @@ pub extern "C" fn vbtf_target_close(alloc: Global, table: &mut Handle)
 /// Relocates one record of a program's table for a target: writes what it asks to be written. The record has all
 /// candidates of the target, as in the kernel.
 ///
-/// Status 107 if the record has an error; `id` is the position of the error in `RelocationError`, from 1 on. 20 if an
-/// allocation fails; 101 if the state of one of the handles is not 2, or the target has no open index. `relocated` is
-/// then unchanged.
+/// Status 107 if the record has an error; `id` is the position of the error in `RelocationError`, from 1 on, and
+/// `section_len` its field or 0. 20 if an allocation fails; 101 if the state of one of the handles is not 2, or the
+/// target has no open index. `relocated` is then unchanged.
 #[unsafe(no_mangle)]
 pub extern "C" fn vbtf_lent_relocate(
     alloc: Global,
@@ -216,6 +216,6 @@ fn report_relocation(error: RelocationError, fault: &mut Fault) -> u32
 {
     match error {
         RelocationError::OutOfMemory => report_number(fault, OUT_OF_MEMORY, 0, 0),
-        error => report_number(fault, RELOCATION_REFUSED, error_place(error), 0),
+        error => report_refused(error, 0, 0, fault),
     }
 }

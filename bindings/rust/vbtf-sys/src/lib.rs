@@ -181,6 +181,28 @@ extern "C" {
         order: u32,
         error: *mut vbtf_error,
     ) -> u32;
+    pub fn vbtf_lent_parse_over(
+        base: *mut vbtf_table,
+        table: *mut vbtf_table,
+        data: *const u8,
+        len: usize,
+        order: u32,
+        error: *mut vbtf_error,
+    ) -> u32;
+    pub fn vbtf_lent_split_bytes(
+        table: *mut vbtf_table,
+        base_types: u32,
+        base_strings: u32,
+        out: *mut u8,
+        room: usize,
+        needed: *mut u64,
+        error: *mut vbtf_error,
+    ) -> u32;
+    pub fn vbtf_lent_string_len(
+        table: *mut vbtf_table,
+        len: *mut u32,
+        error: *mut vbtf_error,
+    ) -> u32;
     pub fn vbtf_raw_add_string(
         table: *mut vbtf_table,
         text: *const u8,

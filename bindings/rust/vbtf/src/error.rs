@@ -18,7 +18,6 @@ fn own_text(status: u32) -> Option<&'static str> {
         INVALID_ARGUMENT => Some("invalid argument"),
         NOT_AN_OBJECT => Some("not an ELF object that is read here"),
         NO_TABLE => Some("the object has no section .BTF"),
-        RELOCATION_REFUSED => Some("a relocation has an error"),
         SHARED_PLACE => Some("a section with relocations shares its place with another section"),
         BAD_SECTION_NAME => Some("the name of a section of relocations cannot be read"),
         _ => None,
@@ -109,6 +108,8 @@ pub enum Error {
     RelocationRefused {
         /// The number of the reason in `docs/C.md`, from 1 on.
         reason: u32,
+        /// The kind, the id of a type or the string offset of the reason; 0 if it has none.
+        detail: u32,
         /// The string offset of the name of the record's section.
         name_offset: u64,
         /// The index of the record in the section.
@@ -153,6 +154,7 @@ impl Error {
             NO_TABLE => Error::NoTable,
             RELOCATION_REFUSED => Error::RelocationRefused {
                 reason: error.id,
+                detail: error.section_len as u32,
                 name_offset: error.offset,
                 index: error.len,
             },
@@ -183,8 +185,8 @@ impl Error {
             Error::InvalidArgument => (INVALID_ARGUMENT, 0, 0, 0, 0, ""),
             Error::NotAnObject { reason, detail } => (NOT_AN_OBJECT, *reason, *detail, 0, 0, ""),
             Error::NoTable => (NO_TABLE, 0, 0, 0, 0, ""),
-            Error::RelocationRefused { reason, name_offset, index } => {
-                (RELOCATION_REFUSED, *reason, *name_offset, *index, 0, "")
+            Error::RelocationRefused { reason, detail, name_offset, index } => {
+                (RELOCATION_REFUSED, *reason, *name_offset, *index, u64::from(*detail), "")
             }
             Error::SharedPlace { index } => (SHARED_PLACE, 0, *index, 0, 0, ""),
             Error::BadSectionName { name_offset } => (BAD_SECTION_NAME, 0, *name_offset, 0, 0, ""),
@@ -229,6 +231,7 @@ impl fmt::Display for Error {
         });
         match text {
             Ok(text) => f.write_str(&String::from_utf8_lossy(&text)),
+            Err(Error::InvalidArgument) => f.write_str("a relocation has an error"),
             Err(_) => f.write_str("out of memory"),
         }
     }

@@ -118,6 +118,57 @@ impl Table {
         })
     }
 
+    /// The types of a base and those of a split table over it, such as the BTF of a kernel module over that of the
+    /// kernel. The ids of the split table begin after the last id of the base, and its string offsets after the strings
+    /// of the base. The table has its own copy of the base.
+    ///
+    /// ```
+    /// use vbtf::{Endianness, Table};
+    ///
+    /// let base = Table::new()?;
+    /// let split = Table::new()?.to_bytes()?;
+    /// let table = Table::parse_over(&base, &split, Endianness::Little)?;
+    /// assert_eq!(table.string_len()?, 2);
+    /// assert_eq!(table.split_bytes(base.len(), base.string_len()?)?, split);
+    /// # Ok::<(), vbtf::Error>(())
+    /// ```
+    ///
+    /// # Errors
+    ///
+    /// Those of [`Table::parse`] for the data; also [`Error::InvalidHeader`] if the strings of both are longer than
+    /// 4294967295 bytes, or [`Error::InvalidTypeInfo`] if the types are.
+    pub fn parse_over(base: &Table, data: &[u8], endianness: Endianness) -> Result<Self, Error> {
+        let mut handle = Self::closed();
+        let (at, len, order) = (data.as_ptr(), data.len(), endianness as u32);
+        // SAFETY: the loan and the slice live as long as the call, and the table is closed.
+        called::<()>(|_, error| unsafe {
+            vbtf_lent_parse_over(&mut base.loan(), &mut handle, at, len, order, error)
+        })?;
+        Ok(Self { handle, room: base.room + data.len() })
+    }
+
+    /// The types of the table above a base as the bytes of a split table. The base is the first `base_types` types,
+    /// including the type of id 0, and the first `base_strings` bytes of the strings: the [`Table::len`] and the
+    /// [`Table::string_len`] of the base.
+    ///
+    /// # Errors
+    ///
+    /// [`Error::UnknownBtfType`] if `base_types` is 0 or the table has fewer types; otherwise
+    /// [`Error::InvalidStringOffset`] if the table has fewer bytes of strings.
+    pub fn split_bytes(&self, base_types: u32, base_strings: u32) -> Result<Vec<u8>, Error> {
+        // SAFETY: the loan lives as long as the call.
+        written(256, |out, room, needed, error| unsafe {
+            let mut loan = self.loan();
+            vbtf_lent_split_bytes(&mut loan, base_types, base_strings, out, room, needed, error)
+        })
+    }
+
+    /// The length of the strings in bytes; [`Error::OutOfMemory`] if an allocation fails.
+    pub fn string_len(&self) -> Result<u32, Error> {
+        // SAFETY: as above.
+        called(|len, error| unsafe { vbtf_lent_string_len(&mut self.loan(), len, error) })
+    }
+
     /// The number of types of the table, including the type of id 0.
     pub fn len(&self) -> u32 {
         let mut count = 0;

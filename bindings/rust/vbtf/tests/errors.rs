@@ -30,7 +30,15 @@ fn errors_have_the_library_s_texts() {
         (Error::NotAnObject { reason: 1, detail: 0 }, "not an ELF object that is read here"),
         (Error::NoTable, "the object has no section .BTF"),
         (
-            Error::RelocationRefused { reason: 21, name_offset: 9, index: 0 },
+            Error::RelocationRefused { reason: 21, detail: 0, name_offset: 9, index: 0 },
+            "the instruction does not have the value of the local type",
+        ),
+        (
+            Error::RelocationRefused { reason: 6, detail: 3, name_offset: 0, index: 0 },
+            "type 3 has no name",
+        ),
+        (
+            Error::RelocationRefused { reason: 29, detail: 0, name_offset: 0, index: 0 },
             "a relocation has an error",
         ),
         (

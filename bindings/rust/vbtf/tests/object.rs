@@ -38,7 +38,7 @@ fn relocated_code_has_other_values_than_its_table() {
     let (relocated, _) = kernel.relocate_object(&object, Relocate::default()).unwrap();
     let error = kernel.relocate_object(&relocated, Relocate::default()).unwrap_err();
     assert!(matches!(error, Error::RelocationRefused { reason: 21, index: 0, .. }));
-    assert_eq!(error.to_string(), "a relocation has an error");
+    assert_eq!(error.to_string(), "the instruction does not have the value of the local type");
     let how = Relocate { fresh_candidates: false, keep_refused: true };
     let (again, tally) = kernel.relocate_object(&relocated, how).unwrap();
     assert_eq!((tally.records, tally.poisoned, tally.refused), (4, 0, 4));

@@ -65,10 +65,12 @@ fn records_with_errors_are_refused() {
     let (program, [member, _]) = program();
     let target = Target::new(kernel()).unwrap();
     let refused = |record| target.relocate(&program, &record).unwrap_err();
-    let because = |reason| Error::RelocationRefused { reason, name_offset: 0, index: 0 };
-    assert_eq!(refused(record(member, 13)), because(2));
-    assert_eq!(refused(Relocation { type_id: 3, ..record(member, 0) }), because(3));
-    assert_eq!(refused(record(member, 7)), because(7));
+    let because =
+        |reason, detail| Error::RelocationRefused { reason, detail, name_offset: 0, index: 0 };
+    assert_eq!(refused(record(member, 13)), because(2, 13));
+    assert_eq!(refused(record(member, 13)).to_string(), "unknown relocation kind 13");
+    assert_eq!(refused(Relocation { type_id: 3, ..record(member, 0) }), because(3, 3));
+    assert_eq!(refused(record(member, 7)), because(7, 0));
 }
 
 #[test]

@@ -1,0 +1,164 @@
+//! Split tables: the types of a kernel module over those of the kernel, its base.
+
+ghost use Rattle.std.specs.Prelude.{◌≡◌, ◌≢◌, ◌<◌, ◌≤◌, length, Ok};
+ghost use Rattle.btf_model.specs.Table.{Table};
+ghost use Rattle.btf_split_model.specs.Split.{IsJoined, Joins, split_blob};
+ghost use Rattle.vbtf.specs.Orders.{order_chosen};
+ghost use Rattle.vbtf.specs.Status.{EndsFilling, EndsOrNoMemory, Keeps, Opens};
+
+use crate::fault::{CLOSED, Fault, INVALID_ARGUMENT, report};
+use crate::handle::{Handle, lent, owner};
+use crate::open::boxed;
+use crate::orders::chosen_order;
+use crate::write::fill;
+use btf::Btf;
+use btf_split::{parse_split, split_bytes, string_len};
+use std::alloc::Global;
+
+/// Opens a handle with the types of a base and those that a blob has over this base: its ids begin after the last id of
+/// the base, and its string offsets after the strings of the base. The table has its own copy of the base. `order` is
+/// the byte order, as of `vbtf_raw_parse`.
+///
+/// Status 1, 2 or 4 with the first error, 20 if an allocation fails, 101 if the state of `base` is not 2, and 102 if
+/// `table` is not closed or the order is another number; `table` is then unchanged.
+#[unsafe(no_mangle)]
+pub extern "C" fn vbtf_lent_parse_over(
+    alloc: Global,
+    base: &mut Handle,
+    table: &mut Handle,
+    data: &[u8],
+    order: u32,
+    fault: &mut Fault,
+) -> u32
+    ensures opened { base.old.state ≡ 2 → table.old.state ≡ 0 → order ≤ 2
+        → Opens result table.old table.new fault.new
+        (Joins (order_chosen order «data».now) base.old.opened.btf «data».now) }
+    // An error means that the bytes are no table over the base.
+    ensures only_table { base.old.state ≡ 2 → table.old.state ≡ 0 → order ≤ 2
+        → (t : Table) → IsJoined (order_chosen order «data».now) base.old.opened.btf «data».now t
+        → Opens result table.old table.new fault.new (λ answer. answer ≡ Ok t) }
+    ensures open { base.old.state ≡ 2 → table.old.state ≢ 0
+        → (result ≡ INVALID_ARGUMENT) × (table.new ≡ table.old) }
+    ensures order { base.old.state ≡ 2 → 2 < order
+        → (result ≡ INVALID_ARGUMENT) × (table.new ≡ table.old) }
+    ensures closed { base.old.state ≢ 2 → (result ≡ CLOSED) × (table.new ≡ table.old) }
+    ensures kept { Keeps base.old base.new }
+{
+    let Some(loan) = lent(base) else {
+        return CLOSED;
+    };
+    let status = open_over(alloc, &loan.get().btf, table, data, order, fault);
+    *base = Handle::from_loan(loan);
+    status
+}
+
+/// Opens a handle with the types of a base and those of a blob over it.
+fn open_over(
+    alloc: Global,
+    base: &Btf,
+    table: &mut Handle,
+    data: &[u8],
+    order: u32,
+    fault: &mut Fault,
+) -> u32
+    ensures opened { table.old.state ≡ 0 → order ≤ 2
+        → Opens result table.old table.new fault.new
+        (Joins (order_chosen order «data».now) base.now «data».now) }
+    ensures only_table { table.old.state ≡ 0 → order ≤ 2
+        → (t : Table) → IsJoined (order_chosen order «data».now) base.now «data».now t
+        → Opens result table.old table.new fault.new (λ answer. answer ≡ Ok t) }
+    ensures open { table.old.state ≢ 0 → (result ≡ INVALID_ARGUMENT) × (table.new ≡ table.old) }
+    ensures order { 2 < order → (result ≡ INVALID_ARGUMENT) × (table.new ≡ table.old) }
+{
+    let Some(endianness) = chosen_order(order, data) else {
+        return INVALID_ARGUMENT;
+    };
+    if table.seen() != 0 {
+        return INVALID_ARGUMENT;
+    }
+    match boxed(alloc, parse_split(alloc, base, data, endianness)) {
+        Ok(whole) => {
+            *table = owner(whole);
+            0
+        }
+        Err(error) => report(error, fault),
+    }
+}
+
+/// Writes the blob of the types of a table above a base to a buffer, and its length in bytes to `needed`. The base is
+/// the first `base_types` types, including the type of id 0, and the first `base_strings` bytes of the strings:
+/// `vbtf_lent_count` and `vbtf_lent_string_len` of the base.
+///
+/// Status 100 if the buffer is too small (it is then unchanged); 9 if `base_types` is 0 or the table has fewer types;
+/// otherwise 6 if the table has fewer bytes of strings; 20 if an allocation fails, and 101 if the handle's state is not
+/// 2.
+#[unsafe(no_mangle)]
+pub extern "C" fn vbtf_lent_split_bytes(
+    table: &mut Handle,
+    base_types: u32,
+    base_strings: u32,
+    out: &mut [u8],
+    needed: &mut u64,
+    fault: &mut Fault,
+) -> u32
+    ensures written { table.old.state ≡ 2 → EndsFilling result out.old out.new needed.new fault.new
+        (λ answer. answer ≡ split_blob base_types base_strings table.old.opened.btf) }
+    ensures closed { table.old.state ≢ 2 → (result ≡ CLOSED) × (out.new ≡ out.old) }
+    ensures kept { Keeps table.old table.new }
+{
+    let Some(loan) = lent(table) else {
+        return CLOSED;
+    };
+    let status = write_above(
+        &loan.get().btf,
+        base_types,
+        base_strings,
+        out,
+        needed,
+        fault,
+    );
+    *table = Handle::from_loan(loan);
+    status
+}
+
+/// Writes the blob of the types of a table above a base to a buffer.
+fn write_above(
+    table: &Btf,
+    base_types: u32,
+    base_strings: u32,
+    out: &mut [u8],
+    needed: &mut u64,
+    fault: &mut Fault,
+) -> u32
+    ensures { EndsFilling result out.old out.new needed.new fault.new
+        (λ answer. answer ≡ split_blob base_types base_strings table.now) }
+{
+    match split_bytes(table, base_types, base_strings) {
+        Ok(bytes) => fill(&bytes, out, needed),
+        Err(error) => report(error, fault),
+    }
+}
+
+/// The length of a table's strings in bytes.
+///
+/// Status 20 if an allocation fails, and 101 if the handle's state is not 2.
+#[unsafe(no_mangle)]
+pub extern "C" fn vbtf_lent_string_len(table: &mut Handle, len: &mut u32, fault: &mut Fault) -> u32
+    ensures counted { table.old.state ≡ 2 → EndsOrNoMemory result len.new fault.new
+        (λ answer. answer ≡ Ok (length table.old.opened.btf.strings)) }
+    ensures closed { table.old.state ≢ 2 → result ≡ CLOSED }
+    ensures kept { Keeps table.old table.new }
+{
+    let Some(loan) = lent(table) else {
+        return CLOSED;
+    };
+    let answer = string_len(&loan.get().btf);
+    *table = Handle::from_loan(loan);
+    match answer {
+        Ok(found) => {
+            *len = found;
+            0
+        }
+        Err(error) => report(error, fault),
+    }
+}
