@@ -14,9 +14,10 @@ use Rattle.btf_plain.specs.Error.{refusal_of}
 use Rattle.btf_plain.specs.declared.error.BtfError.{BtfError}
 use Rattle.btf_plain.specs.declared.error.BtfError.TheVariants as plain
 use Rattle.btf_loader_model.specs.Loader.{AreSections, bytes_named}
-use Rattle.btf_loader_model.specs.Refused.{Reason, HasTable, HasReason, IsReason, sections_reason}
+use Rattle.btf_loader_model.specs.Refused.{Reason, HasTable, HasReason, IsReasonAmong, sections_reason}
 use Rattle.btf_object_model.specs.Sanitized.{table_name, ext_name}
-use Rattle.btf_relocate.specs.Sections.{setting}
+use Rattle.btf_relocate_model.specs.Modules.{Targets}
+use Rattle.btf_loader.specs.Results.{setting}
 use Rattle.btf_loader.specs.Errors.{of_object, of_table, of_ext, IsReport, IsCause}
 use Rattle.btf_loader.specs.declared.error.LoaderError.{LoaderError}
 use Rattle.btf_loader.specs.declared.error.LoaderError.TheVariants as loader
@@ -43,9 +44,9 @@ are_sections o h section local e sections header has_ext is_ext are =
     subst (λ (b : Option (List ℕ)). AreSections o.header.order local.strings b sections) has_ext
     (e, subst (λ (x : FileHeader). IsExt x.order section local.strings (Ok e)) header is_ext, are)
 
-module _ (bytes : List ℕ) (target : Table) (is_shared refuses_errors : Bool) where
+module _ (bytes : List ℕ) (targets : Targets) (is_shared refuses_errors : Bool) where
   abbrev pub Is : Option Reason → Type 0
-  Is reason = IsReason bytes target is_shared refuses_errors reason
+  Is reason = IsReasonAmong bytes targets is_shared refuses_errors reason
 
   -- the bytes are no object
   pub object_cause : (e : ObjectError) → IsObjectReason bytes e → IsCause Is (of_object e)
@@ -75,9 +76,9 @@ module _ (bytes : List ℕ) (target : Table) (is_shared refuses_errors : Bool) w
   module _ (o : Object) (local : Table) (sections : List (ℕ × List (List ℕ))) (has : HasTable bytes o local)
       (are : AreSections o.header.order local.strings (bytes_named o ext_name) sections) where
     abbrev pub found : Option Reason
-    found = sections_reason (setting local target) is_shared refuses_errors o bytes sections
+    found = sections_reason (setting local targets) is_shared refuses_errors o bytes sections
 
-    has_reason : (reason : Option Reason) → found ≡ reason → HasReason bytes target is_shared refuses_errors reason
+    has_reason : (reason : Option Reason) → found ≡ reason → HasReason bytes targets is_shared refuses_errors reason
     has_reason reason is = record { object = o; local = local; has_table = has; sections = sections; are_sections = are; reason_is = is }
 
     -- a section of records is refused

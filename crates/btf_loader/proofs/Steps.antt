@@ -3,7 +3,7 @@ use Rattle.std.proofs.Common.{◌≡◌, ℕ, List, ◌++◌, map, Bool}
 use Rattle.std.specs.Prelude.{Vec}
 use Rattle.btf_elf_model.specs.Object.{Object}
 use Rattle.btf_ext.specs.Relocation.{relocation}
-use Rattle.btf_relocate_model.specs.Resolution.{Setting}
+use Rattle.btf_relocate_model.specs.Modules.{KernelSetting}
 use Rattle.btf_loader_model.specs.Loader.{Outcomes, relocated_file}
 use Rattle.btf_loader.specs.Results.{outcomes_of}
 use Rattle.btf_loader.specs.declared.step.SectionOutcomes.{SectionOutcomes}
@@ -12,7 +12,7 @@ use Rattle.btf_loader.specs.declared.step.SectionOutcomes.{SectionOutcomes}
 abbrev pub after_these : List (ℕ × Outcomes) → List (ℕ × Outcomes) × List ℕ → List (ℕ × Outcomes) × List ℕ
 after_these so_far rest = (so_far ++ rest.0, rest.1)
 
-module _ (g : Setting) (is_shared : Bool) (o : Object) where
+module _ (g : KernelSetting) (is_shared : Bool) (o : Object) where
   -- what is made of these sections
   abbrev pub made : {A : Type 0} → List ℕ → List (ℕ × Vec (List ℕ) A) → List (ℕ × Outcomes) × List ℕ
   made file all = relocated_file g is_shared o file (map relocation all)

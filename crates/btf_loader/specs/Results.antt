@@ -1,5 +1,7 @@
 -- What the steps of the loader return, in the definitions' terms.
 use Rattle.std.specs.Prelude.{ℕ, option_map, Bool, true, false}
+use Rattle.btf_model.specs.Table.{Table}
+use Rattle.btf_relocate_model.specs.Modules.{KernelSetting, Targets}
 use Rattle.btf_loader_model.specs.Loader.{Outcomes}
 use Rattle.btf_loader.specs.declared.step.Refusals.{Refusals}
 use Rattle.btf_loader.specs.declared.step.Refusals.TheVariants.{Refuse, Keep}
@@ -13,3 +15,7 @@ outcomes_of s = (s.name_offset, option_map (λ v. v.items) s.outcomes)
 abbrev pub refuses_errors : Refusals → Bool
 refuses_errors Refuse = true
 refuses_errors Keep = false
+
+-- a program's table, and the tables that it is relocated against
+abbrev pub setting : Table → Targets → KernelSetting
+setting local targets = record { local = local; targets = targets }

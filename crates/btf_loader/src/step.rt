@@ -9,9 +9,10 @@ ghost use Rattle.btf_loader_model.specs.Refused.{BadRecord, BadSectionName, bad_
 ghost use Rattle.btf_loader.specs.Errors.{Reports};
 ghost use Rattle.btf_loader.specs.Names.{HasIndices};
 ghost use Rattle.btf_loader.specs.Places.{HasPlaces};
-ghost use Rattle.btf_loader.specs.Results.{outcomes_of, refuses_errors};
+ghost use Rattle.btf_loader.specs.Results.{outcomes_of, refuses_errors, setting};
 ghost use Rattle.btf_loader.specs.declared.step.Refusals.TheVariants.{Refuse};
-ghost use Rattle.btf_relocate.specs.Sections.{is_shared, setting};
+ghost use Rattle.btf_relocate.specs.Modules.{targets_view};
+ghost use Rattle.btf_relocate.specs.Sections.{is_shared};
 ghost use Rattle.btf_table.specs.Readable.{IsReadableEnd};
 
 use crate::error::LoaderError;
@@ -20,7 +21,7 @@ use crate::places::Places;
 use btf_elf::{Object, SectionHeader};
 use btf_object::NAME_LIMIT;
 use btf_plain::BtfError;
-use btf_relocate::{CandidatePolicy, Outcome, RelocationError, Target, relocate_section};
+use btf_relocate::{CandidatePolicy, Outcome, RelocationError, Targets, relocate_section_among};
 use btf_table::{Btf, short_name};
 use std::alloc::{AllocError, Global};
 use std::collections::BTreeMap;
@@ -55,7 +56,7 @@ pub struct Loader<'a, 'o, 't> {
     /// The end of the string offsets at which a text can be read, if it is known.
     pub readable_end: Option<usize>,
     pub local: &'a Btf,
-    pub target: &'a Target<'t>,
+    pub targets: &'a Targets<'a, 't>,
     pub policy: CandidatePolicy,
     pub refusals: Refusals,
 }
@@ -71,14 +72,14 @@ impl<'a, 'o, 't> Loader<'a, 'o, 't> {
         requires placed { HasPlaces self.now.places.now self.now.object.now.sections }
         requires readable { IfSome self.now.readable_end (IsReadableEnd self.now.local.now.strings) }
         ensures relocated { IfOk result (λ r. (map outcomes_of r.items, file.new)
-            ≡ relocated_file (setting self.now.local.now self.now.target.now)
+            ≡ relocated_file (setting self.now.local.now (targets_view self.now.targets.now))
             (is_shared self.now.policy) self.now.object.now file.old
             (map relocation relocations.now)) }
         ensures refused { IfOk result (λ r. self.now.refusals ≡ Refuse
             → any_error (map outcomes_of r.items) ≡ false) }
         ensures readable { OnOk result (list_any (is_unreadable self.now.local.now.strings)
             (map relocation relocations.now) ≡ false) }
-        ensures reports { Reports (sections_reason (setting self.now.local.now self.now.target.now)
+        ensures reports { Reports (sections_reason (setting self.now.local.now (targets_view self.now.targets.now))
             (is_shared self.now.policy) (refuses_errors self.now.refusals) self.now.object.now
             file.old (map relocation relocations.now)) result }
     {
@@ -101,16 +102,16 @@ impl<'a, 'o, 't> Loader<'a, 'o, 't> {
         requires placed { HasPlaces self.now.places.now self.now.object.now.sections }
         requires readable { IfSome self.now.readable_end (IsReadableEnd self.now.local.now.strings) }
         ensures relocated { IfOk result (λ r. (option_map (λ v. v.items) r, file.new)
-            ≡ relocated_at (setting self.now.local.now self.now.target.now)
+            ≡ relocated_at (setting self.now.local.now (targets_view self.now.targets.now))
             (is_shared self.now.policy)
-            (section_at (setting self.now.local.now self.now.target.now) self.now.object.now
+            (section_at (setting self.now.local.now (targets_view self.now.targets.now)) self.now.object.now
             section.now.0)
             file.old section.now.1.items) }
         ensures refused { IfOk result (λ r. self.now.refusals ≡ Refuse
             → has_error (option_map (λ v. v.items) r) ≡ false) }
         ensures readable { OnOk result
             (is_err (text_at self.now.local.now.strings section.now.0) ≡ false) }
-        ensures reports { Reports (records_reason (setting self.now.local.now self.now.target.now)
+        ensures reports { Reports (records_reason (setting self.now.local.now (targets_view self.now.targets.now))
             (is_shared self.now.policy) (refuses_errors self.now.refusals) self.now.object.now
             file.old (relocation section.now)) result }
     {
@@ -136,16 +137,16 @@ impl<'a, 'o, 't> Loader<'a, 'o, 't> {
         file: &mut [u8],
     ) -> Result<Vec<Outcome>, AllocError>
         ensures { IfOk result (λ outcomes. (Some outcomes.items, file.new)
-            ≡ relocated_at (setting self.now.local.now self.now.target.now)
+            ≡ relocated_at (setting self.now.local.now (targets_view self.now.targets.now))
             (is_shared self.now.policy) (Some section.now) file.old records.now) }
     {
         let start = file.len().min(section.offset as usize);
         let len = (file.len() - start).min(section.size as usize);
         let code = &mut file[start..start + len];
-        relocate_section(
+        relocate_section_among(
             self.alloc,
             self.local,
-            self.target,
+            self.targets,
             records,
             code,
             self.policy,
@@ -170,7 +171,7 @@ impl<'a, 'o, 't> Loader<'a, 'o, 't> {
         requires named { HasIndices self.now.named.now self.now.object.now }
         requires readable { IfSome self.now.readable_end (IsReadableEnd self.now.local.now.strings) }
         ensures index { IfOk result (λ index. index
-            ≡ index_at (setting self.now.local.now self.now.target.now) self.now.object.now
+            ≡ index_at (setting self.now.local.now (targets_view self.now.targets.now)) self.now.object.now
             name_offset) }
         ensures readable { OnOk result
             (is_err (text_at self.now.local.now.strings name_offset) ≡ false) }

@@ -13,8 +13,9 @@ use Rattle.btf_elf_model.proofs.Determined.{one_object, one_error, not_both}
 use Rattle.btf_elf_model.specs.Object.{Object, IsObject, IsRefused}
 use Rattle.btf_elf_model.specs.declared.error.ParseError.{ParseError}
 use Rattle.btf_object_model.specs.Sanitized.{table_name, ext_name}
+use Rattle.btf_relocate_model.specs.Modules.{Targets}
 use Rattle.btf_loader_model.specs.Loader.{AreSections, bytes_named}
-use Rattle.btf_loader_model.specs.Refused.{Reason, BadObject, NoTable, BadTable, BadExt, BadSectionName, SharedPlace, BadRecord, HasReason, IsReason, ReasonIsDetermined, sections_reason}
+use Rattle.btf_loader_model.specs.Refused.{Reason, BadObject, NoTable, BadTable, BadExt, BadSectionName, SharedPlace, BadRecord, HasReason, IsReasonAmong, ReasonIsDetermined, sections_reason}
 use Rattle.btf_loader_model.proofs.Exts.{one_ext}
 
 -- the contents are not refused too
@@ -34,9 +35,9 @@ not_refused order strings b ext f s is refused are =
 none_or_some : (b : Option (List ℕ)) (x : List ℕ) → b ≡ None → b ≡ Some x → ⊥
 none_or_some b x p q = cc
 
-module _ (bytes : List ℕ) (target : Table) (is_shared refuses_errors : Bool) where
+module _ (bytes : List ℕ) (targets : Targets) (is_shared refuses_errors : Bool) where
   abbrev found : Object → Table → List (ℕ × List (List ℕ)) → Option Reason
-  found o local sections = sections_reason (record { local = local; target = target }) is_shared refuses_errors o bytes sections
+  found o local sections = sections_reason (record { local = local; targets = targets }) is_shared refuses_errors o bytes sections
 
   -- the reason, step by step
   abbrev AfterTable : Object → Table → Option Reason → Type 0
@@ -57,10 +58,10 @@ module _ (bytes : List ℕ) (target : Table) (is_shared refuses_errors : Bool) w
   abbrev InSteps : Option Reason → Type 0
   InSteps x = ((e : ParseError) × IsRefused bytes e × (x ≡ Some (BadObject e))) ⊎ ((o : Object) × IsObject bytes o × AfterObject o x)
 
-  of_sections : (x : Option Reason) → HasReason bytes target is_shared refuses_errors x → InSteps x
+  of_sections : (x : Option Reason) → HasReason bytes targets is_shared refuses_errors x → InSteps x
   of_sections x h = inr (h.object, h.has_table.is_object, inr (h.has_table.table, h.has_table.has_table, inr (h.local, h.has_table.is_table, inr (h.sections, h.are_sections, h.reason_is))))
 
-  in_steps : (x : Option Reason) → IsReason bytes target is_shared refuses_errors x → InSteps x
+  in_steps : (x : Option Reason) → IsReasonAmong bytes targets is_shared refuses_errors x → InSteps x
   in_steps (Some (BadObject e)) p = inl (e, p, refl)
   in_steps (Some NoTable) p = inr (p.0, p.1, inl (p.2, refl))
   in_steps (Some (BadTable f)) p = inr (p.0, p.2, inr (p.1, p.3, inl (f, p.4, refl)))
@@ -101,5 +102,5 @@ module _ (bytes : List ℕ) (target : Table) (is_shared refuses_errors : Bool) w
   one_in_steps x y (inr p) (inr q) = one_after_object q.0 x y (subst (λ (o : Object). AfterObject o x) (one_object bytes p.0 q.0 p.1 q.1) p.2) q.2
 
 pub one_reason : ReasonIsDetermined
-one_reason bytes target is_shared refuses_errors x y p q =
-    one_in_steps bytes target is_shared refuses_errors x y (in_steps bytes target is_shared refuses_errors x p) (in_steps bytes target is_shared refuses_errors y q)
+one_reason bytes targets is_shared refuses_errors x y p q =
+    one_in_steps bytes targets is_shared refuses_errors x y (in_steps bytes targets is_shared refuses_errors x p) (in_steps bytes targets is_shared refuses_errors y q)

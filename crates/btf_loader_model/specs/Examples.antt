@@ -3,7 +3,7 @@ use Rattle.std.specs.Prelude.{◌≡◌, ℕ, ◌&&◌, Bool, List, [], ◌∷�
 use Rattle.std.proofs.Common.{ap, ◌∙◌}
 use Rattle.std.specs.Option.{option_and_then, option_or}
 use Rattle.btf_model.specs.Text.{text_at}
-use Rattle.btf_relocate_model.specs.Resolution.{Setting}
+use Rattle.btf_relocate_model.specs.Modules.{KernelSetting}
 use Rattle.std.specs.Str.{bytes_eq}
 use Rattle.btf_elf_model.specs.Object.{Object, section_name}
 use Rattle.btf_elf_model.specs.Replaced.{shares_bytes}
@@ -76,7 +76,7 @@ shared_places = (refl, refl, refl, refl)
 
 -- a shared place comes before the errors of records
 place_before_records :
-    (g : Setting) (o : Object) (name_offset index : ℕ) → is_err (text_at g.local.strings name_offset) ≡ false
+    (g : KernelSetting) (o : Object) (name_offset index : ℕ) → is_err (text_at g.local.strings name_offset) ≡ false
     → index_at g o name_offset ≡ Some index → shares_place o.sections index ≡ true
     → section_reason g true o name_offset (Some (Err BadAccess ∷ [])) ≡ Some (SharedPlace index)
 place_before_records g o name_offset index readable found shared =

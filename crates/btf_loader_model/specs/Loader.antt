@@ -16,8 +16,7 @@ use Rattle.btf_elf_model.specs.Section.{has_bytes}
 use Rattle.btf_elf_model.specs.declared.section_header.SectionHeader.{SectionHeader}
 use Rattle.btf_object_model.specs.Layout.{name_limit}
 use Rattle.btf_object_model.specs.Sanitized.{index_of, table_name, ext_name}
-use Rattle.btf_relocate_model.specs.Resolution.{Setting}
-use Rattle.btf_relocate_model.specs.Section.{relocated_section}
+use Rattle.btf_relocate_model.specs.Modules.{KernelSetting, Targets, alone, relocated_section_among}
 use Rattle.btf_relocate_model.specs.declared.error.RelocationError.{RelocationError}
 use Rattle.btf_relocate_model.specs.declared.instruction.Patched.{Patched}
 
@@ -44,12 +43,12 @@ abbrev pub is_short_at : List ℕ → ℕ → Bool
 is_short_at strings offset = is_some (position is_zero (take name_limit (drop offset strings)))
 
 -- the index of the section whose name is at a string offset of the program's table; none for a long name
-abbrev pub index_at : Setting → Object → ℕ → Option ℕ
+abbrev pub index_at : KernelSetting → Object → ℕ → Option ℕ
 index_at g o name_offset =
     if is_short_at g.local.strings name_offset then index_by o (text_at g.local.strings name_offset) else None
 
 -- the section whose name is at a string offset of the program's table
-abbrev pub section_at : Setting → Object → ℕ → Option SectionHeader
+abbrev pub section_at : KernelSetting → Object → ℕ → Option SectionHeader
 section_at g o name_offset = option_and_then (slice_get o.sections) (index_at g o name_offset)
 
 -- the file with other bytes from an offset on
@@ -57,10 +56,10 @@ abbrev pub overwritten : ℕ → List ℕ → List ℕ → List ℕ
 overwritten at new file = take at file ++ new ++ drop (at + length new) file
 
 -- The outcomes of the records of a section, and the file with its code relocated. Without a section the file stays.
-abbrev pub relocated_at : Setting → Bool → Option SectionHeader → List ℕ → List (List ℕ) → Outcomes × List ℕ
+abbrev pub relocated_at : KernelSetting → Bool → Option SectionHeader → List ℕ → List (List ℕ) → Outcomes × List ℕ
 relocated_at g is_shared None file records = (None, file)
 relocated_at g is_shared (Some s) file records =
-    let r = relocated_section g is_shared (slice s.offset s.size file) records in
+    let r = relocated_section_among g.local g.targets is_shared (slice s.offset s.size file) records in
     (Some r.0, overwritten s.offset r.1 file)
 
 -- the outcomes of a section of records, before those of later ones
@@ -68,7 +67,7 @@ abbrev pub then_section : ℕ × Outcomes → List (ℕ × Outcomes) × List ℕ
 then_section s rest = (s ∷ rest.0, rest.1)
 
 -- The outcomes of each section of records, with the string offset of its name, and the file after all of them.
-abbrev pub relocated_file : Setting → Bool → Object → List ℕ → List (ℕ × List (List ℕ))
+abbrev pub relocated_file : KernelSetting → Bool → Object → List ℕ → List (ℕ × List (List ℕ))
     → List (ℕ × Outcomes) × List ℕ
 relocated_file g is_shared o file [] = ([], file)
 relocated_file g is_shared o file (s ∷ rest) =
@@ -107,9 +106,9 @@ AreSections order strings (Some bytes) sections =
 abbrev pub is_unreadable : List ℕ → ℕ × List (List ℕ) → Bool
 is_unreadable strings s = is_err (text_at strings s.0)
 
--- The bytes are an object with a table, and these are the outcomes of its relocation records for a target table, and
--- the file with its code relocated.
-pub record IsRelocated (bytes : List ℕ) (target : Table) (is_shared : Bool) (outcomes : List (ℕ × Outcomes))
+-- The bytes are an object with a table, and these are the outcomes of its relocation records for a kernel with modules,
+-- and the file with its code relocated.
+pub record IsRelocatedAmong (bytes : List ℕ) (targets : Targets) (is_shared : Bool) (outcomes : List (ℕ × Outcomes))
     (file : List ℕ) : Type 0 where
   pub object : Object
   pub is_object : IsObject bytes object
@@ -121,4 +120,8 @@ pub record IsRelocated (bytes : List ℕ) (target : Table) (is_shared : Bool) (o
   pub are_sections : AreSections object.header.order local.strings (bytes_named object ext_name) sections
   pub are_readable : list_any (is_unreadable local.strings) sections ≡ false
   pub relocated : (outcomes, file)
-      ≡ relocated_file (record { local = local; target = target }) is_shared object bytes sections
+      ≡ relocated_file (record { local = local; targets = targets }) is_shared object bytes sections
+
+-- the same for a target table, which is that of a kernel without modules
+abbrev pub IsRelocated : List ℕ → Table → Bool → List (ℕ × Outcomes) → List ℕ → Type 0
+IsRelocated bytes target is_shared outcomes file = IsRelocatedAmong bytes (alone target) is_shared outcomes file

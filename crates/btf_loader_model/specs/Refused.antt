@@ -15,7 +15,7 @@ use Rattle.btf_elf_model.specs.Section.{has_bytes}
 use Rattle.btf_elf_model.specs.declared.error.ParseError.{ParseError}
 use Rattle.btf_elf_model.specs.declared.section_header.SectionHeader.{SectionHeader}
 use Rattle.btf_object_model.specs.Sanitized.{table_name, ext_name}
-use Rattle.btf_relocate_model.specs.Resolution.{Setting}
+use Rattle.btf_relocate_model.specs.Modules.{KernelSetting, Targets, alone}
 use Rattle.btf_relocate_model.specs.declared.error.RelocationError.{RelocationError}
 use Rattle.btf_relocate_model.specs.declared.instruction.Patched.{Patched}
 use Rattle.btf_loader_model.specs.Loader.{Outcomes, AreSections, bytes_named, index_at, section_at, relocated_at}
@@ -63,19 +63,19 @@ shared_place o index = when (shares_place o.sections index) (SharedPlace index)
 
 -- Why a section of records is refused: its name cannot be read; or its code shares its place; or, if errors of records
 -- are refused, the first record with an error.
-abbrev pub section_reason : Setting → Bool → Object → ℕ → Outcomes → Option Reason
+abbrev pub section_reason : KernelSetting → Bool → Object → ℕ → Outcomes → Option Reason
 section_reason g refuses_errors o name_offset outcomes =
     option_or (when (is_err (text_at g.local.strings name_offset)) (BadSectionName name_offset))
     (option_or (option_and_then (shared_place o) (index_at g o name_offset))
     (if refuses_errors then bad_outcome name_offset outcomes else None))
 
 -- Why a section of records is refused, when the file is this one.
-abbrev pub records_reason : Setting → Bool → Bool → Object → List ℕ → ℕ × List (List ℕ) → Option Reason
+abbrev pub records_reason : KernelSetting → Bool → Bool → Object → List ℕ → ℕ × List (List ℕ) → Option Reason
 records_reason g is_shared refuses_errors o file s =
     section_reason g refuses_errors o s.0 (relocated_at g is_shared (section_at g o s.0) file s.1).0
 
 -- Why the first section of records that is refused is refused. The file is relocated for each section in turn.
-abbrev pub sections_reason : Setting → Bool → Bool → Object → List ℕ → List (ℕ × List (List ℕ)) → Option Reason
+abbrev pub sections_reason : KernelSetting → Bool → Bool → Object → List ℕ → List (ℕ × List (List ℕ)) → Option Reason
 sections_reason g is_shared refuses_errors o file [] = None
 sections_reason g is_shared refuses_errors o file (s ∷ rest) =
     option_or (records_reason g is_shared refuses_errors o file s)
@@ -92,32 +92,36 @@ pub record HasTable (bytes : List ℕ) (o : Object) (local : Table) : Type 0 whe
 
 -- The bytes are an object with a table, and this is the reason to refuse one of its sections of records, if there is
 -- one.
-pub record HasReason (bytes : List ℕ) (target : Table) (is_shared refuses_errors : Bool) (reason : Option Reason)
+pub record HasReason (bytes : List ℕ) (targets : Targets) (is_shared refuses_errors : Bool) (reason : Option Reason)
     : Type 0 where
   pub object : Object
   pub local : Table
   pub has_table : HasTable bytes object local
   pub sections : List (ℕ × List (List ℕ))
   pub are_sections : AreSections object.header.order local.strings (bytes_named object ext_name) sections
-  pub reason_is : sections_reason (record { local = local; target = target }) is_shared refuses_errors object bytes
+  pub reason_is : sections_reason (record { local = local; targets = targets }) is_shared refuses_errors object bytes
       sections ≡ reason
 
--- The reason for which an object is not relocated for a target table; none if it is relocated. The tests are in this
+-- The reason for which an object is not relocated for a kernel with modules; none if it is relocated. The tests are in this
 -- order: the object, the section `.BTF`, its table, `.BTF.ext`, and each section of records in turn.
-abbrev pub IsReason : List ℕ → Table → Bool → Bool → Option Reason → Type 0
-IsReason bytes target is_shared refuses_errors (Some (BadObject error)) = IsRefused bytes error
-IsReason bytes target is_shared refuses_errors (Some NoTable) =
+abbrev pub IsReasonAmong : List ℕ → Targets → Bool → Bool → Option Reason → Type 0
+IsReasonAmong bytes targets is_shared refuses_errors (Some (BadObject error)) = IsRefused bytes error
+IsReasonAmong bytes targets is_shared refuses_errors (Some NoTable) =
     (o : Object) × IsObject bytes o × (bytes_named o table_name ≡ None)
-IsReason bytes target is_shared refuses_errors (Some (BadTable refusal)) =
+IsReasonAmong bytes targets is_shared refuses_errors (Some (BadTable refusal)) =
     (o : Object) × (table : List ℕ) × IsObject bytes o × (bytes_named o table_name ≡ Some table)
     × IsRefusal o.header.order table refusal
-IsReason bytes target is_shared refuses_errors (Some (BadExt refusal)) =
+IsReasonAmong bytes targets is_shared refuses_errors (Some (BadExt refusal)) =
     (o : Object) × (local : Table) × (ext : List ℕ) × HasTable bytes o local × (bytes_named o ext_name ≡ Some ext)
     × IsExt o.header.order ext local.strings (Err refusal)
-IsReason bytes target is_shared refuses_errors reason = HasReason bytes target is_shared refuses_errors reason
+IsReasonAmong bytes targets is_shared refuses_errors reason = HasReason bytes targets is_shared refuses_errors reason
+
+-- the same for a target table, which is that of a kernel without modules
+abbrev pub IsReason : List ℕ → Table → Bool → Bool → Option Reason → Type 0
+IsReason bytes target is_shared refuses_errors reason = IsReasonAmong bytes (alone target) is_shared refuses_errors reason
 
 -- An object is refused for at most one reason, and not if it is relocated.
 abbrev pub ReasonIsDetermined : Type 0
 ReasonIsDetermined =
-    (bytes : List ℕ) (target : Table) (is_shared refuses_errors : Bool) (x y : Option Reason)
-    → IsReason bytes target is_shared refuses_errors x → IsReason bytes target is_shared refuses_errors y → x ≡ y
+    (bytes : List ℕ) (targets : Targets) (is_shared refuses_errors : Bool) (x y : Option Reason)
+    → IsReasonAmong bytes targets is_shared refuses_errors x → IsReasonAmong bytes targets is_shared refuses_errors y → x ≡ y

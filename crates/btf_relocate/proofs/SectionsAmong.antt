@@ -27,7 +27,6 @@ use Rattle.btf_relocate.specs.declared.section.CandidatePolicy.TheVariants.{Shar
 use Rattle.btf_relocate.proofs.Compatibles.{from_err}
 use Rattle.btf_relocate.proofs.Sections.{is_out_of_memory}
 
-
 -- under `Shared` the type has these candidates, and the other types have theirs
 abbrev pub HasLeft : CandidatePolicy → ℕ → Candidates → BTreeMap ℕ Candidates → BTreeMap ℕ Candidates → Type 0
 HasLeft policy id v old new =

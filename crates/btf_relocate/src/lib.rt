@@ -28,5 +28,7 @@ pub use instruction::patch;
 pub use modules::{Candidates, InModule, Targets, candidates_among, resolve_among};
 pub use name::essential_name;
 pub use resolving::resolve;
-pub use section::{CandidatePolicy, Outcome, candidates_of, relocate_section, relocate_section_among};
+pub use section::{
+    CandidatePolicy, Outcome, candidates_of, relocate_section, relocate_section_among,
+};
 pub use target::{Target, TargetIndex};

@@ -29,7 +29,7 @@ pub struct Targets<'a, 't> {
 }
 
 /// Candidates in the table of a module.
-#[derive(Debug, Drop)]
+#[derive(Drop)]
 pub struct InModule<'a, 't> {
     /// The table.
     pub target: &'a Target<'t>,
@@ -38,7 +38,7 @@ pub struct InModule<'a, 't> {
 }
 
 /// The candidates of a type.
-#[derive(Debug, Drop)]
+#[derive(Drop)]
 pub enum Candidates<'a, 't> {
     /// All are in the kernel's table.
     InKernel(Vec<u32>),
@@ -126,14 +126,7 @@ fn resolve_in_modules<'a, 't>(
     let (answer, matching) = answers_among(alloc, local, &question, found.as_slice())?;
     let validates = validates(question.kind, &question.subject);
     let target = first_table(kernel.table(), &matching);
-    let resolved = resolved_by(
-        local,
-        target,
-        question.kind,
-        validates,
-        &expected,
-        answer,
-    );
+    let resolved = resolved_by(local, target, question.kind, validates, &expected, answer);
     if answer.is_some() {
         *found = matching;
     }

@@ -67,8 +67,14 @@ pub fn resolve(
     }
     let expected = expected_of(local, type_id, &question)?;
     let first = None;
-    let (answer, matching) =
-        answers(alloc, local, target, &question, first, candidates.as_slice())?;
+    let (answer, matching) = answers(
+        alloc,
+        local,
+        target,
+        &question,
+        first,
+        candidates.as_slice(),
+    )?;
     if answer.is_some() {
         *candidates = matching;
     }

@@ -20,6 +20,11 @@ pub record Targets : Type 0 where
   pub kernel : Table
   pub modules : List Table
 
+-- A program's table, and the tables that it is relocated against.
+pub record KernelSetting : Type 0 where
+  pub local : Table
+  pub targets : Targets
+
 -- ---- candidates
 
 -- candidates in the table of a module
