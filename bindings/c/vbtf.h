@@ -305,6 +305,7 @@ uint32_t vbtf_raw_add_type(struct vbtf_table *table, const uint8_t *record, size
 uint32_t vbtf_raw_error_text(const struct vbtf_error *error, uint8_t *out, size_t room, uint64_t *needed);
 uint32_t vbtf_lent_count(struct vbtf_table *table, uint64_t *count);
 uint32_t vbtf_lent_type(struct vbtf_table *table, uint32_t id, struct vbtf_type *type, struct vbtf_error *error);
+uint32_t vbtf_lent_types(struct vbtf_table *table, uint32_t first, struct vbtf_type *out, size_t room, uint64_t *count);
 uint32_t vbtf_lent_find(struct vbtf_table *table, const uint8_t *name, size_t len, uint32_t kind, uint32_t *id,
                         struct vbtf_error *error);
 uint32_t vbtf_lent_resolve(struct vbtf_table *table, uint32_t id, uint32_t *to, struct vbtf_error *error);
@@ -546,6 +547,18 @@ static inline uint32_t vbtf_type_by_id(const struct vbtf_table *table, uint32_t 
 	struct vbtf_error unread;
 	struct vbtf_table loan = vbtf_loan(table);
 	return vbtf_lent_type(&loan, id, type, vbtf_error_or(error, &unread));
+}
+
+/*
+ * What vbtf_type_by_id writes for the ids from `first` on, in one call: as many types as there are and as fit in the
+ * buffer. Their number goes to `count`; it is 0 if no type has the id `first`.
+ */
+static inline uint32_t vbtf_types(const struct vbtf_table *table, uint32_t first, struct vbtf_type *out, size_t room,
+                                  uint64_t *count)
+{
+	struct vbtf_table loan = vbtf_loan(table);
+	struct vbtf_type none;
+	return vbtf_lent_types(&loan, first, out ? out : &none, out ? room : 0, count);
 }
 
 /*

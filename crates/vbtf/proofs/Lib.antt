@@ -13,3 +13,4 @@ pub mod SectionNames
 pub mod ExtOpening
 pub mod Objects
 pub mod Relocations
+pub mod Places

@@ -5,14 +5,11 @@ use Rattle.btf_model.specs.Record.{Record, kind_number}
 use Rattle.btf_model.specs.Refusal.{Refusal, UnknownBtfType}
 use Rattle.vbtf.specs.declared.read.TypeWords.{TypeWords}
 
--- These are the kind and the first words of a record.
-pub record AreWords (words : TypeWords) (r : Record) : Type 0 where
-  pub kind : words.kind ≡ kind_number r.info
-  pub name : words.name ≡ r.name
-  pub info : words.info ≡ r.info
-  pub third : words.size_or_type ≡ r.third
+-- the kind and the first words of a record
+abbrev pub words_in : Record → TypeWords
+words_in r = record { kind = kind_number r.info; name = r.name; info = r.info; size_or_type = r.third }
 
 -- The words of the type of an id, or the error if there is none.
 abbrev pub WordsOf : List Record → ℕ → Result TypeWords Refusal → Type 0
-WordsOf records id (Ok words) = (r : Record) × (slice_get records id ≡ Some r) × AreWords words r
+WordsOf records id (Ok words) = (r : Record) × (slice_get records id ≡ Some r) × (words ≡ words_in r)
 WordsOf records id (Err refusal) = (length records ≤ id) × (refusal ≡ UnknownBtfType id)

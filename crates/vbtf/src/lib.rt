@@ -32,6 +32,7 @@ mod handle;
 mod items;
 mod kernel;
 mod loan;
+mod many;
 mod object;
 mod open;
 mod opened;

@@ -8,7 +8,7 @@ ghost use Rattle.btf_model.specs.Text.{FindsName};
 ghost use Rattle.btf_plain.specs.Error.{Meets, MeetsOrNoMemory};
 ghost use Rattle.btf_records.specs.BtfType.{record_of, type_kind, has_no_third};
 ghost use Rattle.vbtf.specs.Status.{Ends, EndsOrNoMemory, Keeps};
-ghost use Rattle.vbtf.specs.TypeWords.{WordsOf};
+ghost use Rattle.vbtf.specs.TypeWords.{WordsOf, words_in};
 
 use crate::fault::{CLOSED, Fault, INVALID_ARGUMENT, report};
 use crate::handle::{Handle, lent};
@@ -124,14 +124,20 @@ pub extern "C" fn vbtf_lent_find(
 fn words_of(table: &Btf, id: u32) -> Result<TypeWords, BtfError>
     ensures { Meets (λ words. words) result (WordsOf table.now.records id) }
 {
-    let btf_type = table.type_by_id(id)?;
+    Ok(words(table.type_by_id(id)?))
+}
+
+/// The first words of a type.
+pub(crate) fn words(btf_type: &BtfType) -> TypeWords
+    ensures { result ≡ words_in (record_of btf_type.now) }
+{
     let info = btf_type.info();
-    Ok(TypeWords {
+    TypeWords {
         kind: info / 0x100_0000 % 32,
         name: btf_type.name_offset(),
         info,
         size_or_type: third_word(btf_type),
-    })
+    }
 }
 
 /// The third word of a record; 0 for an ARRAY and a FWD, which use none.

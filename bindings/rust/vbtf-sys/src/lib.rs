@@ -217,6 +217,13 @@ extern "C" {
         out: *mut vbtf_type,
         error: *mut vbtf_error,
     ) -> u32;
+    pub fn vbtf_lent_types(
+        table: *mut vbtf_table,
+        first: u32,
+        out: *mut vbtf_type,
+        room: usize,
+        count: *mut u64,
+    ) -> u32;
     pub fn vbtf_lent_find(
         table: *mut vbtf_table,
         name: *const u8,

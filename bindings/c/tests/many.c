@@ -1,0 +1,66 @@
+/* Many values in one call are those of as many single calls: many FILE, where FILE has the bytes of a table. */
+#include "file.h"
+
+static struct vbtf_error error;
+
+/* Whether the place of a buffer has what the single call writes for an id. */
+static bool is_type(const struct vbtf_table *table, uint32_t id, const struct vbtf_type *place)
+{
+	struct vbtf_type type;
+	return vbtf_type_by_id(table, id, &type, &error) == VBTF_OK && memcmp(&type, place, sizeof type) == 0;
+}
+
+static bool is_unchanged(const struct vbtf_type *place)
+{
+	static const struct vbtf_type old = { 0x01010101, 0x01010101, 0x01010101, 0x01010101 };
+	return memcmp(&old, place, sizeof old) == 0;
+}
+
+/* The types from an id on, in a buffer with this room, which ends there. */
+static void types_from(const struct vbtf_table *table, uint64_t types, uint32_t first, size_t room)
+{
+	struct vbtf_type *out = malloc(room * sizeof *out + 1);
+	uint64_t count = 7, there = first < types ? types - first : 0;
+	bool same = true;
+	memset(out, 1, room * sizeof *out);
+	check(vbtf_types(table, first, out, room, &count) == VBTF_OK && count == (there < room ? there : room));
+	for (uint64_t i = 0; i < room; i++)
+		same = same && (i < count ? is_type(table, first + (uint32_t)i, out + i) : is_unchanged(out + i));
+	check(same);
+	free(out);
+}
+
+static void types(const struct vbtf_table *table)
+{
+	struct vbtf_table closed = VBTF_TABLE_INIT;
+	struct vbtf_type type;
+	uint64_t count = 0, types = 0;
+	check(vbtf_count(table, &types) == VBTF_OK && types > 3);
+	const uint32_t firsts[] = { 0, 1, 2, (uint32_t)types - 2, (uint32_t)types - 1, (uint32_t)types, UINT32_MAX };
+	const size_t rooms[] = { 0, 1, 2, 3, (size_t)types - 1, (size_t)types, (size_t)types + 1 };
+	for (size_t i = 0; i < sizeof firsts / sizeof *firsts; i++)
+		for (size_t j = 0; j < sizeof rooms / sizeof *rooms; j++)
+			types_from(table, types, firsts[i], rooms[j]);
+	check(vbtf_types(table, 0, NULL, 9, &count) == VBTF_OK && count == 0);
+	memset(&type, 1, sizeof type);
+	count = 7;
+	check(vbtf_types(&closed, 0, &type, 1, &count) == VBTF_CLOSED && is_unchanged(&type) && count == 7);
+}
+
+int main(int argc, char **argv)
+{
+	struct vbtf_table little = opened(VBTF_LITTLE), big = opened(VBTF_BIG), table = VBTF_TABLE_INIT;
+	struct file file;
+	if (argc != 2)
+		return 1;
+	file = read_file(argv[1]);
+	check(vbtf_parse(&table, file.bytes, file.len, VBTF_BY_MAGIC, &error) == VBTF_OK);
+	types(&little);
+	types(&big);
+	types(&table);
+	vbtf_close(&table);
+	vbtf_close(&big);
+	vbtf_close(&little);
+	free(file.bytes);
+	return counted("many");
+}
