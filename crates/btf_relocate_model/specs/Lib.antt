@@ -20,3 +20,4 @@ pub mod Examples
 pub mod ResolutionExamples
 pub mod ComparisonExamples
 pub mod SectionExamples
+pub mod ModulesExamples
