@@ -30,6 +30,28 @@ static void types_from(const struct vbtf_table *table, uint64_t types, uint32_t 
 	free(out);
 }
 
+/* The size that the single call writes for an id, or UINT64_MAX. */
+static uint64_t size_of(const struct vbtf_table *table, uint32_t id)
+{
+	uint64_t size = 0;
+	return vbtf_size(table, id, &size, &error) == VBTF_OK ? size : UINT64_MAX;
+}
+
+/* The sizes of the types from an id on, in a buffer with this room, which ends there. */
+static void sizes_from(const struct vbtf_table *table, uint64_t types, uint32_t first, size_t room)
+{
+	uint64_t *out = malloc(room * sizeof *out + 1);
+	uint64_t count = 7, there = first < types ? types - first : 0;
+	bool same = true;
+	for (uint64_t i = 0; i < room; i++)
+		out[i] = 11;
+	check(vbtf_sizes(table, first, out, room, &count) == VBTF_OK && count == (there < room ? there : room));
+	for (uint64_t i = 0; i < room; i++)
+		same = same && out[i] == (i < count ? size_of(table, first + (uint32_t)i) : 11);
+	check(same);
+	free(out);
+}
+
 static void types(const struct vbtf_table *table)
 {
 	struct vbtf_table closed = VBTF_TABLE_INIT;
@@ -40,10 +62,12 @@ static void types(const struct vbtf_table *table)
 	const size_t rooms[] = { 0, 1, 2, 3, (size_t)types - 1, (size_t)types, (size_t)types + 1 };
 	for (size_t i = 0; i < sizeof firsts / sizeof *firsts; i++)
 		for (size_t j = 0; j < sizeof rooms / sizeof *rooms; j++)
-			types_from(table, types, firsts[i], rooms[j]);
+			types_from(table, types, firsts[i], rooms[j]), sizes_from(table, types, firsts[i], rooms[j]);
 	check(vbtf_types(table, 0, NULL, 9, &count) == VBTF_OK && count == 0);
+	check(vbtf_sizes(table, 0, NULL, 9, &count) == VBTF_OK && count == 0);
 	memset(&type, 1, sizeof type);
 	count = 7;
+	check(vbtf_sizes(&closed, 0, &types, 1, &count) == VBTF_CLOSED && count == 7);
 	check(vbtf_types(&closed, 0, &type, 1, &count) == VBTF_CLOSED && is_unchanged(&type) && count == 7);
 }
 
