@@ -306,6 +306,8 @@ uint32_t vbtf_raw_error_text(const struct vbtf_error *error, uint8_t *out, size_
 uint32_t vbtf_lent_count(struct vbtf_table *table, uint64_t *count);
 uint32_t vbtf_lent_type(struct vbtf_table *table, uint32_t id, struct vbtf_type *type, struct vbtf_error *error);
 uint32_t vbtf_lent_types(struct vbtf_table *table, uint32_t first, struct vbtf_type *out, size_t room, uint64_t *count);
+uint32_t vbtf_lent_sizes(struct vbtf_table *table, uint32_t first, uint64_t *out, size_t room, uint64_t *count);
+uint32_t vbtf_lent_resolved(struct vbtf_table *table, uint32_t first, uint32_t *out, size_t room, uint64_t *count);
 uint32_t vbtf_lent_find(struct vbtf_table *table, const uint8_t *name, size_t len, uint32_t kind, uint32_t *id,
                         struct vbtf_error *error);
 uint32_t vbtf_lent_resolve(struct vbtf_table *table, uint32_t id, uint32_t *to, struct vbtf_error *error);
@@ -791,6 +793,31 @@ static inline uint32_t vbtf_size(const struct vbtf_table *table, uint32_t id, ui
 	struct vbtf_error unread;
 	struct vbtf_table loan = vbtf_loan(table);
 	return vbtf_lent_size(&loan, id, size, vbtf_error_or(error, &unread));
+}
+
+/*
+ * What vbtf_size writes for the ids from `first` on, in one call: as many sizes as there are types and as fit in the
+ * buffer. Their number goes to `count`; it is 0 if no type has the id `first`. A type for which vbtf_size returns an
+ * error has UINT64_MAX.
+ */
+static inline uint32_t vbtf_sizes(const struct vbtf_table *table, uint32_t first, uint64_t *out, size_t room,
+                                  uint64_t *count)
+{
+	struct vbtf_table loan = vbtf_loan(table);
+	uint64_t none;
+	return vbtf_lent_sizes(&loan, first, out ? out : &none, out ? room : 0, count);
+}
+
+/*
+ * What vbtf_resolve writes for the ids from `first` on, in one call, as vbtf_sizes writes the sizes. An id for which
+ * vbtf_resolve returns an error has UINT32_MAX.
+ */
+static inline uint32_t vbtf_resolved(const struct vbtf_table *table, uint32_t first, uint32_t *out, size_t room,
+                                     uint64_t *count)
+{
+	struct vbtf_table loan = vbtf_loan(table);
+	uint32_t none;
+	return vbtf_lent_resolved(&loan, first, out ? out : &none, out ? room : 0, count);
 }
 
 /* ---- compare; both tables may be one */

@@ -13,3 +13,4 @@ pub mod ExtRead
 pub mod Object
 pub mod Relocate
 pub mod Resolved
+pub mod Many
