@@ -307,6 +307,7 @@ uint32_t vbtf_lent_count(struct vbtf_table *table, uint64_t *count);
 uint32_t vbtf_lent_type(struct vbtf_table *table, uint32_t id, struct vbtf_type *type, struct vbtf_error *error);
 uint32_t vbtf_lent_types(struct vbtf_table *table, uint32_t first, struct vbtf_type *out, size_t room, uint64_t *count);
 uint32_t vbtf_lent_sizes(struct vbtf_table *table, uint32_t first, uint64_t *out, size_t room, uint64_t *count);
+uint32_t vbtf_lent_resolved(struct vbtf_table *table, uint32_t first, uint32_t *out, size_t room, uint64_t *count);
 uint32_t vbtf_lent_find(struct vbtf_table *table, const uint8_t *name, size_t len, uint32_t kind, uint32_t *id,
                         struct vbtf_error *error);
 uint32_t vbtf_lent_resolve(struct vbtf_table *table, uint32_t id, uint32_t *to, struct vbtf_error *error);
@@ -805,6 +806,18 @@ static inline uint32_t vbtf_sizes(const struct vbtf_table *table, uint32_t first
 	struct vbtf_table loan = vbtf_loan(table);
 	uint64_t none;
 	return vbtf_lent_sizes(&loan, first, out ? out : &none, out ? room : 0, count);
+}
+
+/*
+ * What vbtf_resolve writes for the ids from `first` on, in one call, as vbtf_sizes writes the sizes. An id for which
+ * vbtf_resolve returns an error has UINT32_MAX.
+ */
+static inline uint32_t vbtf_resolved(const struct vbtf_table *table, uint32_t first, uint32_t *out, size_t room,
+                                     uint64_t *count)
+{
+	struct vbtf_table loan = vbtf_loan(table);
+	uint32_t none;
+	return vbtf_lent_resolved(&loan, first, out ? out : &none, out ? room : 0, count);
 }
 
 /* ---- compare; both tables may be one */

@@ -52,6 +52,28 @@ static void sizes_from(const struct vbtf_table *table, uint64_t types, uint32_t 
 	free(out);
 }
 
+/* The id that the single call writes for an id, or UINT32_MAX. */
+static uint32_t resolved_of(const struct vbtf_table *table, uint32_t id)
+{
+	uint32_t to = 0;
+	return vbtf_resolve(table, id, &to, &error) == VBTF_OK ? to : UINT32_MAX;
+}
+
+/* What the ids from one on resolve to, in a buffer with this room, which ends there. */
+static void resolved_from(const struct vbtf_table *table, uint64_t types, uint32_t first, size_t room)
+{
+	uint32_t *out = malloc(room * sizeof *out + 1);
+	uint64_t count = 7, there = first < types ? types - first : 0;
+	bool same = true;
+	for (uint64_t i = 0; i < room; i++)
+		out[i] = 0x01010101;
+	check(vbtf_resolved(table, first, out, room, &count) == VBTF_OK && count == (there < room ? there : room));
+	for (uint64_t i = 0; i < room; i++)
+		same = same && out[i] == (i < count ? resolved_of(table, first + (uint32_t)i) : 0x01010101);
+	check(same);
+	free(out);
+}
+
 static void types(const struct vbtf_table *table)
 {
 	struct vbtf_table closed = VBTF_TABLE_INIT;
@@ -60,14 +82,19 @@ static void types(const struct vbtf_table *table)
 	check(vbtf_count(table, &types) == VBTF_OK && types > 3);
 	const uint32_t firsts[] = { 0, 1, 2, (uint32_t)types - 2, (uint32_t)types - 1, (uint32_t)types, UINT32_MAX };
 	const size_t rooms[] = { 0, 1, 2, 3, (size_t)types - 1, (size_t)types, (size_t)types + 1 };
-	for (size_t i = 0; i < sizeof firsts / sizeof *firsts; i++)
-		for (size_t j = 0; j < sizeof rooms / sizeof *rooms; j++)
-			types_from(table, types, firsts[i], rooms[j]), sizes_from(table, types, firsts[i], rooms[j]);
+	for (size_t i = 0; i < sizeof firsts / sizeof *firsts; i++) {
+		for (size_t j = 0; j < sizeof rooms / sizeof *rooms; j++) {
+			types_from(table, types, firsts[i], rooms[j]);
+			sizes_from(table, types, firsts[i], rooms[j]);
+			resolved_from(table, types, firsts[i], rooms[j]);
+		}
+	}
 	check(vbtf_types(table, 0, NULL, 9, &count) == VBTF_OK && count == 0);
 	check(vbtf_sizes(table, 0, NULL, 9, &count) == VBTF_OK && count == 0);
 	memset(&type, 1, sizeof type);
 	count = 7;
 	check(vbtf_sizes(&closed, 0, &types, 1, &count) == VBTF_CLOSED && count == 7);
+	check(vbtf_resolved(&closed, 0, &type.kind, 1, &count) == VBTF_CLOSED && is_unchanged(&type) && count == 7);
 	check(vbtf_types(&closed, 0, &type, 1, &count) == VBTF_CLOSED && is_unchanged(&type) && count == 7);
 }
 

@@ -143,7 +143,8 @@ static void refused(void)
 		check(relocated.expected == 9 && relocated.value == 9 && relocated.local_size == 9);
 	}
 	check(status_for(&big, &table, other.member) == VBTF_RELOCATION_REFUSED && error.id == 1);
-	check(strcmp(vbtf_error_text(error.number, &error, text, sizeof text), "the tables have different byte orders") == 0);
+	check(strcmp(vbtf_error_text(error.number, &error, text, sizeof text), "the tables have different byte orders")
+	      == 0);
 	check(strcmp(vbtf_error_text(error.number, NULL, text, sizeof text), "a relocation has an error") == 0);
 	vbtf_close(&big);
 	vbtf_close(&table);

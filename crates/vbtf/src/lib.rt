@@ -1,9 +1,9 @@
 //! Tables of BTF for C: a static library over `btf`.
 //!
 //! C holds a table by a [`Handle`](handle::Handle), `struct { void *at; uint32_t state; }`. A handle of zeroes is
-//! closed. `vbtf_raw_new`, `vbtf_raw_parse` and `vbtf_lent_clone` open it, so that it owns a table (state 1);
-//! `vbtf_close` frees the table. A table has at most one `.BTF.ext`, which `vbtf_raw_open_ext` reads and
-//! `vbtf_close_ext` frees, and at most one index of its types, which `vbtf_raw_target_open` makes and
+//! closed. `vbtf_raw_new`, `vbtf_raw_parse`, `vbtf_lent_parse_over` and `vbtf_lent_clone` open it, so that it owns a
+//! table (state 1); `vbtf_close` frees the table. A table has at most one `.BTF.ext`, which `vbtf_raw_open_ext` reads
+//! and `vbtf_close_ext` frees, and at most one index of its types, which `vbtf_raw_target_open` makes and
 //! `vbtf_target_close` frees. Relocations search the index. A call that changes the table closes it.
 //!
 //! The calls named `vbtf_lent_..` only read. They take a handle in state 2, which C makes as a copy of an open handle,

@@ -2,7 +2,7 @@
 
 ghost use Rattle.std.specs.Prelude.{◌≡◌, ◌≢◌, ◌<◌, ◌+◌, ◌-◌, ◌^◌, length, take, drop, map, min};
 ghost use Rattle.btf_records.specs.BtfType.{record_of};
-ghost use Rattle.vbtf.specs.Many.{FillsSizes, SizeOrMost};
+ghost use Rattle.vbtf.specs.Many.{FillsResolved, FillsSizes, ResolvedOrMost, SizeOrMost};
 ghost use Rattle.vbtf.specs.Status.{Begins, Keeps};
 ghost use Rattle.vbtf.specs.TypeWords.{words_in};
 
@@ -61,9 +61,9 @@ fn fill_words(types: &[BtfType], out: &mut [TypeWords]) -> usize
     count
 }
 
-/// Writes the sizes in bytes of the types from an id on, in the order of the ids, to a buffer: as many as there are types
-/// and as fit. Their number goes to `count`; it is 0 if no type has the id. A type for which `vbtf_lent_size` returns an
-/// error has 2^64 - 1.
+/// Writes the sizes in bytes of the types from an id on, in the order of the ids, to a buffer: as many as there are
+/// types and as fit. Their number goes to `count`; it is 0 if no type has the id. A type for which `vbtf_lent_size`
+/// returns an error has 2^64 - 1.
 ///
 /// Status 101 if the handle's state is not 2; the buffer is then unchanged.
 #[unsafe(no_mangle)]
@@ -114,4 +114,50 @@ fn size_or_most(table: &Btf, id: u32) -> u64
         return u64::MAX;
     };
     size as u64
+}
+
+/// Writes the ids that the ids from one on resolve to, in their order, to a buffer: as many as there are types and as
+/// fit. Their number goes to `count`; it is 0 if no type has the id. An id for which `vbtf_lent_resolve` returns an
+/// error has 2^32 - 1.
+///
+/// Status 101 if the handle's state is not 2; the buffer is then unchanged.
+#[unsafe(no_mangle)]
+pub extern "C" fn vbtf_lent_resolved(
+    table: &mut Handle,
+    first: u32,
+    out: &mut [u32],
+    count: &mut u64,
+) -> u32
+    ensures filled { table.old.state ≡ 2 → (result ≡ 0)
+        × FillsResolved table.old.opened.btf.records first out.old out.new count.new }
+    ensures closed { table.old.state ≢ 2 → (result ≡ CLOSED) × (out.new ≡ out.old) }
+    ensures kept { Keeps table.old table.new }
+{
+    let Some(loan) = lent(table) else {
+        return CLOSED;
+    };
+    *count = fill_resolved(&loan.get().btf, first, out) as u64;
+    *table = Handle::from_loan(loan);
+    0
+}
+
+/// Writes what the ids from one on resolve to, as many as fit, and returns their number.
+fn fill_resolved(table: &Btf, first: u32, out: &mut [u32]) -> usize
+    ensures { FillsResolved table.now.records first out.old out.new result }
+{
+    let count = places_from(table, first, out.len());
+    for index in 0..count {
+        out[index] = resolved_or_most(table, first + index as u32);
+    }
+    count
+}
+
+/// The id that an id resolves to, or 2^32 - 1 if it resolves to none.
+fn resolved_or_most(table: &Btf, id: u32) -> u32
+    ensures { ResolvedOrMost table.now.records id result }
+{
+    let Ok(to) = table.resolve_type(id) else {
+        return u32::MAX;
+    };
+    to
 }

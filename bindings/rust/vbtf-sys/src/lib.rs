@@ -231,6 +231,13 @@ extern "C" {
         room: usize,
         count: *mut u64,
     ) -> u32;
+    pub fn vbtf_lent_resolved(
+        table: *mut vbtf_table,
+        first: u32,
+        out: *mut u32,
+        room: usize,
+        count: *mut u64,
+    ) -> u32;
     pub fn vbtf_lent_find(
         table: *mut vbtf_table,
         name: *const u8,

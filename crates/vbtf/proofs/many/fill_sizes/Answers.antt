@@ -10,13 +10,13 @@ loop-index-preserved c =
     let i = c.loop-index.index in
     let out = c.loop-index.out in
     let old = c.args.out.now in
-    let size = c.size_or_most.result in
-    let sized : ℕ → ℕ → Type 0 = λ n s. SizeOrMost c.args.table.now.records (c.args.first + n) s in
+    let value = c.size_or_most.result in
+    let is_value : ℕ → ℕ → Type 0 = λ n s. SizeOrMost c.args.table.now.records (c.args.first + n) s in
     let within : i < length out = omega (arith, c.loop-index-test.true, c.loop-index.auto.out, c.places_from-count.ensures.places, min-le_left (length old) (length c.args.table.now.records - c.args.first)) in
     let more : 1 + i ≡ i + 1 = omega arith in
     record {
-      sizes = filled_more sized out i size within c.loop-index.invariant.sizes c.size_or_most.ensures;
-      unchanged = drop-set-lt (i + 1) out i size (omega arith) ∙ sym (drop-drop 1 i out) ∙ ap (drop 1) c.loop-index.invariant.unchanged ∙ drop-drop 1 i old;
+      sizes = filled_more is_value out i value within c.loop-index.invariant.sizes c.size_or_most.ensures;
+      unchanged = drop-set-lt (i + 1) out i value (omega arith) ∙ sym (drop-drop 1 i out) ∙ ap (drop 1) c.loop-index.invariant.unchanged ∙ drop-drop 1 i old;
     }
 
 pub returns : goal.returns
@@ -25,6 +25,6 @@ returns c =
     let end : c.loop-index.index ≡ k = omega (arith, c.loop-index-test.false, c.loop-index.auto.index-end) in
     record {
       places = c.places_from-count.ensures.places;
-      sizes = λ n lt. c.loop-index.invariant.sizes n (omega (arith, end, lt));
+      values = λ n lt. c.loop-index.invariant.sizes n (omega (arith, end, lt));
       rest = subst (λ (n : ℕ). drop n c.loop-index.out ≡ drop n c.args.out.now) end c.loop-index.invariant.unchanged;
     }
