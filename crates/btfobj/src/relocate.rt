@@ -1,9 +1,9 @@
 //! Carrying out `relocate`, and what `check` says of relocations.
 
 use crate::output::Output;
-use crate::run::{Answer, Cause, Failure, blame, hasher, read, read_table, write};
+use crate::run::{Answer, Cause, Failure, blame, hasher, read, read_over, read_table, write};
 use btf_loader::{CandidatePolicy, Refusals};
-use btf_relocate::Target;
+use btf_relocate::{Target, Targets};
 use btf_table::Btf;
 use btfobj_cli::{Ending, Fault, Form, Relocated, Relocation, list_relocations, relocate};
 
@@ -17,15 +17,21 @@ pub fn relocate_file<'a>(
     let bytes = read(rt, file)?;
     let table = read_table(rt, relocation.target, relocation.base)?;
     let target = index(rt, relocation.target, &table)?;
+    let tables = read_modules(rt, &relocation.modules, &table)?;
+    let modules = indices(rt, &relocation.modules, &tables)?;
+    let targets = Targets {
+        kernel: &target,
+        modules: &modules,
+    };
     let (policy, refusals) = (relocation.policy, relocation.refusals);
     let keys = hasher(rt, file)?;
-    let relocated = relocate(rt.alloc(), &bytes, &target, policy, refusals, keys);
+    let relocated = relocate(rt.alloc(), &bytes, &targets, policy, refusals, keys);
     let (written, sections) = blame(file, relocated)?;
     let relocated = Relocated {
         bytes: &bytes,
         file: &written,
         sections: &sections,
-        target: &target,
+        targets: &targets,
     };
     match relocation.output {
         Some(output) => write(rt, output, &written, out)?,
@@ -48,15 +54,19 @@ pub fn summarize<'a>(
 ) -> Result<Ending, Failure<'a>> {
     let table = read_table(rt, target, None)?;
     let target = index(rt, target, &table)?;
+    let targets = Targets {
+        kernel: &target,
+        modules: &[],
+    };
     let (policy, refusals) = (CandidatePolicy::Shared, Refusals::Keep);
     let keys = hasher(rt, file)?;
-    let relocated = relocate(rt.alloc(), bytes, &target, policy, refusals, keys);
+    let relocated = relocate(rt.alloc(), bytes, &targets, policy, refusals, keys);
     let (written, sections) = blame(file, relocated)?;
     let relocated = Relocated {
         bytes,
         file: &written,
         sections: &sections,
-        target: &target,
+        targets: &targets,
     };
     list(rt, file, &relocated, Form::Summary, out)?;
     Ok(Ending::of(&sections))
@@ -85,6 +95,45 @@ fn index<'a, 't>(
 ) -> Result<Target<'t>, Failure<'a>> {
     match Target::new(rt.alloc(), table) {
         Ok(target) => Ok(target),
+        Err(e) => Err(Failure {
+            file,
+            cause: Cause::Fault(Fault::from(e)),
+        }),
+    }
+}
+
+/// The tables of modules in these files, each over the kernel's table.
+fn read_modules<'a>(
+    rt: &HostRuntime,
+    files: &[&'a str],
+    kernel: &Btf,
+) -> Result<Vec<Btf>, Failure<'a>> {
+    let mut tables = Vec::new(rt.alloc());
+    for file in files {
+        let table = read_over(rt, *file, Some(kernel))?;
+        add(*file, &mut tables, table)?;
+    }
+    Ok(tables)
+}
+
+/// The indices of these tables, which are those of these files.
+fn indices<'a, 't>(
+    rt: &HostRuntime,
+    files: &[&'a str],
+    tables: &'t [Btf],
+) -> Result<Vec<Target<'t>>, Failure<'a>> {
+    let mut targets = Vec::new(rt.alloc());
+    for (file, table) in files.iter().zip(tables) {
+        let target = index(rt, *file, table)?;
+        add(*file, &mut targets, target)?;
+    }
+    Ok(targets)
+}
+
+/// Appends what was made of a file.
+fn add<'a, T: Drop>(file: &'a str, all: &mut Vec<T>, value: T) -> Result<(), Failure<'a>> {
+    match all.push(value) {
+        Ok(()) => Ok(()),
         Err(e) => Err(Failure {
             file,
             cause: Cause::Fault(Fault::from(e)),

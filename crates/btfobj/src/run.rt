@@ -321,7 +321,11 @@ pub fn read_table<'a>(
 }
 
 /// The table of a file, over a base if there is one.
-fn read_over<'a>(rt: &HostRuntime, file: &'a str, base: Option<&Btf>) -> Result<Btf, Failure<'a>> {
+pub fn read_over<'a>(
+    rt: &HostRuntime,
+    file: &'a str,
+    base: Option<&Btf>,
+) -> Result<Btf, Failure<'a>> {
     let bytes = read(rt, file)?;
     let blob = blame(file, Blob::read(rt.alloc(), &bytes))?;
     blame(file, blob.whole_table_over(rt.alloc(), base))

@@ -229,7 +229,10 @@ fn relocate<'a>(alloc: Global) -> Result<Command<'a>, AllocError> {
     let target = Arg::new(alloc, "target")
         .long("target")
         .value_name("TABLE")
-        .help("The kernel's object or table; by default the table of the running kernel");
+        .action(ArgAction::Append)
+        .help(
+            "The kernel's object or table, by default that of the running kernel; each further one is that of a module",
+        );
     let output = Arg::new(alloc, "output")
         .short('o')
         .long("output")
@@ -239,7 +242,8 @@ fn relocate<'a>(alloc: Global) -> Result<Command<'a>, AllocError> {
         .about("Applies the CO-RE relocations of an object for a kernel, or lists what they do")
         .after_help(
             "Examples: btfobj relocate prog.o\n          \
-             btfobj relocate prog.o --target vmlinux -o prog.relocated.o\n\
+             btfobj relocate prog.o --target vmlinux -o prog.relocated.o\n          \
+             btfobj relocate prog.o --target vmlinux --target module.ko\n\
              Exit status: 0 where each record has a value, 1 where a record has an error, 3 where an\n\
              instruction is poisoned.",
         )

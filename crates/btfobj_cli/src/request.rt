@@ -10,7 +10,7 @@ use btf_rewrite_model::{BtfFeature, FillPolicy};
 use btf_text::Selection;
 use clap::error::ErrorKind;
 use clap::{ArgMatches, Command, Error};
-use std::alloc::Global;
+use std::alloc::{AllocError, Global};
 
 /// The table of the running kernel.
 const RUNNING_KERNEL: &str = "/sys/kernel/btf/vmlinux";
@@ -19,12 +19,14 @@ const RUNNING_KERNEL: &str = "/sys/kernel/btf/vmlinux";
 const RUNNING_TABLES: &str = "/sys/kernel/btf/";
 
 /// The settings of a relocation.
-#[derive(Clone, Copy, Debug)]
+#[derive(Debug, Drop)]
 pub struct Relocation<'a> {
-    /// The file with the table of the target.
+    /// The file with the kernel's table.
     pub target: &'a str,
     /// The file with the base of that table, if it is split.
     pub base: Option<&'a str>,
+    /// The files with the tables of modules, which continue the kernel's table.
+    pub modules: Vec<&'a str>,
     /// The file for the relocated object; without one the records are listed.
     pub output: Option<&'a str>,
     /// Which candidates a record has.
@@ -120,7 +122,7 @@ pub fn read_request<'a>(alloc: Global, words: &'a [&'a str]) -> Result<Request<'
         }),
         "relocate" => Ok(Request::Relocate {
             file,
-            relocation: read_relocation(matches),
+            relocation: read_relocation(alloc, matches)?,
         }),
         _ => Ok(Request::Compat {
             local: text(matches, "local"),
@@ -132,12 +134,21 @@ pub fn read_request<'a>(alloc: Global, words: &'a [&'a str]) -> Result<Request<'
 }
 
 /// The settings of a relocation. A list has all records, those with an error too.
-fn read_relocation<'a>(matches: &ArgMatches<'a>) -> Relocation<'a> {
+fn read_relocation<'a>(
+    alloc: Global,
+    matches: &ArgMatches<'a>,
+) -> Result<Relocation<'a>, AllocError> {
+    let tables = matches.get_strs("target").unwrap_or(&[]);
+    let (target, modules) = match tables.split_first() {
+        Some((kernel, modules)) => (*kernel, modules),
+        None => (RUNNING_KERNEL, tables),
+    };
     let output = matches.get_str("output");
     let refuses = output.is_some() && !matches.get_flag("keep-going");
-    Relocation {
-        target: matches.get_str("target").unwrap_or(RUNNING_KERNEL),
+    Ok(Relocation {
+        target,
         base: matches.get_str("base"),
+        modules: Vec::from_slice(alloc, modules)?,
         output,
         policy: if matches.get_flag("fresh") {
             CandidatePolicy::Fresh
@@ -155,7 +166,7 @@ fn read_relocation<'a>(matches: &ArgMatches<'a>) -> Relocation<'a> {
         } else {
             Form::Lines
         },
-    }
+    })
 }
 
 /// The file with the base of the table in a file, if that is the table of a module of the running kernel.

@@ -4,7 +4,7 @@ use btfobj_cli::{Request, read_request};
 
 /// Words of a command line, and their request: a command, `text` for help or the version on standard output, or `usage`
 /// for an error.
-static ROWS: [(&[&str], &str); 40] = [
+static ROWS: [(&[&str], &str); 42] = [
     (&["btfobj", "dump", "a.o"], "dump"),
     (&["btfobj", "dump", "-", "--ids", "3..9"], "dump"),
     (
@@ -122,6 +122,14 @@ static ROWS: [(&[&str], &str); 40] = [
         ],
         "relocate",
     ),
+    (
+        &[
+            "btfobj", "relocate", "a.o", "--target", "vmlinux", "--target", "m.ko", "--target",
+            "n.ko",
+        ],
+        "relocate",
+    ),
+    (&["btfobj", "relocate", "a.o", "--target"], "usage"),
     (&["btfobj", "relocate", "a.o", "--kernel", "5.4"], "usage"),
     (&["btfobj", "compat", "a.o", "b.o", "x", "y"], "compat"),
     (&["btfobj", "compat", "a.o", "b.o"], "usage"),

@@ -4,7 +4,7 @@ use crate::difference::first_difference;
 use crate::json::says_the_same;
 use btf_elf::Endianness;
 use btf_loader::Refusals;
-use btf_relocate::{CandidatePolicy, Target};
+use btf_relocate::{CandidatePolicy, Target, Targets};
 use btf_table::Btf;
 use btfobj_cli::{Form, Relocated, list_relocations, relocate};
 use std::fs;
@@ -55,14 +55,18 @@ pub fn compare_relocations(rt: &HostRuntime, sample: &str, object: &[u8]) -> any
 /// The list of an object's relocations for a table.
 fn list(rt: &HostRuntime, object: &[u8], table: &Btf, form: Form) -> anyhow::Result<Vec<u8>> {
     let target = Target::new(rt.alloc(), table)?;
+    let targets = Targets {
+        kernel: &target,
+        modules: &[],
+    };
     let (policy, refusals) = (CandidatePolicy::Shared, Refusals::Keep);
     let keys = RandomState::new(rt)?;
-    let (file, sections) = relocate(rt.alloc(), object, &target, policy, refusals, keys)?;
+    let (file, sections) = relocate(rt.alloc(), object, &targets, policy, refusals, keys)?;
     let relocated = Relocated {
         bytes: object,
         file: &file,
         sections: &sections,
-        target: &target,
+        targets: &targets,
     };
     let mut written = Vec::new(rt.alloc());
     let keys = RandomState::new(rt)?;

@@ -5,7 +5,6 @@ use crate::relocation::spec::{Spec, TypeText};
 use btf_loader::Outcome;
 use btf_model::Endianness;
 use btf_relocate::Patched;
-use btf_table::Btf;
 use serde_json::{Value, json};
 use std::alloc::{AllocError, Global};
 use std::fmt;
@@ -50,10 +49,8 @@ impl Access {
 pub struct Entry<'a> {
     /// What the record is about.
     pub spec: Spec<'a>,
-    /// The table of the target.
-    pub target: &'a Btf,
     /// The type of the target that matches, if one does.
-    pub found: Option<u32>,
+    pub found: Option<TypeText<'a>>,
     /// The outcome of the record.
     pub outcome: Outcome,
     /// Its instruction before.
@@ -91,7 +88,7 @@ impl Entry<'_> {
             Err(error) => Value::String(format!(in alloc; "{error}")?),
         };
         let found = match self.found {
-            Some(id) => Value::from(id),
+            Some(found) => Value::from(found.id),
             None => Value::Null,
         };
         json!(in alloc; {
@@ -114,10 +111,7 @@ impl fmt::Display for Entry<'_> {
     fn fmt<W: fmt::Write>(&self, f: &mut fmt::Formatter<W>) -> fmt::Result {
         write!(f, "insn #{}: {}", self.spec.instruction(), self.spec)?;
         match self.found {
-            Some(id) => {
-                let table = self.target;
-                write!(f, " -> {}", TypeText { table, id })?;
-            }
+            Some(found) => write!(f, " -> {found}")?,
             None if self.spec.has_target() => f.write_str(" -> no match")?,
             None => {}
         }

@@ -47,7 +47,7 @@ fn is_satisfied(outcome: &Outcome) -> bool {
     matches!(outcome, Ok(Patched::Written))
 }
 
-impl Listing<'_, '_, '_> {
+impl<'a, 't> Listing<'a, '_, 't> {
     /// Writes the number of records, and a line for each that the target cannot satisfy.
     pub fn write_summary<W: Write>(
         &self,
@@ -94,7 +94,7 @@ impl Listing<'_, '_, '_> {
         code: &Code<'_>,
         records: &[[u32; 4]],
         outcomes: &[Outcome],
-        matches: &mut Matches,
+        matches: &mut Matches<'a, 't>,
         out: &mut W,
     ) -> Result<(), Fault> {
         for (record, outcome) in records.iter().zip(outcomes) {
