@@ -98,7 +98,7 @@ impl<'a> Blob<'a> {
     /// The error is `DistilledBase` for an object with a section `.BTF.base`. With a base it is then `NoSection` if an
     /// object has no table, or `Table` with the error of `parse_split`; `OutOfMemory` at any time.
     pub fn table_over(&self, alloc: Global, base: Option<&Btf>) -> Result<Btf, Fault>
-        ensures { IfOk result (λ table. MatchOption base (HasTable self.now table)
+        ensures { IfOk result (λ table. MatchOption base.entry (HasTable self.now table)
             (λ base. HasSplitTable self.now base.now table)) }
     {
         if self.has_distilled_base() {
@@ -124,7 +124,7 @@ impl<'a> Blob<'a> {
     /// The table over its base, as `table_over` returns it, with its errors. Without a base the error is `Split` if names
     /// or ids of its types are not in it.
     pub fn whole_table_over(&self, alloc: Global, base: Option<&Btf>) -> Result<Btf, Fault>
-        ensures { IfOk result (λ table. MatchOption base (HasTable self.now table)
+        ensures { IfOk result (λ table. MatchOption base.entry (HasTable self.now table)
             (λ base. HasSplitTable self.now base.now table)) }
     {
         let table = self.table_over(alloc, base)?;
