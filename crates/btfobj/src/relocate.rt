@@ -16,19 +16,42 @@ pub fn relocate_file<'a>(
 ) -> Result<Answer, Failure<'a>> {
     let bytes = read(rt, file)?;
     let table = read_table(rt, relocation.target, relocation.base)?;
-    let target = index(rt, relocation.target, &table)?;
     let tables = read_modules(rt, &relocation.modules, &table)?;
-    let modules = indices(rt, &relocation.modules, &tables)?;
-    let targets = Targets {
-        kernel: &target,
-        modules: &modules,
-    };
+    relocate_over(rt, file, &bytes, relocation, &table, &tables, out)
+}
+
+/// Relocates the code of an object for these tables: a kernel's, and those of its modules.
+fn relocate_over<'a, 't>(
+    rt: &HostRuntime,
+    file: &'a str,
+    bytes: &[u8],
+    relocation: &Relocation<'a>,
+    table: &'t Btf,
+    tables: &'t [Btf],
+    out: &mut Output<'_>,
+) -> Result<Answer, Failure<'a>> {
+    let kernel = index(rt, relocation.target, table)?;
+    let modules = indices(rt, &relocation.modules, tables)?;
+    relocate_for(rt, file, bytes, relocation, &kernel, &modules, out)
+}
+
+/// Relocates the code of an object for a kernel with modules.
+fn relocate_for<'a, 'b, 't>(
+    rt: &HostRuntime,
+    file: &'a str,
+    bytes: &[u8],
+    relocation: &Relocation<'a>,
+    kernel: &'b Target<'t>,
+    modules: &'b [Target<'t>],
+    out: &mut Output<'_>,
+) -> Result<Answer, Failure<'a>> {
+    let targets = Targets { kernel, modules };
     let (policy, refusals) = (relocation.policy, relocation.refusals);
     let keys = hasher(rt, file)?;
-    let relocated = relocate(rt.alloc(), &bytes, &targets, policy, refusals, keys);
+    let relocated = relocate(rt.alloc(), bytes, &targets, policy, refusals, keys);
     let (written, sections) = blame(file, relocated)?;
     let relocated = Relocated {
-        bytes: &bytes,
+        bytes,
         file: &written,
         sections: &sections,
         targets: &targets,
