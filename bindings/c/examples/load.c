@@ -129,6 +129,19 @@ static bool find(const struct file *object, const char *name, Elf64_Shdr *found)
 	return false;
 }
 
+/* Writes the code that is given to the kernel. */
+static bool print_code(const struct loader *it)
+{
+	Elf64_Shdr code;
+	if (!find(&it->sanitized, NULL, &code))
+		return false;
+	printf("code ");
+	for (size_t i = 0; i < code.sh_size; i++)
+		printf("%02x", it->sanitized.bytes[code.sh_offset + i]);
+	putchar('\n');
+	return true;
+}
+
 /* Calls bpf(2), and writes why the kernel refuses the call. The log says more of a table and of a program. */
 static int called(int command, union bpf_attr *attr, const char *what)
 {
@@ -234,7 +247,7 @@ int main(int argc, char **argv)
 	}
 	bool is_run = getrandom(&it.seed, sizeof it.seed, 0) == sizeof it.seed && read_file(argv[1], &it.object)
 	              && read_file(KERNEL, &types) && open_table(&it.kernel, types.bytes, types.len) && relocate(&it)
-	              && sanitize(&it) && load_table(&it) && load_program(&it) && run(&it);
+	              && sanitize(&it) && print_code(&it) && load_table(&it) && load_program(&it) && run(&it);
 	vbtf_close(&it.program);
 	vbtf_close(&it.kernel);
 	free(types.bytes);
