@@ -1,4 +1,4 @@
-/* Four threads read one table, and two change tables of their own, at the same time. */
+/* Six threads read one table and relocate for it, and two change tables of their own, at the same time. */
 #include "table.h"
 
 #include <pthread.h>
@@ -57,15 +57,15 @@ int main(void)
 {
 	struct vbtf_error error;
 	uint8_t ext[EXT_LEN];
-	pthread_t threads[6];
+	pthread_t threads[8];
 	ext_bytes(ext, VBTF_LITTLE);
 	shared = opened(VBTF_LITTLE);
 	check(vbtf_open_ext(&shared, ext, sizeof ext, VBTF_LITTLE, 7, &error) == VBTF_OK);
 	check(vbtf_add_string(&shared, "0:1", 3, &access_offset, &error) == VBTF_OK);
 	check(vbtf_target_open(&shared, &error) == VBTF_OK);
-	for (unsigned i = 0; i < 6; i++)
-		check(pthread_create(&threads[i], NULL, i < 4 ? reader : writer, NULL) == 0);
-	for (unsigned i = 0; i < 6; i++) {
+	for (unsigned i = 0; i < 8; i++)
+		check(pthread_create(&threads[i], NULL, i < 6 ? reader : writer, NULL) == 0);
+	for (unsigned i = 0; i < 8; i++) {
 		void *wrong = NULL;
 		check(pthread_join(threads[i], &wrong) == 0 && wrong == NULL);
 	}

@@ -6,12 +6,8 @@ use crate::ext::Relocation;
 use crate::table::Table;
 use vbtf_sys::{vbtf_lent_relocate, vbtf_relocated, vbtf_relocation};
 
-/// What a relocation asks to be written into its instruction. Values are 64-bit patterns.
-///
-/// ```
-/// let relocated = vbtf::Relocated { expected: 4, value: 8, ..Default::default() };
-/// assert!(relocated.value != relocated.expected, "the field is at another offset in the target");
-/// ```
+/// What a relocation asks to be written into its instruction, as [`Target::relocate`] returns it. Values are 64-bit
+/// patterns.
 #[derive(Debug, Clone, Copy, PartialEq, Eq, Hash, Default)]
 pub struct Relocated {
     /// The value for the program's own table, which the compiler wrote into the instruction.
