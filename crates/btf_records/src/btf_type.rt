@@ -1,8 +1,9 @@
 //! A record of any kind.
 
-ghost use Rattle.std.specs.Prelude.{◌≡◌};
+ghost use Rattle.std.specs.Prelude.{◌≡◌, None};
 ghost use Rattle.btf_model.specs.Record.{compared_kind};
 ghost use Rattle.btf_plain.specs.Kind as kinds;
+ghost use Rattle.btf_records.specs.BtfType.{record_of, fallback_of};
 
 use crate::union::Union;
 use btf_plain::{
@@ -249,6 +250,17 @@ impl BtfType {
         ensures whole { OnOk result (IsWhole (record_of self.now)) }
     {
         each!(self, push_array(out, order, &[0, 0, 0]), t => t.append_to(out, order))
+    }
+}
+
+/// The type without the ENUM64 that it replaces, for the crates that use this one.
+pub fn without_fallback(btf_type: BtfType) -> BtfType
+    ensures record { record_of result ≡ record_of btf_type }
+    ensures fallback { fallback_of result ≡ None }
+{
+    match btf_type {
+        BtfType::Union(union) => BtfType::Union(union.without_fallback()),
+        other => other,
     }
 }
 

@@ -11,5 +11,5 @@ pub use btf_plain::{
     BtfEnum, BtfEnum64, BtfMember, BtfParam, DataSec, DataSecEntry, Enum, Enum64, Enum64Fallback,
     Enum64VariantFallback, FuncProto, Struct, as_enum,
 };
-pub use btf_type::BtfType;
+pub use btf_type::{BtfType, without_fallback};
 pub use union::Union;

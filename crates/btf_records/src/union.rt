@@ -68,6 +68,17 @@ impl Members {
             }
         }
     }
+
+    /// The members, without the fallback.
+    fn without_fallback(self) -> Self
+        ensures members { members_of result ≡ members_of self }
+        ensures fallback { kept_of result ≡ None }
+    {
+        match self {
+            Members::Alone(members) => Members::Alone(members),
+            Members::InsteadOf(_, members) => Members::Alone(ItemList::from_vec(members)),
+        }
+    }
 }
 
 impl Model for Union {
@@ -239,6 +250,18 @@ impl Union {
             size: self.size,
             members: self.members.try_clone()?,
         })
+    }
+
+    /// The record, without its fallback.
+    pub(crate) fn without_fallback(self) -> Self
+        ensures { result ≡ record { words = self.words; fallback = None } }
+    {
+        Self {
+            name_offset: self.name_offset,
+            info: self.info,
+            size: self.size,
+            members: self.members.without_fallback(),
+        }
     }
 }
 

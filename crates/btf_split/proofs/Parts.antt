@@ -1,56 +1,27 @@
 -- The part of a table above a base, in the table's blob.
-use Rattle.std.proofs.Common.{◌≡◌, ℕ, ◌+◌, ◌-◌, ◌*◌, ◌^◌, ◌<◌, ◌≤◌, List, [], ◌∷◌, ◌++◌, length, get_or, take, drop, Result, Ok, refl, sym, ap, subst, ◌∙◌, arith}
+use Rattle.std.proofs.Common.{◌≡◌, ℕ, ◌-◌, ◌^◌, ◌<◌, ◌≤◌, List, ◌++◌, length, take, drop, Result, Ok, Err, refl, sym, ap, subst, ◌∙◌, arith}
 use Rattle.std.specs.Prelude.{All, map}
 use Rattle.std.specs.List.{flat_map}
-use Rattle.std.proofs.lemmas.Bool.{le-ltb, ne_eqb}
-use Rattle.std.proofs.lemmas.List.{length-append, length-map, append-nil, map-append, take-append-drop, take_more, drop-drop, drop-map, take-map, drop_at}
+use Rattle.std.proofs.lemmas.Bool.{le-ltb, lt-ltb, ne_eqb}
+use Rattle.std.proofs.lemmas.List.{length-append, take-append-drop, drop-drop, drop-map, take-map, drop_at}
 use Rattle.std.proofs.lemmas.List.Concat.{flat_map-append}
 use Rattle.btf_model.specs.declared.endianness.Endianness.{Endianness}
 use Rattle.btf_model.specs.Record.{Record}
 use Rattle.btf_model.specs.Spelling.{spell}
 use Rattle.btf_model.specs.Table.{Table, type_bytes, strip, section_limit}
 use Rattle.btf_model.specs.Blob.{Header, header_of, header_bytes, canon, canon_header, string_section, type_section, IsTable, IsValid}
-use Rattle.btf_model.specs.Refusal.{Refusal}
+use Rattle.btf_model.specs.Refusal.{Refusal, InvalidStringOffset, UnknownBtfType}
 use Rattle.btf_model.proofs.Words.{IsBytes}
 use Rattle.btf_model.proofs.Comparisons.{same_ok}
-use Rattle.btf_model.proofs.Records.{length-spell}
 use Rattle.btf_model.proofs.Blobs.{header_of-header_bytes, regrouped, canon_types}
 use Rattle.btf_records.specs.BtfType.{record_of}
 use Rattle.btf_records.specs.declared.btf_type.BtfType.{BtfType}
-use Rattle.btf_split_model.specs.Split.{above, split_canon, split_blob, Extends, IsJoined}
+use Rattle.btf_table.proofs.Joining.{spelled}
+use Rattle.btf_split_model.specs.Split.{above, over_base, split_canon, split_blob, Extends, IsJoined}
 use Rattle.btf_split_model.proofs.Joining.{extending_joins}
 use Rattle.btf_split_model.proofs.Whole.{read_valid, bytes_from_all}
 use Rattle.btf_split.specs.Blob.{written_header}
 use Rattle.btf_split.proofs.Blobs.{front_is, header_is}
-
--- ---- the length of some types
-
--- the length of the spellings of these types
-abbrev pub spelled : Endianness → List BtfType → ℕ
-spelled order xs = length (flat_map (spell order) (map record_of xs))
-
-spelled-append : (order : Endianness) (xs ys : List BtfType) → spelled order (xs ++ ys) ≡ spelled order xs + spelled order ys
-spelled-append order xs ys =
-    ap (λ (rs : List Record). length (flat_map (spell order) rs)) (map-append record_of xs ys)
-    ∙ ap length (flat_map-append (spell order) (map record_of xs) (map record_of ys))
-    ∙ length-append (flat_map (spell order) (map record_of xs)) (flat_map (spell order) (map record_of ys))
-
--- one more type
-pub spelled_more : (order : Endianness) (xs : List BtfType) (i : ℕ) (t : BtfType) (size : ℕ) → i < length xs → t ≡ get_or xs i t → size ≡ 12 + 4 * length (record_of t).tail → spelled order (take (i + 1) xs) ≡ spelled order (take i xs) + size
-spelled_more order xs i t size lt is size-is =
-    let more : take (i + 1) xs ≡ take i xs ++ t ∷ [] = take_more xs i t lt ∙ ap (λ (x : BtfType). take i xs ++ x ∷ []) (sym is) in
-    omega (
-      arith,
-      ap (spelled order) more,
-      spelled-append order (take i xs) (t ∷ []),
-      ap length (append-nil (spell order (record_of t))),
-      length-spell order (record_of t),
-      size-is,
-    )
-
--- the first types are not longer than all
-pub spelled_front : (order : Endianness) (xs : List BtfType) (i : ℕ) → spelled order (take i xs) ≤ spelled order xs
-spelled_front order xs i = omega (arith, ap (spelled order) (take-append-drop i xs), spelled-append order (take i xs) (drop i xs))
 
 -- the records of the first types after id 0
 pub front_records : (n : ℕ) (xs : List BtfType) (rs : List Record) → map record_of xs ≡ rs → map record_of (take n (drop 1 xs)) ≡ take n (drop 1 rs)
@@ -60,6 +31,19 @@ front_records n xs rs is = sym (take-map record_of n (drop 1 xs)) ∙ ap (take n
 
 pub split_given : (n m : ℕ) (t : Table) → 0 < n → n ≤ length t.records → m ≤ length t.strings → split_blob n m t ≡ Ok (split_canon n m t)
 split_given n m t lt types strings = rw (ne_eqb n 0 (λ e. omega (arith, e, lt)), le-ltb (length t.records) n types, le-ltb (length t.strings) m strings) refl
+
+-- a base without id 0, with more types, or with more strings
+pub of_no_types : (n m : ℕ) (t : Table) → n ≡ 0 → ◌≡◌ {A = Result (Unit {0}) Refusal} (Err (UnknownBtfType n)) (over_base n m t tt)
+of_no_types n m t is = subst (λ (k : ℕ). ◌≡◌ {A = Result (Unit {0}) Refusal} (Err (UnknownBtfType k)) (over_base k m t tt)) (sym is) refl
+
+pub of_few_types : (n m : ℕ) (t : Table) → length t.records < n → ◌≡◌ {A = Result (Unit {0}) Refusal} (Err (UnknownBtfType n)) (over_base n m t tt)
+of_few_types n m t lt = rw (ne_eqb n 0 (λ e. omega (arith, e, lt)), lt-ltb (length t.records) n lt) refl
+
+pub of_few_strings : (n m : ℕ) (t : Table) → 0 < n → n ≤ length t.records → length t.strings < m → ◌≡◌ {A = Result (Unit {0}) Refusal} (Err (InvalidStringOffset m)) (over_base n m t tt)
+of_few_strings n m t lt types strings = rw (ne_eqb n 0 (λ e. omega (arith, e, lt)), le-ltb (length t.records) n types, lt-ltb (length t.strings) m strings) refl
+
+pub of_enough : (n m : ℕ) (t : Table) → 0 < n → n ≤ length t.records → m ≤ length t.strings → ◌≡◌ {A = Result (Unit {0}) Refusal} (Ok tt) (over_base n m t tt)
+of_enough n m t lt types strings = rw (ne_eqb n 0 (λ e. omega (arith, e, lt)), le-ltb (length t.records) n types, le-ltb (length t.strings) m strings) refl
 
 module _ (t : Table) (blob : List ℕ) (is : IsTable t.order blob (strip t)) (written : blob ≡ canon t) (fits : IsBytes blob) where
   valid : IsValid (strip t)
@@ -165,10 +149,3 @@ module _ (t : Table) (n : ℕ) (order : Endianness) (blob : List ℕ) (xs : List
       (types-is ∙ ap (drop start) (whole_types-is ∙ ap (λ (o : Endianness). type_section (header_of o blob) blob) k.order_is))
       (strings-is ∙ ap (drop m) (whole_strings-is ∙ ap (λ (o : Endianness). string_section (header_of o blob) blob) k.order_is))
       (e ∙ ap (λ (o : Endianness). written_header o blob (length types) (length strings) ++ types ++ strings) k.order_is)
-
-  pub known_given : (m : ℕ) (strings : List ℕ) → n ≤ length xs → strings ≡ string_section (header_of order blob) blob → m ≤ length strings → split_blob n m t ≡ Ok (split_canon n m t)
-  known_given m strings types strings-is le =
-      let is : IsTable t.order blob (strip t) = k.is in
-      split_given n m t k.some
-      (omega (arith, types, length-map xs record_of, ap length k.records))
-      (omega (arith, le, ap length strings-is, ap (λ (o : Endianness). length (string_section (header_of o blob) blob)) k.order_is, ap length is.strings))

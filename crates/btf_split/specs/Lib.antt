@@ -1,3 +1,2 @@
 pub mod Blob
 pub mod Hint
-pub mod Joining

@@ -12,9 +12,6 @@ use std::alloc::AllocError;
 /// The length of the header in bytes.
 pub const HEADER_LEN: usize = 24;
 
-/// The maximum length in bytes of the strings, and of the records after id 0.
-pub const SECTION_LIMIT: usize = 4294967295;
-
 /// The sections of a blob.
 #[derive(Clone, Copy)]
 pub struct Sections<'a> {

@@ -1,20 +1,14 @@
-//! Reading a split table over its base.
+//! A split table after its base.
 
-ghost use Rattle.std.specs.Prelude.{◌≡◌, ◌++◌, map, OnOk, Ok, Err};
-ghost use Rattle.std.specs.List.{flat_map, AllByRecursion};
+ghost use Rattle.std.specs.Prelude.{◌≡◌, ◌<◌, ◌≤◌, length, Ok, Err, OnOk, OnErr};
 ghost use Rattle.btf_model.specs.Refusal.{Refusal};
-ghost use Rattle.btf_model.specs.Spelling.{spell, IsWhole};
 ghost use Rattle.btf_model.specs.Table.{Table};
-ghost use Rattle.btf_split_model.specs.Split.{Joins, IsJoined, IsJoinedRefusal};
-ghost use Rattle.btf_plain.specs.Error.{MeetsOrNoMemory, IsOrNoMemory};
-ghost use Rattle.btf_records.specs.BtfType.{record_of};
-ghost use Rattle.btf_split.specs.Joining.{JoinsAs, FitBlob};
+ghost use Rattle.btf_split_model.specs.Split.{Appends, Joins, IsJoined, IsJoinedRefusal, cut, over_base};
+ghost use Rattle.btf_plain.specs.Error.{Meets, MeetsOrNoMemory, IsOrNoMemory};
 
-use crate::blob::{HEADER_LEN, SECTION_LIMIT, append_header, sections_of};
 use btf_plain::{BtfError, Endianness};
-use btf_records::BtfType;
-use btf_table::Btf;
-use std::alloc::{AllocError, Global};
+use btf_table::{Btf, allocator_of, append_table, cut_table, join_tables, string_len, type_count};
+use std::alloc::Global;
 
 /// The table of a kernel module: the split table in `data`, whose words are in this byte order, over its base, the
 /// kernel's table.
@@ -26,8 +20,7 @@ use std::alloc::{AllocError, Global};
 ///
 /// Reports the first error, in this order: the errors of `Btf::parse` for the data; `InvalidHeader` if the strings of
 /// base and data together exceed 4,294,967,295 bytes; and `InvalidTypeInfo` if their records do. Takes time linear in
-/// the base and the data. It first reads the data as a table, which it drops. Then it holds the bytes of the base twice
-/// and those of the data once, and at last the bytes of both once and the result.
+/// the base and the data, because it copies the base: `append_split` takes time linear in the data.
 pub fn parse_split(
     alloc: Global,
     base: &Btf,
@@ -45,6 +38,60 @@ pub fn parse_split(
     read_joined(alloc, base, data, endianness)
 }
 
+/// Appends a split table, whose words are in this byte order, to its base. `truncate` with the numbers of the base's
+/// types and bytes of strings removes it, so a program can read the modules of a kernel one after another over one
+/// table.
+///
+/// The table then has the types and the strings that `parse_split` returns, and keeps its byte order, magic, version and
+/// flags.
+///
+/// Fails as `parse_split`. An error leaves the table unchanged.
+pub fn append_split(table: &mut Btf, data: &[u8], endianness: Endianness) -> Result<(), BtfError>
+    ensures appended { MeetsOrNoMemory (λ _. table.new) result
+        (Appends endianness table.old «data».now) }
+    ensures err { OnErr result (table.new ≡ table.old) }
+{
+    let own = Btf::parse(allocator_of(table), data, endianness)?;
+    append_table(table, own)
+}
+
+/// Removes all types of a table except the first `base_types`, id 0 included, and all bytes of its strings except the
+/// first `base_strings`.
+///
+/// Fails with `UnknownBtfType` of `base_types` if it is 0 or the table has fewer types, and then with
+/// `InvalidStringOffset` of `base_strings` if the table has fewer bytes of strings. An error leaves the table unchanged.
+/// Takes time linear in what is removed, and allocates no memory.
+pub fn truncate(table: &mut Btf, base_types: u32, base_strings: u32) -> Result<(), BtfError>
+    ensures cut { Meets (λ _. table.new) result (λ answer. answer
+        ≡ over_base base_types base_strings table.old (cut base_types base_strings table.old)) }
+    ensures err { OnErr result (table.new ≡ table.old) }
+{
+    check_base(table, base_types, base_strings)?;
+    cut_table(table, base_types, base_strings);
+    Ok(())
+}
+
+/// Fails if a table has no base with these numbers of types and of bytes of strings: with `UnknownBtfType`, or else with
+/// `InvalidStringOffset`.
+pub(crate) fn check_base(table: &Btf, base_types: u32, base_strings: u32) -> Result<(), BtfError>
+    ensures checked { Meets (λ u. u) result (λ answer. answer
+        ≡ over_base base_types base_strings table.now tt) }
+    ensures fits { OnOk result ((0 < base_types) × (base_types ≤ length table.now.records)
+        × (base_strings ≤ length table.now.strings)) }
+{
+    if base_types == 0 || base_types > type_count(table) {
+        return Err(BtfError::UnknownBtfType {
+            type_id: base_types,
+        });
+    }
+    if base_strings > string_len(table) {
+        return Err(BtfError::InvalidStringOffset {
+            offset: base_strings as usize,
+        });
+    }
+    Ok(())
+}
+
 /// The base with the split table, or the first reason to refuse the data.
 fn read_joined(
     alloc: Global,
@@ -54,63 +101,6 @@ fn read_joined(
 ) -> Result<Btf, BtfError>
     ensures { MeetsOrNoMemory (λ b. b) result (Joins endianness base.now «data».now) }
 {
-    let blob = joined_blob(alloc, base, data, endianness)?;
-    Btf::parse(alloc, &blob, endianness)
-}
-
-/// Fails with `InvalidHeader` if the strings are too long for a blob, or else with `InvalidTypeInfo` if the types are.
-fn check_len(strings: usize, types: usize) -> Result<(), BtfError>
-    ensures { MeetsOrNoMemory (λ u. u) result (FitBlob strings types) }
-{
-    if strings > SECTION_LIMIT {
-        return Err(BtfError::InvalidHeader);
-    }
-    if types > SECTION_LIMIT {
-        return Err(BtfError::InvalidTypeInfo);
-    }
-    Ok(())
-}
-
-/// Appends records to bytes, in this byte order.
-fn append_types(
-    out: &mut Vec<u8>,
-    types: &[BtfType],
-    endianness: Endianness,
-) -> Result<(), AllocError>
-    ensures written { OnOk result (out.new.items ≡ out.old.items
-        ++ flat_map (spell endianness) (map record_of types.now)) }
-    // The written bytes are read as these records.
-    ensures whole { OnOk result (AllByRecursion IsWhole (map record_of types.now)) }
-{
-    for record in types {
-        record.append_to(out, endianness)?;
-    }
-    Ok(())
-}
-
-/// A blob of the base with the split table after it, in this byte order.
-fn joined_blob(
-    alloc: Global,
-    base: &Btf,
-    data: &[u8],
-    endianness: Endianness,
-) -> Result<Vec<u8>, BtfError>
-    ensures { MeetsOrNoMemory (λ v. v.items) result
-        (JoinsAs endianness base.now «data».now) }
-{
-    // This refuses data that is no blob. Its records are copied from the data, so the table is not used.
-    Btf::parse(alloc, data, endianness)?;
-    let base_blob = base.to_bytes()?;
-    let first = sections_of(&base_blob, base.endianness());
-    let own = sections_of(data, endianness);
-    let strings = first.strings.len() + own.strings.len();
-    let types = first.types.len() + own.types.len();
-    check_len(strings, types)?;
-    let mut out = Vec::with_capacity(alloc, HEADER_LEN + types + strings)?;
-    append_header(&mut out, data, types as u32, strings as u32, endianness)?;
-    append_types(&mut out, &base.types().as_slice()[1..], endianness)?;
-    out.extend_from_slice(own.types)?;
-    out.extend_from_slice(first.strings)?;
-    out.extend_from_slice(own.strings)?;
-    Ok(out)
+    let own = Btf::parse(alloc, data, endianness)?;
+    join_tables(base, own)
 }

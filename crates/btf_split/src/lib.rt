@@ -7,6 +7,7 @@ mod hint;
 mod joining;
 mod part;
 
+pub use btf_table::string_len;
 pub use hint::looks_split;
-pub use joining::parse_split;
-pub use part::{split_bytes, string_len};
+pub use joining::{append_split, parse_split, truncate};
+pub use part::split_bytes;

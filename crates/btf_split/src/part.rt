@@ -1,26 +1,14 @@
 //! Writing the part of a table above a base.
 
-ghost use Rattle.std.specs.Prelude.{◌≡◌, ◌≤◌, map, length, IfOk, Ok};
-ghost use Rattle.std.specs.List.{flat_map};
-ghost use Rattle.btf_model.specs.Spelling.{spell};
+ghost use Rattle.std.specs.Prelude.{◌≡◌, length, IfOk};
 ghost use Rattle.btf_model.specs.Table.{Table, strip};
 ghost use Rattle.btf_split_model.specs.Split.{Extends, IsJoined, split_blob};
 ghost use Rattle.btf_plain.specs.Error.{IsOrNoMemory};
-ghost use Rattle.btf_records.specs.BtfType.{record_of};
 
-use crate::blob::{HEADER_LEN, SECTION_LIMIT, append_header, sections_of};
-use btf_plain::{BtfError, Endianness};
-use btf_records::BtfType;
-use btf_table::{Btf, allocator_of};
-
-/// The length of a table's strings in bytes. A split table over this table begins its string offsets there.
-/// `OutOfMemory` is the only error.
-pub fn string_len(table: &Btf) -> Result<u32, BtfError>
-    ensures { IsOrNoMemory (λ n. n) result (Ok (length table.now.strings)) }
-{
-    let blob = table.to_bytes()?;
-    Ok(sections_of(&blob, table.endianness()).strings.len() as u32)
-}
+use crate::blob::{HEADER_LEN, append_header, sections_of};
+use crate::joining::check_base;
+use btf_plain::BtfError;
+use btf_table::{Btf, allocator_of, types_len};
 
 /// The part of a table above a base, as a split table in the table's byte order. The base is the first `base_types`
 /// types, id 0 included, and the first `base_strings` bytes of the strings. Its numbers are `type_count` and
@@ -38,22 +26,14 @@ pub fn split_bytes(table: &Btf, base_types: u32, base_strings: u32) -> Result<Ve
         → length base.records ≡ base_types → length base.strings ≡ base_strings
         → IsJoined table.now.order base v.items (strip table.now)) }
 {
-    let types = table.types().as_slice();
-    if base_types == 0 || base_types as usize > types.len() {
-        return Err(BtfError::UnknownBtfType {
-            type_id: base_types,
-        });
-    }
+    check_base(table, base_types, base_strings)?;
     let blob = table.to_bytes()?;
     let endianness = table.endianness();
     let whole = sections_of(&blob, endianness);
-    let offset = base_strings as usize;
-    if offset > whole.strings.len() {
-        return Err(BtfError::InvalidStringOffset { offset });
-    }
+    let types = table.types().as_slice();
     let start = types_len(&types[1..base_types as usize], endianness);
     let own_types = &whole.types[start..];
-    let own_strings = &whole.strings[offset..];
+    let own_strings = &whole.strings[base_strings as usize..];
     let len = HEADER_LEN + own_types.len() + own_strings.len();
     let mut out = Vec::with_capacity(allocator_of(table), len)?;
     append_header(
@@ -66,16 +46,4 @@ pub fn split_bytes(table: &Btf, base_types: u32, base_strings: u32) -> Result<Ve
     out.extend_from_slice(own_types)?;
     out.extend_from_slice(own_strings)?;
     Ok(out)
-}
-
-/// The length of the types in bytes.
-fn types_len(types: &[BtfType], endianness: Endianness) -> usize
-    requires { length (flat_map (spell endianness) (map record_of types.now)) ≤ SECTION_LIMIT }
-    ensures { result ≡ length (flat_map (spell endianness) (map record_of types.now)) }
-{
-    let mut len = 0;
-    for btf_type in types {
-        len += btf_type.type_info_size();
-    }
-    len
 }

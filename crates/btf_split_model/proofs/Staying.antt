@@ -1,18 +1,19 @@
 -- What a base gives an answer to has the same answer in a table that extends it.
-use Rattle.std.proofs.Common.{◌≡◌, ℕ, zero, suc, ◌+◌, ◌<◌, List, [], ◌∷◌, ◌++◌, length, drop, Option, None, Some, Ok, Err, refl, sym, ap, subst, ◌∙◌, arith, inl, inr}
+use Rattle.std.proofs.Common.{◌≡◌, ℕ, zero, suc, ◌+◌, ◌<◌, List, [], ◌∷◌, ◌++◌, length, take, drop, Option, None, Some, Ok, Err, refl, sym, ap, subst, ◌∙◌, arith, inl, inr}
 use Rattle.std.specs.Prelude.{slice_get}
 use Rattle.std.specs.Result.{result_ok}
 use Rattle.std.proofs.lemmas.Option.{none-some, slice_get_within}
-use Rattle.std.proofs.Math.Seq.{drop-append-add}
+use Rattle.std.proofs.Math.Seq.{drop-append-add, take-append_seam}
+use Rattle.btf_model.specs.declared.endianness.Endianness.{Endianness}
 use Rattle.btf_model.specs.Record.{Record}
 use Rattle.btf_model.specs.Refusal.{Refusal, MaximumTypeDepthReached}
-use Rattle.btf_model.specs.Table.{Table}
+use Rattle.btf_model.specs.Table.{Table, Fallback, no_fallbacks}
 use Rattle.btf_model.specs.Text.{text_at, bytes_at}
 use Rattle.btf_model.specs.Walk.{Finding, Ends, GoesOn, Leads, WalkAnswers, By, unmodified_in, size_in, Elements, Resolves, HasSize}
 use Rattle.btf_model.proofs.Blobs.{slice_get-append_left}
 use Rattle.btf_model.proofs.Texts.{text_stays}
-use Rattle.btf_split_model.specs.Split.{joined, Extends}
-use Rattle.btf_split_model.proofs.Joining.{front_and_rest}
+use Rattle.btf_split_model.specs.Split.{appended, cut, joined, Extends, IsJoined}
+use Rattle.btf_split_model.proofs.Joining.{front_and_rest, joined_extends}
 
 -- ---- records and texts
 
@@ -44,6 +45,13 @@ own_types base own id = behind_list base.records (drop 1 own.records) id ∙ aft
 
 pub own_texts : (base own : Table) (offset : ℕ) → bytes_at (joined base own).strings (length base.strings + offset) ≡ bytes_at own.strings offset
 own_texts base own offset = rw (drop-append-add base.strings own.strings offset) refl
+
+pub cut_again : (order : Endianness) (base : Table) (bytes : List ℕ) (t : Table) → IsJoined order base bytes t → length base.fallbacks ≡ length base.records → cut (length base.records) (length base.strings) (appended base t) ≡ base
+cut_again order base bytes t h same =
+    let ext : Extends base t = joined_extends order base bytes t h in
+    let more : List (Option Fallback) = no_fallbacks (drop (length base.records) t.records) in
+    let fallbacks : take (length base.records) (base.fallbacks ++ more) ≡ base.fallbacks = ap (λ (n : ℕ). take n (base.fallbacks ++ more)) (sym same) ∙ take-append_seam base.fallbacks more in
+    λ i. record base { strings = ext.strings i; records = ext.records i; fallbacks = fallbacks i }
 
 -- ---- walks
 

@@ -1,13 +1,13 @@
 -- Worked examples of split tables, computed.
 use Rattle.std.specs.Prelude.{◌≡◌, [], ◌∷◌, Some, None, Ok, Err, refl}
-use Rattle.btf_model.specs.declared.endianness.Endianness.TheVariants.{Little}
+use Rattle.btf_model.specs.declared.endianness.Endianness.TheVariants.{Little, Big}
 use Rattle.btf_model.specs.Record.{Record, unknown}
 use Rattle.btf_model.specs.Refusal.{UnknownBtfType, InvalidStringOffset}
 use Rattle.btf_model.specs.Table.{Table}
 use Rattle.btf_model.specs.Text.{bytes_at}
 use Rattle.btf_model.specs.Walk.{Ends, unmodified_in}
 use Rattle.std.specs.Prelude.{slice_get}
-use Rattle.btf_split_model.specs.Split.{joined, above, split_canon, split_blob}
+use Rattle.btf_split_model.specs.Split.{appended, cut, joined, above, split_canon, split_blob}
 
 -- an INT of 4 bytes whose name is at offset 1
 int_record : Record
@@ -100,3 +100,12 @@ beyond_the_end : (split_blob 3 8 (joined base own) ≡ Err (InvalidStringOffset 
     × (split_blob 0 8 (joined base own) ≡ Err (UnknownBtfType 0))
 unfolding base own
 beyond_the_end = (refl, refl)
+
+-- a base of the other byte order keeps it when the split table is appended
+order_stays : (appended (record base { order = Big }) (joined base own)).order ≡ Big
+order_stays = refl
+
+-- cut to three records and five bytes of strings, it is the base
+cut_again : cut 3 5 (appended base (joined base own)) ≡ base
+unfolding base own
+cut_again = refl

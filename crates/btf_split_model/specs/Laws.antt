@@ -10,7 +10,7 @@ use Rattle.btf_model.specs.Walk.{Resolves, HasSize}
 use Rattle.btf_model.specs.Fields.{Pair, Fields}
 use Rattle.btf_model.specs.Compat.{Plain}
 use Rattle.btf_split_model.specs.Hint.{LooksSplit, hint_records}
-use Rattle.btf_split_model.specs.Split.{joined, IsJoined, IsJoinedRefusal, Extends, split_canon}
+use Rattle.btf_split_model.specs.Split.{appended, cut, joined, IsJoined, IsJoinedRefusal, Extends, split_canon}
 
 -- Bytes are at most one table over a base, or are refused for at most one reason, and never both.
 pub record JoinedIsDetermined : Type 0 where
@@ -69,6 +69,14 @@ pub record WrittenJoinsAgain : Type 0 where
   pub parsed : (order : Endianness) (base : Table) (bytes : List ℕ) (t : Table) → All (λ byte. byte < 2 ^ 8) bytes
       → IsJoined order base bytes t
       → IsJoined order base (split_canon (length base.records) (length base.strings) t) t
+
+-- A base to which a split table was appended is the base again after it is cut to the base's numbers of records and of
+-- bytes of strings.
+abbrev pub CutGivesBase : Type 0
+CutGivesBase =
+    (order : Endianness) (base : Table) (bytes : List ℕ) (t : Table) → IsJoined order base bytes t
+    → length base.fallbacks ≡ length base.records
+    → cut (length base.records) (length base.strings) (appended base t) ≡ base
 
 -- A blob that represents a table looks split exactly if one of the types 1 to 64 has a name at a string offset that its
 -- strings do not have.

@@ -60,10 +60,36 @@ above records strings t = with_sections (drop strings t.strings) (unknown ∷ dr
 abbrev pub split_canon : ℕ → ℕ → Table → List ℕ
 split_canon records strings t = canon (above records strings t)
 
--- What writing the part above a base returns, by the base's numbers of records and of bytes of strings. It is refused
--- if the base has no id 0 or the table has fewer records, and then if the table has fewer bytes of strings.
-abbrev pub split_blob : ℕ → ℕ → Table → Result (List ℕ) Refusal
-split_blob records strings t =
+-- A value for a table and a base of these numbers of records and of bytes of strings. It is refused if the base has no
+-- id 0 or the table has fewer records, and then if the table has fewer bytes of strings.
+abbrev pub over_base : {X : Type 0} → ℕ → ℕ → Table → X → Result X Refusal
+over_base records strings t x =
     if records == 0 || nat_lt (length t.records) records then Err (UnknownBtfType records)
     else (if nat_lt (length t.strings) strings then Err (InvalidStringOffset strings)
-    else Ok (split_canon records strings t))
+    else Ok x)
+
+-- what writing the part above the base returns, by the base's numbers of records and of bytes of strings
+abbrev pub split_blob : ℕ → ℕ → Table → Result (List ℕ) Refusal
+split_blob records strings t = over_base records strings t (split_canon records strings t)
+
+-- The base to which a split table was appended: the strings and the records of the table that they are joined to. The
+-- byte order, the header's values and the fallbacks are the base's.
+abbrev pub appended : Table → Table → Table
+appended base t = record base {
+  strings = t.strings;
+  records = t.records;
+  fallbacks = base.fallbacks ++ no_fallbacks (drop (length base.records) t.records);
+}
+
+-- What appending a split table to its base makes of the base, or the first reason to refuse the bytes.
+abbrev pub Appends : Endianness → Table → List ℕ → Result Table Refusal → Type 0
+Appends order base bytes (Ok new) = (t : Table) × IsJoined order base bytes t × (new ≡ appended base t)
+Appends order base bytes (Err refusal) = IsJoinedRefusal order base bytes refusal
+
+-- the first records and the first bytes of the strings
+abbrev pub cut : ℕ → ℕ → Table → Table
+cut records strings t = record t {
+  strings = take strings t.strings;
+  records = take records t.records;
+  fallbacks = take records t.fallbacks;
+}

@@ -4,7 +4,7 @@
 //! The definitions are in `specs/`. Each law is the contract of a function here that does nothing.
 #![tactic(auto)]
 
-ghost use Rattle.btf_split_model.specs.Laws.{JoinedIsDetermined, BaseStays, BaseWalksStay, BaseComparisonsStay, OwnPartFollows, EmptyBaseAddsNothing, WrittenJoinsAgain, LooksSplitByNames};
+ghost use Rattle.btf_split_model.specs.Laws.{JoinedIsDetermined, BaseStays, BaseWalksStay, BaseComparisonsStay, OwnPartFollows, EmptyBaseAddsNothing, WrittenJoinsAgain, CutGivesBase, LooksSplitByNames};
 
 /// Bytes are at most one table over a base, or are refused for at most one reason, and never both.
 pub fn joined_is_determined()
@@ -42,6 +42,11 @@ pub fn empty_base_adds_nothing()
 /// The written part of a table above a base is a split table, which with the base is the table again.
 pub fn written_joins_again()
     ensures { WrittenJoinsAgain }
+{}
+
+/// A base to which a split table was appended, cut to the length that it had, is the base again.
+pub fn cut_gives_base()
+    ensures { CutGivesBase }
 {}
 
 /// A blob that represents a table looks split exactly if one of the types 1 to 64 has a name at a string offset that

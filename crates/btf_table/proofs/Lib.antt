@@ -19,6 +19,7 @@ pub mod KsymsEntries
 pub mod KnownKinds
 pub mod Sections
 pub mod Tables
+pub mod Joining
 pub mod Names
 pub mod Ascii
 pub mod Readable

@@ -14,6 +14,7 @@ pub mod Header
 pub mod Records
 pub mod BtfStr
 pub mod Extent
+pub mod Joined
 pub use Rattle.btf_rewrite_model.specs.Feature
 pub use Rattle.btf_rewrite_model.specs.Ksyms
 pub use Rattle.btf_rewrite_model.specs.Made

@@ -7,6 +7,6 @@ mod table;
 pub use btf_rewrite_model::KsymsIds;
 pub use sanitize::{rewrite_bytes, rewrite_bytes_with};
 pub use table::{
-    Btf, BtfStr, WALK_LIMIT, allocator_of, comparable_end, is_named, name_bytes, set_type,
-    short_name, type_count,
+    Btf, BtfStr, WALK_LIMIT, allocator_of, append_table, comparable_end, cut_table, is_named,
+    join_tables, name_bytes, set_type, short_name, string_len, type_count, types_len,
 };

@@ -3,6 +3,7 @@
 mod ascii;
 mod changes;
 mod header;
+mod joining;
 mod limits;
 mod text;
 mod types;
@@ -34,9 +35,11 @@ ghost use Rattle.std.specs.Str.{IsUtf8};
 
 pub(crate) use crate::table::changes::Changes;
 use crate::table::header::{HEADER_LEN, Header, section};
+pub use crate::table::joining::{append_table, cut_table, join_tables, string_len};
 pub(crate) use crate::table::limits::{record_fits, text_fits};
 pub use crate::table::text::BtfStr;
 use crate::table::text::{bytes_at, find_named, has_name, readable_end, strings_from, text_at};
+pub use crate::table::types::types_len;
 use crate::table::types::{append_types, clone_types, read_types};
 pub use crate::table::walk::WALK_LIMIT;
 use crate::table::walk::{resolve, size};

@@ -34,7 +34,7 @@ fn try_module(rt: &HostRuntime, module: &str, base: &Btf) -> anyhow::Result<()> 
         &read(rt, module, "pahole")?,
     )?;
     let table = parse_split(rt.alloc(), base, &data, Endianness::Little)?;
-    let written = split_bytes(&table, type_count(base), string_len(base)?)?;
+    let written = split_bytes(&table, type_count(base), string_len(base))?;
     if written.as_slice() != data.as_slice() {
         println!(rt; "{module}: it is written otherwise")?;
     }

@@ -66,7 +66,7 @@ fn done(work: &str, probe: &Probe, blob: &[u8], report: &mut Report) -> Result<(
             work, probe, blob, report,
         ),
         "relocate_object" | "prepare_object" => loader::loaded(work, probe, blob, report),
-        "parse_split" | "split_bytes" => split::split(work, probe, blob, report),
+        "append_split" | "parse_split" | "split_bytes" => split::split(work, probe, blob, report),
         "ksyms" | "ksyms_alone" => rewrite::step(work, probe, blob, report),
         "parse_func_sizes" => ext::least_sizes("func", probe, blob, report),
         "parse_line_sizes" => ext::least_sizes("line", probe, blob, report),

@@ -2,7 +2,7 @@
 
 use btf_model::Endianness;
 use btf_plain::BtfError;
-use btf_split::{looks_split, parse_split, split_bytes, string_len};
+use btf_split::{append_split, looks_split, parse_split, split_bytes, string_len, truncate};
 use btf_table::{Btf, type_count};
 use std::alloc::{AllocError, Global};
 use std::test::Fail;
@@ -46,7 +46,10 @@ pub fn run(rt: &(impl Print + AllocGlobal), line: &str) -> Result<(), Fail> {
     let split = bytes_of(alloc, words.next())?;
     println!(rt; "{name} looks split: {}", looks_split(&split, order))?;
     match parse_split(alloc, &base, &split, order) {
-        Ok(table) => write_table(rt, name, &base, &table),
+        Ok(table) => {
+            write_table(rt, name, &base, &table)?;
+            append(rt, base, &split, order)
+        }
         Err(error) => {
             let text = refusal_text(alloc, &error)?;
             println!(rt; "{name}: {text}")?;
@@ -64,11 +67,11 @@ fn write_table(
 ) -> Result<(), Fail> {
     let alloc = rt.alloc();
     let types = type_count(base);
-    let strings = string_len(base)?;
+    let strings = string_len(base);
     println!(rt;
         "{name}: {} types, {} bytes of strings",
         type_count(table),
-        string_len(table)?
+        string_len(table)
     )?;
     write_types(rt, table)?;
     let joined = digits_of(alloc, &table.to_bytes())?;
@@ -82,9 +85,26 @@ fn write_table(
     )?;
     let strings_beyond = digits_of(
         alloc,
-        &split_bytes(table, types, string_len(table)?.saturating_add(1)),
+        &split_bytes(table, types, string_len(table).saturating_add(1)),
     )?;
     println!(rt; "  beyond {no_id} {types_beyond} {strings_beyond}")?;
+    Ok(())
+}
+
+/// Appends a split table to its base, writes the base, and writes it again after what was appended is removed.
+fn append(
+    rt: &(impl Print + AllocGlobal),
+    mut base: Btf,
+    split: &[u8],
+    order: Endianness,
+) -> Result<(), Fail> {
+    let (types, strings) = (type_count(&base), string_len(&base));
+    append_split(&mut base, split, order)?;
+    let appended = digits_of(rt.alloc(), &base.to_bytes())?;
+    println!(rt; "  appended {appended}")?;
+    truncate(&mut base, types, strings)?;
+    let cut = digits_of(rt.alloc(), &base.to_bytes())?;
+    println!(rt; "  cut   {cut}")?;
     Ok(())
 }
 

@@ -2,17 +2,18 @@
 
 ghost use Rattle.std.specs.Prelude.{◌≡◌, ◌≢◌, ◌<◌, ◌≤◌, length, Ok};
 ghost use Rattle.btf_model.specs.Table.{Table};
-ghost use Rattle.btf_split_model.specs.Split.{IsJoined, Joins, split_blob};
+ghost use Rattle.btf_split_model.specs.Split.{Appends, IsJoined, Joins, cut, over_base, split_blob};
 ghost use Rattle.vbtf.specs.Orders.{order_chosen};
-ghost use Rattle.vbtf.specs.Status.{EndsFilling, EndsOrNoMemory, Keeps, Opens};
+ghost use Rattle.vbtf.specs.Changed.{EndsChanging};
+ghost use Rattle.vbtf.specs.Status.{EndsFilling, Keeps, Opens};
 
 use crate::fault::{CLOSED, Fault, INVALID_ARGUMENT, report};
-use crate::handle::{Handle, lent, owner};
+use crate::handle::{Handle, lent, owner, taken_to_change};
 use crate::open::boxed;
 use crate::orders::chosen_order;
 use crate::write::fill;
 use btf::Btf;
-use btf_split::{parse_split, split_bytes, string_len};
+use btf_split::{append_split, parse_split, split_bytes, string_len, truncate};
 use std::alloc::Global;
 
 /// Opens a handle with the types of a base and those that a blob has over this base: its ids begin after the last id of
@@ -141,24 +142,81 @@ fn write_above(
 
 /// The length of a table's strings in bytes.
 ///
-/// Status 20 if an allocation fails, and 101 if the handle's state is not 2.
+/// Status 101 if the handle's state is not 2.
 #[unsafe(no_mangle)]
-pub extern "C" fn vbtf_lent_string_len(table: &mut Handle, len: &mut u32, fault: &mut Fault) -> u32
-    ensures counted { table.old.state ≡ 2 → EndsOrNoMemory result len.new fault.new
-        (λ answer. answer ≡ Ok (length table.old.opened.btf.strings)) }
+pub extern "C" fn vbtf_lent_string_len(table: &mut Handle, len: &mut u32) -> u32
+    ensures counted { table.old.state ≡ 2
+        → (result ≡ 0) × (len.new ≡ length table.old.opened.btf.strings) }
     ensures closed { table.old.state ≢ 2 → result ≡ CLOSED }
     ensures kept { Keeps table.old table.new }
 {
     let Some(loan) = lent(table) else {
         return CLOSED;
     };
-    let answer = string_len(&loan.get().btf);
+    *len = string_len(&loan.get().btf);
     *table = Handle::from_loan(loan);
+    0
+}
+
+/// Closes the index of the table that a handle owns, and appends the types and the strings of a split table to the
+/// table, which is its base. `order` is the byte order of the data, as of `vbtf_raw_parse`; the table keeps its own.
+///
+/// Status 1, 2 or 4 with the first error, 20 if an allocation fails, 101 if the handle's state is not 1, and 102 if the
+/// order is another number; the table is then unchanged.
+#[unsafe(no_mangle)]
+pub extern "C" fn vbtf_raw_append_split(
+    alloc: Global,
+    table: &mut Handle,
+    data: &[u8],
+    order: u32,
+    fault: &mut Fault,
+) -> u32
+    ensures appended { table.old.state ≡ 1 → order ≤ 2
+        → EndsChanging result table.old table.new fault.new
+        (Appends (order_chosen order «data».now) table.old.opened.btf «data».now) }
+    ensures closed { table.old.state ≢ 1 → order ≤ 2
+        → (result ≡ CLOSED) × (table.new ≡ table.old) }
+    ensures order { 2 < order → (result ≡ INVALID_ARGUMENT) × (table.new ≡ table.old) }
+{
+    let Some(endianness) = chosen_order(order, data) else {
+        return INVALID_ARGUMENT;
+    };
+    let Some(mut whole) = taken_to_change(alloc, table) else {
+        return CLOSED;
+    };
+    let answer = append_split(&mut whole.btf, data, endianness);
+    *table = owner(whole);
     match answer {
-        Ok(found) => {
-            *len = found;
-            0
-        }
+        Ok(()) => 0,
+        Err(error) => report(error, fault),
+    }
+}
+
+/// Closes the index of the table that a handle owns, and removes all types from the table except the first
+/// `base_types`, including the type of id 0, and all bytes of its strings except the first `base_strings`.
+///
+/// Status 9 if `base_types` is 0 or the table has fewer types; otherwise 6 if the table has fewer bytes of strings; and
+/// 101 if the handle's state is not 1. The table is then unchanged.
+#[unsafe(no_mangle)]
+pub extern "C" fn vbtf_raw_truncate(
+    alloc: Global,
+    table: &mut Handle,
+    base_types: u32,
+    base_strings: u32,
+    fault: &mut Fault,
+) -> u32
+    ensures cut { table.old.state ≡ 1 → EndsChanging result table.old table.new fault.new
+        (λ answer. answer ≡ over_base base_types base_strings table.old.opened.btf
+        (cut base_types base_strings table.old.opened.btf)) }
+    ensures closed { table.old.state ≢ 1 → (result ≡ CLOSED) × (table.new ≡ table.old) }
+{
+    let Some(mut whole) = taken_to_change(alloc, table) else {
+        return CLOSED;
+    };
+    let answer = truncate(&mut whole.btf, base_types, base_strings);
+    *table = owner(whole);
+    match answer {
+        Ok(()) => 0,
         Err(error) => report(error, fault),
     }
 }

@@ -1,17 +1,18 @@
 //! The type section: records, one after another.
 
-ghost use Rattle.std.specs.Prelude.{◌≡◌, ◌++◌, map, Ok, OnOk};
+ghost use Rattle.std.specs.Prelude.{◌≡◌, ◌≤◌, ◌++◌, length, map, Ok, OnOk};
 ghost use Rattle.std.specs.List.{flat_map, AllByRecursion};
 ghost use Rattle.btf_model.specs.Spelling.{spell, IsWhole};
+ghost use Rattle.btf_model.specs.Table.{no_fallbacks, section_limit};
 ghost use Rattle.btf_plain.specs.Error.{MeetsOrNoMemory, IsOrNoMemory};
 ghost use Rattle.btf_records.specs.BtfType.{record_of, fallback_of};
 ghost use Rattle.btf_table.specs.Records.{ReadsTypes};
 
 use btf_plain::{BtfError, Endianness};
-use btf_records::BtfType;
+use btf_records::{BtfType, without_fallback};
 use std::alloc::{AllocError, Global};
 
-/// The number of types for which a copy has room beside its own: a rewrite seldom appends more.
+/// The number of types for which a table has room beside its own: a rewrite seldom appends more.
 const SPARE: usize = 4;
 
 /// The types of a type section, by id; the type of id 0 is first.
@@ -33,6 +34,7 @@ pub fn read_types(
         let (_, behind) = rest.split_at(size);
         rest = behind;
     }
+    types.shrink_to(types.len() + SPARE);
     Ok(types)
 }
 
@@ -66,4 +68,30 @@ pub fn clone_types(types: &Vec<BtfType>) -> Result<Vec<BtfType>, BtfError>
         copies.push(record.try_clone()?)?;
     }
     Ok(copies)
+}
+
+/// Copies of the types without their fallbacks, in a vector that has room for this number of further types.
+pub fn clone_records(types: &Vec<BtfType>, more: usize) -> Result<Vec<BtfType>, BtfError>
+    ensures records { IsOrNoMemory (λ v. map record_of v.items) result
+        (Ok (map record_of types.now.items)) }
+    ensures fallbacks { IsOrNoMemory (λ v. map fallback_of v.items) result
+        (Ok (no_fallbacks (map record_of types.now.items))) }
+{
+    let mut copies = Vec::with_capacity(*types.allocator(), types.len().saturating_add(more))?;
+    for record in types.as_slice() {
+        copies.push(without_fallback(record.try_clone()?))?;
+    }
+    Ok(copies)
+}
+
+/// The length of types in bytes, for the crates that use this one.
+pub fn types_len(types: &[BtfType], endianness: Endianness) -> usize
+    requires { length (flat_map (spell endianness) (map record_of types.now)) ≤ section_limit }
+    ensures { result ≡ length (flat_map (spell endianness) (map record_of types.now)) }
+{
+    let mut len = 0;
+    for btf_type in types {
+        len += btf_type.type_info_size();
+    }
+    len
 }

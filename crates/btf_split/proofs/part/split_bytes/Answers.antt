@@ -3,32 +3,32 @@ use Rattle.std.proofs.lemmas.Grind.{common_steps}
 use Rattle.std.proofs.lemmas.List.{take_all, length-drop}
 use Rattle.btf_split_model.specs.Split.{split_canon}
 use Rattle.btf_split.specs.Blob.{written_header}
-use Rattle.btf_split.proofs.Parts.{Known, known, known_small, known_within, known_part, known_given, part_joins}
+use Rattle.btf_split.proofs.Parts.{Known, known, known_small, known_within, known_part, split_given, part_joins}
 use Rattle.btf_split.proofs.part.split_bytes.Goals as goal
 
 pub types_len-start-requires : goal.types_len-start-requires
 types_len-start-requires c =
     let t = c.args.table.now in
-    let k : Known t c.args.base_types c.endianness-endianness.result c.deref.result.now c.as_slice-types.result.now = known t c.args.base_types c.endianness-endianness.result c.deref.result.now c.in_ok-blob.blob.items c.as_slice-types.result.now _ c.in_ok-blob.ensures.parses_back c.in_ok-blob.ensures.written c.sections_of-whole.ensures.bytes c.deref.ensures.value c.endianness-endianness.ensures c.as_slice-types.ensures.value c.types.ensures.records (omega (arith, c.if-base_types-eq0.false)) in
+    let k : Known t c.args.base_types c.endianness-endianness.result c.deref.result.now c.as_slice-types.result.now = known t c.args.base_types c.endianness-endianness.result c.deref.result.now c.in_ok-blob.blob.items c.as_slice-types.result.now _ c.in_ok-blob.ensures.parses_back c.in_ok-blob.ensures.written c.sections_of-whole.ensures.bytes c.deref.ensures.value c.endianness-endianness.ensures c.as_slice-types.ensures.value c.types.ensures.records c.in_ok-check_base.ensures.fits.0 in
     known_small t c.args.base_types c.endianness-endianness.result c.deref.result.now c.as_slice-types.result.now k
 
 pub slice_bounds-own_types-count : goal.slice_bounds-own_types-count
 slice_bounds-own_types-count c =
     let t = c.args.table.now in
-    let k : Known t c.args.base_types c.endianness-endianness.result c.deref.result.now c.as_slice-types.result.now = known t c.args.base_types c.endianness-endianness.result c.deref.result.now c.in_ok-blob.blob.items c.as_slice-types.result.now _ c.in_ok-blob.ensures.parses_back c.in_ok-blob.ensures.written c.sections_of-whole.ensures.bytes c.deref.ensures.value c.endianness-endianness.ensures c.as_slice-types.ensures.value c.types.ensures.records (omega (arith, c.if-base_types-eq0.false)) in
+    let k : Known t c.args.base_types c.endianness-endianness.result c.deref.result.now c.as_slice-types.result.now = known t c.args.base_types c.endianness-endianness.result c.deref.result.now c.in_ok-blob.blob.items c.as_slice-types.result.now _ c.in_ok-blob.ensures.parses_back c.in_ok-blob.ensures.written c.sections_of-whole.ensures.bytes c.deref.ensures.value c.endianness-endianness.ensures c.as_slice-types.ensures.value c.types.ensures.records c.in_ok-check_base.ensures.fits.0 in
     known_within t c.args.base_types c.endianness-endianness.result c.deref.result.now c.as_slice-types.result.now k c.types_len-start.result c.sections_of-whole.result.types.now c.types_len-start.ensures c.sections_of-whole.ensures.types
 
 pub slice_bounds-own_types-start : goal.slice_bounds-own_types-start
 slice_bounds-own_types-start c =
     let t = c.args.table.now in
-    let k : Known t c.args.base_types c.endianness-endianness.result c.deref.result.now c.as_slice-types.result.now = known t c.args.base_types c.endianness-endianness.result c.deref.result.now c.in_ok-blob.blob.items c.as_slice-types.result.now _ c.in_ok-blob.ensures.parses_back c.in_ok-blob.ensures.written c.sections_of-whole.ensures.bytes c.deref.ensures.value c.endianness-endianness.ensures c.as_slice-types.ensures.value c.types.ensures.records (omega (arith, c.if-base_types-eq0.false)) in
+    let k : Known t c.args.base_types c.endianness-endianness.result c.deref.result.now c.as_slice-types.result.now = known t c.args.base_types c.endianness-endianness.result c.deref.result.now c.in_ok-blob.blob.items c.as_slice-types.result.now _ c.in_ok-blob.ensures.parses_back c.in_ok-blob.ensures.written c.sections_of-whole.ensures.bytes c.deref.ensures.value c.endianness-endianness.ensures c.as_slice-types.ensures.value c.types.ensures.records c.in_ok-check_base.ensures.fits.0 in
     let within = known_within t c.args.base_types c.endianness-endianness.result c.deref.result.now c.as_slice-types.result.now k c.types_len-start.result c.sections_of-whole.result.types.now c.types_len-start.ensures c.sections_of-whole.ensures.types in
     omega (arith, within)
 
 pub returns-clause-written : goal.returns-clause-written
 returns-clause-written c =
     let t = c.args.table.now in
-    let k : Known t c.args.base_types c.endianness-endianness.result c.deref.result.now c.as_slice-types.result.now = known t c.args.base_types c.endianness-endianness.result c.deref.result.now c.in_ok-blob.blob.items c.as_slice-types.result.now _ c.in_ok-blob.ensures.parses_back c.in_ok-blob.ensures.written c.sections_of-whole.ensures.bytes c.deref.ensures.value c.endianness-endianness.ensures c.as_slice-types.ensures.value c.types.ensures.records (omega (arith, c.if-base_types-eq0.false)) in
+    let k : Known t c.args.base_types c.endianness-endianness.result c.deref.result.now c.as_slice-types.result.now = known t c.args.base_types c.endianness-endianness.result c.deref.result.now c.in_ok-blob.blob.items c.as_slice-types.result.now _ c.in_ok-blob.ensures.parses_back c.in_ok-blob.ensures.written c.sections_of-whole.ensures.bytes c.deref.ensures.value c.endianness-endianness.ensures c.as_slice-types.ensures.value c.types.ensures.records c.in_ok-check_base.ensures.fits.0 in
     let whole = c.sections_of-whole.result in
     let start : ℕ = c.types_len-start.result in
     let m : ℕ = c.args.base_strings in
@@ -39,13 +39,13 @@ returns-clause-written c =
     known_part t c.args.base_types c.endianness-endianness.result c.deref.result.now c.as_slice-types.result.now k m start _ whole.types.now types whole.strings.now strings c.types_len-start.ensures c.sections_of-whole.ensures.types
     (take_all _ (drop start whole.types.now) (omega (arith, length-drop start whole.types.now))) c.sections_of-whole.ensures.strings
     (take_all _ (drop m whole.strings.now) (omega (arith, length-drop m whole.strings.now))) written in
-    let given = known_given t c.args.base_types c.endianness-endianness.result c.deref.result.now c.as_slice-types.result.now k m whole.strings.now c.if-base_types-types.false c.sections_of-whole.ensures.strings c.if-offset-whole.false in
+    let given = split_given c.args.base_types m t c.in_ok-check_base.ensures.fits.0 c.in_ok-check_base.ensures.fits.1 c.in_ok-check_base.ensures.fits.2 in
     ap (λ (b : List ℕ). Ok b) part ∙ sym given
 
 pub returns-clause-joins_again : goal.returns-clause-joins_again
 returns-clause-joins_again c =
     let t = c.args.table.now in
-    let k : Known t c.args.base_types c.endianness-endianness.result c.deref.result.now c.as_slice-types.result.now = known t c.args.base_types c.endianness-endianness.result c.deref.result.now c.in_ok-blob.blob.items c.as_slice-types.result.now _ c.in_ok-blob.ensures.parses_back c.in_ok-blob.ensures.written c.sections_of-whole.ensures.bytes c.deref.ensures.value c.endianness-endianness.ensures c.as_slice-types.ensures.value c.types.ensures.records (omega (arith, c.if-base_types-eq0.false)) in
+    let k : Known t c.args.base_types c.endianness-endianness.result c.deref.result.now c.as_slice-types.result.now = known t c.args.base_types c.endianness-endianness.result c.deref.result.now c.in_ok-blob.blob.items c.as_slice-types.result.now _ c.in_ok-blob.ensures.parses_back c.in_ok-blob.ensures.written c.sections_of-whole.ensures.bytes c.deref.ensures.value c.endianness-endianness.ensures c.as_slice-types.ensures.value c.types.ensures.records c.in_ok-check_base.ensures.fits.0 in
     let whole = c.sections_of-whole.result in
     let start : ℕ = c.types_len-start.result in
     let m : ℕ = c.args.base_strings in

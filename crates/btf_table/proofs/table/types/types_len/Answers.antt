@@ -1,6 +1,6 @@
 use Rattle.std.proofs.Common.{◌+◌, arith}
-use Rattle.btf_split.proofs.Parts.{spelled_more, spelled_front}
-use Rattle.btf_split.proofs.part.types_len.Goals as goal
+use Rattle.btf_table.proofs.Joining.{spelled_more, spelled_front}
+use Rattle.btf_table.proofs.table.types.types_len.Goals as goal
 
 pub overflow_add-len : goal.overflow_add-len
 overflow_add-len c =
