@@ -72,7 +72,7 @@ static void refused(const struct vbtf_table *base, struct file blob)
 	check(vbtf_parse_over(&table, base, NULL, 0, VBTF_BY_MAGIC, NULL) == VBTF_INVALID_HEADER);
 	check(vbtf_parse_over(&table, base, blob.bytes, blob.len, 3, &error) == VBTF_BAD_ARGUMENT && table.state == 0);
 	check(vbtf_parse_over(&table, &closed, blob.bytes, blob.len, VBTF_LITTLE, &error) == VBTF_CLOSED);
-	check(table.state == 0 && vbtf_string_len(&closed, &len, &error) == VBTF_CLOSED && len == 7);
+	check(table.state == 0 && vbtf_string_len(&closed, &len) == VBTF_CLOSED && len == 7);
 	check(vbtf_split_bytes(&closed, 1, 0, NULL, 0, &needed, &error) == VBTF_CLOSED);
 	check(vbtf_parse_over(&table, base, blob.bytes, blob.len, VBTF_BY_MAGIC, &error) == VBTF_OK);
 	check(vbtf_parse_over(&table, base, blob.bytes, blob.len, VBTF_LITTLE, &error) == VBTF_BAD_ARGUMENT);
@@ -92,7 +92,7 @@ static void module(const char *folder, const char *name, struct file base_bytes)
 	lines = file_in(folder, name_of_lines);
 	check(vbtf_parse(&base, base_bytes.bytes, base_bytes.len, VBTF_BY_MAGIC, &error) == VBTF_OK);
 	check(vbtf_count(&base, &types) == VBTF_OK);
-	check(vbtf_string_len(&base, &strings, &error) == VBTF_OK && strings > 0 && strings < base_bytes.len);
+	check(vbtf_string_len(&base, &strings) == VBTF_OK && strings > 0 && strings < base_bytes.len);
 	check(vbtf_parse_over(&table, &base, blob.bytes, blob.len, VBTF_LITTLE, &error) == VBTF_OK);
 	refused(&base, blob);
 	vbtf_close(&base);
@@ -101,6 +101,41 @@ static void module(const char *folder, const char *name, struct file base_bytes)
 	vbtf_close(&table);
 	free(lines.bytes);
 	free(blob.bytes);
+}
+
+/* Modules one after another over one table, which is the base again after each. */
+static void in_place(const char *folder, struct file base_bytes)
+{
+	struct vbtf_table table = VBTF_TABLE_INIT, closed = VBTF_TABLE_INIT;
+	uint8_t *out = calloc(1, base_bytes.len);
+	uint64_t types = 0, needed = 0;
+	uint32_t strings = 0;
+	check(vbtf_append_split(&closed, base_bytes.bytes, base_bytes.len, VBTF_LITTLE, &error) == VBTF_CLOSED);
+	check(vbtf_truncate(&closed, 1, 0, &error) == VBTF_CLOSED);
+	check(vbtf_parse(&table, base_bytes.bytes, base_bytes.len, VBTF_BY_MAGIC, &error) == VBTF_OK);
+	check(vbtf_count(&table, &types) == VBTF_OK && vbtf_string_len(&table, &strings) == VBTF_OK);
+	for (char name[] = "module1.btf"; name[6] <= '3'; name[6]++) {
+		char name_of_lines[64];
+		struct file blob = file_in(folder, name), lines;
+		snprintf(name_of_lines, sizeof name_of_lines, "%s.bpftool", name);
+		lines = file_in(folder, name_of_lines);
+		check(vbtf_append_split(&table, blob.bytes, blob.len, 3, &error) == VBTF_BAD_ARGUMENT);
+		check(vbtf_append_split(&table, blob.bytes, blob.len - 1, VBTF_LITTLE, &error) == VBTF_INVALID_HEADER);
+		check(vbtf_target_open(&table, &error) == VBTF_OK);
+		check(vbtf_append_split(&table, blob.bytes, blob.len, VBTF_BY_MAGIC, &error) == VBTF_OK);
+		check(vbtf_target_open(&table, &error) == VBTF_OK);
+		listed(&table, (uint32_t)types, lines);
+		written_back(&table, (uint32_t)types, strings, blob);
+		check(vbtf_truncate(&table, 0, strings, &error) == VBTF_UNKNOWN_TYPE && error.id == 0);
+		check(vbtf_truncate(&table, 1, 1000000, NULL) == VBTF_INVALID_STRING_OFFSET);
+		check(vbtf_truncate(&table, (uint32_t)types, strings, &error) == VBTF_OK);
+		check(vbtf_bytes(&table, out, base_bytes.len, &needed, &error) == VBTF_OK && needed == base_bytes.len);
+		check(memcmp(out, base_bytes.bytes, base_bytes.len) == 0);
+		free(lines.bytes);
+		free(blob.bytes);
+	}
+	vbtf_close(&table);
+	free(out);
 }
 
 int main(int argc, char **argv)
@@ -112,6 +147,7 @@ int main(int argc, char **argv)
 	module(argv[1], "module1.btf", base);
 	module(argv[1], "module2.btf", base);
 	module(argv[1], "module3.btf", base);
+	in_place(argv[1], base);
 	free(base.bytes);
 	return counted("split");
 }

@@ -14,3 +14,4 @@ pub mod Object
 pub mod Relocate
 pub mod Resolved
 pub mod Many
+pub mod IndexFinding

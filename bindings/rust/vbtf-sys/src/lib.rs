@@ -73,6 +73,60 @@ pub struct vbtf_item {
     pub words: [u32; 3],
 }
 
+/// A member of a STRUCT or UNION.
+#[repr(C)]
+#[derive(Debug, Clone, Copy, Default)]
+pub struct vbtf_member {
+    pub name_offset: u32,
+    pub type_: u32,
+    pub bit_offset: u32,
+    pub bit_field_size: u32,
+}
+
+/// A variant of an ENUM or ENUM64.
+#[repr(C)]
+#[derive(Debug, Clone, Copy, Default)]
+pub struct vbtf_variant {
+    pub name_offset: u32,
+    pub bits: u32,
+    pub is_signed: bool,
+    pub value: u64,
+}
+
+/// A parameter of a FUNC_PROTO.
+#[repr(C)]
+#[derive(Debug, Clone, Copy, Default)]
+pub struct vbtf_param {
+    pub name_offset: u32,
+    pub type_: u32,
+}
+
+/// An entry of a DATASEC.
+#[repr(C)]
+#[derive(Debug, Clone, Copy, Default)]
+pub struct vbtf_entry {
+    pub type_: u32,
+    pub offset: u32,
+    pub size: u32,
+}
+
+/// The bytes of a name in the memory of a table.
+#[repr(C)]
+#[derive(Debug, Clone, Copy)]
+pub struct vbtf_name {
+    pub at: *const u8,
+    pub len: usize,
+}
+
+/// Where the bytes of a section are in an object, and the object's byte order.
+#[repr(C)]
+#[derive(Debug, Clone, Copy, Default)]
+pub struct vbtf_section {
+    pub offset: u64,
+    pub len: u64,
+    pub order: u32,
+}
+
 /// The sizes of the records of a `.BTF.ext`, and the numbers of its sections.
 #[repr(C)]
 #[derive(Debug, Clone, Copy, Default)]
@@ -198,9 +252,26 @@ extern "C" {
         needed: *mut u64,
         error: *mut vbtf_error,
     ) -> u32;
-    pub fn vbtf_lent_string_len(
+    pub fn vbtf_lent_string_len(table: *mut vbtf_table, len: *mut u32) -> u32;
+    pub fn vbtf_raw_append_split(
         table: *mut vbtf_table,
-        len: *mut u32,
+        data: *const u8,
+        len: usize,
+        order: u32,
+        error: *mut vbtf_error,
+    ) -> u32;
+    pub fn vbtf_raw_truncate(
+        table: *mut vbtf_table,
+        base_types: u32,
+        base_strings: u32,
+        error: *mut vbtf_error,
+    ) -> u32;
+    pub fn vbtf_raw_section(
+        object: *const u8,
+        len: usize,
+        name: *const u8,
+        name_len: usize,
+        section: *mut vbtf_section,
         error: *mut vbtf_error,
     ) -> u32;
     pub fn vbtf_raw_add_string(
@@ -296,6 +367,55 @@ extern "C" {
         item: *mut vbtf_item,
         error: *mut vbtf_error,
     ) -> u32;
+    pub fn vbtf_lent_members(
+        table: *mut vbtf_table,
+        id: u32,
+        out: *mut vbtf_member,
+        room: usize,
+        count: *mut u64,
+        error: *mut vbtf_error,
+    ) -> u32;
+    pub fn vbtf_lent_variants(
+        table: *mut vbtf_table,
+        id: u32,
+        out: *mut vbtf_variant,
+        room: usize,
+        count: *mut u64,
+        error: *mut vbtf_error,
+    ) -> u32;
+    pub fn vbtf_lent_params(
+        table: *mut vbtf_table,
+        id: u32,
+        out: *mut vbtf_param,
+        room: usize,
+        count: *mut u64,
+        error: *mut vbtf_error,
+    ) -> u32;
+    pub fn vbtf_lent_entries(
+        table: *mut vbtf_table,
+        id: u32,
+        out: *mut vbtf_entry,
+        room: usize,
+        count: *mut u64,
+        error: *mut vbtf_error,
+    ) -> u32;
+    pub fn vbtf_lent_name(
+        table: *mut vbtf_table,
+        offset: u32,
+        name: *mut vbtf_name,
+        error: *mut vbtf_error,
+    ) -> u32;
+    pub fn vbtf_lent_find_from(
+        table: *mut vbtf_table,
+        name: *const u8,
+        len: usize,
+        kind: u32,
+        first: u32,
+        id: *mut u32,
+        error: *mut vbtf_error,
+    ) -> u32;
+    pub fn vbtf_lent_order(table: *mut vbtf_table, order: *mut u32) -> u32;
+    pub fn vbtf_lent_string_count(table: *mut vbtf_table, count: *mut u64) -> u32;
     pub fn vbtf_lent_value(
         table: *mut vbtf_table,
         id: u32,

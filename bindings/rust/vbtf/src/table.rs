@@ -128,8 +128,8 @@ impl Table {
     /// let base = Table::new()?;
     /// let split = Table::new()?.to_bytes()?;
     /// let table = Table::parse_over(&base, &split, Endianness::Little)?;
-    /// assert_eq!(table.string_len()?, 2);
-    /// assert_eq!(table.split_bytes(base.len(), base.string_len()?)?, split);
+    /// assert_eq!(table.string_len(), 2);
+    /// assert_eq!(table.split_bytes(base.len(), base.string_len())?, split);
     /// # Ok::<(), vbtf::Error>(())
     /// ```
     ///
@@ -163,10 +163,50 @@ impl Table {
         })
     }
 
-    /// The length of the strings in bytes; [`Error::OutOfMemory`] if an allocation fails.
-    pub fn string_len(&self) -> Result<u32, Error> {
+    /// The length of the strings in bytes.
+    pub fn string_len(&self) -> u32 {
+        let mut len = 0;
         // SAFETY: as above.
-        called(|len, error| unsafe { vbtf_lent_string_len(&mut self.loan(), len, error) })
+        unsafe { vbtf_lent_string_len(&mut self.loan(), &mut len) };
+        len
+    }
+
+    /// Appends the types and the strings of a split table to the table, which is its base and keeps its byte order.
+    /// [`Table::truncate`] removes them, so that the modules of a kernel can be read one after another over one table.
+    ///
+    /// ```
+    /// use vbtf::{Endianness, Table};
+    ///
+    /// let mut table = Table::new()?;
+    /// let split = Table::new()?.to_bytes()?;
+    /// let (types, strings) = (table.len(), table.string_len());
+    /// table.append_split(&split, Endianness::Little)?;
+    /// assert_eq!(table.string_len(), 2);
+    /// table.truncate(types, strings)?;
+    /// assert_eq!(table.to_bytes()?, split);
+    /// # Ok::<(), vbtf::Error>(())
+    /// ```
+    ///
+    /// # Errors
+    ///
+    /// Those of [`Table::parse_over`]; the table is then unchanged.
+    pub fn append_split(&mut self, data: &[u8], endianness: Endianness) -> Result<(), Error> {
+        let (at, len, order) = (data.as_ptr(), data.len(), endianness as u32);
+        // SAFETY: the table is open, and nobody reads it meanwhile; the slice lives as long as the call.
+        called(|_, error| unsafe { vbtf_raw_append_split(&mut self.handle, at, len, order, error) })
+    }
+
+    /// Removes all types except the first `base_types`, including the type of id 0, and all bytes of the strings except
+    /// the first `base_strings`.
+    ///
+    /// # Errors
+    ///
+    /// Those of [`Table::split_bytes`]; the table is then unchanged.
+    pub fn truncate(&mut self, base_types: u32, base_strings: u32) -> Result<(), Error> {
+        // SAFETY: the table is open, and nobody reads it meanwhile.
+        called(|_, error| unsafe {
+            vbtf_raw_truncate(&mut self.handle, base_types, base_strings, error)
+        })
     }
 
     /// The number of types of the table, including the type of id 0.

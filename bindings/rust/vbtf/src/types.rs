@@ -1,13 +1,24 @@
 //! The types of a table, and their items.
 
-use crate::calls::found;
+use crate::calls::{called, found};
 use crate::error::Error;
 use crate::kind::Kind;
 use crate::table::Table;
+use std::borrow::Cow;
 use std::fmt;
 use std::iter::FusedIterator;
+use std::marker::PhantomData;
 use std::ops::Range;
-use vbtf_sys::{vbtf_item, vbtf_lent_item, vbtf_type};
+use std::vec::IntoIter;
+use vbtf_sys::{
+    vbtf_entry, vbtf_error, vbtf_item, vbtf_lent_entries, vbtf_lent_item, vbtf_lent_members,
+    vbtf_lent_params, vbtf_lent_variants, vbtf_member, vbtf_param, vbtf_table, vbtf_type,
+    vbtf_variant,
+};
+
+/// A call that writes the items of a type to a buffer.
+type Listing<W> =
+    unsafe extern "C" fn(*mut vbtf_table, u32, *mut W, usize, *mut u64, *mut vbtf_error) -> u32;
 
 /// A type of a table: its kind, the first words of its record, and its items.
 ///
@@ -57,6 +68,11 @@ impl<'a> Type<'a> {
     /// The name, with U+FFFD in place of each piece that is not UTF-8.
     pub fn name(&self) -> Result<String, Error> {
         self.table.string_at(self.words.name_offset)
+    }
+
+    /// The same, as [`Table::text_at`] reads it.
+    pub fn text(&self) -> Result<Cow<'a, str>, Error> {
+        self.table.text_at(self.words.name_offset)
     }
 
     /// The info word: vlen in bits 0 to 15, the kind in bits 24 to 28, the kind flag in bit 31.
@@ -114,30 +130,45 @@ impl<'a> Type<'a> {
         item.ok().flatten().map(|it| it.words)
     }
 
-    /// The items of a type of one of these kinds.
-    fn items<T>(&self, kinds: &[Kind], read: fn(&Type<'_>, [u32; 3]) -> T) -> Option<Items<'a, T>> {
-        let range = 0..self.vlen();
-        kinds.contains(&self.kind()).then_some(Items { of: *self, range, read })
+    /// The items of a type of one of these kinds, from one call.
+    fn items<W: Clone + Default, T: From<W>>(
+        &self,
+        kinds: &[Kind],
+        call: Listing<W>,
+    ) -> Option<Items<'a, T>> {
+        if !kinds.contains(&self.kind()) {
+            return None;
+        }
+        let mut words = vec![W::default(); self.vlen() as usize];
+        let (at, room, mut count) = (words.as_mut_ptr(), words.len(), 0);
+        // SAFETY: the loan and the buffer live as long as the call.
+        called::<()>(|_, error| unsafe {
+            call(&mut self.table.loan(), self.id, at, room, &mut count, error)
+        })
+        .ok()?;
+        words.truncate(count as usize);
+        let items: Vec<T> = words.into_iter().map(T::from).collect();
+        Some(Items { items: items.into_iter(), of: PhantomData })
     }
 
     /// The members of a STRUCT or UNION.
     pub fn members(&self) -> Option<Items<'a, Member>> {
-        self.items(&[Kind::Struct, Kind::Union], Member::read)
+        self.items(&[Kind::Struct, Kind::Union], vbtf_lent_members)
     }
 
     /// The variants of an ENUM or ENUM64.
     pub fn variants(&self) -> Option<Items<'a, Variant>> {
-        self.items(&[Kind::Enum, Kind::Enum64], Variant::read)
+        self.items(&[Kind::Enum, Kind::Enum64], vbtf_lent_variants)
     }
 
     /// The parameters of a FUNC_PROTO.
     pub fn params(&self) -> Option<Items<'a, Param>> {
-        self.items(&[Kind::FuncProto], Param::read)
+        self.items(&[Kind::FuncProto], vbtf_lent_params)
     }
 
     /// The entries of a DATASEC.
     pub fn entries(&self) -> Option<Items<'a, Entry>> {
-        self.items(&[Kind::DataSec], Entry::read)
+        self.items(&[Kind::DataSec], vbtf_lent_entries)
     }
 
     /// The words of the one item of a type of this kind.
@@ -209,11 +240,27 @@ impl fmt::Debug for Type<'_> {
 pub struct Types<'a> {
     table: &'a Table,
     range: Range<u32>,
+    /// The words of the types from this id on, which one call has read.
+    first: u32,
+    block: Vec<vbtf_type>,
 }
+
+/// The number of types that [`Types`] reads in one call.
+const BLOCK: usize = 256;
 
 impl<'a> Types<'a> {
     pub(crate) fn new(table: &'a Table) -> Self {
-        Types { table, range: 0..table.len() }
+        Types { table, range: 0..table.len(), first: 0, block: Vec::new() }
+    }
+
+    /// The type of an id of the table, with those after it if they are not read yet.
+    fn at(&mut self, id: u32) -> Option<Type<'a>> {
+        let known = |it: &Self| it.block.get(id.checked_sub(it.first)? as usize).copied();
+        if known(self).is_none() {
+            self.block = self.table.words_from(id, BLOCK);
+            self.first = id;
+        }
+        Some(Type::new(self.table, id, known(self)?))
     }
 }
 
@@ -221,11 +268,13 @@ impl<'a> Iterator for Types<'a> {
     type Item = Type<'a>;
 
     fn next(&mut self) -> Option<Type<'a>> {
-        self.table.type_by_id(self.range.next()?).ok()
+        let id = self.range.next()?;
+        self.at(id)
     }
 
     fn nth(&mut self, n: usize) -> Option<Type<'a>> {
-        self.table.type_by_id(self.range.nth(n)?).ok()
+        let id = self.range.nth(n)?;
+        self.at(id)
     }
 
     fn size_hint(&self) -> (usize, Option<usize>) {
@@ -286,45 +335,35 @@ impl<'a> IntoIterator for &'a Table {
 /// ```
 #[derive(Debug, Clone)]
 pub struct Items<'a, T> {
-    of: Type<'a>,
-    range: Range<u32>,
-    read: fn(&Type<'_>, [u32; 3]) -> T,
-}
-
-impl<T> Items<'_, T> {
-    fn at(&self, index: u32) -> Option<T> {
-        self.of.item(index).map(|words| (self.read)(&self.of, words))
-    }
+    items: IntoIter<T>,
+    of: PhantomData<Type<'a>>,
 }
 
 impl<T> Iterator for Items<'_, T> {
     type Item = T;
 
     fn next(&mut self) -> Option<T> {
-        let index = self.range.next()?;
-        self.at(index)
+        self.items.next()
     }
 
     fn nth(&mut self, n: usize) -> Option<T> {
-        let index = self.range.nth(n)?;
-        self.at(index)
+        self.items.nth(n)
     }
 
     fn size_hint(&self) -> (usize, Option<usize>) {
-        self.range.size_hint()
+        self.items.size_hint()
     }
 }
 
 impl<T> DoubleEndedIterator for Items<'_, T> {
     fn next_back(&mut self) -> Option<T> {
-        let index = self.range.next_back()?;
-        self.at(index)
+        self.items.next_back()
     }
 }
 
 impl<T> ExactSizeIterator for Items<'_, T> {
     fn len(&self) -> usize {
-        self.range.len()
+        self.items.len()
     }
 }
 
@@ -357,12 +396,11 @@ pub struct Member {
     pub bit_field_size: Option<u32>,
 }
 
-impl Member {
-    fn read(of: &Type<'_>, [name_offset, type_id, offset]: [u32; 3]) -> Self {
-        let (bit_offset, size) =
-            if of.kind_flag() { (offset & 0xff_ffff, offset >> 24) } else { (offset, 0) };
-        let bit_field_size = (size != 0).then_some(size);
-        Member { name_offset, type_id, bit_offset, bit_field_size }
+impl From<vbtf_member> for Member {
+    fn from(words: vbtf_member) -> Self {
+        let vbtf_member { name_offset, type_, bit_offset, bit_field_size } = words;
+        let bit_field_size = (bit_field_size != 0).then_some(bit_field_size);
+        Member { name_offset, type_id: type_, bit_offset, bit_field_size }
     }
 }
 
@@ -393,13 +431,14 @@ pub struct Variant {
     pub is_signed: bool,
 }
 
-impl Variant {
-    fn read(of: &Type<'_>, [name_offset, low, high]: [u32; 3]) -> Self {
-        let bits = if of.kind() == Kind::Enum64 { 64 } else { 32 };
-        let value = u64::from(high) << 32 | u64::from(low);
-        Variant { name_offset, value, bits, is_signed: of.kind_flag() }
+impl From<vbtf_variant> for Variant {
+    fn from(words: vbtf_variant) -> Self {
+        let vbtf_variant { name_offset, bits, is_signed, value } = words;
+        Variant { name_offset, value, bits, is_signed }
     }
+}
 
+impl Variant {
     /// The value as a number, below 0 if it is signed and its highest bit is 1.
     pub fn number(&self) -> i128 {
         match (self.is_signed, self.bits) {
@@ -431,9 +470,9 @@ pub struct Param {
     pub type_id: u32,
 }
 
-impl Param {
-    fn read(_: &Type<'_>, [name_offset, type_id, _]: [u32; 3]) -> Self {
-        Param { name_offset, type_id }
+impl From<vbtf_param> for Param {
+    fn from(words: vbtf_param) -> Self {
+        Param { name_offset: words.name_offset, type_id: words.type_ }
     }
 }
 
@@ -460,9 +499,9 @@ pub struct Entry {
     pub size: u32,
 }
 
-impl Entry {
-    fn read(_: &Type<'_>, [type_id, offset, size]: [u32; 3]) -> Self {
-        Entry { type_id, offset, size }
+impl From<vbtf_entry> for Entry {
+    fn from(words: vbtf_entry) -> Self {
+        Entry { type_id: words.type_, offset: words.offset, size: words.size }
     }
 }
 

@@ -27,7 +27,7 @@ fn listed(table: &Table, first: u32) -> Vec<String> {
 fn modules_are_read_over_their_base_and_written_again() {
     for module in ["module1.btf", "module2.btf", "module3.btf"] {
         let (base, blob) = (base(), file(module));
-        let (types, strings) = (base.len(), base.string_len().unwrap());
+        let (types, strings) = (base.len(), base.string_len());
         let table = Table::parse_over(&base, &blob, Endianness::Little).unwrap();
         drop(base);
         let lines = String::from_utf8(file(&format!("{module}.bpftool"))).unwrap();
@@ -46,7 +46,25 @@ fn other_bytes_and_bases_are_refused() {
     assert_eq!(short.unwrap_err(), Error::InvalidHeader);
     let table = Table::parse_over(&base, &blob, Endianness::Little).unwrap();
     assert_eq!(table.split_bytes(0, 0), Err(Error::UnknownBtfType { type_id: 0 }));
-    let offset = table.string_len().unwrap() + 1;
+    let offset = table.string_len() + 1;
     let beyond = Error::InvalidStringOffset { offset: offset.into() };
     assert_eq!(table.split_bytes(1, offset), Err(beyond));
+}
+
+#[test]
+fn modules_are_read_one_after_another_over_one_table() {
+    let mut table = base();
+    let (types, strings) = (table.len(), table.string_len());
+    for module in ["module1.btf", "module2.btf", "module3.btf"] {
+        let blob = file(module);
+        table.append_split(&blob, Endianness::Little).unwrap();
+        let lines = String::from_utf8(file(&format!("{module}.bpftool"))).unwrap();
+        let lines: Vec<_> = lines.lines().filter(|line| line.starts_with('[')).collect();
+        assert!(lines.iter().zip(listed(&table, types)).all(|(line, it)| line.starts_with(&it)));
+        assert_eq!(table.split_bytes(types, strings).unwrap(), blob);
+        assert_eq!(table.append_split(&blob[1..], Endianness::Little), Err(Error::InvalidHeader));
+        table.truncate(types, strings).unwrap();
+    }
+    assert_eq!(table.to_bytes().unwrap(), base().to_bytes().unwrap());
+    assert_eq!(table.truncate(0, 0), Err(Error::UnknownBtfType { type_id: 0 }));
 }

@@ -1,0 +1,134 @@
+//! Texts in the memory of a table, and many values of one call.
+
+use crate::calls::called;
+use crate::error::Error;
+use crate::kind::{Endianness, Kind};
+use crate::table::Table;
+use std::borrow::Cow;
+use std::ops::Range;
+use std::slice;
+use vbtf_sys::*;
+
+/// The number of the kind that stands for every kind.
+const ANY_KIND: u32 = 32;
+
+/// The values that a call writes to a buffer.
+fn filled<T: Clone + Default>(
+    places: usize,
+    call: impl FnOnce(*mut T, usize, *mut u64) -> u32,
+) -> Vec<T> {
+    let mut values = vec![T::default(); places];
+    let mut count = 0;
+    call(values.as_mut_ptr(), places, &mut count);
+    values.truncate(count as usize);
+    values
+}
+
+impl Table {
+    /// The words of the types from an id on, at most as many as there are places.
+    pub(crate) fn words_from(&self, first: u32, places: usize) -> Vec<vbtf_type> {
+        // SAFETY: the loan and the buffer live as long as the call.
+        filled(places, |out, room, count| unsafe {
+            vbtf_lent_types(&mut self.loan(), first, out, room, count)
+        })
+    }
+
+    /// The bytes of the name at a string offset, up to its zero byte, in the memory of the table.
+    ///
+    /// ```
+    /// let mut table = vbtf::Table::new()?;
+    /// let offset = table.add_string("int")?;
+    /// assert_eq!(table.bytes_at(offset)?, b"int");
+    /// assert!(table.bytes_at(offset + 4).is_err());
+    /// # Ok::<(), vbtf::Error>(())
+    /// ```
+    pub fn bytes_at(&self, offset: u32) -> Result<&[u8], Error> {
+        // SAFETY: the loan lives as long as the call. The bytes are the table's, which is borrowed as long as the slice.
+        unsafe {
+            let name: vbtf_name =
+                called(|name, error| vbtf_lent_name(&mut self.loan(), offset, name, error))?;
+            Ok(slice::from_raw_parts(name.at, name.len))
+        }
+    }
+
+    /// The text at a string offset, with U+FFFD in place of each piece that is not UTF-8. A text that is UTF-8 is not
+    /// copied.
+    ///
+    /// ```
+    /// let mut table = vbtf::Table::new()?;
+    /// let offset = table.add_string("int")?;
+    /// assert_eq!(table.text_at(offset)?, "int");
+    /// # Ok::<(), vbtf::Error>(())
+    /// ```
+    pub fn text_at(&self, offset: u32) -> Result<Cow<'_, str>, Error> {
+        Ok(String::from_utf8_lossy(self.bytes_at(offset)?))
+    }
+
+    /// The sizes in bytes of the types of these ids, as far as the table has them; `None` for a type without a size.
+    ///
+    /// ```
+    /// let table = vbtf::Table::new()?;
+    /// assert_eq!(table.type_sizes(0..2), [None]);
+    /// # Ok::<(), vbtf::Error>(())
+    /// ```
+    pub fn type_sizes(&self, ids: Range<u32>) -> Vec<Option<u64>> {
+        // SAFETY: as in `words_from`.
+        let sizes = filled(ids.len(), |out, room, count| unsafe {
+            vbtf_lent_sizes(&mut self.loan(), ids.start, out, room, count)
+        });
+        sizes.into_iter().map(|size| (size != u64::MAX).then_some(size)).collect()
+    }
+
+    /// What these ids resolve to, as far as the table has them; `None` for an id that resolves to no type.
+    ///
+    /// ```
+    /// let table = vbtf::Table::new()?;
+    /// assert_eq!(table.resolved_types(0..2), [Some(0)]);
+    /// # Ok::<(), vbtf::Error>(())
+    /// ```
+    pub fn resolved_types(&self, ids: Range<u32>) -> Vec<Option<u32>> {
+        // SAFETY: as in `words_from`.
+        let ids = filled(ids.len(), |out, room, count| unsafe {
+            vbtf_lent_resolved(&mut self.loan(), ids.start, out, room, count)
+        });
+        ids.into_iter().map(|id| (id != u32::MAX).then_some(id)).collect()
+    }
+
+    /// The least id, from one on, of a type of this name, and of this kind if there is one.
+    ///
+    /// ```
+    /// use vbtf::{Kind, Table};
+    ///
+    /// let table = Table::new()?;
+    /// assert_eq!(table.find_from("", None, 0), Ok(0));
+    /// assert!(table.find_from("", Some(Kind::Int), 0).is_err());
+    /// # Ok::<(), vbtf::Error>(())
+    /// ```
+    pub fn find_from(&self, name: &str, kind: Option<Kind>, first: u32) -> Result<u32, Error> {
+        let (at, len) = (name.as_ptr(), name.len());
+        let kind = kind.map_or(ANY_KIND, |kind| kind as u32);
+        // SAFETY: the loan and the name live as long as the call.
+        called(|id, error| unsafe {
+            vbtf_lent_find_from(&mut self.loan(), at, len, kind, first, id, error)
+        })
+    }
+
+    /// The byte order of the table.
+    ///
+    /// ```
+    /// use vbtf::{Endianness, Table};
+    ///
+    /// assert_eq!(Table::new()?.endianness(), Endianness::Little);
+    /// # Ok::<(), vbtf::Error>(())
+    /// ```
+    pub fn endianness(&self) -> Endianness {
+        let mut order = 0;
+        // SAFETY: the loan lives as long as the call.
+        unsafe { vbtf_lent_order(&mut self.loan(), &mut order) };
+        if order == Endianness::Big as u32 {
+            Endianness::Big
+        } else {
+            Endianness::Little
+        }
+    }
+}
