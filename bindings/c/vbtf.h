@@ -181,6 +181,12 @@ struct vbtf_item {
 	uint32_t words[3];
 };
 
+/* The bytes of a name in the memory of a table, which vbtf_name finds. */
+struct vbtf_name_bytes {
+	const char *at;
+	size_t len;
+};
+
 /* ---- .BTF.ext */
 
 enum vbtf_part { VBTF_PART_FUNC_INFO = 0, VBTF_PART_LINE_INFO = 1 };
@@ -314,10 +320,20 @@ uint32_t vbtf_lent_resolve(struct vbtf_table *table, uint32_t id, uint32_t *to, 
 uint32_t vbtf_lent_size(struct vbtf_table *table, uint32_t id, uint64_t *size, struct vbtf_error *error);
 uint32_t vbtf_lent_text(struct vbtf_table *table, uint32_t offset, uint8_t *out, size_t room, uint64_t *needed,
                         struct vbtf_error *error);
+uint32_t vbtf_lent_name(struct vbtf_table *table, uint32_t offset, struct vbtf_name_bytes *name,
+                        struct vbtf_error *error);
 uint32_t vbtf_lent_bytes(struct vbtf_table *table, uint8_t *out, size_t room, uint64_t *needed,
                          struct vbtf_error *error);
 uint32_t vbtf_lent_item(struct vbtf_table *table, uint32_t id, uint32_t index, struct vbtf_item *item,
                         struct vbtf_error *error);
+uint32_t vbtf_lent_members(struct vbtf_table *table, uint32_t id, struct vbtf_member *out, size_t room,
+                           uint64_t *count, struct vbtf_error *error);
+uint32_t vbtf_lent_variants(struct vbtf_table *table, uint32_t id, struct vbtf_variant *out, size_t room,
+                            uint64_t *count, struct vbtf_error *error);
+uint32_t vbtf_lent_params(struct vbtf_table *table, uint32_t id, struct vbtf_param *out, size_t room, uint64_t *count,
+                          struct vbtf_error *error);
+uint32_t vbtf_lent_entries(struct vbtf_table *table, uint32_t id, struct vbtf_entry *out, size_t room, uint64_t *count,
+                           struct vbtf_error *error);
 uint32_t vbtf_lent_value(struct vbtf_table *table, uint32_t id, const uint8_t *name, size_t len, uint64_t *value,
                          struct vbtf_error *error);
 uint32_t vbtf_lent_fields_compatible(struct vbtf_table *local, uint32_t id, struct vbtf_table *target, uint32_t other,
@@ -578,6 +594,25 @@ static inline uint32_t vbtf_text_at(const struct vbtf_table *table, uint32_t off
 	                      vbtf_error_or(error, &unread));
 }
 
+/*
+ * The name at a string offset, without a copy: a pointer to its first byte in the table, and the number of bytes before
+ * its zero byte. They are the bytes of the table, whatever they are. They stay until the table is changed or closed.
+ * VBTF_INVALID_STRING_OFFSET if no zero byte is at the offset or after it; `text` and `len` are then unchanged.
+ */
+static inline uint32_t vbtf_name(const struct vbtf_table *table, uint32_t offset, const char **text, size_t *len,
+                                 struct vbtf_error *error)
+{
+	struct vbtf_error unread;
+	struct vbtf_table loan = vbtf_loan(table);
+	struct vbtf_name_bytes name = { NULL, 0 };
+	uint32_t status = vbtf_lent_name(&loan, offset, &name, vbtf_error_or(error, &unread));
+	if (status == VBTF_OK) {
+		*text = name.at;
+		*len = name.len;
+	}
+	return status;
+}
+
 /* ---- items of a type, by their index */
 
 /* The first words of a type whose kind has its bit in `kinds`; otherwise VBTF_UNEXPECTED_TYPE. */
@@ -679,6 +714,47 @@ static inline uint32_t vbtf_entry_at(const struct vbtf_table *table, uint32_t id
 	entry->offset = item.words[1];
 	entry->size = item.words[2];
 	return VBTF_OK;
+}
+
+/*
+ * What vbtf_member_at, vbtf_variant_at, vbtf_param_at and vbtf_entry_at write for the indices from 0 on, in one call: as
+ * many items as the type has and as fit in the buffer. Their number goes to `count`. The errors are theirs, without
+ * VBTF_NO_ITEM. After an error the buffer and `count` are unchanged.
+ */
+static inline uint32_t vbtf_members(const struct vbtf_table *table, uint32_t id, struct vbtf_member *out, size_t room,
+                                    uint64_t *count, struct vbtf_error *error)
+{
+	struct vbtf_error unread;
+	struct vbtf_table loan = vbtf_loan(table);
+	struct vbtf_member none;
+	return vbtf_lent_members(&loan, id, out ? out : &none, out ? room : 0, count, vbtf_error_or(error, &unread));
+}
+
+static inline uint32_t vbtf_variants(const struct vbtf_table *table, uint32_t id, struct vbtf_variant *out, size_t room,
+                                     uint64_t *count, struct vbtf_error *error)
+{
+	struct vbtf_error unread;
+	struct vbtf_table loan = vbtf_loan(table);
+	struct vbtf_variant none;
+	return vbtf_lent_variants(&loan, id, out ? out : &none, out ? room : 0, count, vbtf_error_or(error, &unread));
+}
+
+static inline uint32_t vbtf_params(const struct vbtf_table *table, uint32_t id, struct vbtf_param *out, size_t room,
+                                   uint64_t *count, struct vbtf_error *error)
+{
+	struct vbtf_error unread;
+	struct vbtf_table loan = vbtf_loan(table);
+	struct vbtf_param none;
+	return vbtf_lent_params(&loan, id, out ? out : &none, out ? room : 0, count, vbtf_error_or(error, &unread));
+}
+
+static inline uint32_t vbtf_entries(const struct vbtf_table *table, uint32_t id, struct vbtf_entry *out, size_t room,
+                                    uint64_t *count, struct vbtf_error *error)
+{
+	struct vbtf_error unread;
+	struct vbtf_table loan = vbtf_loan(table);
+	struct vbtf_entry none;
+	return vbtf_lent_entries(&loan, id, out ? out : &none, out ? room : 0, count, vbtf_error_or(error, &unread));
 }
 
 /*

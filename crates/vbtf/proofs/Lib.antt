@@ -14,3 +14,4 @@ pub mod ExtOpening
 pub mod Objects
 pub mod Relocations
 pub mod Places
+pub mod Listing
