@@ -93,6 +93,9 @@ enum vbtf_kind {
 	VBTF_KIND_TYPE_TAG, VBTF_KIND_ENUM64
 };
 
+/* Any kind, for vbtf_find_from. */
+#define VBTF_ANY_KIND UINT32_MAX
+
 /* The text of a kind, such as `[INT]`; null if there is no such kind. */
 static inline const char *vbtf_kind_text(uint32_t kind)
 {
@@ -316,6 +319,9 @@ uint32_t vbtf_lent_sizes(struct vbtf_table *table, uint32_t first, uint64_t *out
 uint32_t vbtf_lent_resolved(struct vbtf_table *table, uint32_t first, uint32_t *out, size_t room, uint64_t *count);
 uint32_t vbtf_lent_find(struct vbtf_table *table, const uint8_t *name, size_t len, uint32_t kind, uint32_t *id,
                         struct vbtf_error *error);
+uint32_t vbtf_lent_find_from(struct vbtf_table *table, const uint8_t *name, size_t len, uint32_t kind, uint32_t first,
+                             uint32_t *id, struct vbtf_error *error);
+uint32_t vbtf_lent_order(struct vbtf_table *table, uint32_t *order);
 uint32_t vbtf_lent_resolve(struct vbtf_table *table, uint32_t id, uint32_t *to, struct vbtf_error *error);
 uint32_t vbtf_lent_size(struct vbtf_table *table, uint32_t id, uint64_t *size, struct vbtf_error *error);
 uint32_t vbtf_lent_text(struct vbtf_table *table, uint32_t offset, uint8_t *out, size_t room, uint64_t *needed,
@@ -556,6 +562,13 @@ static inline uint32_t vbtf_count(const struct vbtf_table *table, uint64_t *coun
 {
 	struct vbtf_table loan = vbtf_loan(table);
 	return vbtf_lent_count(&loan, count);
+}
+
+/* The byte order of the table: VBTF_LITTLE or VBTF_BIG. */
+static inline uint32_t vbtf_order(const struct vbtf_table *table, uint32_t *order)
+{
+	struct vbtf_table loan = vbtf_loan(table);
+	return vbtf_lent_order(&loan, order);
 }
 
 /* The kind and the first words of the type of an id; VBTF_UNKNOWN_TYPE if there is none. */
@@ -845,6 +858,19 @@ static inline uint32_t vbtf_find(const struct vbtf_table *table, const char *nam
 	struct vbtf_error unread;
 	struct vbtf_table loan = vbtf_loan(table);
 	return vbtf_lent_find(&loan, vbtf_bytes_or_none(name), len, kind, id, vbtf_error_or(error, &unread));
+}
+
+/*
+ * The least id from `first` on of a type of this name, and of this kind or of any kind (VBTF_ANY_KIND).
+ * VBTF_UNKNOWN_TYPE_NAME if there is none; VBTF_INVALID_STRING_OFFSET if the search reaches a type of the kind whose name
+ * cannot be read; VBTF_BAD_ARGUMENT if the name is not UTF-8, or the kind is no kind.
+ */
+static inline uint32_t vbtf_find_from(const struct vbtf_table *table, const char *name, size_t len, uint32_t kind,
+                                      uint32_t first, uint32_t *id, struct vbtf_error *error)
+{
+	struct vbtf_error unread;
+	struct vbtf_table loan = vbtf_loan(table);
+	return vbtf_lent_find_from(&loan, vbtf_bytes_or_none(name), len, kind, first, id, vbtf_error_or(error, &unread));
 }
 
 /*

@@ -15,3 +15,4 @@ pub mod Objects
 pub mod Relocations
 pub mod Places
 pub mod Listing
+pub mod Search

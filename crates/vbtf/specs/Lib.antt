@@ -17,3 +17,4 @@ pub mod Many
 pub mod Lists
 pub mod Lent
 pub mod Naming
+pub mod Finding

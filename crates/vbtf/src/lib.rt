@@ -28,6 +28,7 @@ mod error_text;
 mod ext;
 mod ext_read;
 mod fault;
+mod find;
 mod handle;
 mod items;
 mod kernel;
