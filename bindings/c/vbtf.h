@@ -93,6 +93,9 @@ enum vbtf_kind {
 	VBTF_KIND_TYPE_TAG, VBTF_KIND_ENUM64
 };
 
+/* Any kind, for vbtf_find_from. */
+#define VBTF_ANY_KIND UINT32_MAX
+
 /* The text of a kind, such as `[INT]`; null if there is no such kind. */
 static inline const char *vbtf_kind_text(uint32_t kind)
 {
@@ -179,6 +182,12 @@ struct vbtf_item {
 	uint32_t info;           /* the info word of the type */
 	uint32_t count;          /* the number of words of the item */
 	uint32_t words[3];
+};
+
+/* The bytes of a name in the memory of a table, which vbtf_name finds. */
+struct vbtf_name_bytes {
+	const char *at;
+	size_t len;
 };
 
 /* ---- .BTF.ext */
@@ -310,14 +319,27 @@ uint32_t vbtf_lent_sizes(struct vbtf_table *table, uint32_t first, uint64_t *out
 uint32_t vbtf_lent_resolved(struct vbtf_table *table, uint32_t first, uint32_t *out, size_t room, uint64_t *count);
 uint32_t vbtf_lent_find(struct vbtf_table *table, const uint8_t *name, size_t len, uint32_t kind, uint32_t *id,
                         struct vbtf_error *error);
+uint32_t vbtf_lent_find_from(struct vbtf_table *table, const uint8_t *name, size_t len, uint32_t kind, uint32_t first,
+                             uint32_t *id, struct vbtf_error *error);
+uint32_t vbtf_lent_order(struct vbtf_table *table, uint32_t *order);
 uint32_t vbtf_lent_resolve(struct vbtf_table *table, uint32_t id, uint32_t *to, struct vbtf_error *error);
 uint32_t vbtf_lent_size(struct vbtf_table *table, uint32_t id, uint64_t *size, struct vbtf_error *error);
 uint32_t vbtf_lent_text(struct vbtf_table *table, uint32_t offset, uint8_t *out, size_t room, uint64_t *needed,
+                        struct vbtf_error *error);
+uint32_t vbtf_lent_name(struct vbtf_table *table, uint32_t offset, struct vbtf_name_bytes *name,
                         struct vbtf_error *error);
 uint32_t vbtf_lent_bytes(struct vbtf_table *table, uint8_t *out, size_t room, uint64_t *needed,
                          struct vbtf_error *error);
 uint32_t vbtf_lent_item(struct vbtf_table *table, uint32_t id, uint32_t index, struct vbtf_item *item,
                         struct vbtf_error *error);
+uint32_t vbtf_lent_members(struct vbtf_table *table, uint32_t id, struct vbtf_member *out, size_t room,
+                           uint64_t *count, struct vbtf_error *error);
+uint32_t vbtf_lent_variants(struct vbtf_table *table, uint32_t id, struct vbtf_variant *out, size_t room,
+                            uint64_t *count, struct vbtf_error *error);
+uint32_t vbtf_lent_params(struct vbtf_table *table, uint32_t id, struct vbtf_param *out, size_t room, uint64_t *count,
+                          struct vbtf_error *error);
+uint32_t vbtf_lent_entries(struct vbtf_table *table, uint32_t id, struct vbtf_entry *out, size_t room, uint64_t *count,
+                           struct vbtf_error *error);
 uint32_t vbtf_lent_value(struct vbtf_table *table, uint32_t id, const uint8_t *name, size_t len, uint64_t *value,
                          struct vbtf_error *error);
 uint32_t vbtf_lent_fields_compatible(struct vbtf_table *local, uint32_t id, struct vbtf_table *target, uint32_t other,
@@ -542,6 +564,13 @@ static inline uint32_t vbtf_count(const struct vbtf_table *table, uint64_t *coun
 	return vbtf_lent_count(&loan, count);
 }
 
+/* The byte order of the table: VBTF_LITTLE or VBTF_BIG. */
+static inline uint32_t vbtf_order(const struct vbtf_table *table, uint32_t *order)
+{
+	struct vbtf_table loan = vbtf_loan(table);
+	return vbtf_lent_order(&loan, order);
+}
+
 /* The kind and the first words of the type of an id; VBTF_UNKNOWN_TYPE if there is none. */
 static inline uint32_t vbtf_type_by_id(const struct vbtf_table *table, uint32_t id, struct vbtf_type *type,
                                        struct vbtf_error *error)
@@ -576,6 +605,25 @@ static inline uint32_t vbtf_text_at(const struct vbtf_table *table, uint32_t off
 	uint8_t none;
 	return vbtf_lent_text(&loan, offset, out ? (uint8_t *)out : &none, out ? room : 0, needed,
 	                      vbtf_error_or(error, &unread));
+}
+
+/*
+ * The name at a string offset, without a copy: a pointer to its first byte in the table, and the number of bytes before
+ * its zero byte. They are the bytes of the table, whatever they are. They stay until the table is changed or closed.
+ * VBTF_INVALID_STRING_OFFSET if no zero byte is at the offset or after it; `text` and `len` are then unchanged.
+ */
+static inline uint32_t vbtf_name(const struct vbtf_table *table, uint32_t offset, const char **text, size_t *len,
+                                 struct vbtf_error *error)
+{
+	struct vbtf_error unread;
+	struct vbtf_table loan = vbtf_loan(table);
+	struct vbtf_name_bytes name = { NULL, 0 };
+	uint32_t status = vbtf_lent_name(&loan, offset, &name, vbtf_error_or(error, &unread));
+	if (status == VBTF_OK) {
+		*text = name.at;
+		*len = name.len;
+	}
+	return status;
 }
 
 /* ---- items of a type, by their index */
@@ -682,6 +730,47 @@ static inline uint32_t vbtf_entry_at(const struct vbtf_table *table, uint32_t id
 }
 
 /*
+ * What vbtf_member_at, vbtf_variant_at, vbtf_param_at and vbtf_entry_at write for the indices from 0 on, in one call: as
+ * many items as the type has and as fit in the buffer. Their number goes to `count`. The errors are theirs, without
+ * VBTF_NO_ITEM. After an error the buffer and `count` are unchanged.
+ */
+static inline uint32_t vbtf_members(const struct vbtf_table *table, uint32_t id, struct vbtf_member *out, size_t room,
+                                    uint64_t *count, struct vbtf_error *error)
+{
+	struct vbtf_error unread;
+	struct vbtf_table loan = vbtf_loan(table);
+	struct vbtf_member none;
+	return vbtf_lent_members(&loan, id, out ? out : &none, out ? room : 0, count, vbtf_error_or(error, &unread));
+}
+
+static inline uint32_t vbtf_variants(const struct vbtf_table *table, uint32_t id, struct vbtf_variant *out, size_t room,
+                                     uint64_t *count, struct vbtf_error *error)
+{
+	struct vbtf_error unread;
+	struct vbtf_table loan = vbtf_loan(table);
+	struct vbtf_variant none;
+	return vbtf_lent_variants(&loan, id, out ? out : &none, out ? room : 0, count, vbtf_error_or(error, &unread));
+}
+
+static inline uint32_t vbtf_params(const struct vbtf_table *table, uint32_t id, struct vbtf_param *out, size_t room,
+                                   uint64_t *count, struct vbtf_error *error)
+{
+	struct vbtf_error unread;
+	struct vbtf_table loan = vbtf_loan(table);
+	struct vbtf_param none;
+	return vbtf_lent_params(&loan, id, out ? out : &none, out ? room : 0, count, vbtf_error_or(error, &unread));
+}
+
+static inline uint32_t vbtf_entries(const struct vbtf_table *table, uint32_t id, struct vbtf_entry *out, size_t room,
+                                    uint64_t *count, struct vbtf_error *error)
+{
+	struct vbtf_error unread;
+	struct vbtf_table loan = vbtf_loan(table);
+	struct vbtf_entry none;
+	return vbtf_lent_entries(&loan, id, out ? out : &none, out ? room : 0, count, vbtf_error_or(error, &unread));
+}
+
+/*
  * The fields of an ARRAY, an INT, a VAR or FUNC, and a DECL_TAG. The component of a DECL_TAG is the index of a member
  * or parameter, or -1 for the type as a whole. VBTF_UNKNOWN_TYPE, VBTF_UNEXPECTED_TYPE: as above.
  */
@@ -769,6 +858,19 @@ static inline uint32_t vbtf_find(const struct vbtf_table *table, const char *nam
 	struct vbtf_error unread;
 	struct vbtf_table loan = vbtf_loan(table);
 	return vbtf_lent_find(&loan, vbtf_bytes_or_none(name), len, kind, id, vbtf_error_or(error, &unread));
+}
+
+/*
+ * The least id from `first` on of a type of this name, and of this kind or of any kind (VBTF_ANY_KIND).
+ * VBTF_UNKNOWN_TYPE_NAME if there is none; VBTF_INVALID_STRING_OFFSET if the search reaches a type of the kind whose name
+ * cannot be read; VBTF_BAD_ARGUMENT if the name is not UTF-8, or the kind is no kind.
+ */
+static inline uint32_t vbtf_find_from(const struct vbtf_table *table, const char *name, size_t len, uint32_t kind,
+                                      uint32_t first, uint32_t *id, struct vbtf_error *error)
+{
+	struct vbtf_error unread;
+	struct vbtf_table loan = vbtf_loan(table);
+	return vbtf_lent_find_from(&loan, vbtf_bytes_or_none(name), len, kind, first, id, vbtf_error_or(error, &unread));
 }
 
 /*

@@ -115,6 +115,55 @@ static void texts(const struct vbtf_table *table)
 	check(vbtf_text_at(table, 1000, text, 8, &needed, &error) == VBTF_INVALID_STRING_OFFSET && error.offset == 1000);
 }
 
+/* The names at all string offsets are where the strings have them, with a zero byte after each. */
+static void names(const struct vbtf_table *table)
+{
+	struct vbtf_table closed = VBTF_TABLE_INIT;
+	struct vbtf_error error;
+	const char *first = NULL, *text = NULL;
+	size_t len = 77;
+	check(vbtf_name(table, 0, &first, &len, NULL) == VBTF_OK && len == 0);
+	for (uint32_t offset = 0; offset < sizeof STRINGS; offset++) {
+		check(vbtf_name(table, offset, &text, &len, &error) == VBTF_OK);
+		check(text == first + offset && len == strlen(STRINGS + offset));
+		check(memcmp(text, STRINGS + offset, len + 1) == 0);
+	}
+	len = 77;
+	check(vbtf_name(table, sizeof STRINGS, &text, &len, &error) == VBTF_INVALID_STRING_OFFSET);
+	check(error.offset == sizeof STRINGS && len == 77 && text == first + sizeof STRINGS - 1);
+	check(vbtf_name(table, UINT32_MAX, &text, &len, NULL) == VBTF_INVALID_STRING_OFFSET);
+	check(vbtf_name(&closed, 0, &text, &len, &error) == VBTF_CLOSED && len == 77);
+}
+
+static void order_is(const struct vbtf_table *table, uint32_t order)
+{
+	struct vbtf_table closed = VBTF_TABLE_INIT;
+	uint32_t answer = 77;
+	check(vbtf_order(&closed, &answer) == VBTF_CLOSED && answer == 77);
+	check(vbtf_order(table, &answer) == VBTF_OK && answer == order);
+}
+
+static void looked_up_from(const struct vbtf_table *table)
+{
+	struct vbtf_table closed = VBTF_TABLE_INIT;
+	struct vbtf_error error;
+	uint32_t id = 99;
+	check(vbtf_find_from(table, "int", 3, VBTF_KIND_INT, 0, &id, &error) == VBTF_OK && id == 1);
+	check(vbtf_find_from(table, "int", 3, VBTF_KIND_INT, 1, &id, &error) == VBTF_OK && id == 1);
+	check(vbtf_find_from(table, "int", 3, VBTF_KIND_INT, 2, &id, &error) == VBTF_OK && id == 9);
+	check(vbtf_find_from(table, "int", 3, VBTF_KIND_INT, 10, &id, &error) == VBTF_UNKNOWN_TYPE_NAME && id == 9);
+	check(error.name_len == 3 && memcmp(error.name, "int", 3) == 0);
+	check(vbtf_find_from(table, "int", 3, VBTF_KIND_INT, UINT32_MAX, &id, NULL) == VBTF_UNKNOWN_TYPE_NAME);
+	check(vbtf_find_from(table, "word", 4, VBTF_ANY_KIND, 0, &id, &error) == VBTF_OK && id == 3);
+	check(vbtf_find_from(table, "word", 4, VBTF_ANY_KIND, 4, &id, &error) == VBTF_OK && id == 11);
+	check(vbtf_find_from(table, "word", 4, VBTF_KIND_ENUM, 0, &id, &error) == VBTF_OK && id == 11);
+	check(vbtf_find_from(table, "", 0, VBTF_ANY_KIND, 0, &id, &error) == VBTF_OK && id == 0);
+	check(vbtf_find_from(table, "", 0, VBTF_ANY_KIND, 1, &id, &error) == VBTF_OK && id == 2);
+	check(vbtf_find_from(table, "\xff", 1, VBTF_ANY_KIND, 0, &id, &error) == VBTF_BAD_ARGUMENT);
+	check(vbtf_find_from(table, "int", 3, 20, 0, &id, &error) == VBTF_BAD_ARGUMENT && id == 2);
+	check(vbtf_find_from(&closed, "int", 3, VBTF_KIND_INT, 0, &id, &error) == VBTF_CLOSED && id == 2);
+}
+
 static void looked_up(const struct vbtf_table *table)
 {
 	struct vbtf_error error;
@@ -382,7 +431,13 @@ int main(void)
 	struct vbtf_table little = opened(VBTF_LITTLE), big = opened(VBTF_BIG);
 	types(&little);
 	texts(&big);
+	names(&little);
+	names(&big);
 	looked_up(&little);
+	looked_up_from(&little);
+	looked_up_from(&big);
+	order_is(&little, VBTF_LITTLE);
+	order_is(&big, VBTF_BIG);
 	walks(&big);
 	comparisons(&little, &big);
 	written(&little, VBTF_LITTLE);

@@ -74,6 +74,82 @@ static void resolved_from(const struct vbtf_table *table, uint64_t types, uint32
 	free(out);
 }
 
+/*
+ * The items of a type in one call are those of the single calls, in a buffer with this room, which ends there. The
+ * status is that of the single call for index 0, except that a type may have no item.
+ */
+#define ITEMS_OF(item, all, one)                                                                                      \
+	static void all##_of(const struct vbtf_table *table, uint32_t id, size_t room)                                 \
+	{                                                                                                              \
+		struct item *out = malloc(room * sizeof *out + 1), single, old;                                        \
+		struct vbtf_error other;                                                                               \
+		uint64_t count = 7, have = 0;                                                                          \
+		bool same = true;                                                                                      \
+		memset(out, 1, room * sizeof *out);                                                                    \
+		memset(&old, 1, sizeof old);                                                                           \
+		memset(&single, 0, sizeof single);                                                                     \
+		uint32_t first = one(table, id, 0, &single, &error);                                                   \
+		uint32_t status = all(table, id, out, room, &count, &other);                                           \
+		if (first != VBTF_OK && first != VBTF_NO_ITEM)                                                         \
+			check(status == first && count == 7 && other.number == error.number && other.id == error.id);  \
+		while (status == VBTF_OK && one(table, id, (uint32_t)have, &single, &error) == VBTF_OK) {              \
+			same = same && (have >= room || is_##item(out + have, &single));                               \
+			have++;                                                                                        \
+		}                                                                                                      \
+		if (status == VBTF_OK)                                                                                 \
+			check(count == (have < room ? have : room));                                                   \
+		for (uint64_t i = status == VBTF_OK ? count : 0; i < room; i++)                                        \
+			same = same && memcmp(out + i, &old, sizeof old) == 0;                                         \
+		check(same);                                                                                           \
+		free(out);                                                                                             \
+	}
+
+static bool is_vbtf_member(const struct vbtf_member *a, const struct vbtf_member *b)
+{
+	return memcmp(a, b, sizeof *a) == 0;
+}
+
+static bool is_vbtf_variant(const struct vbtf_variant *a, const struct vbtf_variant *b)
+{
+	return a->name_offset == b->name_offset && a->bits == b->bits && a->is_signed == b->is_signed
+	       && a->value == b->value;
+}
+
+static bool is_vbtf_param(const struct vbtf_param *a, const struct vbtf_param *b)
+{
+	return memcmp(a, b, sizeof *a) == 0;
+}
+
+static bool is_vbtf_entry(const struct vbtf_entry *a, const struct vbtf_entry *b)
+{
+	return memcmp(a, b, sizeof *a) == 0;
+}
+
+ITEMS_OF(vbtf_member, vbtf_members, vbtf_member_at)
+ITEMS_OF(vbtf_variant, vbtf_variants, vbtf_variant_at)
+ITEMS_OF(vbtf_param, vbtf_params, vbtf_param_at)
+ITEMS_OF(vbtf_entry, vbtf_entries, vbtf_entry_at)
+
+/* The items of each type, and of an id that has none, with several rooms. */
+static void items(const struct vbtf_table *table)
+{
+	struct vbtf_table closed = VBTF_TABLE_INIT;
+	struct vbtf_param param = { 7, 7 };
+	uint64_t count = 0, types = 0;
+	const size_t rooms[] = { 0, 1, 2, 3, 70000 };
+	check(vbtf_count(table, &types) == VBTF_OK);
+	for (uint32_t id = 0; id <= types; id++) {
+		for (size_t i = 0; i < sizeof rooms / sizeof *rooms - (id > 64); i++) {
+			vbtf_members_of(table, id, rooms[i]);
+			vbtf_variants_of(table, id, rooms[i]);
+			vbtf_params_of(table, id, rooms[i]);
+			vbtf_entries_of(table, id, rooms[i]);
+		}
+	}
+	check(vbtf_members(table, (uint32_t)types, NULL, 9, &count, NULL) == VBTF_UNKNOWN_TYPE);
+	check(vbtf_params(&closed, 6, &param, 1, &count, &error) == VBTF_CLOSED && param.type == 7 && count == 0);
+}
+
 static void types(const struct vbtf_table *table)
 {
 	struct vbtf_table closed = VBTF_TABLE_INIT;
@@ -109,6 +185,9 @@ int main(int argc, char **argv)
 	types(&little);
 	types(&big);
 	types(&table);
+	items(&little);
+	items(&big);
+	items(&table);
 	vbtf_close(&table);
 	vbtf_close(&big);
 	vbtf_close(&little);

@@ -99,6 +99,23 @@ static uint32_t missing(struct vbtf_table *table)
 	return status == VBTF_UNKNOWN_TYPE_NAME ? VBTF_OK : status;
 }
 
+/* A search for a name that no type has; the error has the name. */
+static uint32_t missing_from(struct vbtf_table *table)
+{
+	uint32_t id;
+	uint32_t status = vbtf_find_from(table, "no such type", 12, VBTF_KIND_PTR, 3, &id, &error);
+	return status == VBTF_UNKNOWN_TYPE_NAME ? VBTF_OK : status;
+}
+
+/* A name with the bytes of U+FFFD is compared with whole texts, and reading one that is not UTF-8 allocates. */
+static uint32_t find_text(struct vbtf_table *table)
+{
+	uint32_t id = 0;
+	uint32_t status = vbtf_find_from(table, "caf\xef\xbf\xbd", 6, VBTF_ANY_KIND, 3, &id, &error);
+	check(status != VBTF_OK || id == 8);
+	return status;
+}
+
 /* The first variant's name needs an allocation, because it is not UTF-8. */
 /* A name with the bytes of U+FFFD is compared with whole texts, and reading one that is not UTF-8 allocates. */
 static uint32_t value(struct vbtf_table *table)
@@ -220,6 +237,8 @@ static const struct {
 	{ "vbtf_bytes", write_out },
 	{ "vbtf_text_at", text },
 	{ "vbtf_find", missing },
+	{ "vbtf_find_from", missing_from },
+	{ "vbtf_find_from", find_text },
 	{ "vbtf_value", value },
 	{ "vbtf_fields_are_compatible", fields },
 	{ "vbtf_types_are_compatible", types },

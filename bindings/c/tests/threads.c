@@ -19,7 +19,9 @@ static void *reader(void *unused)
 		uint64_t size = 0, needed = 0;
 		uint32_t id = 0;
 		bool answer = false;
-		struct vbtf_member member;
+		struct vbtf_member member, members[2];
+		const char *name = NULL;
+		size_t len = 0;
 		struct vbtf_line_info lines[3];
 		struct vbtf_relocation relocation = { 0, 4, access_offset, 0 };
 		struct vbtf_relocated relocated;
@@ -28,6 +30,9 @@ static void *reader(void *unused)
 		wrong += vbtf_find(&shared, "run", 3, VBTF_KIND_FUNC, &id, &error) != VBTF_OK || id != 7;
 		wrong += vbtf_text_at(&shared, 26, text, sizeof text, &needed, &error) != VBTF_OK || needed != 6;
 		wrong += vbtf_member_at(&shared, 4, 1, &member, &error) != VBTF_OK || member.bit_offset != 32;
+		wrong += vbtf_members(&shared, 4, members, 2, &needed, &error) != VBTF_OK || members[1].bit_offset != 32;
+		wrong += vbtf_name(&shared, 1, &name, &len, &error) != VBTF_OK || len != 3 || strcmp(name, "int") != 0;
+		wrong += vbtf_find_from(&shared, "int", 3, VBTF_ANY_KIND, 2, &id, &error) != VBTF_OK || id != 9;
 		wrong += vbtf_value(&shared, 11, "int", 3, &size, &error) != VBTF_OK || size != 9;
 		wrong += vbtf_ext_line_info(&shared, "run", 3, lines, 3, &needed, &error) != VBTF_OK || needed != 3;
 		wrong += vbtf_relocate(&shared, &shared, &relocation, &relocated, &error) != VBTF_OK || relocated.value != 4;

@@ -14,3 +14,5 @@ pub mod ExtOpening
 pub mod Objects
 pub mod Relocations
 pub mod Places
+pub mod Listing
+pub mod Search

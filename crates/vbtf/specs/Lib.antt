@@ -14,4 +14,8 @@ pub mod Object
 pub mod Relocate
 pub mod Resolved
 pub mod Many
+pub mod Lists
+pub mod Lent
+pub mod Naming
+pub mod Finding
 pub mod IndexFinding

@@ -10,6 +10,11 @@ abbrev pub order_named : ℕ → Endianness
 order_named zero = Little
 order_named (suc n) = Big
 
+-- The number of a byte order.
+abbrev pub order_number : Endianness → ℕ
+order_number Little = 0
+order_number Big = 1
+
 -- The order in which the first two bytes are the magic 0xeb9f: big if they are eb and 9f, otherwise little.
 abbrev pub order_by_magic : List ℕ → Endianness
 order_by_magic bytes = if starts_with ◌==◌ bytes (235 ∷ 159 ∷ []) then Big else Little

@@ -1,10 +1,41 @@
 //! Byte orders, as C names them.
 
-ghost use Rattle.std.specs.Prelude.{◌≡◌, ◌<◌, ◌≤◌};
+ghost use Rattle.std.specs.Prelude.{◌≡◌, ◌≢◌, ◌<◌, ◌≤◌};
 ghost use Rattle.std.specs.Option.{MatchOption};
-ghost use Rattle.vbtf.specs.Orders.{order_named, order_by_magic, order_chosen};
+ghost use Rattle.vbtf.specs.Orders.{order_named, order_number, order_by_magic, order_chosen};
+ghost use Rattle.vbtf.specs.Status.{Keeps};
 
+use crate::fault::CLOSED;
+use crate::handle::{Handle, lent};
 use btf::Endianness;
+
+/// The byte order of a table: 0 for little, 1 for big.
+///
+/// Status 101 if the handle's state is not 2.
+#[unsafe(no_mangle)]
+pub extern "C" fn vbtf_lent_order(table: &mut Handle, order: &mut u32) -> u32
+    ensures ordered { table.old.state ≡ 2
+        → (result ≡ 0) × (order.new ≡ order_number table.old.opened.btf.order) }
+    ensures closed { table.old.state ≢ 2 → result ≡ CLOSED }
+    ensures kept { Keeps table.old table.new }
+{
+    let Some(loan) = lent(table) else {
+        return CLOSED;
+    };
+    *order = number_of(loan.get().btf.endianness());
+    *table = Handle::from_loan(loan);
+    0
+}
+
+/// The number of a byte order.
+fn number_of(endianness: Endianness) -> u32
+    ensures { result ≡ order_number endianness }
+{
+    match endianness {
+        Endianness::Little => 0,
+        Endianness::Big => 1,
+    }
+}
 
 /// The byte order of a number: 0 for little, 1 for big. None for another number.
 pub(crate) fn named_order(order: u32) -> Option<Endianness>

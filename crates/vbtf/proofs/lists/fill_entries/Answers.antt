@@ -1,0 +1,22 @@
+use Rattle.std.proofs.Common.{◌∙◌, ap, refl}
+use Rattle.btf_records.specs.declared.btf_type.BtfType.TheVariants as types
+use Rattle.vbtf.specs.Lists.{entries, entries_in}
+use Rattle.vbtf.proofs.Listing.{entries_listed, listed, no_entries, unexpected, unknown}
+use Rattle.vbtf.proofs.lists.fill_entries.Goals as goal
+
+pub returns-in_err-t : goal.returns-in_err-t
+returns-in_err-t c =
+    unknown entries c.args.table.now.records c.args.id c.args.out.now c.in_err-t.field-0.0 c.from_residual.result c.from_residual.ensures.1 c.in_err-t.ensures.0 c.in_err-t.ensures.1
+
+pub returns-in-DataSec : goal.returns-in-DataSec
+returns-in-DataSec c =
+    let t = c.in-DataSec.t in let xs = c.entries.result.now in
+    listed entries c.args.table.now.records c.args.id c.in_ok-t.field-0.now (types.DataSec t) (entries_in t.tail) _ c.args.out.now c.fill_forms.new.out c.fill_forms.result
+    c.in_ok-t.ensures.0 c.in_ok-t.ensures.2 c.in-DataSec.is refl
+    (ap entries_in c.entries.ensures.words ∙ entries_listed xs)
+    c.fill_forms.ensures
+
+pub returns-in_default : goal.returns-in_default
+returns-in_default c =
+    unexpected entries c.args.table.now.records c.args.id c.in_ok-t.field-0.now c.args.out.now c.in_ok-t.ensures.0 c.in_ok-t.ensures.2
+    (no_entries c.in_ok-t.field-0.now c.in_default.not-DataSec)

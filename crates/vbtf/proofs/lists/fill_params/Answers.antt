@@ -1,0 +1,22 @@
+use Rattle.std.proofs.Common.{◌∙◌, ap, refl}
+use Rattle.btf_records.specs.declared.btf_type.BtfType.TheVariants as types
+use Rattle.vbtf.specs.Lists.{params, params_in}
+use Rattle.vbtf.proofs.Listing.{listed, no_params, params_listed, unexpected, unknown}
+use Rattle.vbtf.proofs.lists.fill_params.Goals as goal
+
+pub returns-in_err-t : goal.returns-in_err-t
+returns-in_err-t c =
+    unknown params c.args.table.now.records c.args.id c.args.out.now c.in_err-t.field-0.0 c.from_residual.result c.from_residual.ensures.1 c.in_err-t.ensures.0 c.in_err-t.ensures.1
+
+pub returns-in-FuncProto : goal.returns-in-FuncProto
+returns-in-FuncProto c =
+    let t = c.in-FuncProto.t in let xs = c.params.result.now in
+    listed params c.args.table.now.records c.args.id c.in_ok-t.field-0.now (types.FuncProto t) (params_in t.tail) _ c.args.out.now c.fill_forms.new.out c.fill_forms.result
+    c.in_ok-t.ensures.0 c.in_ok-t.ensures.2 c.in-FuncProto.is refl
+    (ap params_in c.params.ensures.words ∙ params_listed xs)
+    c.fill_forms.ensures
+
+pub returns-in_default : goal.returns-in_default
+returns-in_default c =
+    unexpected params c.args.table.now.records c.args.id c.in_ok-t.field-0.now c.args.out.now c.in_ok-t.ensures.0 c.in_ok-t.ensures.2
+    (no_params c.in_ok-t.field-0.now c.in_default.not-FuncProto)
