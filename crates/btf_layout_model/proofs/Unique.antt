@@ -1,0 +1,2 @@
+-- At most one answer for each type.
+use Rattle.std.proofs.Common.{◌≡◌, ℕ}
