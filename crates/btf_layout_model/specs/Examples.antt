@@ -1,9 +1,11 @@
 -- Worked examples of the definitions, computed. The alignments are those of libbpf's `btf__align_of`.
-use Rattle.std.specs.Prelude.{◌≡◌, ℕ, zero, suc, ◌==◌, true, false, List, [], ◌∷◌, Result, Ok, Err, Some, None, IsTrue, refl, inl, inr}
-use Rattle.btf_model.specs.Made.{int, ptr, array, struct, union, typedef}
+use Rattle.std.specs.Prelude.{◌≡◌, ℕ, ◌==◌, true, false, List, [], ◌∷◌, Ok, Err, IsTrue, refl}
+use Rattle.std.proofs.Common.{inl, inr, sym, subst}
+use Rattle.std.proofs.lemmas.Bool.{eqb-true}
+use Rattle.btf_model.specs.Made.{int, ptr, array, struct, typedef}
 use Rattle.btf_model.specs.Record.{Record, unknown}
-use Rattle.btf_model.specs.Refusal.{Refusal, UnknownBtfType, UnexpectedBtfType, MaximumTypeDepthReached}
-use Rattle.btf_layout_model.specs.Alignment.{Member, Fixed, SameAs, Composed, Unaligned, members_in, shape_in, is_in_place, decided_by, composed, Aligns, InPlace, Needs, IsEndless, HasAlignment}
+use Rattle.btf_model.specs.Refusal.{UnknownBtfType, UnexpectedBtfType, MaximumTypeDepthReached}
+use Rattle.btf_layout_model.specs.Alignment.{Member, members_in, is_in_place, Aligns, Needs, HasAlignment}
 use Rattle.btf_layout_model.specs.Alignment.Aligns.{unaligned, fixed, same_as, decided, all}
 use Rattle.btf_layout_model.specs.Alignment.InPlace.{none, also}
 
@@ -38,3 +40,73 @@ bit_field = refl
 -- an INT of 4 bytes at bit 8 is not in its place, but a bit-field is at any bit
 places : (is_in_place (record { type = 1; bit = 64; bits = 0 }) 4 ≡ true) × (is_in_place (record { type = 1; bit = 8; bits = 0 }) 4 ≡ false) × (is_in_place (record { type = 1; bit = 9; bits = 3 }) 4 ≡ true)
 places = (refl, refl, refl)
+
+-- A table: 1 is `int`, 2 is `char`, 3 is `struct { char a; int b; }`. 4 is the same struct, packed, in 5 bytes. 5 is
+-- `struct { int a; char b; }`, packed, in 5 bytes. 6 contains itself, and 7 is an array of 6. 8 is 4 with a third member
+-- of a type that the table does not have. 9 has only such a member. 10 has a bit-field of type 1 at bit 9.
+abbrev structs : List Record
+structs =
+    unknown ∷ int 0 4 32 ∷ int 0 1 8 ∷ struct 0 8 2 (0 ∷ 2 ∷ 0 ∷ 0 ∷ 1 ∷ 32 ∷ []) ∷ struct 0 5 2 (0 ∷ 2 ∷ 0 ∷ 0 ∷ 1 ∷ 8 ∷ [])
+    ∷ struct 0 5 2 (0 ∷ 1 ∷ 0 ∷ 0 ∷ 2 ∷ 32 ∷ []) ∷ struct 0 4 1 (0 ∷ 6 ∷ 0 ∷ []) ∷ array 0 6 1 2
+    ∷ struct 0 9 3 (0 ∷ 2 ∷ 0 ∷ 0 ∷ 1 ∷ 8 ∷ 0 ∷ 99 ∷ 40 ∷ []) ∷ struct 0 4 1 (0 ∷ 99 ∷ 0 ∷ [])
+    ∷ record { name = 0; info = 0x84000001; third = 4; tail = 0 ∷ 1 ∷ 0x03000009 ∷ [] } ∷ []
+
+member : ℕ → ℕ → Member
+member type bit = record { type = type; bit = bit; bits = 0 }
+
+-- the alignments of types 1 and 2
+abbrev four : Aligns structs 1 (Ok 4)
+four = fixed 1 4 refl
+
+abbrev one : Aligns structs 2 (Ok 1)
+one = fixed 2 1 refl
+
+largest_member : Aligns structs 3 (Ok 4)
+unfolding member
+largest_member =
+    all 3 8 4 (member 2 0 ∷ member 1 32 ∷ []) refl
+    (also (member 2 0) (member 1 32 ∷ []) 1 4 one refl (also (member 1 32) [] 4 1 four refl none))
+
+-- the second member decides: it is not in its place
+packed_by_a_member : Aligns structs 4 (Ok 1)
+unfolding member
+packed_by_a_member =
+    decided 4 5 1 (member 2 0 ∷ []) [] (member 1 8) (Ok 4) (Ok 1) refl (also (member 2 0) [] 1 1 one refl none) four refl
+
+packed_by_its_size : Aligns structs 5 (Ok 1)
+unfolding member
+packed_by_its_size =
+    all 5 5 4 (member 1 0 ∷ member 2 32 ∷ []) refl
+    (also (member 1 0) (member 2 32 ∷ []) 4 1 four refl (also (member 2 32) [] 1 1 one refl none))
+
+-- members after the one that decides are not read
+later_members : Aligns structs 8 (Ok 1)
+unfolding member
+later_members =
+    decided 8 9 1 (member 2 0 ∷ []) (member 99 40 ∷ []) (member 1 8) (Ok 4) (Ok 1) refl
+    (also (member 2 0) [] 1 1 one refl none) four refl
+
+error_of_a_member : Aligns structs 9 (Err (UnknownBtfType 99))
+unfolding member
+error_of_a_member =
+    decided 9 4 1 [] [] (member 99 0) (Err (UnknownBtfType 99)) (Err (UnknownBtfType 99)) refl none
+    (unaligned 99 (UnknownBtfType 99) refl) refl
+
+-- a bit-field counts for the largest alignment
+bit_field_counts : Aligns structs 10 (Ok 4)
+bit_field_counts =
+    all 10 4 4 (record { type = 1; bit = 9; bits = 3 } ∷ []) refl
+    (also (record { type = 1; bit = 9; bits = 3 }) [] 4 1 four refl none)
+
+-- 6 needs itself, and 7 needs 6
+needs_itself : Needs structs 6 6 × Needs structs 7 6
+unfolding member
+needs_itself = (inr (4, 1, [], [], member 6 0, refl, none, refl), inl refl)
+
+sixth : (at : ℕ) → IsTrue (at == 6) → Needs structs at 6
+sixth at waits = subst (λ (x : ℕ). Needs structs x 6) (sym (eqb-true at 6 waits)) needs_itself.0
+
+-- 6 waits for itself, so it has no alignment
+contains_itself : HasAlignment structs 6 (Err (MaximumTypeDepthReached 6))
+contains_itself =
+    inr ((λ id. id == 6, refl, λ at waits. (6, sixth at waits, refl)), refl)
