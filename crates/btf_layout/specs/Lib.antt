@@ -1,0 +1,5 @@
+pub mod Shape
+pub mod Progress
+pub mod Frame
+pub mod Stack
+pub mod Alignments

@@ -1,0 +1,2 @@
+-- The open types.
+use Rattle.std.specs.Prelude.{◌≡◌, ℕ}

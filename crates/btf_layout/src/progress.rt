@@ -1,0 +1,38 @@
+//! What is known of the alignments of types.
+
+ghost use Rattle.std.specs.Prelude.{◌≡◌, slice_get};
+ghost use Rattle.btf_layout.specs.Progress.{progress_in};
+
+/// The alignment of a type, or why it has none.
+#[derive(Clone, Copy, Drop)]
+pub enum Outcome {
+    /// The alignment in bytes.
+    Aligned(u32),
+    /// The type needs the type of this id, which does not exist.
+    Unknown(u32),
+    /// The type needs the type of this id, whose kind or size gives no alignment.
+    Unexpected(u32),
+    /// The type contains itself, or needs a type that contains itself.
+    Endless,
+}
+
+/// The progress of a type.
+#[derive(Clone, Copy, Drop)]
+pub enum Progress {
+    /// The type was not looked at.
+    New,
+    /// The type waits for another type.
+    Open,
+    /// The outcome is known.
+    Known(Outcome),
+}
+
+/// The progress of the type of an id. The outcome of an id that has no type is known.
+pub fn progress_of(known: &[Progress], type_id: u32) -> Progress
+    ensures { result ≡ progress_in known.now type_id }
+{
+    match known.get(type_id as usize) {
+        Some(progress) => *progress,
+        None => Progress::Known(Outcome::Unknown(type_id)),
+    }
+}
