@@ -1,1 +1,3 @@
 pub mod Members
+pub mod Knowing
+pub mod Frames

@@ -1,12 +1,12 @@
 -- A type whose alignment is computed, and where the computation stops.
-use Rattle.std.specs.Prelude.{◌≡◌, ℕ, ◌≤◌, List, length, take, Option, Some, None}
+use Rattle.std.specs.Prelude.{◌≡◌, ℕ, ◌≤◌, List, length, take, Option, Some, None, Result, Ok, Err}
 use Rattle.btf_model.specs.Record.{Record}
 use Rattle.btf_layout_model.specs.Alignment.{Member, Composed, shape_in, InPlace, Needs}
 use Rattle.btf_layout.specs.declared.frame.Frame.{Frame}
 use Rattle.btf_layout.specs.declared.frame.Step.{Step}
 use Rattle.btf_layout.specs.declared.frame.Step.TheVariants as steps
 use Rattle.btf_layout.specs.declared.progress.Outcome.{Outcome}
-use Rattle.btf_layout.specs.declared.progress.Outcome.TheVariants.{Endless}
+use Rattle.btf_layout.specs.declared.progress.Outcome.TheVariants.{Aligned, Endless}
 use Rattle.btf_layout.specs.declared.progress.Progress.{Progress}
 use Rattle.btf_layout.specs.declared.progress.Progress.TheVariants.{New, Open, Known}
 use Rattle.btf_layout.specs.Progress.{IsOutcome, IsKnown, progress_in}
@@ -21,6 +21,11 @@ IsFrame records frame =
 abbrev pub step_by : ℕ → Progress → Step
 step_by type (Known outcome) = steps.Ends outcome
 step_by type progress = steps.Needs type
+
+-- the alignment of a type, by its progress, or the step to the type
+abbrev pub alignment_by : ℕ → Progress → Result ℕ Step
+alignment_by type (Known (Aligned alignment)) = Ok alignment
+alignment_by type progress = Err (step_by type progress)
 
 -- what a step of the type of an id says
 abbrev pub StepIs : List Record → List Progress → ℕ → Step → Type 0

@@ -1,7 +1,7 @@
 //! A type whose alignment is computed.
 
 ghost use Rattle.std.specs.Prelude.{◌≡◌};
-ghost use Rattle.btf_layout.specs.Frame.{IsFrame, StepIs, step_by, started, outcome_of};
+ghost use Rattle.btf_layout.specs.Frame.{IsFrame, StepIs, alignment_by, step_by, started, outcome_of};
 ghost use Rattle.btf_layout.specs.Progress.{Knows, progress_in};
 
 use crate::progress::{Outcome, Progress, progress_of};
@@ -57,9 +57,9 @@ impl Frame {
             Shape::Unexpected => return Step::Ends(Outcome::Unexpected(self.id)),
         };
         while let Some(member) = composite.members.get(self.member) {
-            let step = step_to(known, member.btf_type);
-            let Step::Ends(Outcome::Aligned(alignment)) = step else {
-                return step;
+            let alignment = match alignment_in(known, member.btf_type) {
+                Ok(alignment) => alignment,
+                Err(step) => return step,
             };
             if !composite.is_in_place(member, alignment) {
                 return Step::Ends(Outcome::Aligned(1));
@@ -103,5 +103,16 @@ fn step_to(known: &[Progress], type_id: u32) -> Step
     match progress_of(known, type_id) {
         Progress::Known(outcome) => Step::Ends(outcome),
         Progress::New | Progress::Open => Step::Needs(type_id),
+    }
+}
+
+/// The alignment of the type of an id, if it is known; else the step to this type.
+fn alignment_in(known: &[Progress], type_id: u32) -> Result<u32, Step>
+    ensures { result ≡ alignment_by type_id (progress_in known.now type_id) }
+{
+    match progress_of(known, type_id) {
+        Progress::Known(Outcome::Aligned(alignment)) => Ok(alignment),
+        Progress::Known(outcome) => Err(Step::Ends(outcome)),
+        Progress::New | Progress::Open => Err(Step::Needs(type_id)),
     }
 }
