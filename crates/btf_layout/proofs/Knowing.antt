@@ -17,7 +17,7 @@ use Rattle.btf_layout.specs.Progress.{progress_in, IsOutcome, IsKnown, Knows}
 
 -- ---- tests
 
-or_cases : (a b : Bool) → (a || b) ≡ true → (a ≡ true) ⊎ (b ≡ true)
+pub or_cases : (a b : Bool) → (a || b) ≡ true → (a ≡ true) ⊎ (b ≡ true)
 or_cases true b e = inl refl
 or_cases false b e = inr e
 

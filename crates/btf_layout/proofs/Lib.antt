@@ -1,3 +1,6 @@
 pub mod Members
 pub mod Knowing
 pub mod Frames
+pub mod Sets
+pub mod Stacks
+pub mod Runs

@@ -47,3 +47,7 @@ outcome_answer id Endless = Err (MaximumTypeDepthReached id)
 abbrev pub answer_of : ℕ → Progress → Result ℕ Refusal
 answer_of id (Known outcome) = outcome_answer id outcome
 answer_of id progress = Err (MaximumTypeDepthReached id)
+
+-- a type whose outcome is known before has a known outcome after
+abbrev pub StaysKnown : List Progress → List Progress → Type 0
+StaysKnown before after = (id : ℕ) → IsKnown (progress_in before id) → IsKnown (progress_in after id)

@@ -1,2 +1,0 @@
--- The open types.
-use Rattle.std.specs.Prelude.{◌≡◌, ℕ}
