@@ -1,5 +1,5 @@
 -- A type and its members.
-use Rattle.std.proofs.Common.{◌≡◌, ◌+◌, ◌<◌, ◌≤◌, ◌⊎◌, ℕ, zero, suc, max, Bool, true, false, List, [], ◌∷◌, ◌++◌, length, take, drop, refl, ap, sym, subst, ◌∙◌, inl, inr, Option, Some, None, Result, Ok, Err, arith, get_or, slice_get, if◌then◌else◌}
+use Rattle.std.proofs.Common.{◌≡◌, ◌+◌, ◌<◌, ◌≤◌, ℕ, zero, suc, max, Bool, true, false, List, [], ◌∷◌, ◌++◌, length, take, drop, refl, ap, sym, subst, ◌∙◌, inr, Some, None, Result, Ok, Err, arith, get_or, slice_get, if◌then◌else◌}
 use Rattle.std.specs.Prelude.{map}
 use Rattle.std.specs.Option.{option_map}
 use Rattle.std.proofs.lemmas.Option.{none-some, same_Some, slice_get-map, slice_get_read, slice_get_past}
@@ -10,17 +10,15 @@ use Rattle.btf_layout_model.specs.Alignment as model
 use Rattle.btf_layout_model.specs.Alignment.{Member, Composed, shape_in, is_in_place, decided_by, composed, Aligns, InPlace, Needs}
 use Rattle.btf_layout_model.specs.Alignment.Aligns.{decided, all}
 use Rattle.btf_layout_model.specs.Alignment.InPlace.{none, also}
-use Rattle.btf_layout_model.proofs.Small.{small, small_places}
+use Rattle.btf_layout_model.proofs.Small.{small_places}
 use Rattle.btf_layout.specs.declared.frame.Frame.{Frame}
 use Rattle.btf_layout.specs.declared.frame.Step.{Step}
-use Rattle.btf_layout.specs.declared.frame.Step.TheVariants as steps
-use Rattle.btf_layout.specs.declared.progress.Outcome.{Outcome}
 use Rattle.btf_layout.specs.declared.progress.Outcome.TheVariants.{Aligned, Unknown, Unexpected, Endless}
 use Rattle.btf_layout.specs.declared.progress.Progress.{Progress}
 use Rattle.btf_layout.specs.declared.progress.Progress.TheVariants.{New, Open, Known}
 use Rattle.btf_layout.specs.declared.shape.Composite.{Composite}
 use Rattle.btf_layout.specs.Frame.{IsFrame, StepIs, alignment_by}
-use Rattle.btf_layout.specs.Progress.{progress_in, IsOutcome, IsKnown, Knows}
+use Rattle.btf_layout.specs.Progress.{progress_in, IsKnown, Knows}
 use Rattle.btf_layout.specs.Shape.{member_of, composite_view}
 use Rattle.btf_layout.proofs.Knowing.{endless_before}
 

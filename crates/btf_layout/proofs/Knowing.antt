@@ -1,13 +1,10 @@
 -- What is known of types, and a type that needs a type that contains itself.
-use Rattle.std.proofs.Common.{◌≡◌, ◌==◌, ◌||◌, ◌⊎◌, ℕ, Bool, true, false, List, IsTrue, refl, ap, sym, subst, ◌∙◌, inl, inr, Result, Ok, Err, Some, slice_get, length, ◌≤◌}
+use Rattle.std.proofs.Common.{◌≡◌, ◌==◌, ◌||◌, ◌⊎◌, ℕ, Bool, true, false, List, IsTrue, refl, ap, sym, subst, ◌∙◌, inl, inr, Err, Some, slice_get, length, ◌≤◌}
 use Rattle.std.proofs.lemmas.Bool.{eqb-true, eq-eqb, or_left, or_right}
 use Rattle.std.proofs.lemmas.Option.{slice_get_past}
 use Rattle.btf_model.specs.Record.{Record, kind_of}
 use Rattle.btf_model.specs.Refusal.{UnknownBtfType}
 use Rattle.btf_layout_model.specs.Alignment.{Shape, SameAs, shape, shape_of, shape_in, Aligns, Needs, IsEndless}
-use Rattle.btf_layout_model.specs.Alignment.Aligns.{unaligned, same_as}
-use Rattle.btf_layout.specs.declared.frame.Step.{Step}
-use Rattle.btf_layout.specs.declared.frame.Step.TheVariants as steps
 use Rattle.btf_layout.specs.declared.progress.Outcome.{Outcome}
 use Rattle.btf_layout.specs.declared.progress.Outcome.TheVariants.{Aligned, Unknown, Unexpected, Endless}
 use Rattle.btf_layout.specs.declared.progress.Progress.{Progress}
@@ -29,14 +26,14 @@ module _ (records : List Record) (id type : ℕ) (needs : Needs records id type)
   endless_before (waits, here, closed) =
       let more : ℕ → Bool = λ i. i == id || waits i in
       (more, or_left (id == id) (waits id) (same_id id), λ at is. further waits here closed at (or_cases (at == id) (waits at) is)) where
-    same_id : (i : ℕ) → (i == i) ≡ true
-    same_id i = eq-eqb i i refl
+        same_id : (i : ℕ) → (i == i) ≡ true
+        same_id i = eq-eqb i i refl
 
-    further : (waits : ℕ → Bool) → IsTrue (waits type) → ((at : ℕ) → IsTrue (waits at) → (next : ℕ) × Needs records at next × IsTrue (waits next)) → (at : ℕ) → ((at == id) ≡ true) ⊎ (waits at ≡ true) → (next : ℕ) × Needs records at next × IsTrue (next == id || waits next)
-    further waits here closed at (inl e) = (type, subst (λ (x : ℕ). Needs records x type) (sym (eqb-true at id e)) needs, or_right (type == id) (waits type) here)
-    further waits here closed at (inr e) =
-        let next = closed at e in
-        (next.0, next.1, or_right (next.0 == id) (waits next.0) next.2)
+        further : (waits : ℕ → Bool) → IsTrue (waits type) → ((at : ℕ) → IsTrue (waits at) → (next : ℕ) × Needs records at next × IsTrue (waits next)) → (at : ℕ) → ((at == id) ≡ true) ⊎ (waits at ≡ true) → (next : ℕ) × Needs records at next × IsTrue (next == id || waits next)
+        further waits here closed at (inl e) = (type, subst (λ (x : ℕ). Needs records x type) (sym (eqb-true at id e)) needs, or_right (type == id) (waits type) here)
+        further waits here closed at (inr e) =
+            let next = closed at e in
+            (next.0, next.1, or_right (next.0 == id) (waits next.0) next.2)
 
 -- ---- steps to another type
 

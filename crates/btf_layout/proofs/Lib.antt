@@ -4,3 +4,4 @@ pub mod Frames
 pub mod Sets
 pub mod Stacks
 pub mod Runs
+pub mod Answering

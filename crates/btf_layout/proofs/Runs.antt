@@ -1,11 +1,9 @@
 -- The computation of an alignment: what is true of its known progresses, its stack and its top.
-use Rattle.std.proofs.Common.{◌≡◌, ◌≢◌, ◌+◌, ◌<◌, ◌⊎◌, ◌==◌, ℕ, true, List, [], ◌∷◌, ◌++◌, length, set, take, refl, ap, sym, subst, ◌∙◌, inl, inr, Option, Some, None, arith}
+use Rattle.std.proofs.Common.{◌≡◌, ◌≢◌, ◌<◌, ◌⊎◌, ◌==◌, ℕ, true, List, [], ◌∷◌, ◌++◌, length, set, refl, ap, sym, subst, ◌∙◌, inl, inr, Some, None, arith}
 use Rattle.std.proofs.lemmas.Bool.{eqb-true}
 use Rattle.std.proofs.lemmas.Option.{none-some, same_Some}
-use Rattle.std.proofs.lemmas.List.{length-set}
 use Rattle.btf_model.specs.Record.{Record}
-use Rattle.btf_layout_model.specs.Alignment.{Member, Composed, shape_in, InPlace, Needs}
-use Rattle.btf_layout_model.specs.Alignment.InPlace.{none}
+use Rattle.btf_layout_model.specs.Alignment.{InPlace, Needs}
 use Rattle.btf_layout.specs.declared.frame.Frame.{Frame}
 use Rattle.btf_layout.specs.declared.frame.Step.{Step}
 use Rattle.btf_layout.specs.declared.frame.Step.TheVariants as steps
@@ -60,9 +58,9 @@ module _ (records : List Record) (before known : List Progress) (root : ℕ) whe
         begun = subst IsBegun (sym (written known root Open lt)) tt;
         stays = stays_open known known root new (λ id h. h);
       } where
-    by : (id : ℕ) → progress_in (set known root Open) id ≡ Open → (id ≡ root) ⊎ (id ≢ root) → (id == root) ≡ true
-    by id h (inl same) = subst (λ (x : ℕ). (x == root) ≡ true) (sym same) (top_on_stack [] root)
-    by id h (inr ne) = absurd (closed id (sym (others known root id Open ne) ∙ h))
+        by : (id : ℕ) → progress_in (set known root Open) id ≡ Open → (id ≡ root) ⊎ (id ≢ root) → (id == root) ≡ true
+        by id h (inl same) = subst (λ (x : ℕ). (x == root) ≡ true) (sym same) (top_on_stack [] root)
+        by id h (inr ne) = absurd (closed id (sym (others known root id Open ne) ∙ h))
 
   module _ (below : List Frame) (top : Frame) (after : Frame) (step : Step) (runs : Runs records before known below top root) (is : StepIs records known top.id step) (frame : IsFrame records after) (same : after.id ≡ top.id) where
     -- the type that a step starts is new, and needed
@@ -101,9 +99,9 @@ module _ (records : List Record) (before known : List Progress) (root : ℕ) whe
           begun = begun_open next lt runs.begun;
           stays = stays_open before known next found.0 runs.stays;
         } where
-      by : (id : ℕ) → progress_in (set known next Open) id ≡ Open → (id ≡ next) ⊎ (id ≢ next) → on_stack (below ++ after ∷ []) next id ≡ true
-      by id h (inl here) = subst (λ (x : ℕ). on_stack (below ++ after ∷ []) next x ≡ true) (sym here) (top_on_stack (below ++ after ∷ []) next)
-      by id h (inr ne) = pushed below after next id (after_open id (sym (others known next id Open ne) ∙ h))
+          by : (id : ℕ) → progress_in (set known next Open) id ≡ Open → (id ≡ next) ⊎ (id ≢ next) → on_stack (below ++ after ∷ []) next id ≡ true
+          by id h (inl here) = subst (λ (x : ℕ). on_stack (below ++ after ∷ []) next x ≡ true) (sym here) (top_on_stack (below ++ after ∷ []) next)
+          by id h (inr ne) = pushed below after next id (after_open id (sym (others known next id Open ne) ∙ h))
 
     pub next_inside : (next : ℕ) → Some next ≡ started known step → next < length known
     next_inside next e = new_inside known next (starts_new next e).0

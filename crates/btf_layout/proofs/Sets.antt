@@ -1,16 +1,15 @@
 -- A progress that is written.
-use Rattle.std.proofs.Common.{◌≡◌, ◌≢◌, ◌+◌, ◌<◌, ◌≤◌, ◌⊎◌, ◌==◌, ℕ, zero, suc, true, false, List, [], ◌∷◌, length, set, get_or, refl, ap, sym, subst, ◌∙◌, inl, inr, Some, None, Option, arith, slice_get}
+use Rattle.std.proofs.Common.{◌≡◌, ◌≢◌, ◌+◌, ◌<◌, ◌≤◌, ◌⊎◌, ℕ, zero, suc, List, [], ◌∷◌, length, set, get_or, refl, ap, sym, subst, ◌∙◌, inl, inr, Some, None, Option, arith, slice_get}
 use Rattle.std.specs.List.{sum_by}
 use Rattle.std.proofs.lemmas.Bool.Decides.{eqb_tells}
 use Rattle.std.proofs.lemmas.List.{length-set}
 use Rattle.std.proofs.lemmas.List.Sums.{sum_by-set}
-use Rattle.std.proofs.lemmas.Option.{none-some, slice_get_within, get_or_from_slice_get}
+use Rattle.std.proofs.lemmas.Option.{slice_get_within, get_or_from_slice_get}
 use Rattle.btf_model.specs.Record.{Record}
 use Rattle.btf_layout.specs.declared.progress.Outcome.{Outcome}
-use Rattle.btf_layout.specs.declared.progress.Outcome.TheVariants.{Unknown}
 use Rattle.btf_layout.specs.declared.progress.Progress.{Progress}
 use Rattle.btf_layout.specs.declared.progress.Progress.TheVariants.{New, Open, Known}
-use Rattle.btf_layout.specs.Progress.{progress_or, progress_in, IsOutcome, IsKnown, Knows, NoneOpen, StaysKnown}
+use Rattle.btf_layout.specs.Progress.{progress_or, progress_in, IsOutcome, IsKnown, Knows, StaysKnown}
 
 slice_get-set_same : (xs : List Progress) (i : ℕ) (v : Progress) → i < length xs → slice_get (set xs i v) i ≡ Some v
 slice_get-set_same [] i v lt = absurd (omega arith)
@@ -62,8 +61,8 @@ opened_less known i e =
     let here = inside known i (subst IsInside (sym e) tt) in
     let at : get_or known i New ≡ New = get_or_from_slice_get known i New New (here.1 ∙ ap Some e) in
     ap (λ (p : Progress). left_over (set known i Open) + weight p) (sym at) ∙ sum_by-set weight known i Open New here.0 ∙ no_more (left_over known) where
-  no_more : (n : ℕ) → n + 0 ≡ n
-  no_more n = omega arith
+      no_more : (n : ℕ) → n + 0 ≡ n
+      no_more n = omega arith
 
 pub closed_less : (known : List Progress) (i : ℕ) (o : Outcome) → i < length known → left_over (set known i (Known o)) ≤ left_over known
 closed_less known i o lt = let e = sum_by-set weight known i (Known o) New lt in less (left_over (set known i (Known o))) (weight (get_or known i New)) (left_over known) e where
@@ -85,7 +84,7 @@ module _ (records : List Record) where
     by id o e (inl same) = absurd (open_known o (sym (written known i Open lt) ∙ ap (progress_in (set known i Open)) (sym same) ∙ e))
     by id o e (inr ne) = knows.outcomes id o (sym (others known i id Open ne) ∙ e)
 
-  known_same : (o p : Outcome) → Known o ≡ Known p → o ≡ p
+  pub known_same : (o p : Outcome) → Known o ≡ Known p → o ≡ p
   known_same o p e = cc
 
   pub knows_close : (known : List Progress) (i : ℕ) (o : Outcome) → i < length known → IsOutcome records i o → Knows records known → Knows records (set known i (Known o))

@@ -1,5 +1,5 @@
 -- The stack of open types.
-use Rattle.std.proofs.Common.{◌≡◌, ◌≢◌, ◌<◌, ◌⊎◌, ◌==◌, ◌||◌, ℕ, Bool, true, false, List, [], ◌∷◌, ◌++◌, length, refl, ap, sym, subst, ◌∙◌, inl, inr}
+use Rattle.std.proofs.Common.{◌≡◌, ◌≢◌, ◌<◌, ◌⊎◌, ◌==◌, ◌||◌, ℕ, Bool, true, List, [], ◌∷◌, ◌++◌, length, refl, sym, subst, inl, inr}
 use Rattle.std.proofs.lemmas.Bool.{eqb-true, eq-eqb, or_left, or_right}
 use Rattle.btf_model.specs.Record.{Record}
 use Rattle.btf_layout_model.specs.Alignment.{Needs, IsEndless}
@@ -70,9 +70,9 @@ module _ (records : List Record) where
       elim (or_cases (id == f.id) (on_stack below top id) h) [
         | inl e ↦ inr (first below top, subst (λ (x : ℕ). Needs records x (first below top)) (sym (eqb-true id f.id e)) chain.0, or_right (first below top == f.id) (on_stack below top (first below top)) (first_on_stack below top))
         | inr e ↦ elim (after below top id chain.1 e) [
-            | inl same ↦ inl same
-            | inr found ↦ inr (found.0, found.1, or_right (found.0 == f.id) (on_stack below top found.0) found.2)
-          ]
+          | inl same ↦ inl same
+          | inr found ↦ inr (found.0, found.1, or_right (found.0 == f.id) (on_stack below top found.0) found.2)
+        ]
       ]
 
   -- a type that comes back to an open type contains itself

@@ -8,7 +8,7 @@ use Rattle.btf_layout.specs.declared.frame.Step.TheVariants as steps
 use Rattle.btf_layout.specs.declared.progress.Outcome.{Outcome}
 use Rattle.btf_layout.specs.declared.progress.Outcome.TheVariants.{Aligned, Endless}
 use Rattle.btf_layout.specs.declared.progress.Progress.{Progress}
-use Rattle.btf_layout.specs.declared.progress.Progress.TheVariants.{New, Open, Known}
+use Rattle.btf_layout.specs.declared.progress.Progress.TheVariants.{New, Known}
 use Rattle.btf_layout.specs.Progress.{IsOutcome, IsKnown, progress_in}
 
 -- The members before the next one are in their places, and `largest` is the largest of their alignments.

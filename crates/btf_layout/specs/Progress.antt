@@ -6,7 +6,7 @@ use Rattle.btf_layout_model.specs.Alignment.{Aligns, IsEndless}
 use Rattle.btf_layout.specs.declared.progress.Outcome.{Outcome}
 use Rattle.btf_layout.specs.declared.progress.Outcome.TheVariants.{Aligned, Unknown, Unexpected, Endless}
 use Rattle.btf_layout.specs.declared.progress.Progress.{Progress}
-use Rattle.btf_layout.specs.declared.progress.Progress.TheVariants.{New, Open, Known}
+use Rattle.btf_layout.specs.declared.progress.Progress.TheVariants.{Open, Known}
 
 -- the progress of a type; the outcome of an id that has no type is known
 abbrev pub progress_or : ℕ → Option Progress → Progress

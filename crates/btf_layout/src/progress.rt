@@ -1,7 +1,10 @@
 //! What is known of the alignments of types.
 
-ghost use Rattle.std.specs.Prelude.{◌≡◌, slice_get};
-ghost use Rattle.btf_layout.specs.Progress.{progress_in};
+ghost use Rattle.std.specs.Prelude.{◌≡◌};
+ghost use Rattle.btf_plain.specs.Error.{Meets};
+ghost use Rattle.btf_layout.specs.Progress.{progress_in, outcome_answer};
+
+use btf_plain::BtfError;
 
 /// The alignment of a type, or why it has none.
 #[derive(Clone, Copy, Drop)]
@@ -14,6 +17,20 @@ pub enum Outcome {
     Unexpected(u32),
     /// The type contains itself, or needs a type that contains itself.
     Endless,
+}
+
+impl Outcome {
+    /// The answer, for the id that was asked for.
+    pub fn answer(self, type_id: u32) -> Result<u32, BtfError>
+        ensures { Meets (λ n. n) result (λ answer. answer ≡ outcome_answer type_id self) }
+    {
+        match self {
+            Outcome::Aligned(alignment) => Ok(alignment),
+            Outcome::Unknown(type_id) => Err(BtfError::UnknownBtfType { type_id }),
+            Outcome::Unexpected(type_id) => Err(BtfError::UnexpectedBtfType { type_id }),
+            Outcome::Endless => Err(BtfError::MaximumTypeDepthReached { type_id }),
+        }
+    }
 }
 
 /// The progress of a type.

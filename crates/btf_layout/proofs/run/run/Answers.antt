@@ -1,11 +1,9 @@
-use Rattle.std.proofs.Common.{◌≡◌, ◌+◌, ◌<◌, ◌≤◌, ℕ, List, [], ◌∷◌, ◌++◌, length, set, refl, ap, sym, subst, ◌∙◌, arith}
+use Rattle.std.proofs.Common.{◌≡◌, ◌+◌, ◌<◌, ◌≤◌, ℕ, List, [], ◌∷◌, ◌++◌, length, set, ap, sym, ◌∙◌, arith}
 use Rattle.std.proofs.lemmas.List.{length-append, nil_from_length}
 use Rattle.btf_layout.specs.declared.frame.Frame.{Frame}
-use Rattle.btf_layout.specs.declared.progress.Outcome.{Outcome}
 use Rattle.btf_layout.specs.declared.progress.Progress.TheVariants.{Open, Known}
-use Rattle.btf_layout.specs.Progress.{Knows, NoneOpen, IsKnown, StaysKnown, progress_in}
-use Rattle.btf_layout.proofs.Runs.{Runs, new_frame, starts, goes_down, goes_up, next_inside, next_new, top_inside, ended_knows, ended_stays, none_open, root_known}
-use Rattle.btf_layout.proofs.Sets.{left_over, opened_less, closed_less, new_inside}
+use Rattle.btf_layout.proofs.Runs.{starts, goes_down, goes_up, next_inside, next_new, top_inside, ended_knows, ended_stays, none_open, root_known}
+use Rattle.btf_layout.proofs.Sets.{left_over, opened_less, closed_less}
 use Rattle.btf_layout.proofs.run.run.Goals as goal
 
 pub steps-init : goal.steps-init

@@ -1,6 +1,5 @@
-use Rattle.std.proofs.Common.{◌≡◌, ◌+◌, refl, sym, ◌∙◌, ap, Ok, subst, ℕ}
+use Rattle.std.proofs.Common.{◌+◌, refl, sym, ◌∙◌, Ok, subst, ℕ}
 use Rattle.btf_layout_model.specs.Alignment.{Fixed, SameAs, Unaligned, Aligns, Composed}
-use Rattle.btf_layout_model.specs.Alignment.Aligns.{unaligned, fixed}
 use Rattle.btf_layout_model.proofs.Small.{small}
 use Rattle.btf_model.specs.Refusal.{UnexpectedBtfType}
 use Rattle.btf_records.specs.BtfType.{record_of}
