@@ -7,4 +7,4 @@ mod progress;
 mod run;
 mod shape;
 
-pub use alignments::Alignments;
+pub use alignments::{Alignments, alignment_of};

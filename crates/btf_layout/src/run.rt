@@ -3,17 +3,16 @@
 //! A type is *open* while it waits for another type. An explicit stack has the open types, each of which waits for the
 //! type after it. If a type needs an open type, it contains itself.
 
-ghost use Rattle.std.specs.Prelude.{◌≡◌, OnOk};
+ghost use Rattle.std.specs.Prelude.{OnOk};
 ghost use Rattle.btf_layout.specs.Progress.{Knows, NoneOpen, IsKnown, StaysKnown, progress_in};
 
 use crate::frame::Frame;
-use crate::progress::Progress;
+use crate::progress::{Progress, progress_of};
 use btf_table::{Btf, allocator_of};
 use std::alloc::AllocError;
 
-/// Computes the outcome of a new type, and of the types that it needs.
+/// Computes the outcome of a type, and of the types that it needs, if it is not known.
 pub fn run(table: &Btf, root: u32, known: &mut [Progress]) -> Result<(), AllocError>
-    requires root { progress_in known.old root ≡ Progress.New }
     requires known { Knows table.now.records known.old }
     requires closed { NoneOpen known.old }
     ensures known { OnOk result (Knows table.now.records known.new) }
@@ -21,6 +20,9 @@ pub fn run(table: &Btf, root: u32, known: &mut [Progress]) -> Result<(), AllocEr
     ensures root { OnOk result (IsKnown (progress_in known.new root)) }
     ensures stays { OnOk result (StaysKnown known.old known.new) }
 {
+    let Progress::New = progress_of(known, root) else {
+        return Ok(());
+    };
     let mut below = Vec::new(allocator_of(table));
     let mut top = Frame::new(root);
     known[root as usize] = Progress::Open;

@@ -9,7 +9,7 @@ use Rattle.btf_layout.proofs.run.run.Goals as goal
 pub steps-init : goal.steps-init
 steps-init c =
     rw (c.new-below.ensures.items, c.new-top.ensures)
-    (starts c.args.table.now.records c.args.known.now c.args.known.now c.args.root c.requires.root c.requires.known c.requires.closed)
+    (starts c.args.table.now.records c.args.known.now c.args.known.now c.args.root (sym c.in-New.ensures) c.requires.known c.requires.closed)
 
 pub bounds-known-type_id : goal.bounds-known-type_id
 bounds-known-type_id c =
@@ -40,7 +40,7 @@ pub returns-in_default-pop-clause-known : goal.returns-in_default-pop-clause-kno
 returns-in_default-pop-clause-known c =
     rw c.outcome.ensures
     (ended_knows c.args.table.now.records c.args.known.now c.steps.known c.args.root c.steps.below.items c.steps.top c.step-step.new.self c.step-step.result c.steps.invariant c.step-step.ensures.step c.step-step.ensures.frame c.step-step.ensures.id
-    c.in_default.ensures)
+    c.in_default-starts.ensures)
 
 pub returns-in_default-pop-clause-closed : goal.returns-in_default-pop-clause-closed
 returns-in_default-pop-clause-closed c =
@@ -76,4 +76,4 @@ pub steps-preserved : goal.steps-preserved
 steps-preserved c =
     rw c.outcome.ensures
     (goes_up c.args.table.now.records c.args.known.now c.steps.known c.args.root c.steps.below.items c.steps.top c.step-step.new.self c.step-step.result c.steps.invariant c.step-step.ensures.step c.step-step.ensures.frame c.step-step.ensures.id
-    c.in_default.ensures c.pop.new.self.items c.in-Some-pop.next c.in-Some-pop.ensures.items)
+    c.in_default-starts.ensures c.pop.new.self.items c.in-Some-pop.next c.in-Some-pop.ensures.items)
