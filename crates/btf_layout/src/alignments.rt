@@ -22,8 +22,8 @@ impl Alignments {
     /// The alignments of the types of a table, by the rule of libbpf's `btf__align_of`, with pointers of 8 bytes.
     /// `OutOfMemory` is the only error.
     ///
-    /// Takes time linear in the records of the table, whatever they refer to: the members of each type are read once.
-    /// Needs 12 bytes for each type, and at most 24 for each open one, without recursion.
+    /// Takes time linear in the records of the table, whatever they refer to, because each member is read at most
+    /// twice, and memory linear in the number of types.
     pub fn of_table(table: &Btf) -> Result<Self, BtfError>
         ensures { MatchResult result (λ a. (id : ℕ)
             → HasAlignment table.now.records id (alignment_in a id)) (λ e. e ≡ BtfError.OutOfMemory) }
@@ -50,8 +50,8 @@ impl Alignments {
 
 /// The alignment of one type in bytes, by the rule of `Alignments`, which is for several types.
 ///
-/// Fails as `Alignments::get` does, and with `OutOfMemory`. Reads only the types that this type needs, each once, and
-/// needs 12 bytes for each type of the table.
+/// Fails as `Alignments::get` does, and with `OutOfMemory`. Reads only the types that this type needs, each member at
+/// most twice, but its memory is linear in the number of types of the table.
 pub fn alignment_of(table: &Btf, type_id: u32) -> Result<u32, BtfError>
     ensures { MeetsOrNoMemory (λ n. n) result (HasAlignment table.now.records type_id) }
 {
