@@ -103,10 +103,11 @@ needs_itself : Needs structs 6 6 × Needs structs 7 6
 unfolding member
 needs_itself = (inr (4, 1, [], [], member 6 0, refl, none, refl), inl refl)
 
-sixth : (at : ℕ) → IsTrue (at == 6) → Needs structs at 6
-sixth at waits = subst (λ (x : ℕ). Needs structs x 6) (sym (eqb-true at 6 waits)) needs_itself.0
-
 -- 6 waits for itself, so it has no alignment
 contains_itself : HasAlignment structs 6 (Err (MaximumTypeDepthReached 6))
+unfolding member
 contains_itself =
-    inr ((λ id. id == 6, refl, λ at waits. (6, sixth at waits, refl)), refl)
+    let needs : Needs structs 6 6 = inr (4, 1, [], [], member 6 0, refl, none, refl) in
+    let of_six : (at : ℕ) → IsTrue (at == 6) → Needs structs at 6 =
+    λ at waits. subst (λ (x : ℕ). Needs structs x 6) (sym (eqb-true at 6 waits)) needs in
+    inr ((λ id. id == 6, refl, λ at waits. (6, of_six at waits, refl)), refl)
