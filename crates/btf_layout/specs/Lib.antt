@@ -1,0 +1,4 @@
+pub mod Shape
+pub mod Progress
+pub mod Frame
+pub mod Alignments

@@ -1,0 +1,5 @@
+pub mod Shapes
+pub mod Unique
+pub mod Ends
+pub mod Small
+pub mod Stays

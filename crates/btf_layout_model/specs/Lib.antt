@@ -1,0 +1,3 @@
+pub mod Alignment
+pub mod Laws
+pub mod Examples
