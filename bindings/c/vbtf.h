@@ -24,6 +24,11 @@
 extern "C" {
 #endif
 
+/* How the calls of this header are defined: inline, except in the shared library, which has them as functions. */
+#ifndef VBTF_INLINE
+#define VBTF_INLINE static inline
+#endif
+
 /* The version of this header. vbtf_version returns that of the library, in the same form. */
 #define VBTF_VERSION_MAJOR 0
 #define VBTF_VERSION_MINOR 1
@@ -56,11 +61,12 @@ enum vbtf_status {
 	VBTF_BAD_ARGUMENT = 102,         /* an argument is invalid, or the table, .BTF.ext or index is open already */
 	VBTF_NO_ITEM = 103,              /* the type has no item of the index, or no variant of the name */
 	VBTF_NOT_AN_OBJECT = 104,        /* the bytes are no ELF object that is read here; error.id has the reason */
-	VBTF_NO_TABLE = 105,             /* the object has no section .BTF */
+	VBTF_NO_TABLE = 105,             /* the object has no section .BTF; vbtf_section: none of the name */
 	VBTF_NOT_REPLACEABLE = 106,      /* the bytes of the section .BTF cannot be replaced */
 	VBTF_RELOCATION_REFUSED = 107,   /* a relocation has an error: see vbtf_relocate and vbtf_relocate_object */
 	VBTF_SHARED_PLACE = 108,         /* another section has bytes in the place of the section of index offset */
-	VBTF_BAD_SECTION_NAME = 109      /* the name of a section of relocations, at offset, cannot be read */
+	VBTF_BAD_SECTION_NAME = 109,     /* the name of a section of relocations, at offset, cannot be read */
+	VBTF_NOT_READ = 110              /* vbtf_open.h: the file cannot be read; errno says why */
 };
 
 /* An error of the library. Fields that the error does not have are 0. */
@@ -97,7 +103,7 @@ enum vbtf_kind {
 #define VBTF_ANY_KIND UINT32_MAX
 
 /* The text of a kind, such as `[INT]`; null if there is no such kind. */
-static inline const char *vbtf_kind_text(uint32_t kind)
+VBTF_INLINE const char *vbtf_kind_text(uint32_t kind)
 {
 	static const char *const texts[] = {
 		"[UNKNOWN]", "[INT]", "[PTR]", "[ARRAY]", "[STRUCT]", "[UNION]", "[ENUM]", "[FWD]", "[TYPEDEF]",
@@ -116,7 +122,7 @@ struct vbtf_type {
 };
 
 /* The number of members, variants, parameters or entries of a type. The vlen of a FUNC is its linkage. */
-static inline uint32_t vbtf_vlen(const struct vbtf_type *type)
+VBTF_INLINE uint32_t vbtf_vlen(const struct vbtf_type *type)
 {
 	return type->info & 0xffff;
 }
@@ -125,7 +131,7 @@ static inline uint32_t vbtf_vlen(const struct vbtf_type *type)
  * The kind flag. Of a STRUCT or UNION: some members may be bit-fields. Of an ENUM or ENUM64: the values are signed. Of
  * a FWD: the type is a UNION.
  */
-static inline bool vbtf_kind_flag(const struct vbtf_type *type)
+VBTF_INLINE bool vbtf_kind_flag(const struct vbtf_type *type)
 {
 	return type->info >> 31 == 1;
 }
@@ -188,6 +194,13 @@ struct vbtf_item {
 struct vbtf_name_bytes {
 	const char *at;
 	size_t len;
+};
+
+/* Where the bytes of a section are in an object, and the byte order of the object. */
+struct vbtf_section {
+	uint64_t offset;
+	uint64_t len;            /* 0 for a section that has no bytes in the object */
+	uint32_t order;          /* VBTF_LITTLE or VBTF_BIG */
 };
 
 /* ---- .BTF.ext */
@@ -306,7 +319,13 @@ uint32_t vbtf_lent_parse_over(struct vbtf_table *base, struct vbtf_table *table,
                               uint32_t order, struct vbtf_error *error);
 uint32_t vbtf_lent_split_bytes(struct vbtf_table *table, uint32_t base_types, uint32_t base_strings, uint8_t *out,
                                size_t room, uint64_t *needed, struct vbtf_error *error);
-uint32_t vbtf_lent_string_len(struct vbtf_table *table, uint32_t *len, struct vbtf_error *error);
+uint32_t vbtf_lent_string_len(struct vbtf_table *table, uint32_t *len);
+uint32_t vbtf_raw_append_split(struct vbtf_table *table, const uint8_t *data, size_t len, uint32_t order,
+                               struct vbtf_error *error);
+uint32_t vbtf_raw_truncate(struct vbtf_table *table, uint32_t base_types, uint32_t base_strings,
+                           struct vbtf_error *error);
+uint32_t vbtf_raw_section(const uint8_t *object, size_t len, const uint8_t *name, size_t name_len,
+                          struct vbtf_section *section, struct vbtf_error *error);
 uint32_t vbtf_raw_add_string(struct vbtf_table *table, const uint8_t *text, size_t len, uint32_t *offset,
                              struct vbtf_error *error);
 uint32_t vbtf_raw_add_type(struct vbtf_table *table, const uint8_t *record, size_t len, uint32_t order, uint32_t *id,
@@ -321,7 +340,12 @@ uint32_t vbtf_lent_find(struct vbtf_table *table, const uint8_t *name, size_t le
                         struct vbtf_error *error);
 uint32_t vbtf_lent_find_from(struct vbtf_table *table, const uint8_t *name, size_t len, uint32_t kind, uint32_t first,
                              uint32_t *id, struct vbtf_error *error);
+uint32_t vbtf_lent_index_find(struct vbtf_table *table, const uint8_t *name, size_t len, uint32_t kind, uint32_t *id,
+                              struct vbtf_error *error);
 uint32_t vbtf_lent_order(struct vbtf_table *table, uint32_t *order);
+uint32_t vbtf_lent_alignment(struct vbtf_table *table, uint32_t id, uint32_t *alignment, struct vbtf_error *error);
+uint32_t vbtf_lent_alignments(struct vbtf_table *table, uint32_t first, uint32_t *out, size_t room, uint64_t *count,
+                              struct vbtf_error *error);
 uint32_t vbtf_lent_resolve(struct vbtf_table *table, uint32_t id, uint32_t *to, struct vbtf_error *error);
 uint32_t vbtf_lent_size(struct vbtf_table *table, uint32_t id, uint64_t *size, struct vbtf_error *error);
 uint32_t vbtf_lent_text(struct vbtf_table *table, uint32_t offset, uint8_t *out, size_t room, uint64_t *needed,
@@ -411,13 +435,13 @@ static inline struct vbtf_error *vbtf_error_or(struct vbtf_error *error, struct 
  * it is the reason of the error; without an error, "a relocation has an error". If the buffer is too short, the text is
  * truncated. If an allocation for the text fails, the text is "out of memory".
  */
-static inline const char *vbtf_error_text(uint32_t status, const struct vbtf_error *error, char *out, size_t room)
+VBTF_INLINE const char *vbtf_error_text(uint32_t status, const struct vbtf_error *error, char *out, size_t room)
 {
 	static const char *const texts[] = {
 		"buffer too short", "not open", "invalid argument", "no such item", "not an ELF object that is read here",
 		"the object has no section .BTF", "the bytes of the section .BTF cannot be replaced",
 		"a relocation has an error", "a section with relocations shares its place with another section",
-		"the name of a section of relocations cannot be read",
+		"the name of a section of relocations cannot be read", "the file cannot be read",
 	};
 	struct vbtf_error unknown = { 0, 0, 0, 0, 0, 0, { 0 } };
 	uint8_t written[1024];
@@ -466,7 +490,7 @@ static inline uint32_t vbtf_describe(struct vbtf_error *error, uint32_t number, 
  * Opens a closed table that has no type but that of id 0, in little-endian order. VBTF_BAD_ARGUMENT if the table is
  * open; it is then unchanged.
  */
-static inline uint32_t vbtf_new(struct vbtf_table *table, struct vbtf_error *error)
+VBTF_INLINE uint32_t vbtf_new(struct vbtf_table *table, struct vbtf_error *error)
 {
 	struct vbtf_error unread;
 	return vbtf_raw_new(table, vbtf_error_or(error, &unread));
@@ -479,7 +503,7 @@ static inline uint32_t vbtf_new(struct vbtf_table *table, struct vbtf_error *err
  * docs/BEHAVIOUR.md states. VBTF_BAD_ARGUMENT if the table is open, or the order is no order. After an error the
  * table is unchanged.
  */
-static inline uint32_t vbtf_parse(struct vbtf_table *table, const void *data, size_t len, uint32_t order,
+VBTF_INLINE uint32_t vbtf_parse(struct vbtf_table *table, const void *data, size_t len, uint32_t order,
                                   struct vbtf_error *error)
 {
 	struct vbtf_error unread;
@@ -490,7 +514,7 @@ static inline uint32_t vbtf_parse(struct vbtf_table *table, const void *data, si
  * Opens a closed table with a copy of another table, without its .BTF.ext and its index. VBTF_CLOSED if `table` is not
  * open, otherwise VBTF_BAD_ARGUMENT if `copy` is open. After an error `copy` is unchanged.
  */
-static inline uint32_t vbtf_clone(const struct vbtf_table *table, struct vbtf_table *copy, struct vbtf_error *error)
+VBTF_INLINE uint32_t vbtf_clone(const struct vbtf_table *table, struct vbtf_table *copy, struct vbtf_error *error)
 {
 	struct vbtf_error unread;
 	struct vbtf_table loan = vbtf_loan(table);
@@ -503,7 +527,7 @@ static inline uint32_t vbtf_clone(const struct vbtf_table *table, struct vbtf_ta
  * Writes the bytes of the table, in its own order, and their number to `needed`. VBTF_NO_ROOM if the buffer has less
  * room: then only `needed` is written.
  */
-static inline uint32_t vbtf_bytes(const struct vbtf_table *table, void *out, size_t room, uint64_t *needed,
+VBTF_INLINE uint32_t vbtf_bytes(const struct vbtf_table *table, void *out, size_t room, uint64_t *needed,
                                   struct vbtf_error *error)
 {
 	struct vbtf_error unread;
@@ -523,7 +547,7 @@ static inline uint32_t vbtf_bytes(const struct vbtf_table *table, void *out, siz
  * 4294967295 bytes, or VBTF_INVALID_TYPE_INFO if the types are. VBTF_CLOSED if the base is not open. After an error
  * the table is unchanged.
  */
-static inline uint32_t vbtf_parse_over(struct vbtf_table *table, const struct vbtf_table *base, const void *data,
+VBTF_INLINE uint32_t vbtf_parse_over(struct vbtf_table *table, const struct vbtf_table *base, const void *data,
                                        size_t len, uint32_t order, struct vbtf_error *error)
 {
 	struct vbtf_error unread;
@@ -537,7 +561,7 @@ static inline uint32_t vbtf_parse_over(struct vbtf_table *table, const struct vb
  * vbtf_count and the vbtf_string_len of the base. VBTF_UNKNOWN_TYPE if `base_types` is 0 or the table has fewer types;
  * otherwise VBTF_INVALID_STRING_OFFSET if the table has fewer bytes of strings.
  */
-static inline uint32_t vbtf_split_bytes(const struct vbtf_table *table, uint32_t base_types, uint32_t base_strings,
+VBTF_INLINE uint32_t vbtf_split_bytes(const struct vbtf_table *table, uint32_t base_types, uint32_t base_strings,
                                         void *out, size_t room, uint64_t *needed, struct vbtf_error *error)
 {
 	struct vbtf_error unread;
@@ -547,32 +571,59 @@ static inline uint32_t vbtf_split_bytes(const struct vbtf_table *table, uint32_t
 	                             needed, vbtf_error_or(error, &unread));
 }
 
-/* The length of the strings of a table in bytes. */
-static inline uint32_t vbtf_string_len(const struct vbtf_table *table, uint32_t *len, struct vbtf_error *error)
+/* The length of the strings in bytes, where the string offsets of a split table over this table begin. */
+VBTF_INLINE uint32_t vbtf_string_len(const struct vbtf_table *table, uint32_t *len)
+{
+	struct vbtf_table loan = vbtf_loan(table);
+	return vbtf_lent_string_len(&loan, len);
+}
+
+/*
+ * Appends the types and the strings of a split table to its base, and closes the base's index. vbtf_truncate removes
+ * them, so that the modules of a kernel can be read one after another over one table. `order`: as vbtf_parse; the table
+ * keeps its own. After an error the table is unchanged.
+ *
+ * The errors of vbtf_parse_over.
+ */
+VBTF_INLINE uint32_t vbtf_append_split(struct vbtf_table *table, const void *data, size_t len, uint32_t order,
+                                       struct vbtf_error *error)
 {
 	struct vbtf_error unread;
-	struct vbtf_table loan = vbtf_loan(table);
-	return vbtf_lent_string_len(&loan, len, vbtf_error_or(error, &unread));
+	return vbtf_raw_append_split(table, vbtf_bytes_or_none(data), len, order, vbtf_error_or(error, &unread));
+}
+
+/*
+ * Removes all types except the first `base_types`, id 0 included, and all bytes of the strings except the first
+ * `base_strings`, and closes the index. After an error the table is unchanged.
+ *
+ * VBTF_UNKNOWN_TYPE if `base_types` is 0 or the table has fewer types; VBTF_INVALID_STRING_OFFSET if it has fewer bytes
+ * of strings.
+ */
+VBTF_INLINE uint32_t vbtf_truncate(struct vbtf_table *table, uint32_t base_types, uint32_t base_strings,
+                                   struct vbtf_error *error)
+{
+	struct vbtf_error unread;
+	return vbtf_raw_truncate(table, base_types, base_strings, vbtf_error_or(error, &unread));
 }
 
 /* ---- read */
 
 /* The number of types of the table, including the type of id 0. */
-static inline uint32_t vbtf_count(const struct vbtf_table *table, uint64_t *count)
+VBTF_INLINE uint32_t vbtf_count(const struct vbtf_table *table, uint64_t *count)
 {
 	struct vbtf_table loan = vbtf_loan(table);
 	return vbtf_lent_count(&loan, count);
 }
 
 /* The byte order of the table: VBTF_LITTLE or VBTF_BIG. */
-static inline uint32_t vbtf_order(const struct vbtf_table *table, uint32_t *order)
+VBTF_INLINE uint32_t vbtf_order(const struct vbtf_table *table, uint32_t *order)
 {
 	struct vbtf_table loan = vbtf_loan(table);
 	return vbtf_lent_order(&loan, order);
 }
 
 /* The kind and the first words of the type of an id; VBTF_UNKNOWN_TYPE if there is none. */
-static inline uint32_t vbtf_type_by_id(const struct vbtf_table *table, uint32_t id, struct vbtf_type *type,
+VBTF_INLINE uint32_t vbtf_type_by_id(const struct vbtf_table *table, uint32_t id, struct vbtf_type *type,
                                        struct vbtf_error *error)
 {
 	struct vbtf_error unread;
@@ -584,7 +635,7 @@ static inline uint32_t vbtf_type_by_id(const struct vbtf_table *table, uint32_t 
  * What vbtf_type_by_id writes for the ids from `first` on, in one call: as many types as there are and as fit in the
  * buffer. Their number goes to `count`; it is 0 if no type has the id `first`.
  */
-static inline uint32_t vbtf_types(const struct vbtf_table *table, uint32_t first, struct vbtf_type *out, size_t room,
+VBTF_INLINE uint32_t vbtf_types(const struct vbtf_table *table, uint32_t first, struct vbtf_type *out, size_t room,
                                   uint64_t *count)
 {
 	struct vbtf_table loan = vbtf_loan(table);
@@ -597,7 +648,7 @@ static inline uint32_t vbtf_types(const struct vbtf_table *table, uint32_t first
  * place of each piece that is not UTF-8. VBTF_INVALID_STRING_OFFSET if no zero byte is at the offset or after it.
  * VBTF_NO_ROOM if the buffer is shorter than the text: then only `needed` is written, the length of the text.
  */
-static inline uint32_t vbtf_text_at(const struct vbtf_table *table, uint32_t offset, void *out, size_t room,
+VBTF_INLINE uint32_t vbtf_text_at(const struct vbtf_table *table, uint32_t offset, void *out, size_t room,
                                     uint64_t *needed, struct vbtf_error *error)
 {
 	struct vbtf_error unread;
@@ -612,7 +663,7 @@ static inline uint32_t vbtf_text_at(const struct vbtf_table *table, uint32_t off
  * its zero byte. They are the bytes of the table, whatever they are. They stay until the table is changed or closed.
  * VBTF_INVALID_STRING_OFFSET if no zero byte is at the offset or after it; `text` and `len` are then unchanged.
  */
-static inline uint32_t vbtf_name(const struct vbtf_table *table, uint32_t offset, const char **text, size_t *len,
+VBTF_INLINE uint32_t vbtf_name(const struct vbtf_table *table, uint32_t offset, const char **text, size_t *len,
                                  struct vbtf_error *error)
 {
 	struct vbtf_error unread;
@@ -672,7 +723,7 @@ static inline uint32_t vbtf_item_of_kinds(const struct vbtf_table *table, uint32
  * The indices of a type are those below its vbtf_vlen. VBTF_UNKNOWN_TYPE if no type has the id, VBTF_UNEXPECTED_TYPE
  * if the type is of another kind, VBTF_NO_ITEM if it has no item of the index.
  */
-static inline uint32_t vbtf_member_at(const struct vbtf_table *table, uint32_t id, uint32_t index,
+VBTF_INLINE uint32_t vbtf_member_at(const struct vbtf_table *table, uint32_t id, uint32_t index,
                                       struct vbtf_member *member, struct vbtf_error *error)
 {
 	const uint32_t kinds = 1u << VBTF_KIND_STRUCT | 1u << VBTF_KIND_UNION;
@@ -687,7 +738,7 @@ static inline uint32_t vbtf_member_at(const struct vbtf_table *table, uint32_t i
 	return VBTF_OK;
 }
 
-static inline uint32_t vbtf_variant_at(const struct vbtf_table *table, uint32_t id, uint32_t index,
+VBTF_INLINE uint32_t vbtf_variant_at(const struct vbtf_table *table, uint32_t id, uint32_t index,
                                        struct vbtf_variant *variant, struct vbtf_error *error)
 {
 	const uint32_t kinds = 1u << VBTF_KIND_ENUM | 1u << VBTF_KIND_ENUM64;
@@ -704,7 +755,7 @@ static inline uint32_t vbtf_variant_at(const struct vbtf_table *table, uint32_t 
 	return VBTF_OK;
 }
 
-static inline uint32_t vbtf_param_at(const struct vbtf_table *table, uint32_t id, uint32_t index,
+VBTF_INLINE uint32_t vbtf_param_at(const struct vbtf_table *table, uint32_t id, uint32_t index,
                                      struct vbtf_param *param, struct vbtf_error *error)
 {
 	struct vbtf_item item;
@@ -716,7 +767,7 @@ static inline uint32_t vbtf_param_at(const struct vbtf_table *table, uint32_t id
 	return VBTF_OK;
 }
 
-static inline uint32_t vbtf_entry_at(const struct vbtf_table *table, uint32_t id, uint32_t index,
+VBTF_INLINE uint32_t vbtf_entry_at(const struct vbtf_table *table, uint32_t id, uint32_t index,
                                      struct vbtf_entry *entry, struct vbtf_error *error)
 {
 	struct vbtf_item item;
@@ -730,11 +781,11 @@ static inline uint32_t vbtf_entry_at(const struct vbtf_table *table, uint32_t id
 }
 
 /*
- * What vbtf_member_at, vbtf_variant_at, vbtf_param_at and vbtf_entry_at write for the indices from 0 on, in one call: as
- * many items as the type has and as fit in the buffer. Their number goes to `count`. The errors are theirs, without
+ * What vbtf_member_at, vbtf_variant_at, vbtf_param_at and vbtf_entry_at write for the indices from 0 on, in one call:
+ * as many items as the type has and as fit in the buffer. Their number goes to `count`. The errors are theirs, without
  * VBTF_NO_ITEM. After an error the buffer and `count` are unchanged.
  */
-static inline uint32_t vbtf_members(const struct vbtf_table *table, uint32_t id, struct vbtf_member *out, size_t room,
+VBTF_INLINE uint32_t vbtf_members(const struct vbtf_table *table, uint32_t id, struct vbtf_member *out, size_t room,
                                     uint64_t *count, struct vbtf_error *error)
 {
 	struct vbtf_error unread;
@@ -743,7 +794,7 @@ static inline uint32_t vbtf_members(const struct vbtf_table *table, uint32_t id,
 	return vbtf_lent_members(&loan, id, out ? out : &none, out ? room : 0, count, vbtf_error_or(error, &unread));
 }
 
-static inline uint32_t vbtf_variants(const struct vbtf_table *table, uint32_t id, struct vbtf_variant *out, size_t room,
+VBTF_INLINE uint32_t vbtf_variants(const struct vbtf_table *table, uint32_t id, struct vbtf_variant *out, size_t room,
                                      uint64_t *count, struct vbtf_error *error)
 {
 	struct vbtf_error unread;
@@ -752,7 +803,7 @@ static inline uint32_t vbtf_variants(const struct vbtf_table *table, uint32_t id
 	return vbtf_lent_variants(&loan, id, out ? out : &none, out ? room : 0, count, vbtf_error_or(error, &unread));
 }
 
-static inline uint32_t vbtf_params(const struct vbtf_table *table, uint32_t id, struct vbtf_param *out, size_t room,
+VBTF_INLINE uint32_t vbtf_params(const struct vbtf_table *table, uint32_t id, struct vbtf_param *out, size_t room,
                                    uint64_t *count, struct vbtf_error *error)
 {
 	struct vbtf_error unread;
@@ -761,7 +812,7 @@ static inline uint32_t vbtf_params(const struct vbtf_table *table, uint32_t id, 
 	return vbtf_lent_params(&loan, id, out ? out : &none, out ? room : 0, count, vbtf_error_or(error, &unread));
 }
 
-static inline uint32_t vbtf_entries(const struct vbtf_table *table, uint32_t id, struct vbtf_entry *out, size_t room,
+VBTF_INLINE uint32_t vbtf_entries(const struct vbtf_table *table, uint32_t id, struct vbtf_entry *out, size_t room,
                                     uint64_t *count, struct vbtf_error *error)
 {
 	struct vbtf_error unread;
@@ -774,7 +825,7 @@ static inline uint32_t vbtf_entries(const struct vbtf_table *table, uint32_t id,
  * The fields of an ARRAY, an INT, a VAR or FUNC, and a DECL_TAG. The component of a DECL_TAG is the index of a member
  * or parameter, or -1 for the type as a whole. VBTF_UNKNOWN_TYPE, VBTF_UNEXPECTED_TYPE: as above.
  */
-static inline uint32_t vbtf_array_of(const struct vbtf_table *table, uint32_t id, struct vbtf_array *array,
+VBTF_INLINE uint32_t vbtf_array_of(const struct vbtf_table *table, uint32_t id, struct vbtf_array *array,
                                      struct vbtf_error *error)
 {
 	struct vbtf_item item;
@@ -787,7 +838,7 @@ static inline uint32_t vbtf_array_of(const struct vbtf_table *table, uint32_t id
 	return VBTF_OK;
 }
 
-static inline uint32_t vbtf_int_of(const struct vbtf_table *table, uint32_t id, struct vbtf_int *integer,
+VBTF_INLINE uint32_t vbtf_int_of(const struct vbtf_table *table, uint32_t id, struct vbtf_int *integer,
                                    struct vbtf_error *error)
 {
 	struct vbtf_item item;
@@ -800,7 +851,7 @@ static inline uint32_t vbtf_int_of(const struct vbtf_table *table, uint32_t id, 
 	return VBTF_OK;
 }
 
-static inline uint32_t vbtf_linkage_of(const struct vbtf_table *table, uint32_t id, uint32_t *linkage,
+VBTF_INLINE uint32_t vbtf_linkage_of(const struct vbtf_table *table, uint32_t id, uint32_t *linkage,
                                        struct vbtf_error *error)
 {
 	struct vbtf_error unread;
@@ -819,7 +870,7 @@ static inline uint32_t vbtf_linkage_of(const struct vbtf_table *table, uint32_t 
 	return VBTF_OK;
 }
 
-static inline uint32_t vbtf_component_of(const struct vbtf_table *table, uint32_t id, int32_t *component,
+VBTF_INLINE uint32_t vbtf_component_of(const struct vbtf_table *table, uint32_t id, int32_t *component,
                                          struct vbtf_error *error)
 {
 	struct vbtf_item item;
@@ -837,7 +888,7 @@ static inline uint32_t vbtf_component_of(const struct vbtf_table *table, uint32_
  * earlier variant has a name that cannot be read; VBTF_NO_ITEM if no variant has the name; VBTF_BAD_ARGUMENT if the
  * name is not UTF-8.
  */
-static inline uint32_t vbtf_value(const struct vbtf_table *table, uint32_t id, const char *name, size_t len,
+VBTF_INLINE uint32_t vbtf_value(const struct vbtf_table *table, uint32_t id, const char *name, size_t len,
                                   uint64_t *value, struct vbtf_error *error)
 {
 	struct vbtf_error unread;
@@ -852,7 +903,7 @@ static inline uint32_t vbtf_value(const struct vbtf_table *table, uint32_t id, c
  * VBTF_INVALID_STRING_OFFSET if a type of the kind with a lower id has a name that cannot be read;
  * VBTF_BAD_ARGUMENT if the name is not UTF-8, or the kind is no kind.
  */
-static inline uint32_t vbtf_find(const struct vbtf_table *table, const char *name, size_t len, uint32_t kind,
+VBTF_INLINE uint32_t vbtf_find(const struct vbtf_table *table, const char *name, size_t len, uint32_t kind,
                                  uint32_t *id, struct vbtf_error *error)
 {
 	struct vbtf_error unread;
@@ -862,10 +913,10 @@ static inline uint32_t vbtf_find(const struct vbtf_table *table, const char *nam
 
 /*
  * The least id from `first` on of a type of this name, and of this kind or of any kind (VBTF_ANY_KIND).
- * VBTF_UNKNOWN_TYPE_NAME if there is none; VBTF_INVALID_STRING_OFFSET if the search reaches a type of the kind whose name
- * cannot be read; VBTF_BAD_ARGUMENT if the name is not UTF-8, or the kind is no kind.
+ * VBTF_UNKNOWN_TYPE_NAME if there is none; VBTF_INVALID_STRING_OFFSET if the search reaches a type of the kind whose
+ * name cannot be read; VBTF_BAD_ARGUMENT if the name is not UTF-8, or the kind is no kind.
  */
-static inline uint32_t vbtf_find_from(const struct vbtf_table *table, const char *name, size_t len, uint32_t kind,
+VBTF_INLINE uint32_t vbtf_find_from(const struct vbtf_table *table, const char *name, size_t len, uint32_t kind,
                                       uint32_t first, uint32_t *id, struct vbtf_error *error)
 {
 	struct vbtf_error unread;
@@ -877,7 +928,7 @@ static inline uint32_t vbtf_find_from(const struct vbtf_table *table, const char
  * The id of the first type that is no TYPEDEF, VOLATILE, CONST, RESTRICT or TYPE_TAG, from `id` on.
  * VBTF_UNKNOWN_TYPE of an id that has no type; VBTF_TOO_DEEP if the first 32 types are of these kinds.
  */
-static inline uint32_t vbtf_resolve(const struct vbtf_table *table, uint32_t id, uint32_t *to,
+VBTF_INLINE uint32_t vbtf_resolve(const struct vbtf_table *table, uint32_t id, uint32_t *to,
                                     struct vbtf_error *error)
 {
 	struct vbtf_error unread;
@@ -889,7 +940,7 @@ static inline uint32_t vbtf_resolve(const struct vbtf_table *table, uint32_t id,
  * The size of a type in bytes. VBTF_UNKNOWN_TYPE, VBTF_UNEXPECTED_TYPE of a type that has no size,
  * VBTF_INVALID_TYPE_INFO if the size passes 32 bits, VBTF_TOO_DEEP: the first error of the walk from `id` on.
  */
-static inline uint32_t vbtf_size(const struct vbtf_table *table, uint32_t id, uint64_t *size,
+VBTF_INLINE uint32_t vbtf_size(const struct vbtf_table *table, uint32_t id, uint64_t *size,
                                  struct vbtf_error *error)
 {
 	struct vbtf_error unread;
@@ -898,11 +949,40 @@ static inline uint32_t vbtf_size(const struct vbtf_table *table, uint32_t id, ui
 }
 
 /*
+ * The alignment of a type in bytes, by libbpf's rule with pointers of 8 bytes (docs/LAYOUT.md). For many types,
+ * vbtf_alignments is faster.
+ *
+ * VBTF_UNKNOWN_TYPE of an id that has no type; VBTF_UNEXPECTED_TYPE of the id of a type without an alignment;
+ * VBTF_TOO_DEEP if the type contains itself.
+ */
+VBTF_INLINE uint32_t vbtf_alignment(const struct vbtf_table *table, uint32_t id, uint32_t *alignment,
+                                    struct vbtf_error *error)
+{
+	struct vbtf_error unread;
+	struct vbtf_table loan = vbtf_loan(table);
+	return vbtf_lent_alignment(&loan, id, alignment, vbtf_error_or(error, &unread));
+}
+
+/*
+ * The alignments of the types from `first` on, as many as there are and as fit in the buffer; their number goes to
+ * `count`. A type for which vbtf_alignment returns an error has 0.
+ */
+VBTF_INLINE uint32_t vbtf_alignments(const struct vbtf_table *table, uint32_t first, uint32_t *out, size_t room,
+                                     uint64_t *count, struct vbtf_error *error)
+{
+	struct vbtf_error unread;
+	struct vbtf_table loan = vbtf_loan(table);
+	uint32_t none;
+	return vbtf_lent_alignments(&loan, first, out ? out : &none, out ? room : 0, count,
+	                            vbtf_error_or(error, &unread));
+}
+
+/*
  * What vbtf_size writes for the ids from `first` on, in one call: as many sizes as there are types and as fit in the
  * buffer. Their number goes to `count`; it is 0 if no type has the id `first`. A type for which vbtf_size returns an
  * error has UINT64_MAX.
  */
-static inline uint32_t vbtf_sizes(const struct vbtf_table *table, uint32_t first, uint64_t *out, size_t room,
+VBTF_INLINE uint32_t vbtf_sizes(const struct vbtf_table *table, uint32_t first, uint64_t *out, size_t room,
                                   uint64_t *count)
 {
 	struct vbtf_table loan = vbtf_loan(table);
@@ -914,7 +994,7 @@ static inline uint32_t vbtf_sizes(const struct vbtf_table *table, uint32_t first
  * What vbtf_resolve writes for the ids from `first` on, in one call, as vbtf_sizes writes the sizes. An id for which
  * vbtf_resolve returns an error has UINT32_MAX.
  */
-static inline uint32_t vbtf_resolved(const struct vbtf_table *table, uint32_t first, uint32_t *out, size_t room,
+VBTF_INLINE uint32_t vbtf_resolved(const struct vbtf_table *table, uint32_t first, uint32_t *out, size_t room,
                                      uint64_t *count)
 {
 	struct vbtf_table loan = vbtf_loan(table);
@@ -929,7 +1009,7 @@ static inline uint32_t vbtf_resolved(const struct vbtf_table *table, uint32_t fi
  * bpf_core_fields_are_compat answers otherwise. VBTF_UNEXPECTED_TYPE of a kind that no field has; VBTF_UNKNOWN_TYPE;
  * VBTF_INVALID_STRING_OFFSET; VBTF_TOO_DEEP. After an error `answer` is false.
  */
-static inline uint32_t vbtf_fields_are_compatible(const struct vbtf_table *local, uint32_t id,
+VBTF_INLINE uint32_t vbtf_fields_are_compatible(const struct vbtf_table *local, uint32_t id,
                                                   const struct vbtf_table *target, uint32_t other, bool *answer,
                                                   struct vbtf_error *error)
 {
@@ -944,7 +1024,7 @@ static inline uint32_t vbtf_fields_are_compatible(const struct vbtf_table *local
  * bpf_core_types_are_compat answers otherwise. VBTF_UNEXPECTED_TYPE of a VAR, FUNC, DATASEC or DECL_TAG;
  * VBTF_UNKNOWN_TYPE; VBTF_TOO_DEEP, also of a pair of types that depends on itself. After an error `answer` is false.
  */
-static inline uint32_t vbtf_types_are_compatible(const struct vbtf_table *local, uint32_t id,
+VBTF_INLINE uint32_t vbtf_types_are_compatible(const struct vbtf_table *local, uint32_t id,
                                                  const struct vbtf_table *target, uint32_t other, bool *answer,
                                                  struct vbtf_error *error)
 {
@@ -967,7 +1047,7 @@ static inline uint32_t vbtf_types_are_compatible(const struct vbtf_table *local,
  * if a name of an entry is not in its buffer, or is not UTF-8. After an error the table is unchanged, and `asked` has
  * the first features that the rewrite asks about.
  */
-static inline uint32_t vbtf_rewrite(struct vbtf_table *table, const struct vbtf_names *sections,
+VBTF_INLINE uint32_t vbtf_rewrite(struct vbtf_table *table, const struct vbtf_names *sections,
                                     const struct vbtf_names *symbols, const struct vbtf_kernel *kernel,
                                     uint64_t seed, struct vbtf_asked *asked, struct vbtf_error *error)
 {
@@ -983,6 +1063,19 @@ static inline uint32_t vbtf_rewrite(struct vbtf_table *table, const struct vbtf_
 }
 
 /*
+ * The first section of a name in an ELF object. After an error the section is unchanged.
+ *
+ * VBTF_NOT_AN_OBJECT: as vbtf_sanitize_object; VBTF_NO_TABLE if no section has the name.
+ */
+VBTF_INLINE uint32_t vbtf_section(const void *object, size_t len, const char *name, size_t name_len,
+                                  struct vbtf_section *section, struct vbtf_error *error)
+{
+	struct vbtf_error unread;
+	return vbtf_raw_section(vbtf_bytes_or_none(object), len, vbtf_bytes_or_none(name), name_len, section,
+	                        vbtf_error_or(error, &unread));
+}
+
+/*
  * Rewrites the table in the section .BTF of an ELF object for a kernel. Writes the new object to a buffer, its length
  * in bytes to `needed`, and the features that the rewrite asked about to `asked`. The sizes of sections, the offsets of
  * symbols and the ids of .ksyms come from the object; `placeholder` is the name of the variable that replaces functions
@@ -994,7 +1087,7 @@ static inline uint32_t vbtf_rewrite(struct vbtf_table *table, const struct vbtf_
  * index of the section or symbol that it names; VBTF_NO_TABLE; those of vbtf_parse and vbtf_rewrite, and
  * VBTF_UNKNOWN_TYPE_NAME of the placeholder; VBTF_NOT_REPLACEABLE. VBTF_BAD_ARGUMENT if the placeholder is not UTF-8.
  */
-static inline uint32_t vbtf_sanitize_object(const void *object, size_t len, const struct vbtf_kernel *kernel,
+VBTF_INLINE uint32_t vbtf_sanitize_object(const void *object, size_t len, const struct vbtf_kernel *kernel,
                                             const char *placeholder, size_t placeholder_len, uint64_t seed,
                                             void *out, size_t room, uint64_t *needed, struct vbtf_asked *asked,
                                             struct vbtf_error *error)
@@ -1023,7 +1116,7 @@ static inline uint32_t vbtf_sanitize_object(const void *object, size_t len, cons
  * VBTF_CLOSED if the table is not open; VBTF_BAD_ARGUMENT if another bit of `options` is set. After an error the buffer
  * and the tally are unchanged. Without an open index (vbtf_target_open) the call makes one, and frees it.
  */
-static inline uint32_t vbtf_relocate_object(const void *object, size_t len, const struct vbtf_table *target,
+VBTF_INLINE uint32_t vbtf_relocate_object(const void *object, size_t len, const struct vbtf_table *target,
                                             uint32_t options, uint64_t seed, void *out, size_t room,
                                             uint64_t *needed, struct vbtf_tally *tally, struct vbtf_error *error)
 {
@@ -1041,10 +1134,39 @@ static inline uint32_t vbtf_relocate_object(const void *object, size_t len, cons
  * A table has at most one. A call that changes the table (vbtf_add_string, vbtf_add_type, vbtf_rewrite) closes it, and
  * may close it also if that call fails. VBTF_BAD_ARGUMENT if the table has an open index.
  */
-static inline uint32_t vbtf_target_open(struct vbtf_table *table, struct vbtf_error *error)
+VBTF_INLINE uint32_t vbtf_target_open(struct vbtf_table *table, struct vbtf_error *error)
 {
 	struct vbtf_error unread;
 	return vbtf_raw_target_open(table, vbtf_error_or(error, &unread));
+}
+
+/*
+ * The same index for a program that looks up many names: vbtf_index_find takes time in the logarithm of the number of
+ * types. A table has one index, which vbtf_target_open and vbtf_index_open open.
+ */
+VBTF_INLINE uint32_t vbtf_index_open(struct vbtf_table *table, struct vbtf_error *error)
+{
+	return vbtf_target_open(table, error);
+}
+
+VBTF_INLINE void vbtf_index_close(struct vbtf_table *table)
+{
+	vbtf_target_close(table);
+}
+
+/*
+ * The least id above 0 of a type of this kind whose name has these bytes, from the open index. Names that cannot be
+ * read are passed over.
+ *
+ * VBTF_UNKNOWN_TYPE_NAME if there is none; VBTF_CLOSED if no index is open; VBTF_BAD_ARGUMENT if the name is empty or
+ * not UTF-8, or the kind is no kind.
+ */
+VBTF_INLINE uint32_t vbtf_index_find(const struct vbtf_table *table, const char *name, size_t len, uint32_t kind,
+                                     uint32_t *id, struct vbtf_error *error)
+{
+	struct vbtf_error unread;
+	struct vbtf_table loan = vbtf_loan(table);
+	return vbtf_lent_index_find(&loan, vbtf_bytes_or_none(name), len, kind, id, vbtf_error_or(error, &unread));
 }
 
 /* Closes the index of a table, and frees it: `vbtf_target_close`, above. The table stays open. */
@@ -1058,7 +1180,7 @@ static inline uint32_t vbtf_target_open(struct vbtf_table *table, struct vbtf_er
  * error.section_len its kind, id or offset. VBTF_CLOSED if a table or the index of the target is not open. After an
  * error `relocated` is unchanged.
  */
-static inline uint32_t vbtf_relocate(const struct vbtf_table *local, const struct vbtf_table *target,
+VBTF_INLINE uint32_t vbtf_relocate(const struct vbtf_table *local, const struct vbtf_table *target,
                                      const struct vbtf_relocation *relocation, struct vbtf_relocated *relocated,
                                      struct vbtf_error *error)
 {
@@ -1074,7 +1196,7 @@ static inline uint32_t vbtf_relocate(const struct vbtf_table *local, const struc
  * would pass 4,294,967,295 bytes; VBTF_BAD_ARGUMENT if the text is not UTF-8. After an error the table is unchanged.
  * Closes the index of the table.
  */
-static inline uint32_t vbtf_add_string(struct vbtf_table *table, const char *text, size_t len, uint32_t *offset,
+VBTF_INLINE uint32_t vbtf_add_string(struct vbtf_table *table, const char *text, size_t len, uint32_t *offset,
                                        struct vbtf_error *error)
 {
 	struct vbtf_error unread;
@@ -1087,7 +1209,7 @@ static inline uint32_t vbtf_add_string(struct vbtf_table *table, const char *tex
  * bytes follow the record, or the order is no order. After an error the table is unchanged. Closes the index of the
  * table.
  */
-static inline uint32_t vbtf_add_type(struct vbtf_table *table, const void *record, size_t len, uint32_t order,
+VBTF_INLINE uint32_t vbtf_add_type(struct vbtf_table *table, const void *record, size_t len, uint32_t order,
                                      uint32_t *id, struct vbtf_error *error)
 {
 	struct vbtf_error unread;
@@ -1104,7 +1226,7 @@ static inline uint32_t vbtf_add_type(struct vbtf_table *table, const void *recor
  * VBTF_INVALID_HEADER, VBTF_INVALID_INFO, VBTF_INVALID_STRING_OFFSET: the first error, in the order that
  * docs/BEHAVIOUR.md states. VBTF_BAD_ARGUMENT if the table has one already, or the order is no order.
  */
-static inline uint32_t vbtf_open_ext(struct vbtf_table *table, const void *data, size_t len, uint32_t order,
+VBTF_INLINE uint32_t vbtf_open_ext(struct vbtf_table *table, const void *data, size_t len, uint32_t order,
                                      uint64_t seed, struct vbtf_error *error)
 {
 	struct vbtf_error unread;
@@ -1114,7 +1236,7 @@ static inline uint32_t vbtf_open_ext(struct vbtf_table *table, const void *data,
 /* Closes the .BTF.ext of a table, and frees it: `vbtf_close_ext`, above. The table stays open. */
 
 /* The sizes of the .BTF.ext of a table. VBTF_CLOSED if none is open, here and in the calls below. */
-static inline uint32_t vbtf_ext(const struct vbtf_table *table, struct vbtf_ext_sizes *ext)
+VBTF_INLINE uint32_t vbtf_ext(const struct vbtf_table *table, struct vbtf_ext_sizes *ext)
 {
 	struct vbtf_table loan = vbtf_loan(table);
 	return vbtf_lent_ext(&loan, ext);
@@ -1125,7 +1247,7 @@ static inline uint32_t vbtf_ext(const struct vbtf_table *table, struct vbtf_ext_
  * VBTF_NO_ROOM if the buffer has less room: then only `needed` is written, the length in bytes. VBTF_BAD_ARGUMENT
  * if there is no such part.
  */
-static inline uint32_t vbtf_ext_names(const struct vbtf_table *table, uint32_t part, char *out, size_t room,
+VBTF_INLINE uint32_t vbtf_ext_names(const struct vbtf_table *table, uint32_t part, char *out, size_t room,
                                       uint64_t *needed, struct vbtf_error *error)
 {
 	struct vbtf_error unread;
@@ -1139,14 +1261,14 @@ static inline uint32_t vbtf_ext_names(const struct vbtf_table *table, uint32_t p
  * The string offset of the name of a section of relocations, by the index of the section; several may have one name.
  * VBTF_NO_ITEM if there are fewer sections.
  */
-static inline uint32_t vbtf_ext_section(const struct vbtf_table *table, uint32_t index, uint32_t *name_offset)
+VBTF_INLINE uint32_t vbtf_ext_section(const struct vbtf_table *table, uint32_t index, uint32_t *name_offset)
 {
 	struct vbtf_table loan = vbtf_loan(table);
 	return vbtf_lent_ext_section(&loan, index, name_offset);
 }
 
 /* The words of the records of a section, each of this many words. `room` and `needed` count records. */
-static inline uint32_t vbtf_ext_words(const struct vbtf_table *table, uint32_t part, const char *section, size_t len,
+VBTF_INLINE uint32_t vbtf_ext_words(const struct vbtf_table *table, uint32_t part, const char *section, size_t len,
                                       uint32_t *out, size_t room, uint64_t *needed, size_t words,
                                       struct vbtf_error *error)
 {
@@ -1171,21 +1293,21 @@ static inline uint32_t vbtf_ext_words(const struct vbtf_table *table, uint32_t p
  * VBTF_BAD_ARGUMENT if the name is not UTF-8. VBTF_INVALID_STRING_OFFSET if the name of a section of relocations
  * cannot be read.
  */
-static inline uint32_t vbtf_ext_func_info(const struct vbtf_table *table, const char *section, size_t len,
+VBTF_INLINE uint32_t vbtf_ext_func_info(const struct vbtf_table *table, const char *section, size_t len,
                                           struct vbtf_func_info *out, size_t room, uint64_t *needed,
                                           struct vbtf_error *error)
 {
 	return vbtf_ext_words(table, VBTF_PART_FUNC_INFO, section, len, (uint32_t *)out, room, needed, 2, error);
 }
 
-static inline uint32_t vbtf_ext_line_info(const struct vbtf_table *table, const char *section, size_t len,
+VBTF_INLINE uint32_t vbtf_ext_line_info(const struct vbtf_table *table, const char *section, size_t len,
                                           struct vbtf_line_info *out, size_t room, uint64_t *needed,
                                           struct vbtf_error *error)
 {
 	return vbtf_ext_words(table, VBTF_PART_LINE_INFO, section, len, (uint32_t *)out, room, needed, 4, error);
 }
 
-static inline uint32_t vbtf_ext_relocations(const struct vbtf_table *table, const char *section, size_t len,
+VBTF_INLINE uint32_t vbtf_ext_relocations(const struct vbtf_table *table, const char *section, size_t len,
                                             struct vbtf_relocation *out, size_t room, uint64_t *needed,
                                             struct vbtf_error *error)
 {

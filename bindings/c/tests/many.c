@@ -74,6 +74,50 @@ static void resolved_from(const struct vbtf_table *table, uint64_t types, uint32
 	free(out);
 }
 
+/* The alignment that the single call writes for an id, or 0. */
+static uint32_t alignment_of(const struct vbtf_table *table, uint32_t id)
+{
+	uint32_t alignment = 0;
+	return vbtf_alignment(table, id, &alignment, &error) == VBTF_OK ? alignment : 0;
+}
+
+/* The alignments of the types from an id on, in a buffer with this room, which ends there. */
+static void alignments_from(const struct vbtf_table *table, uint64_t types, uint32_t first, size_t room)
+{
+	uint32_t *out = malloc(room * sizeof *out + 1);
+	uint64_t count = 7, there = first < types ? types - first : 0;
+	bool same = true;
+	for (uint64_t i = 0; i < room; i++)
+		out[i] = 0x01010101;
+	check(vbtf_alignments(table, first, out, room, &count, &error) == VBTF_OK && count == (there < room ? there : room));
+	for (uint64_t i = 0; i < room; i++)
+		same = same && out[i] == (i < count ? alignment_of(table, first + (uint32_t)i) : 0x01010101);
+	check(same);
+	free(out);
+}
+
+/* The index finds each type that vbtf_find finds by its name. */
+static void indexed(struct vbtf_table *table)
+{
+	struct vbtf_type type;
+	const char *name;
+	size_t len;
+	uint64_t types = 0;
+	uint32_t wanted = 0, id = 0;
+	bool same = true;
+	check(vbtf_count(table, &types) == VBTF_OK && vbtf_index_open(table, &error) == VBTF_OK);
+	for (uint32_t at = 1; at < types; at++) {
+		check(vbtf_type_by_id(table, at, &type, &error) == VBTF_OK);
+		if (vbtf_name(table, type.name_offset, &name, &len, &error) != VBTF_OK || len == 0)
+			continue;
+		uint32_t status = vbtf_find(table, name, len, type.kind, &wanted, &error);
+		same = same && vbtf_index_find(table, name, len, type.kind, &id, &error) == status;
+		same = same && (status != VBTF_OK || id == wanted);
+	}
+	check(same);
+	vbtf_index_close(table);
+}
+
 /*
  * The items of a type in one call are those of the single calls, in a buffer with this room, which ends there. The
  * status is that of the single call for index 0, except that a type may have no item.
@@ -163,6 +207,7 @@ static void types(const struct vbtf_table *table)
 			types_from(table, types, firsts[i], rooms[j]);
 			sizes_from(table, types, firsts[i], rooms[j]);
 			resolved_from(table, types, firsts[i], rooms[j]);
+			alignments_from(table, types, firsts[i], rooms[j]);
 		}
 	}
 	check(vbtf_types(table, 0, NULL, 9, &count) == VBTF_OK && count == 0);
@@ -172,6 +217,8 @@ static void types(const struct vbtf_table *table)
 	check(vbtf_sizes(&closed, 0, &types, 1, &count) == VBTF_CLOSED && count == 7);
 	check(vbtf_resolved(&closed, 0, &type.kind, 1, &count) == VBTF_CLOSED && is_unchanged(&type) && count == 7);
 	check(vbtf_types(&closed, 0, &type, 1, &count) == VBTF_CLOSED && is_unchanged(&type) && count == 7);
+	check(vbtf_alignments(&closed, 0, &type.kind, 1, &count, &error) == VBTF_CLOSED && is_unchanged(&type));
+	check(vbtf_alignment(&closed, 1, &type.kind, &error) == VBTF_CLOSED && is_unchanged(&type) && count == 7);
 }
 
 int main(int argc, char **argv)
@@ -188,6 +235,8 @@ int main(int argc, char **argv)
 	items(&little);
 	items(&big);
 	items(&table);
+	indexed(&little);
+	indexed(&table);
 	vbtf_close(&table);
 	vbtf_close(&big);
 	vbtf_close(&little);

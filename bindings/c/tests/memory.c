@@ -71,11 +71,38 @@ static uint32_t split_bytes(struct vbtf_table *table)
 	return vbtf_split_bytes(table, 2, 1, bytes, sizeof bytes, &needed, &error);
 }
 
-static uint32_t string_len(struct vbtf_table *table)
+/* The table as a split table over itself; a failed allocation leaves the table as it was. */
+static uint32_t append_split(struct vbtf_table *table)
 {
-	uint32_t len = 0, status = vbtf_string_len(table, &len, &error);
-	check(len == (status == VBTF_OK ? sizeof STRINGS : 0));
+	uint32_t len = 0, status = vbtf_append_split(table, blob, sizeof blob, VBTF_LITTLE, &error);
+	check(vbtf_string_len(table, &len) == VBTF_OK && len == (status == VBTF_OK ? 2 : 1) * sizeof STRINGS);
+	check(status != VBTF_OK || vbtf_truncate(table, TYPES, sizeof STRINGS, &error) == VBTF_OK);
 	return status;
+}
+
+/* The STRUCT of two integers of 4 bytes. */
+static uint32_t alignment(struct vbtf_table *table)
+{
+	uint32_t bytes = 9, status = vbtf_alignment(table, 4, &bytes, &error);
+	check(bytes == (status == VBTF_OK ? 4 : 9));
+	return status;
+}
+
+static uint32_t alignments(struct vbtf_table *table)
+{
+	uint32_t bytes[TYPES] = { 9 }, status;
+	uint64_t count = 0;
+	status = vbtf_alignments(table, 1, bytes, TYPES, &count, &error);
+	check(status == VBTF_OK ? count == TYPES - 1 && bytes[0] == 4 && bytes[1] == 8 : !count && bytes[0] == 9);
+	return status;
+}
+
+/* A search in the index for a name that no type has; the error has the name. */
+static uint32_t missing_in_index(struct vbtf_table *table)
+{
+	uint32_t id, status = vbtf_index_find(&with_index, "no such type", 12, VBTF_KIND_PTR, &id, &error);
+	(void)table;
+	return status == VBTF_UNKNOWN_TYPE_NAME ? VBTF_OK : status;
 }
 
 static uint32_t write_out(struct vbtf_table *table)
@@ -233,7 +260,10 @@ static const struct {
 	{ "vbtf_clone", copy },
 	{ "vbtf_parse_over", parse_over },
 	{ "vbtf_split_bytes", split_bytes },
-	{ "vbtf_string_len", string_len },
+	{ "vbtf_append_split", append_split },
+	{ "vbtf_alignment", alignment },
+	{ "vbtf_alignments", alignments },
+	{ "vbtf_index_find", missing_in_index },
 	{ "vbtf_bytes", write_out },
 	{ "vbtf_text_at", text },
 	{ "vbtf_find", missing },

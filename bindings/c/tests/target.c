@@ -66,6 +66,28 @@ static void opening(void)
 	vbtf_close(&table);
 }
 
+/* Types by their names in the index: the first of a name and a kind. */
+static void finding(void)
+{
+	struct vbtf_table table = opened(VBTF_LITTLE);
+	uint32_t id = 99;
+	check(vbtf_index_find(&table, "int", 3, VBTF_KIND_INT, &id, &error) == VBTF_CLOSED && id == 99);
+	check(vbtf_index_open(&table, &error) == VBTF_OK && vbtf_index_open(&table, &error) == VBTF_BAD_ARGUMENT);
+	check(vbtf_index_find(&table, "int", 3, VBTF_KIND_INT, &id, &error) == VBTF_OK && id == 1);
+	check(vbtf_index_find(&table, "word", 4, VBTF_KIND_ENUM, &id, &error) == VBTF_OK && id == 11);
+	check(vbtf_index_find(&table, "word", 4, VBTF_KIND_TYPEDEF, &id, NULL) == VBTF_OK && id == 3);
+	check(vbtf_index_find(&table, "pair", 4, VBTF_KIND_UNION, &id, &error) == VBTF_UNKNOWN_TYPE_NAME && id == 3);
+	check(error.name_len == 4 && memcmp(error.name, "pair", 4) == 0);
+	check(vbtf_index_find(&table, "wor", 3, VBTF_KIND_ENUM, &id, &error) == VBTF_UNKNOWN_TYPE_NAME);
+	check(vbtf_index_find(&table, "word", 4, VBTF_KIND_ENUM64, &id, &error) == VBTF_UNKNOWN_TYPE_NAME);
+	check(vbtf_index_find(&table, "", 0, VBTF_KIND_PTR, &id, &error) == VBTF_BAD_ARGUMENT);
+	check(vbtf_index_find(&table, "caf\xff", 4, VBTF_KIND_FWD, &id, &error) == VBTF_BAD_ARGUMENT);
+	check(vbtf_index_find(&table, "int", 3, 20, &id, &error) == VBTF_BAD_ARGUMENT && id == 3);
+	vbtf_index_close(&table);
+	check(vbtf_index_find(&table, "int", 3, VBTF_KIND_INT, &id, &error) == VBTF_CLOSED);
+	vbtf_close(&table);
+}
+
 /* The value of each kind for the table itself, by its records, in the order of the kinds' numbers. */
 static void kinds(void)
 {
@@ -153,6 +175,7 @@ static void refused(void)
 int main(void)
 {
 	opening();
+	finding();
 	kinds();
 	missing();
 	refused();

@@ -16,3 +16,4 @@ pub mod Relocations
 pub mod Places
 pub mod Listing
 pub mod Search
+pub mod IndexFinding

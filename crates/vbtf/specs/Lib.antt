@@ -19,3 +19,5 @@ pub mod Lent
 pub mod Naming
 pub mod Finding
 pub mod IndexFinding
+pub mod Section
+pub mod Aligning

@@ -26,8 +26,8 @@ FindsPlace o name (Some place) =
 -- The outcomes of a call that finds the first section of a name in an object: status 0 and its place; or status 105 if
 -- there is none; or the reason why the bytes are no object, or a failed allocation. After an error the place is as
 -- before.
-abbrev pub EndsFinding : ℕ → List ℕ → List ℕ → Place → Place → Fault → Type 0
-EndsFinding status bytes name old new fault =
+abbrev pub EndsLocating : ℕ → List ℕ → List ℕ → Place → Place → Fault → Type 0
+EndsLocating status bytes name old new fault =
     ((o : Object) × (index : ℕ) × (s : SectionHeader) × HasSection bytes name o index s × (status ≡ 0)
     × (new ≡ place_in o s))
     ⊎ ((new ≡ old)

@@ -22,6 +22,7 @@
 #![tactic(auto)]
 
 mod add;
+mod align;
 mod compare;
 mod copy;
 mod error_text;
@@ -30,6 +31,7 @@ mod ext_read;
 mod fault;
 mod find;
 mod handle;
+mod indexed;
 mod items;
 mod kernel;
 mod lent_name;
@@ -47,6 +49,7 @@ mod read;
 mod refused;
 mod relocate;
 mod rewrite;
+mod section;
 mod seed;
 mod split;
 mod target;

@@ -98,7 +98,7 @@ fn fill_sizes(table: &Btf, first: u32, out: &mut [u64]) -> usize
 }
 
 /// The number of types from an id on, as many as fit in this room.
-fn places_from(table: &Btf, first: u32, room: usize) -> usize
+pub(crate) fn places_from(table: &Btf, first: u32, room: usize) -> usize
     ensures places { result ≡ min room (length table.now.records - first) }
     ensures ids { first + result < 2 ^ 32 }
 {

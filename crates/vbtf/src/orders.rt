@@ -28,7 +28,7 @@ pub extern "C" fn vbtf_lent_order(table: &mut Handle, order: &mut u32) -> u32
 }
 
 /// The number of a byte order.
-fn number_of(endianness: Endianness) -> u32
+pub(crate) fn number_of(endianness: Endianness) -> u32
     ensures { result ≡ order_number endianness }
 {
     match endianness {

@@ -5,7 +5,7 @@ ghost use Rattle.btf_elf_model.specs.declared.section_header.SectionHeader.{Sect
 ghost use Rattle.btf_object_model.specs.Sanitized.{index_of};
 ghost use Rattle.std.specs.Prelude.{◌≡◌};
 ghost use Rattle.std.specs.Option.{MatchOption};
-ghost use Rattle.vbtf.specs.Section.{EndsFinding, FindsPlace};
+ghost use Rattle.vbtf.specs.Section.{EndsLocating, FindsPlace};
 
 use crate::fault::{Fault, OUT_OF_MEMORY, report_number};
 use crate::object::{NO_TABLE, report_parse};
@@ -36,7 +36,7 @@ pub extern "C" fn vbtf_raw_section(
     place: &mut Place,
     fault: &mut Fault,
 ) -> u32
-    ensures { EndsFinding result object.now name.now place.old place.new fault.new }
+    ensures { EndsLocating result object.now name.now place.old place.new fault.new }
 {
     match Object::parse(alloc, object) {
         Ok(object) => {

@@ -113,7 +113,7 @@ pub struct vbtf_entry {
 /// The bytes of a name in the memory of a table.
 #[repr(C)]
 #[derive(Debug, Clone, Copy)]
-pub struct vbtf_name {
+pub struct vbtf_name_bytes {
     pub at: *const u8,
     pub len: usize,
 }
@@ -402,7 +402,7 @@ extern "C" {
     pub fn vbtf_lent_name(
         table: *mut vbtf_table,
         offset: u32,
-        name: *mut vbtf_name,
+        name: *mut vbtf_name_bytes,
         error: *mut vbtf_error,
     ) -> u32;
     pub fn vbtf_lent_find_from(
@@ -415,7 +415,28 @@ extern "C" {
         error: *mut vbtf_error,
     ) -> u32;
     pub fn vbtf_lent_order(table: *mut vbtf_table, order: *mut u32) -> u32;
-    pub fn vbtf_lent_string_count(table: *mut vbtf_table, count: *mut u64) -> u32;
+    pub fn vbtf_lent_index_find(
+        table: *mut vbtf_table,
+        name: *const u8,
+        len: usize,
+        kind: u32,
+        id: *mut u32,
+        error: *mut vbtf_error,
+    ) -> u32;
+    pub fn vbtf_lent_alignment(
+        table: *mut vbtf_table,
+        id: u32,
+        alignment: *mut u32,
+        error: *mut vbtf_error,
+    ) -> u32;
+    pub fn vbtf_lent_alignments(
+        table: *mut vbtf_table,
+        first: u32,
+        out: *mut u32,
+        room: usize,
+        count: *mut u64,
+        error: *mut vbtf_error,
+    ) -> u32;
     pub fn vbtf_lent_value(
         table: *mut vbtf_table,
         id: u32,

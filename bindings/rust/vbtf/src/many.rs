@@ -10,7 +10,7 @@ use std::slice;
 use vbtf_sys::*;
 
 /// The number of the kind that stands for every kind.
-const ANY_KIND: u32 = 32;
+const ANY_KIND: u32 = u32::MAX;
 
 /// The values that a call writes to a buffer.
 fn filled<T: Clone + Default>(
@@ -45,7 +45,7 @@ impl Table {
     pub fn bytes_at(&self, offset: u32) -> Result<&[u8], Error> {
         // SAFETY: the loan lives as long as the call. The bytes are the table's, which is borrowed as long as the slice.
         unsafe {
-            let name: vbtf_name =
+            let name: vbtf_name_bytes =
                 called(|name, error| vbtf_lent_name(&mut self.loan(), offset, name, error))?;
             Ok(slice::from_raw_parts(name.at, name.len))
         }
@@ -111,6 +111,42 @@ impl Table {
         called(|id, error| unsafe {
             vbtf_lent_find_from(&mut self.loan(), at, len, kind, first, id, error)
         })
+    }
+
+    /// The alignment of a type in bytes, by libbpf's rule; `docs/LAYOUT.md` has it.
+    ///
+    /// ```
+    /// use vbtf::{Endianness, Error, Table};
+    ///
+    /// let mut table = Table::new()?;
+    /// let words = [0, 0x0100_0000, 4, 0x0100_0020];
+    /// let id = table.add_type(&words.map(u32::to_le_bytes).concat(), Endianness::Little)?;
+    /// assert_eq!(table.type_alignment(id), Ok(4));
+    /// assert_eq!(table.type_alignment(0), Err(Error::UnexpectedBtfType { type_id: 0 }));
+    /// # Ok::<(), vbtf::Error>(())
+    /// ```
+    pub fn type_alignment(&self, type_id: u32) -> Result<u32, Error> {
+        // SAFETY: the loan lives as long as the call.
+        called(|it, error| unsafe { vbtf_lent_alignment(&mut self.loan(), type_id, it, error) })
+    }
+
+    /// The alignments in bytes of the types of these ids, as far as the table has them; `None` for a type without an
+    /// alignment.
+    ///
+    /// ```
+    /// let table = vbtf::Table::new()?;
+    /// assert_eq!(table.type_alignments(0..2)?, [None]);
+    /// # Ok::<(), vbtf::Error>(())
+    /// ```
+    pub fn type_alignments(&self, ids: Range<u32>) -> Result<Vec<Option<u32>>, Error> {
+        let mut values = vec![0; ids.len()];
+        let (at, room, mut count) = (values.as_mut_ptr(), values.len(), 0);
+        // SAFETY: the loan and the buffer live as long as the call.
+        called::<()>(|_, error| unsafe {
+            vbtf_lent_alignments(&mut self.loan(), ids.start, at, room, &mut count, error)
+        })?;
+        values.truncate(count as usize);
+        Ok(values.into_iter().map(|it| (it != 0).then_some(it)).collect())
     }
 
     /// The byte order of the table.
