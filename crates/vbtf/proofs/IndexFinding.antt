@@ -43,8 +43,7 @@ rises : (passes : Record → Bool) (i : ℕ) (rs : List Record) (n m x y : ℕ) 
 rises passes i [] n m x y lt is at = absurd (omega (arith, slice_get_within [] n x is))
 rises passes i (r ∷ rs) n m x y lt is at =
     elim (passes r) as (λ (b : Bool). slice_get (if b then i ∷ ids_from passes (suc i) rs else ids_from passes (suc i) rs) n ≡ Some x
-        → slice_get (if b then i ∷ ids_from passes (suc i) rs else ids_from passes (suc i) rs) m ≡ Some y → x < y)
-    [
+    → slice_get (if b then i ∷ ids_from passes (suc i) rs else ids_from passes (suc i) rs) m ≡ Some y → x < y) [
       | true ↦ later_is_more i n m x y (ids_from passes (suc i) rs) (λ a e. at_least passes (suc i) rs a y e) (λ a b less e f. rises passes (suc i) rs a b x y less e f) lt
       | false ↦ λ e f. rises passes (suc i) rs n m x y lt e f
     ] is at

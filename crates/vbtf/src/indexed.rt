@@ -86,12 +86,7 @@ fn find_in(
 }
 
 /// The id of a kind and a name; None if the name is empty or not UTF-8, or no kind has the number.
-fn find(
-    alloc: Global,
-    target: &Target<'_>,
-    name: &[u8],
-    kind: u32,
-) -> Option<Result<u32, BtfError>>
+fn find(alloc: Global, target: &Target<'_>, name: &[u8], kind: u32) -> Option<Result<u32, BtfError>>
     ensures { MatchOption result
         ((IsUtf8 name.now → ⊥) ⊎ (name.now ≡ []) ⊎ (slice_get kinds kind ≡ None))
         (λ answer. IsUtf8 name.now × (name.now ≢ []) × (k : Kind) × (slice_get kinds kind ≡ Some k)

@@ -178,13 +178,13 @@ pub extern "C" fn vbtf_raw_append_split(
         → (result ≡ CLOSED) × (table.new ≡ table.old) }
     ensures order { 2 < order → (result ≡ INVALID_ARGUMENT) × (table.new ≡ table.old) }
 {
-    let Some(endianness) = chosen_order(order, data) else {
+    let Some(data_order) = chosen_order(order, data) else {
         return INVALID_ARGUMENT;
     };
     let Some(mut whole) = taken_to_change(alloc, table) else {
         return CLOSED;
     };
-    let answer = append_split(&mut whole.btf, data, endianness);
+    let answer = append_split(&mut whole.btf, data, data_order);
     *table = owner(whole);
     match answer {
         Ok(()) => 0,
