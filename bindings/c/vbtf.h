@@ -730,8 +730,8 @@ static inline uint32_t vbtf_entry_at(const struct vbtf_table *table, uint32_t id
 }
 
 /*
- * What vbtf_member_at, vbtf_variant_at, vbtf_param_at and vbtf_entry_at write for the indices from 0 on, in one call: as
- * many items as the type has and as fit in the buffer. Their number goes to `count`. The errors are theirs, without
+ * What vbtf_member_at, vbtf_variant_at, vbtf_param_at and vbtf_entry_at write for the indices from 0 on, in one call:
+ * as many items as the type has and as fit in the buffer. Their number goes to `count`. The errors are theirs, without
  * VBTF_NO_ITEM. After an error the buffer and `count` are unchanged.
  */
 static inline uint32_t vbtf_members(const struct vbtf_table *table, uint32_t id, struct vbtf_member *out, size_t room,
@@ -862,8 +862,8 @@ static inline uint32_t vbtf_find(const struct vbtf_table *table, const char *nam
 
 /*
  * The least id from `first` on of a type of this name, and of this kind or of any kind (VBTF_ANY_KIND).
- * VBTF_UNKNOWN_TYPE_NAME if there is none; VBTF_INVALID_STRING_OFFSET if the search reaches a type of the kind whose name
- * cannot be read; VBTF_BAD_ARGUMENT if the name is not UTF-8, or the kind is no kind.
+ * VBTF_UNKNOWN_TYPE_NAME if there is none; VBTF_INVALID_STRING_OFFSET if the search reaches a type of the kind whose
+ * name cannot be read; VBTF_BAD_ARGUMENT if the name is not UTF-8, or the kind is no kind.
  */
 static inline uint32_t vbtf_find_from(const struct vbtf_table *table, const char *name, size_t len, uint32_t kind,
                                       uint32_t first, uint32_t *id, struct vbtf_error *error)
