@@ -120,13 +120,13 @@ static void names(const struct vbtf_table *table)
 {
 	struct vbtf_table closed = VBTF_TABLE_INIT;
 	struct vbtf_error error;
-	const char *first = NULL, *text = NULL;
+	const char *strings = STRINGS, *first = NULL, *text = NULL;
 	size_t len = 77;
 	check(vbtf_name(table, 0, &first, &len, NULL) == VBTF_OK && len == 0);
 	for (uint32_t offset = 0; offset < sizeof STRINGS; offset++) {
 		check(vbtf_name(table, offset, &text, &len, &error) == VBTF_OK);
-		check(text == first + offset && len == strlen(STRINGS + offset));
-		check(memcmp(text, STRINGS + offset, len + 1) == 0);
+		check(text == first + offset && len == strlen(strings + offset));
+		check(memcmp(text, strings + offset, len + 1) == 0);
 	}
 	len = 77;
 	check(vbtf_name(table, sizeof STRINGS, &text, &len, &error) == VBTF_INVALID_STRING_OFFSET);

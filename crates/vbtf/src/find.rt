@@ -23,8 +23,8 @@ const ANY_KIND: u32 = 0xffff_ffff;
 /// the number is 2^32 - 1. The name has no zero byte at its end.
 ///
 /// Status 6 if the search reaches a type of the kind whose name cannot be read, 11 if no type from `first` on has the
-/// kind and the name, 20 if an allocation fails, 101 if the handle's state is not 2, and 102 if the name is not UTF-8 or
-/// no kind has the number.
+/// kind and the name, 20 if an allocation fails, 101 if the handle's state is not 2, and 102 if the name is not UTF-8
+/// or no kind has the number.
 #[unsafe(no_mangle)]
 pub extern "C" fn vbtf_lent_find_from(
     table: &mut Handle,
