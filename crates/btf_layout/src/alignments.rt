@@ -25,8 +25,9 @@ impl Alignments {
     /// Takes time linear in the records of the table, whatever they refer to, because each member is read at most
     /// twice, and memory linear in the number of types.
     pub fn of_table(table: &Btf) -> Result<Self, BtfError>
-        ensures { MatchResult result (λ a. (id : ℕ)
-            → HasAlignment table.now.records id (alignment_in a id)) (λ e. e ≡ BtfError.OutOfMemory) }
+        ensures { MatchResult result
+            (λ a. (id : ℕ) → HasAlignment table.now.records id (alignment_in a id))
+            (λ e. e ≡ BtfError.OutOfMemory) }
     {
         let mut known = all_new(table)?;
         for id in 0..type_count(table) {

@@ -93,7 +93,8 @@ fn by_size(size: u32) -> Shape
 impl<'a> Composite<'a> {
     /// A STRUCT or UNION of this size.
     pub fn new(size: u32, btf_type: &'a BtfType) -> Self
-        ensures { composite_view result ≡ model.Composed size (members_of (record_of btf_type.now)) }
+        ensures { composite_view result
+            ≡ model.Composed size (members_of (record_of btf_type.now)) }
     {
         Composite {
             size,
