@@ -78,9 +78,11 @@ entries kinds.DataSec r = Some (entries_in r.tail)
 entries k r = None
 
 -- The items of the type of an id; or the error if there is no such type, or if types of its kind have no such items.
-abbrev pub ItemsOf : {X : Type 0} → (Kind → Record → Option (List X)) → List Record → ℕ → Result (List X) Refusal → Type 0
+abbrev pub ItemsOf : {X : Type 0} → (Kind → Record → Option (List X)) → List Record → ℕ → Result (List X) Refusal
+    → Type 0
 ItemsOf items_of records id (Ok items) =
-    (k : Kind) × (r : Record) × (slice_get records id ≡ Some r) × (kind_of r.info ≡ Some k) × (items_of k r ≡ Some items)
+    (k : Kind) × (r : Record) × (slice_get records id ≡ Some r) × (kind_of r.info ≡ Some k)
+    × (items_of k r ≡ Some items)
 ItemsOf items_of records id (Err refusal) =
     ((length records ≤ id) × (refusal ≡ UnknownBtfType id))
     ⊎ ((k : Kind) × (r : Record) × (slice_get records id ≡ Some r) × (kind_of r.info ≡ Some k) × (items_of k r ≡ None)
@@ -102,11 +104,14 @@ EndsListing {X} status old new count fault P =
 two_members : members_in 0x04000002 (10 ∷ 1 ∷ 0 ∷ 15 ∷ 2 ∷ 32 ∷ []) ≡ member 0 10 1 0 ∷ member 0 15 2 32 ∷ []
 two_members = refl
 
-bit_field : members_in 0x84000001 (10 ∷ 1 ∷ 0x03000005 ∷ []) ≡ record { name_offset = 10; btf_type = 1; bit_offset = 5; bit_field_size = 3 } ∷ []
+bit_field : members_in 0x84000001 (10 ∷ 1 ∷ 0x03000005 ∷ [])
+    ≡ record { name_offset = 10; btf_type = 1; bit_offset = 5; bit_field_size = 3 } ∷ []
 bit_field = refl
 
-signed_variant : variants_in 0x86000001 (26 ∷ 7 ∷ []) ≡ record { name_offset = 26; bits = 32; is_signed = 1; value = 7 } ∷ []
+signed_variant : variants_in 0x86000001 (26 ∷ 7 ∷ [])
+    ≡ record { name_offset = 26; bits = 32; is_signed = 1; value = 7 } ∷ []
 signed_variant = refl
 
-wide_variant : wide_variants_in 0x13000001 (26 ∷ 7 ∷ 1 ∷ []) ≡ record { name_offset = 26; bits = 64; is_signed = 0; value = 0x100000007 } ∷ []
+wide_variant : wide_variants_in 0x13000001 (26 ∷ 7 ∷ 1 ∷ [])
+    ≡ record { name_offset = 26; bits = 64; is_signed = 0; value = 0x100000007 } ∷ []
 wide_variant = refl

@@ -1,4 +1,4 @@
-use Rattle.std.proofs.Common.{◌≡◌, ◌∙◌, ap, refl, sym, ℕ, List}
+use Rattle.std.proofs.Common.{◌∙◌, ap, refl, sym, ℕ}
 use Rattle.std.specs.Prelude.{map}
 use Rattle.btf_plain.specs.declared.items.BtfMember.{BtfMember}
 use Rattle.btf_records.specs.declared.btf_type.BtfType.TheVariants as types

@@ -1,5 +1,5 @@
 -- `name_at` lends the bytes that `name_in` finds for as long as the handle's loan lasts.
-use Rattle.vbtf.proofs.Steps.{◌≡◌, ◌∙◌, ap, ℕ, List, [], ◌∷◌, refl, sym, proved, full_share, ftrue, flft, named, Val, vint, fact, tables, ‵, raw, some, later, ◌⊛◌, at_ret, ◌$◌, ◌∵◌, !, qed, by, drop, move, keep, pick, await, split, join, fsplit, fsplit3, fjoin, feq_i, rewrite, use0, use1, id⊢, first, blocks, exec, enter, of_opd, load, addr, no_more, and_then, stop, fld, hop, returns, alloc_all, pass_all, free_all, look_at, get, through, sets, lands_as, env, shows, MutRef, mut_vals, mut_Tells, Ptr, RawPtr, block_ptr, yes, plain, nothing, owned, opens, closes, heard, peeks, only, Stays, walk_of, stay_ref, Goes-ref, stay_dropped, Goes-dropped, uint_Makes, uint_vals, uint_Tells, triple_of, calls_at, lasts}
+use Rattle.vbtf.proofs.Steps.{◌≡◌, ◌∙◌, ap, ℕ, List, [], ◌∷◌, refl, sym, proved, full_share, ftrue, flft, named, Val, vint, fact, tables, ‵, raw, some, later, ◌⊛◌, at_ret, ◌$◌, ◌∵◌, !, qed, by, drop, move, keep, pick, await, split, join, fsplit, fsplit3, fjoin, feq_i, rewrite, use0, use1, id⊢, first, blocks, exec, enter, of_opd, load, addr, no_more, and_then, stop, fld, hop, returns, alloc_all, pass_all, free_all, look_at, get, through, sets, lands_as, env, shows, mut_vals, mut_Tells, Ptr, RawPtr, block_ptr, yes, plain, nothing, owned, opens, closes, heard, peeks, only, Stays, walk_of, stay_ref, Goes-ref, stay_dropped, Goes-dropped, uint_Makes, uint_vals, uint_Tells, triple_of, calls_at, lasts}
 use Rattle.std.proofs.Common.{w32, w64, ◌<◌, ◌^◌, Bor, length}
 use types.ByLocal.{get_in, sets_last, look_in_at}
 use types.Kit.{fpack}
