@@ -5,6 +5,7 @@ pub mod Kernel
 pub mod Program
 pub mod Orders
 pub mod Changed
+pub mod Changing
 pub mod Indexed
 pub mod Items
 pub mod Adding

@@ -4,7 +4,7 @@ ghost use Rattle.std.specs.Prelude.{◌≡◌, ◌≢◌, ◌<◌, ◌≤◌, le
 ghost use Rattle.btf_model.specs.Table.{Table};
 ghost use Rattle.btf_split_model.specs.Split.{Appends, IsJoined, Joins, cut, over_base, split_blob};
 ghost use Rattle.vbtf.specs.Orders.{order_chosen};
-ghost use Rattle.vbtf.specs.Changed.{EndsChanging};
+ghost use Rattle.vbtf.specs.Changing.{EndsChanging};
 ghost use Rattle.vbtf.specs.Status.{EndsFilling, Keeps, Opens};
 
 use crate::fault::{CLOSED, Fault, INVALID_ARGUMENT, report};
