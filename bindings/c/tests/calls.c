@@ -336,13 +336,14 @@ static const struct {
 	{ VBTF_OK, "no error" },          { VBTF_NO_ROOM, "buffer too short" },
 	{ VBTF_CLOSED, "not open" },      { VBTF_BAD_ARGUMENT, "invalid argument" },
 	{ VBTF_NO_ITEM, "no such item" }, { 21, "unknown error" },
-	{ 99, "unknown error" },          { VBTF_BAD_SECTION_NAME + 1, "unknown error" },
+	{ 99, "unknown error" },          { VBTF_NOT_READ + 1, "unknown error" },
 	{ VBTF_NOT_AN_OBJECT, "not an ELF object that is read here" },
 	{ VBTF_NO_TABLE, "the object has no section .BTF" },
 	{ VBTF_NOT_REPLACEABLE, "the bytes of the section .BTF cannot be replaced" },
 	{ VBTF_RELOCATION_REFUSED, "a relocation has an error" },
 	{ VBTF_SHARED_PLACE, "a section with relocations shares its place with another section" },
 	{ VBTF_BAD_SECTION_NAME, "the name of a section of relocations cannot be read" },
+	{ VBTF_NOT_READ, "the file cannot be read" },
 };
 
 /* A text in a buffer that is long enough, and in shorter ones. */
