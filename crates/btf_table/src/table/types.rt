@@ -12,7 +12,7 @@ use btf_plain::{BtfError, Endianness};
 use btf_records::{BtfType, without_fallback};
 use std::alloc::{AllocError, Global};
 
-/// The number of types for which a table has room beside its own: a rewrite seldom appends more.
+/// The number of types for which a copy has room beside its own: a rewrite seldom appends more.
 const SPARE: usize = 4;
 
 /// The types of a type section, by id; the type of id 0 is first.
@@ -34,7 +34,6 @@ pub fn read_types(
         let (_, behind) = rest.split_at(size);
         rest = behind;
     }
-    types.shrink_to(types.len() + SPARE);
     Ok(types)
 }
 
