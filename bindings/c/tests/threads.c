@@ -17,7 +17,7 @@ static void *reader(void *unused)
 	uintptr_t wrong = 0;
 	for (unsigned i = 0; i < ROUNDS; i++) {
 		uint64_t size = 0, needed = 0;
-		uint32_t id = 0;
+		uint32_t id = 0, alignments[2];
 		bool answer = false;
 		struct vbtf_member member, members[2];
 		const char *name = NULL;
@@ -33,6 +33,9 @@ static void *reader(void *unused)
 		wrong += vbtf_members(&shared, 4, members, 2, &needed, &error) != VBTF_OK || members[1].bit_offset != 32;
 		wrong += vbtf_name(&shared, 1, &name, &len, &error) != VBTF_OK || len != 3 || strcmp(name, "int") != 0;
 		wrong += vbtf_find_from(&shared, "int", 3, VBTF_ANY_KIND, 2, &id, &error) != VBTF_OK || id != 9;
+		wrong += vbtf_index_find(&shared, "word", 4, VBTF_KIND_ENUM, &id, &error) != VBTF_OK || id != 11;
+		wrong += vbtf_alignment(&shared, 4, &id, &error) != VBTF_OK || id != 4;
+		wrong += vbtf_alignments(&shared, 1, alignments, 2, &needed, &error) != VBTF_OK || alignments[1] != 8;
 		wrong += vbtf_value(&shared, 11, "int", 3, &size, &error) != VBTF_OK || size != 9;
 		wrong += vbtf_ext_line_info(&shared, "run", 3, lines, 3, &needed, &error) != VBTF_OK || needed != 3;
 		wrong += vbtf_relocate(&shared, &shared, &relocation, &relocated, &error) != VBTF_OK || relocated.value != 4;
