@@ -190,7 +190,7 @@ struct vbtf_item {
 	uint32_t words[3];
 };
 
-/* The bytes of a name in the memory of a table, which vbtf_name finds. */
+/* The bytes of names in the memory of a table, up to the last zero byte. */
 struct vbtf_name_bytes {
 	const char *at;
 	size_t len;
@@ -320,6 +320,7 @@ uint32_t vbtf_lent_parse_over(struct vbtf_table *base, struct vbtf_table *table,
 uint32_t vbtf_lent_split_bytes(struct vbtf_table *table, uint32_t base_types, uint32_t base_strings, uint8_t *out,
                                size_t room, uint64_t *needed, struct vbtf_error *error);
 uint32_t vbtf_lent_string_len(struct vbtf_table *table, uint32_t *len);
+uint32_t vbtf_lent_string_count(struct vbtf_table *table, uint64_t *count);
 uint32_t vbtf_raw_append_split(struct vbtf_table *table, const uint8_t *data, size_t len, uint32_t order,
                                struct vbtf_error *error);
 uint32_t vbtf_raw_truncate(struct vbtf_table *table, uint32_t base_types, uint32_t base_strings,
@@ -350,8 +351,9 @@ uint32_t vbtf_lent_resolve(struct vbtf_table *table, uint32_t id, uint32_t *to, 
 uint32_t vbtf_lent_size(struct vbtf_table *table, uint32_t id, uint64_t *size, struct vbtf_error *error);
 uint32_t vbtf_lent_text(struct vbtf_table *table, uint32_t offset, uint8_t *out, size_t room, uint64_t *needed,
                         struct vbtf_error *error);
-uint32_t vbtf_lent_name(struct vbtf_table *table, uint32_t offset, struct vbtf_name_bytes *name,
+uint32_t vbtf_lent_name(struct vbtf_table *table, uint32_t offset, struct vbtf_name_bytes *name, size_t *len,
                         struct vbtf_error *error);
+uint32_t vbtf_lent_names(struct vbtf_table *table, struct vbtf_name_bytes *names);
 uint32_t vbtf_lent_bytes(struct vbtf_table *table, uint8_t *out, size_t room, uint64_t *needed,
                          struct vbtf_error *error);
 uint32_t vbtf_lent_item(struct vbtf_table *table, uint32_t id, uint32_t index, struct vbtf_item *item,
@@ -578,6 +580,13 @@ VBTF_INLINE uint32_t vbtf_string_len(const struct vbtf_table *table, uint32_t *l
 	return vbtf_lent_string_len(&loan, len);
 }
 
+/* The number of strings, which is the number of zero bytes in them. */
+VBTF_INLINE uint32_t vbtf_string_count(const struct vbtf_table *table, uint64_t *count)
+{
+	struct vbtf_table loan = vbtf_loan(table);
+	return vbtf_lent_string_count(&loan, count);
+}
+
 /*
  * Appends the types and the strings of a split table to its base, and closes the base's index. vbtf_truncate removes
  * them, so that the modules of a kernel can be read one after another over one table. `order`: as vbtf_parse; the table
@@ -669,12 +678,31 @@ VBTF_INLINE uint32_t vbtf_name(const struct vbtf_table *table, uint32_t offset, 
 	struct vbtf_error unread;
 	struct vbtf_table loan = vbtf_loan(table);
 	struct vbtf_name_bytes name = { NULL, 0 };
-	uint32_t status = vbtf_lent_name(&loan, offset, &name, vbtf_error_or(error, &unread));
-	if (status == VBTF_OK) {
+	uint32_t status = vbtf_lent_name(&loan, offset, &name, len, vbtf_error_or(error, &unread));
+	if (status == VBTF_OK)
 		*text = name.at;
-		*len = name.len;
-	}
 	return status;
+}
+
+/*
+ * The memory of all names, for who reads many: the name at each string offset below `names->len` is at
+ * `names->at + offset`, up to its zero byte, and no name is at another offset. The bytes stay until the table is changed
+ * or closed.
+ */
+VBTF_INLINE uint32_t vbtf_names(const struct vbtf_table *table, struct vbtf_name_bytes *names)
+{
+	struct vbtf_table loan = vbtf_loan(table);
+	struct vbtf_name_bytes all = { NULL, 0 };
+	uint32_t status = vbtf_lent_names(&loan, &all);
+	if (status == VBTF_OK)
+		*names = all;
+	return status;
+}
+
+/* The name at a string offset in the memory of all names; null if no name is at the offset. */
+VBTF_INLINE const char *vbtf_name_in(const struct vbtf_name_bytes *names, uint32_t offset)
+{
+	return offset < names->len ? names->at + offset : NULL;
 }
 
 /* ---- items of a type, by their index */

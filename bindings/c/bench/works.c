@@ -47,15 +47,16 @@ static uint64_t open_there(void)
 static uint64_t names_here(void)
 {
 	struct vbtf_type types[PLACES];
-	const char *text;
-	size_t len;
+	struct vbtf_name_bytes names = { NULL, 0 };
 	uint64_t sum = 0, places = 1;
 
+	vbtf_names(&table, &names);
 	for (uint32_t first = 1; places; first += places) {
 		vbtf_types(&table, first, types, PLACES, &places);
-		for (uint64_t at = 0; at < places; at++)
-			if (!vbtf_name(&table, types[at].name_offset, &text, &len, NULL))
-				sum += len;
+		for (uint64_t at = 0; at < places; at++) {
+			const char *name = vbtf_name_in(&names, types[at].name_offset);
+			sum += name ? strlen(name) : 0;
+		}
 	}
 	return sum;
 }

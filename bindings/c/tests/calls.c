@@ -135,6 +135,24 @@ static void names(const struct vbtf_table *table)
 	check(vbtf_name(&closed, 0, &text, &len, &error) == VBTF_CLOSED && len == 77);
 }
 
+/* The memory of all names is that of the strings, of which each zero byte ends one. */
+static void all_names(const struct vbtf_table *table)
+{
+	struct vbtf_table closed = VBTF_TABLE_INIT;
+	struct vbtf_name_bytes names = { NULL, 0 };
+	const char *strings = STRINGS, *first = NULL;
+	uint64_t count = 0, zeros = 0;
+	size_t len;
+	for (size_t at = 0; at < sizeof STRINGS; at++)
+		zeros += strings[at] == '\0';
+	check(vbtf_string_count(table, &count) == VBTF_OK && count == zeros);
+	check(vbtf_names(table, &names) == VBTF_OK && names.len == sizeof STRINGS);
+	check(vbtf_name(table, 0, &first, &len, NULL) == VBTF_OK && names.at == first);
+	check(vbtf_name_in(&names, 10) == first + 10 && vbtf_name_in(&names, sizeof STRINGS) == NULL);
+	check(vbtf_names(&closed, &names) == VBTF_CLOSED && names.at == first);
+	check(vbtf_string_count(&closed, &count) == VBTF_CLOSED && count == zeros);
+}
+
 static void order_is(const struct vbtf_table *table, uint32_t order)
 {
 	struct vbtf_table closed = VBTF_TABLE_INIT;
@@ -434,6 +452,8 @@ int main(void)
 	texts(&big);
 	names(&little);
 	names(&big);
+	all_names(&little);
+	all_names(&big);
 	looked_up(&little);
 	looked_up_from(&little);
 	looked_up_from(&big);

@@ -9,9 +9,9 @@ pub use Rattle.btf_table.specs.Header
 pub use Rattle.btf_table.specs.Records
 pub use Rattle.btf_table.specs.BtfStr
 pub use Rattle.btf_table.specs.Extent
-pub use Rattle.btf_rules.specs.Layout
-pub use Rattle.btf_rules.specs.Checked
-pub use Rattle.btf_rules.specs.Features
+pub use Rattle.btf_table.specs.Layout
+pub use Rattle.btf_table.specs.Checked
+pub use Rattle.btf_table.specs.Features
 pub use Rattle.btf_compare.specs.Pairs
 pub use Rattle.btf_compare.specs.FieldStep
 pub use Rattle.btf_compare.specs.Compared

@@ -20,6 +20,11 @@
 #![tactic(auto)]
 
 pub use btf_above::{relocations_of, variant_value};
+pub use btf_compare::{fields_are_compatible, types_are_compatible, types_are_compatible_traced};
+pub use btf_ext::{
+    BtfExt, FuncInfo, FuncSecInfo, LineInfo, LineSecInfo, SecInfo, SecInfoIter, bpf_func_info,
+    bpf_line_info,
+};
 pub use btf_plain::{
     Array, BtfArray, BtfError, BtfKind, Const, DeclTag, Endianness, Float, Func, FuncLinkage, Fwd,
     Int, IntEncoding, MAX_VLEN, Ptr, Restrict, SectionIndex, TypeTag, Typedef, Var, VarLinkage,
@@ -29,9 +34,7 @@ pub use btf_records::{
     BtfEnum, BtfEnum64, BtfMember, BtfParam, BtfType, DataSec, DataSecEntry, Enum, Enum64,
     Enum64Fallback, Enum64VariantFallback, FuncProto, Struct, Union,
 };
-pub use btf_types::{
-    Btf, BtfExt, BtfFeature, BtfFeatureResolver, BtfStr, FeatureAnswer, FillPolicy, FuncInfo,
-    FuncSecInfo, KsymsIds, LineInfo, LineSecInfo, SecInfo, SecInfoIter, bpf_func_info,
-    bpf_line_info, fields_are_compatible, rewrite_bytes, rewrite_bytes_with, types_are_compatible,
-    types_are_compatible_traced,
+pub use btf_table::{
+    Btf, BtfFeature, BtfFeatureResolver, BtfStr, FeatureAnswer, FillPolicy, KsymsIds,
+    rewrite_bytes, rewrite_bytes_with,
 };

@@ -15,6 +15,7 @@ use Rattle.btf_model.proofs.Walks.{resolved_is_known}
 use Rattle.btf_plain.specs.Error.{MeetsOrNoMemory, IsOrNoMemory, Meets, refusal_of}
 use Rattle.btf_plain.specs.declared.error.BtfError.{BtfError}
 use Rattle.btf_records.specs.BtfType.{record_of, fallback_of, type_kind}
+use Rattle.btf_table.specs.Btf.{IsType}
 use Rattle.btf_plain.specs.Items.{enum_words, enum64_words}
 use Rattle.btf_records.specs.declared.btf_type.BtfType.{BtfType}
 use Rattle.btf_records.specs.declared.btf_type.BtfType.TheVariants as types
@@ -32,29 +33,25 @@ enum64_of_words : (vs : List BtfEnum64) → enum64_variants (flat_map enum64_wor
 enum64_of_words [] = refl
 enum64_of_words (v ∷ vs) = ap (λ (rest : List Variant). enum64_variant v ∷ rest) (enum64_of_words vs)
 
--- the type of an id, with the kind in its info word
-abbrev pub IsTypeAt : Table → ℕ → BtfType → Type 0
-IsTypeAt t id b = (slice_get t.records id ≡ Some (record_of b)) × (slice_get t.fallbacks id ≡ Some (fallback_of b)) × (kind_of (record_of b).info ≡ Some (type_kind b))
-
-by_type : (t : Table) (id : ℕ) (b : BtfType) (answer : Result (List Variant) Refusal) → IsTypeAt t id b → variants_by id (Some (type_kind b)) (record_of b) (fallback_of b) ≡ answer → HasVariants t id answer
-by_type t id b answer at is = (record_of b, fallback_of b, at.0, at.1, sym (ap (λ (k : Option Kind). variants_by id k (record_of b) (fallback_of b)) at.2 ∙ is))
+by_type : (t : Table) (id : ℕ) (b : BtfType) (answer : Result (List Variant) Refusal) → IsType t id b → variants_by id (Some (type_kind b)) (record_of b) (fallback_of b) ≡ answer → HasVariants t id answer
+by_type t id b answer at is = (record_of b, fallback_of b, at.record_is, at.fallback_is, sym (ap (λ (k : Option Kind). variants_by id k (record_of b) (fallback_of b)) at.kind_is ∙ is))
 
 as_type : (id : ℕ) (b c : BtfType) → b ≡ c → variants_by id (Some (type_kind b)) (record_of b) (fallback_of b) ≡ variants_by id (Some (type_kind c)) (record_of c) (fallback_of c)
 as_type id b c is = ap (λ (x : BtfType). variants_by id (Some (type_kind x)) (record_of x) (fallback_of x)) is
 
-pub enum_has : (t : Table) (id : ℕ) (b : BtfType) (r : Record) (vs : List BtfEnum) → IsTypeAt t id b → b ≡ types.Enum r → r.tail ≡ flat_map enum_words vs → HasVariants t id (Ok (map enum_variant vs))
+pub enum_has : (t : Table) (id : ℕ) (b : BtfType) (r : Record) (vs : List BtfEnum) → IsType t id b → b ≡ types.Enum r → r.tail ≡ flat_map enum_words vs → HasVariants t id (Ok (map enum_variant vs))
 enum_has t id b r vs at is tail =
     by_type t id b (Ok (map enum_variant vs)) at (as_type id b (types.Enum r) is ∙ ap (λ ws. Ok (enum_variants ws)) tail ∙ ap (λ (ws : List Variant). Ok ws) (enum_of_words vs))
 
-pub enum64_has : (t : Table) (id : ℕ) (b : BtfType) (r : Record) (vs : List BtfEnum64) → IsTypeAt t id b → b ≡ types.Enum64 r → r.tail ≡ flat_map enum64_words vs → HasVariants t id (Ok (map enum64_variant vs))
+pub enum64_has : (t : Table) (id : ℕ) (b : BtfType) (r : Record) (vs : List BtfEnum64) → IsType t id b → b ≡ types.Enum64 r → r.tail ≡ flat_map enum64_words vs → HasVariants t id (Ok (map enum64_variant vs))
 enum64_has t id b r vs at is tail =
     by_type t id b (Ok (map enum64_variant vs)) at (as_type id b (types.Enum64 r) is ∙ ap (λ ws. Ok (enum64_variants ws)) tail ∙ ap (λ (ws : List Variant). Ok ws) (enum64_of_words vs))
 
-pub union_has : (t : Table) (id : ℕ) (b : BtfType) (u : UnionRecord) (fallback : Fallback) → IsTypeAt t id b → b ≡ types.Union u → u.fallback ≡ Some fallback → HasVariants t id (Ok fallback.variants)
+pub union_has : (t : Table) (id : ℕ) (b : BtfType) (u : UnionRecord) (fallback : Fallback) → IsType t id b → b ≡ types.Union u → u.fallback ≡ Some fallback → HasVariants t id (Ok fallback.variants)
 union_has t id b u fallback at is kept =
     by_type t id b (Ok fallback.variants) at (as_type id b (types.Union u) is ∙ ap (λ (f : Option Fallback). variants_by id (Some kinds.Union) u.words f) kept)
 
-pub plain_union : (t : Table) (id : ℕ) (b : BtfType) (u : UnionRecord) → IsTypeAt t id b → b ≡ types.Union u → u.fallback ≡ None → HasVariants t id (Err (UnexpectedBtfType id))
+pub plain_union : (t : Table) (id : ℕ) (b : BtfType) (u : UnionRecord) → IsType t id b → b ≡ types.Union u → u.fallback ≡ None → HasVariants t id (Err (UnexpectedBtfType id))
 plain_union t id b u at is none =
     by_type t id b (Err (UnexpectedBtfType id)) at (as_type id b (types.Union u) is ∙ ap (λ (f : Option Fallback). variants_by id (Some kinds.Union) u.words f) none)
 
@@ -64,7 +61,7 @@ no_enumeration id (types.Enum64 r) no_enum no_enum64 no_union = absurd (no_enum6
 no_enumeration id (types.Union u) no_enum no_enum64 no_union = absurd (no_union u refl)
 no_enumeration id b no_enum no_enum64 no_union = refl
 
-pub other_has : (t : Table) (id : ℕ) (b : BtfType) → IsTypeAt t id b → ((r : Record) → b ≡ types.Enum r → ⊥) → ((r : Record) → b ≡ types.Enum64 r → ⊥) → ((u : UnionRecord) → b ≡ types.Union u → ⊥) → HasVariants t id (Err (UnexpectedBtfType id))
+pub other_has : (t : Table) (id : ℕ) (b : BtfType) → IsType t id b → ((r : Record) → b ≡ types.Enum r → ⊥) → ((r : Record) → b ≡ types.Enum64 r → ⊥) → ((u : UnionRecord) → b ≡ types.Union u → ⊥) → HasVariants t id (Err (UnexpectedBtfType id))
 other_has t id b at no_enum no_enum64 no_union = by_type t id b (Err (UnexpectedBtfType id)) at (no_enumeration id b no_enum no_enum64 no_union)
 
 -- ---- the result of the search

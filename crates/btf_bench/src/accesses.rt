@@ -1,8 +1,6 @@
 //! Random accesses of the types of a table.
 
-use btf_plain::BtfKind;
-use btf_records::BtfType;
-use btf_types::Btf;
+use btf::{Btf, BtfKind, BtfType};
 use rand_core::{Rng, SeedableRng};
 use rand_xoshiro::Xoshiro256PlusPlus;
 use std::alloc::Global;

@@ -3,7 +3,7 @@
 use crate::sketch::Sketch;
 use crate::timing::Timing;
 use crate::work::since;
-use btf_types::Btf;
+use btf::Btf;
 use std::alloc::Global;
 use std::test::Fail;
 use std::time::Instant;

@@ -2,8 +2,8 @@
 
 use crate::timing::Timing;
 use crate::work::since;
+use btf::Btf;
 use btf_relocate::{CandidatePolicy, Target, candidates_of, relocate_section, resolve};
-use btf_types::Btf;
 use std::alloc::Global;
 use std::test::Fail;
 use std::time::Instant;

@@ -1,7 +1,7 @@
 //! Sections of a `.BTF.ext`, and their names.
 
 use crate::sketch::Sketch;
-use btf_plain::Endianness;
+use btf::Endianness;
 use btf_samples::spelled::push_words;
 use std::alloc::Global;
 use std::test::Fail;

@@ -1,9 +1,8 @@
 //! Bytes of unfinished tables, in little-endian order.
 
-use btf_plain::Endianness;
+use btf::{Btf, Endianness};
 use btf_samples::blobs::blob;
 use btf_samples::spelled::push_words;
-use btf_types::Btf;
 use std::alloc::{AllocError, Global};
 use std::test::Fail;
 

@@ -1,9 +1,11 @@
 //! The works that are timed.
 
 use crate::timing::Timing;
-use btf_plain::{BtfError, BtfKind, Endianness};
+use btf::{
+    Btf, BtfError, BtfFeatureResolver, BtfKind, Endianness, FillPolicy, rewrite_bytes_with,
+    types_are_compatible,
+};
 use btf_samples::layout::Layout;
-use btf_types::{Btf, BtfFeatureResolver, FillPolicy, rewrite_bytes_with, types_are_compatible};
 use std::alloc::Global;
 use std::collections::HashMap;
 use std::test::Fail;

@@ -3,7 +3,8 @@ use Rattle.std.proofs.Common.{◌≡◌, ◌≢◌, ℕ, List, sym, ap, ◌∙�
 use Rattle.std.specs.Prelude.{◌==◌, codes}
 use Rattle.std.specs.List.{before_first, after_first}
 use Rattle.btf_rewrite_model.specs.declared.feature.BtfFeature.{BtfFeature}
-use Rattle.btf_cli.specs.Setting.{Setting, Grants, FillsSized, SectionSize, SymbolOffset, KsymsId, PlaceholderId, Sets, feature_word, fill_word, IsNamed, IsId}
+use Rattle.btf_rewrite_model.specs.FeatureSet.{feature_name}
+use Rattle.btf_cli.specs.Setting.{Setting, Grants, FillsSized, SectionSize, SymbolOffset, KsymsId, PlaceholderId, Sets, fill_word, IsNamed, IsId}
 
 -- the word is split there into these texts
 pub record IsCut (word what rest : List ℕ) : Type 0 where
@@ -19,7 +20,7 @@ SetsBy what rest (SymbolOffset name offset) = (what ≡ codes "symbol") × IsNam
 SetsBy what rest (KsymsId id) = (what ≡ codes "ksyms") × IsId rest id
 SetsBy what rest (PlaceholderId id) = (what ≡ codes "placeholder") × IsId rest id
 
-pub sets_by : (word what rest : List ℕ) → IsCut word what rest → ((f : BtfFeature) → word ≢ feature_word f) → word ≢ fill_word → (setting : Setting) → Sets word setting → SetsBy what rest setting
+pub sets_by : (word what rest : List ℕ) → IsCut word what rest → ((f : BtfFeature) → word ≢ feature_name f) → word ≢ fill_word → (setting : Setting) → Sets word setting → SetsBy what rest setting
 sets_by word what rest cut unnamed other (Grants feature) sets = unnamed feature sets
 sets_by word what rest cut unnamed other FillsSized sets = other sets
 sets_by word what rest cut unnamed other (SectionSize name size) sets =

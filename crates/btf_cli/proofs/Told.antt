@@ -6,30 +6,11 @@ use Rattle.std.specs.Str.{bytes_eq}
 use Rattle.std.specs.Str.Parse.{digits_value}
 use Rattle.btf_rewrite_model.specs.declared.feature.BtfFeature.TheVariants as features
 use Rattle.btf_rewrite_model.specs.declared.feature.BtfFeature.{BtfFeature}
-use Rattle.btf_cli.specs.Setting.{Setting, Grants, FillsSized, SectionSize, SymbolOffset, KsymsId, PlaceholderId, Sets, feature_word, IsNamed}
+use Rattle.btf_rewrite_model.specs.FeatureSet.{feature_name}
+use Rattle.btf_cli.specs.Setting.{Setting, Grants, FillsSized, SectionSize, SymbolOffset, KsymsId, PlaceholderId, Sets, IsNamed}
+use Rattle.btf_rewrite_model.proofs.FeatureSet.{named, named_is}
 use Rattle.btf_cli.specs.Settings.{SetAll}
 use Rattle.btf_cli.proofs.NameEnds.{cut_last, cut_named}
-
--- the feature that a word names, if it names one
-abbrev pub feature_told : List ℕ → BtfFeature
-feature_told word =
-    if bytes_eq word (codes "Func") then features.Func
-    else (if bytes_eq word (codes "FuncGlobal") then features.FuncGlobal
-    else (if bytes_eq word (codes "DataSec") then features.DataSec
-    else (if bytes_eq word (codes "DataSecZero") then features.DataSecZero
-    else (if bytes_eq word (codes "Float") then features.Float
-    else (if bytes_eq word (codes "DeclTag") then features.DeclTag
-    else (if bytes_eq word (codes "TypeTag") then features.TypeTag else features.Enum64))))))
-
-pub feature_is : (f : BtfFeature) → feature_told (feature_word f) ≡ f
-feature_is features.Func = refl
-feature_is features.FuncGlobal = refl
-feature_is features.DataSec = refl
-feature_is features.DataSecZero = refl
-feature_is features.Float = refl
-feature_is features.DeclTag = refl
-feature_is features.TypeTag = refl
-feature_is features.Enum64 = refl
 
 -- the setting of a text with `=`, by its parts
 abbrev named_told : (List ℕ → ℕ → Setting) → Option (List ℕ × List ℕ) → Setting
@@ -43,24 +24,24 @@ told word =
     else (if starts_with nat_eq word (codes "symbol:") then named_told SymbolOffset (cut_last (drop 7 word))
     else (if starts_with nat_eq word (codes "ksyms:") then KsymsId (digits_value 10 (drop 6 word))
     else (if starts_with nat_eq word (codes "placeholder:") then PlaceholderId (digits_value 10 (drop 12 word))
-    else (if bytes_eq word (codes "fill-sized") then FillsSized else Grants (feature_told word)))))
+    else (if bytes_eq word (codes "fill-sized") then FillsSized else Grants (named word)))))
 
-feature_word_told : (f : BtfFeature) → told (feature_word f) ≡ Grants (feature_told (feature_word f))
-feature_word_told features.Func = refl
-feature_word_told features.FuncGlobal = refl
-feature_word_told features.DataSec = refl
-feature_word_told features.DataSecZero = refl
-feature_word_told features.Float = refl
-feature_word_told features.DeclTag = refl
-feature_word_told features.TypeTag = refl
-feature_word_told features.Enum64 = refl
+feature_name_told : (f : BtfFeature) → told (feature_name f) ≡ Grants (named (feature_name f))
+feature_name_told features.Func = refl
+feature_name_told features.FuncGlobal = refl
+feature_name_told features.DataSec = refl
+feature_name_told features.DataSecZero = refl
+feature_name_told features.Float = refl
+feature_name_told features.DeclTag = refl
+feature_name_told features.TypeTag = refl
+feature_name_told features.Enum64 = refl
 
 told_named : (kind : List ℕ → ℕ → Setting) (text name : List ℕ) (n : ℕ) → IsNamed text name n → named_told kind (cut_last text) ≡ kind name n
 told_named kind text name n named = ap (named_told kind) (cut_named text name n named) ∙ ap (kind name) named.2.1
 
 -- this is the setting that the word makes
 pub told_is : (word : List ℕ) (setting : Setting) → Sets word setting → told word ≡ setting
-told_is word (Grants feature) sets = ap told sets ∙ feature_word_told feature ∙ ap (λ f. Grants f) (feature_is feature)
+told_is word (Grants feature) sets = ap told sets ∙ feature_name_told feature ∙ ap (λ f. Grants f) (named_is feature)
 told_is word FillsSized sets = ap told sets
 told_is word (SectionSize name size) sets = ap told sets.1 ∙ told_named SectionSize sets.0 name size sets.2
 told_is word (SymbolOffset name offset) sets = ap told sets.1 ∙ told_named SymbolOffset sets.0 name offset sets.2

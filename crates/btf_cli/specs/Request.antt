@@ -7,8 +7,8 @@ use Rattle.btf_rewrite_model.specs.declared.ksyms_ids.KsymsIds.{KsymsIds}
 use Rattle.btf_rewrite_model.specs.declared.feature.BtfFeature.{BtfFeature}
 use Rattle.btf_rewrite_model.specs.declared.feature.FillPolicy.{FillPolicy}
 use Rattle.btf_rewrite_model.specs.declared.feature.FillPolicy.TheVariants.{KeepSized, FillSized}
-use Rattle.btf_rewrite_model.specs.Ksyms as model
-use Rattle.btf_cli.specs.Setting.{Setting, feature_word, fill_word, texts}
+use Rattle.btf_rewrite_model.specs.FeatureSet.{feature_name}
+use Rattle.btf_cli.specs.Setting.{Setting, fill_word, texts}
 use Rattle.btf_cli.specs.Settings.{SetAll, SetIds}
 use Rattle.btf_cli.specs.declared.request.Request.{Request}
 
@@ -26,7 +26,7 @@ has_word request text = list_any (λ (word : String Global). bytes_eq (string_by
 
 -- whether a request contains the word of this feature
 abbrev pub names : Request → BtfFeature → Bool
-names request f = has_word request (feature_word f)
+names request f = has_word request (feature_name f)
 
 -- the policy of a request: sized DATASECs are filled if the request contains the word for it
 abbrev pub policy_named : Request → FillPolicy

@@ -4,7 +4,7 @@ use Rattle.std.specs.Prelude.{String}
 use Rattle.std.specs.Str.Parse.{IsNumeral, digits_value}
 use Rattle.std.specs.declared.alloc.Global.{Global}
 use Rattle.btf_rewrite_model.specs.declared.feature.BtfFeature.{BtfFeature}
-use Rattle.btf_rewrite_model.specs.declared.feature.BtfFeature.TheVariants as features
+use Rattle.btf_rewrite_model.specs.FeatureSet.{feature_name}
 
 -- the texts of the words
 abbrev pub texts : List (String Global) → List (List ℕ)
@@ -21,17 +21,6 @@ IsId text id = IsNumber 32 text id
 -- A name and a number with `=` between them. Because the number consists of digits, the name ends at the last `=`.
 abbrev pub IsNamed : List ℕ → List ℕ → ℕ → Type 0
 IsNamed text name n = (digits : List ℕ) × (text ≡ name ++ codes "=" ++ digits) × IsNumber 64 digits n
-
--- the word that grants a feature
-abbrev pub feature_word : BtfFeature → List ℕ
-feature_word features.Func = codes "Func"
-feature_word features.FuncGlobal = codes "FuncGlobal"
-feature_word features.DataSec = codes "DataSec"
-feature_word features.DataSecZero = codes "DataSecZero"
-feature_word features.Float = codes "Float"
-feature_word features.DeclTag = codes "DeclTag"
-feature_word features.TypeTag = codes "TypeTag"
-feature_word features.Enum64 = codes "Enum64"
 
 -- the word for filling DATASECs that have a size
 abbrev pub fill_word : List ℕ
@@ -54,7 +43,7 @@ pub data Setting : Type 0 where
 
 -- The word makes this setting.
 abbrev pub Sets : List ℕ → Setting → Type 0
-Sets word (Grants feature) = word ≡ feature_word feature
+Sets word (Grants feature) = word ≡ feature_name feature
 Sets word FillsSized = word ≡ fill_word
 Sets word (SectionSize name size) = (text : List ℕ) × (word ≡ codes "section:" ++ text) × IsNamed text name size
 Sets word (SymbolOffset name offset) = (text : List ℕ) × (word ≡ codes "symbol:" ++ text) × IsNamed text name offset

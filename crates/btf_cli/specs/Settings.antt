@@ -1,10 +1,10 @@
 -- The settings of all the words of a rewrite.
-use Rattle.std.specs.Prelude.{◌≡◌, ℕ, if◌then◌else◌, Bool, true, false, List, [], ◌∷◌, map, Option, Some, None}
+use Rattle.std.specs.Prelude.{◌≡◌, ℕ, if◌then◌else◌, Bool, true, false, List, [], ◌∷◌, Option, Some, None}
 use Rattle.std.specs.List.{AllZip, filter_map, list_any}
 use Rattle.std.specs.Option.{option_or, option_to_list}
 use Rattle.std.specs.Str.{bytes_eq}
-use Rattle.btf_rewrite_model.specs.declared.feature.BtfFeature.TheVariants as features
 use Rattle.btf_rewrite_model.specs.Feature.{same_feature}
+use Rattle.btf_rewrite_model.specs.FeatureSet.{answers_of}
 use Rattle.btf_rewrite_model.specs.declared.feature.BtfFeature.{BtfFeature}
 use Rattle.btf_rewrite_model.specs.declared.feature.FeatureAnswer.{FeatureAnswer}
 use Rattle.btf_rewrite_model.specs.declared.feature.FillPolicy.{FillPolicy}
@@ -24,19 +24,9 @@ abbrev pub is_grant : BtfFeature → Setting → Bool
 is_grant f (Grants feature) = same_feature feature f
 is_grant f setting = false
 
--- the eight features, by their numbers
-abbrev pub all_features : List BtfFeature
-all_features =
-    features.Func ∷ features.FuncGlobal ∷ features.DataSec ∷ features.DataSecZero ∷ features.Float ∷ features.DeclTag
-    ∷ features.TypeTag ∷ features.Enum64 ∷ []
-
--- the kernel's answer for a feature: it has the feature if a setting grants it
-abbrev pub answer_set : List Setting → BtfFeature → FeatureAnswer
-answer_set settings f = record { feature = f; granted = list_any (is_grant f) settings }
-
--- the kernel's answers for all features
+-- the kernel's answers for all features: it has the features that settings grant
 abbrev pub kernel_set : List Setting → List FeatureAnswer
-kernel_set settings = map (answer_set settings) all_features
+kernel_set settings = answers_of (λ f. list_any (is_grant f) settings)
 
 -- ---- the policy
 

@@ -2,8 +2,8 @@
 
 ghost use Rattle.std.specs.Prelude.{◌≡◌, ◌↔◌, None, Some, IsSome, OnSome};
 
-use crate::word::{FILL_SIZED, Word, feature_word};
-use btf_rules::{BtfFeature, FillPolicy};
+use crate::word::{FILL_SIZED, Word};
+use btf_rewrite_model::{BtfFeature, FillPolicy, feature_name};
 use btf_table::KsymsIds;
 
 /// The words of a rewrite, which are all valid, and the ids of `.ksyms` in them.
@@ -68,7 +68,7 @@ impl<'a> Request<'a> {
     pub fn grants(&self, feature: BtfFeature) -> bool
         ensures { result ≡ names self.now feature }
     {
-        self.has(feature_word(feature))
+        self.has(feature_name(feature))
     }
 
     /// The policy for DATASECs that have a size and no entries.

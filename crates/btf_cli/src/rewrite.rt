@@ -2,7 +2,7 @@
 
 ghost use Rattle.std.specs.Prelude.{◌≡◌, ℕ, List, IfOk, IfErr, IfSome, IfNone};
 ghost use Rattle.btf_plain.specs.Error.{refusal_of};
-ghost use Rattle.btf_rules.specs.Layout.{sizes_of, offsets_of};
+ghost use Rattle.btf_table.specs.Layout.{sizes_of, offsets_of};
 ghost use Rattle.btf_cli.specs.Answer.{rewriting, IsAnswer, IsDeclined};
 ghost use Rattle.btf_cli.specs.Request.{AreSet, names};
 ghost use Rattle.btf_cli.specs.Setting.{Setting, SectionSize, SymbolOffset, Sets, texts};
@@ -11,8 +11,7 @@ ghost use Rattle.btf_cli.specs.Settings.{SetAll, last_set, size_set, offset_set}
 use crate::request::Request;
 use crate::word::Word;
 use btf_plain::{BtfError, Endianness, SectionIndex};
-use btf_rules::{BtfFeature, BtfFeatureResolver};
-use btf_table::rewrite_bytes_with;
+use btf_table::{BtfFeature, BtfFeatureResolver, rewrite_bytes_with};
 use std::alloc::{AllocError, Global};
 use std::collections::HashMap;
 

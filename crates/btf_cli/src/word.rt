@@ -1,11 +1,10 @@
 //! The words of a rewrite.
 
-ghost use Rattle.std.specs.Prelude.{◌≡◌, ◌≢◌, ℕ, List, IfSome, IfNone};
-ghost use Rattle.btf_rewrite_model.specs.declared.feature.BtfFeature.{BtfFeature};
-ghost use Rattle.btf_cli.specs.Setting.{feature_word as word_of, IsNamed};
+ghost use Rattle.std.specs.Prelude.{ℕ, List, IfSome, IfNone};
+ghost use Rattle.btf_cli.specs.Setting.{IsNamed};
 
 use crate::number::{read_id, read_number};
-use btf_rules::BtfFeature;
+use btf_rewrite_model::{BtfFeature, feature_named};
 
 /// The word for filling DATASECs that have a size.
 pub const FILL_SIZED: &str = "fill-sized";
@@ -27,40 +26,6 @@ pub enum Word<'a> {
     Placeholder(u32),
 }
 
-/// The word that grants a feature.
-pub fn feature_word(feature: BtfFeature) -> &'static str
-    ensures { result.now ≡ word_of feature }
-{
-    match feature {
-        BtfFeature::Func => "Func",
-        BtfFeature::FuncGlobal => "FuncGlobal",
-        BtfFeature::DataSec => "DataSec",
-        BtfFeature::DataSecZero => "DataSecZero",
-        BtfFeature::Float => "Float",
-        BtfFeature::DeclTag => "DeclTag",
-        BtfFeature::TypeTag => "TypeTag",
-        BtfFeature::Enum64 => "Enum64",
-    }
-}
-
-/// The feature that a word grants.
-fn read_feature(word: &str) -> Option<BtfFeature>
-    ensures some { IfSome result (λ feature. word.now ≡ word_of feature) }
-    ensures none { IfNone result ((feature : BtfFeature) → word.now ≢ word_of feature) }
-{
-    match word {
-        "Func" => Some(BtfFeature::Func),
-        "FuncGlobal" => Some(BtfFeature::FuncGlobal),
-        "DataSec" => Some(BtfFeature::DataSec),
-        "DataSecZero" => Some(BtfFeature::DataSecZero),
-        "Float" => Some(BtfFeature::Float),
-        "DeclTag" => Some(BtfFeature::DeclTag),
-        "TypeTag" => Some(BtfFeature::TypeTag),
-        "Enum64" => Some(BtfFeature::Enum64),
-        _ => None,
-    }
-}
-
 /// The name before the last `=` of a text, and the number after it.
 fn read_named(text: &str) -> Option<(&str, u64)>
     ensures some { IfSome result (λ named. IsNamed text.now named.0.now named.1) }
@@ -80,7 +45,7 @@ impl<'a> Word<'a> {
         ensures some { IfSome result (λ word. Sets text.now (setting_of word)) }
         ensures none { IfNone result ((setting : Setting) → Sets text.now setting → ⊥) }
     {
-        if let Some(feature) = read_feature(text) {
+        if let Some(feature) = feature_named(text) {
             return Some(Word::Grant(feature));
         }
         if text == FILL_SIZED {

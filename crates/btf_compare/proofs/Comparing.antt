@@ -24,7 +24,7 @@ use Rattle.btf_plain.specs.Error.{MeetsOrNoMemory, Meets, refusal_of}
 use Rattle.btf_plain.specs.declared.error.BtfError.{BtfError}
 use Rattle.btf_plain.specs.declared.error.BtfError.TheVariants as errors
 use Rattle.btf_compare.specs.declared.frame.Frame.{Frame}
-use Rattle.btf_compare.specs.Compared.{frame_of, IsStarted, IsRefused, TracesBy}
+use Rattle.btf_compare.specs.Compared.{frame_of, IsStarted, CannotStart, TracesBy}
 use Rattle.btf_compare.specs.Pairs.{pair_of, ids_of}
 use Rattle.btf_plain.proofs.Refused.{known_refusal}
 
@@ -126,7 +126,7 @@ module _ (local target : Table) (root : ℕ × ℕ) where
   none : Pair → Type 0
   none q = ⊥
 
-  pub root_refused : HaveKinds local → HaveKinds target → (e : BtfError) (result : Result Bool BtfError) (IsReported : List (ℕ × ℕ) → Type 0) → IsRefused local target (pair_of root) e → result ≡ Err e → IsReported [] → Compares local target (pair_of root) result IsReported
+  pub root_refused : HaveKinds local → HaveKinds target → (e : BtfError) (result : Result Bool BtfError) (IsReported : List (ℕ × ℕ) → Type 0) → CannotStart local target (pair_of root) e → result ≡ Err e → IsReported [] → Compares local target (pair_of root) result IsReported
   root_refused ls ts e result IsReported (inl memory) is added =
       let whole = plain_answers local target ls ts [] (pair_of root) in
       cut_short local target none (pair_of root) [] result IsReported (whole.0, whole.1, firsts whole.1, whole.2, refl) (is ∙ ap (λ (x : BtfError). Err x) memory) added
@@ -223,7 +223,7 @@ module _ (local target : Table) (root : Pair) (opened settled : PairSet) (top : 
       refused_with result e refusal is known plain =
           answered local target (IsIn settled) root (Err refusal) state.listed result IsReported (run_refused local target (IsIn settled) root top g p below state.listed state.run next (Err refusal) plain (not_true refusal)) (refusal_reported result e refusal is known) state.added
 
-      pub is_refused : HaveKinds local → HaveKinds target → (e : BtfError) (result : Result Bool BtfError) → IsRefused local target p e → result ≡ Err e → Compares local target root result IsReported
+      pub is_refused : HaveKinds local → HaveKinds target → (e : BtfError) (result : Result Bool BtfError) → CannotStart local target p e → result ≡ Err e → Compares local target root result IsReported
       is_refused ls ts e result (inl memory) is = no_memory ls ts result (is ∙ ap (λ (x : BtfError). Err x) memory)
       is_refused ls ts e result (inr (inl h)) is = refused_with result e (UnknownBtfType p.local) is (ap refusal_of h.1) (Plain.no_local (top.pair ∷ open_pairs below) p not_above h.0)
       is_refused ls ts e result (inr (inr h)) is = refused_with result e (UnknownBtfType p.target) is (ap refusal_of h.3) (Plain.no_target (top.pair ∷ open_pairs below) p h.0 not_above h.1 h.2)

@@ -12,7 +12,7 @@ use Rattle.btf_model.proofs.RunLengths.{widest, left_to_do, less_settled}
 use Rattle.btf_plain.specs.declared.error.BtfError.{BtfError}
 use Rattle.btf_plain.specs.declared.error.BtfError.TheVariants as errors
 use Rattle.btf_compare.specs.declared.frame.Frame.{Frame}
-use Rattle.btf_compare.specs.declared.progress.Progress.TheVariants.{Open, Compatible}
+use Rattle.btf_compare.specs.declared.entries.Progress.TheVariants.{Open, Compatible}
 use Rattle.btf_compare.specs.declared.pair_map.PairMap.{PairMap}
 use Rattle.btf_compare.specs.PairMap.{known, count, Learns}
 use Rattle.btf_compare.specs.Compared.{WalksTo, ComesTo, IsStarted, frame_of, is_progress_open, is_progress_compatible, opened_in, compatible_in, passed_in}

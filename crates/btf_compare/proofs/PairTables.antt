@@ -6,9 +6,9 @@ use Rattle.std.proofs.lemmas.Bool.{cases_Bool, cases_eq, false≢true}
 use Rattle.btf_compare.specs.Entries.{is_ids, values_in, Sets}
 use Rattle.btf_compare.specs.Buckets.{bucket_of, is_numbered}
 use Rattle.std.proofs.lemmas.List.{map-set, get_or-set_same, get_or-set_other, length-map, length-set, length-append}
-use Rattle.btf_compare.specs.PairTable.{AreShared, IsTable, TakesMore, capacity, count_in, entries_of, held, layout, mark_of, place_in, value_of}
-use Rattle.btf_compare.specs.declared.bucket.Bucket.{Bucket}
-use Rattle.btf_compare.specs.declared.progress.Progress.{Progress}
+use Rattle.btf_compare.specs.PairTable.{AreShared, IsPairTable, TakesMore, capacity, count_in, entries_of, held, layout, mark_of, place_in, value_of}
+use Rattle.btf_compare.specs.declared.pair_table.Bucket.{Bucket}
+use Rattle.btf_compare.specs.declared.entries.Progress.{Progress}
 use Rattle.btf_compare.proofs.EntryLists.{is_same, array_push, further_set, nowhere, set_then_more}
 use Rattle.btf_compare.proofs.Buckets.{bucket_within}
 
@@ -88,7 +88,7 @@ module _ {V : Type 0} where
   held_set (r ∷ rows) zero old row lt is = let same : r ≡ old = is in omega (arith, ap length same)
   held_set (r ∷ rows) (suc i) old row lt is = omega (arith, held_set rows i old row (omega (arith, lt)) is)
 
-module _ (buckets : List Bucket) (mask : ℕ) (further : List ((ℕ × ℕ) × Progress)) (table : IsTable (layout buckets mask further)) where
+module _ (buckets : List Bucket) (mask : ℕ) (further : List ((ℕ × ℕ) × Progress)) (table : IsPairTable (layout buckets mask further)) where
   rows : List (List ((ℕ × ℕ) × Progress))
   rows = map entries_of buckets
 
@@ -199,7 +199,7 @@ module _ (buckets : List Bucket) (mask : ℕ) (further : List ((ℕ × ℕ) × P
             ap (λ (j : ℕ). get_or (map mark_of (set buckets i new)) j false) (place_set other) ∙ ap (λ (c : List Bool). get_or c (place other) false) (map-set mark_of buckets i new)
             ∙ get_or-set_other (map mark_of buckets) i (place other) new.overflows false differs
 
-        pub is_table : (new.overflows ≡ false → b.overflows ≡ false) → (new.overflows ≡ false → values_in more ids ≡ None) → IsTable (layout (set buckets i new) mask more)
+        pub is_table : (new.overflows ≡ false → b.overflows ≡ false) → (new.overflows ≡ false → values_in more ids ≡ None) → IsPairTable (layout (set buckets i new) mask more)
         is_table marks own = record {
           bits = table.bits;
           ones = table.ones;
@@ -218,7 +218,7 @@ module _ (buckets : List Bucket) (mask : ℕ) (further : List ((ℕ × ℕ) × P
         }
 
 -- ---- a pair that is added, or whose progress changes
-module _ (buckets : List Bucket) (mask : ℕ) (further : List ((ℕ × ℕ) × Progress)) (table : IsTable (layout buckets mask further))
+module _ (buckets : List Bucket) (mask : ℕ) (further : List ((ℕ × ℕ) × Progress)) (table : IsPairTable (layout buckets mask further))
     (ids : ℕ × ℕ) (i : ℕ) (at : i ≡ bucket_of mask (length buckets) ids) (b : Bucket) (is : b ≡ get_or buckets i b) (p : Progress) where
   -- in its bucket
   module _ (none : value_of (layout buckets mask further) ids ≡ None) (new : Bucket) (pushed : entries_of new ≡ entries_of b ++ (ids, p) ∷ []) (same : new.overflows ≡ b.overflows) where
@@ -228,7 +228,7 @@ module _ (buckets : List Bucket) (mask : ℕ) (further : List ((ℕ × ℕ) × P
         (λ other. ap (λ (es : List ((ℕ × ℕ) × Progress)). option_or (values_in es other) (values_in further other)) pushed
         ∙ array_push ids (entries_of b) p (values_in further) (nowhere ids (entries_of b) (values_in further ids) (sym (value_here buckets mask further table ids i at b is) ∙ none)).0 other)
 
-    pub pushed_table : IsTable (layout (set buckets i new) mask further)
+    pub pushed_table : IsPairTable (layout (set buckets i new) mask further)
     pushed_table =
         is_table buckets mask further table ids i at b is new further p (λ other differs. refl) (λ fits. sym same ∙ fits)
         (λ fits. none_further buckets mask further table ids i at b is (sym same ∙ fits))
@@ -247,7 +247,7 @@ module _ (buckets : List Bucket) (mask : ℕ) (further : List ((ℕ × ℕ) × P
         (λ other. ap (λ (es : List ((ℕ × ℕ) × Progress)). option_or (values_in es other) (values_in more other)) stays
         ∙ further_set ids (entries_of b) p (values_in further) (values_in more) (nowhere ids (entries_of b) (values_in further ids) (sym (value_here buckets mask further table ids i at b is) ∙ none)).0 changes other)
 
-    pub over_table : IsTable (layout (set buckets i new) mask more)
+    pub over_table : IsPairTable (layout (set buckets i new) mask more)
     over_table =
         is_table buckets mask further table ids i at b is new more p kept_apart (λ fits. absurd (false≢true (sym fits ∙ marked)))
         (λ fits. absurd (false≢true (sym fits ∙ marked)))
@@ -262,7 +262,7 @@ module _ (buckets : List Bucket) (mask : ℕ) (further : List ((ℕ × ℕ) × P
         sets buckets mask further table ids i at b is new further p (λ other differs. refl)
         (λ other. ap (λ (o : Option Progress). option_or o (values_in further other)) (changes other) ∙ set_then_more ids (is_ids ids other) p (values_in (entries_of b) other) (values_in further other))
 
-    pub set_table : IsTable (layout (set buckets i new) mask further)
+    pub set_table : IsPairTable (layout (set buckets i new) mask further)
     set_table =
         is_table buckets mask further table ids i at b is new further p (λ other differs. refl) (λ fits. sym same ∙ fits)
         (λ fits. none_further buckets mask further table ids i at b is (sym same ∙ fits))
@@ -280,7 +280,7 @@ module _ (buckets : List Bucket) (mask : ℕ) (further : List ((ℕ × ℕ) × P
         sets buckets mask further table ids i at b is new more p apart_in_map
         (λ other. ap (λ (es : List ((ℕ × ℕ) × Progress)). option_or (values_in es other) (values_in more other)) stays ∙ further_set ids (entries_of b) p (values_in further) (values_in more) none changes other)
 
-    pub more_table : IsTable (layout (set buckets i new) mask more)
+    pub more_table : IsPairTable (layout (set buckets i new) mask more)
     more_table =
         is_table buckets mask further table ids i at b is new more p apart_in_map (λ fits. sym same ∙ fits)
         (λ fits. absurd (some (none_further buckets mask further table ids i at b is (sym same ∙ fits))))

@@ -6,8 +6,8 @@ use Rattle.std.proofs.lemmas.Option.{none-some, same_Some}
 use Rattle.btf_model.specs.Fields.{Pair}
 use Rattle.btf_model.specs.Compat.{pair_eq}
 use Rattle.btf_compare.specs.declared.pair_map.PairMap.{PairMap}
-use Rattle.btf_compare.specs.declared.progress.Progress.{Progress}
-use Rattle.btf_compare.specs.declared.progress.Progress.TheVariants as progresses
+use Rattle.btf_compare.specs.declared.entries.Progress.{Progress}
+use Rattle.btf_compare.specs.declared.entries.Progress.TheVariants as progresses
 use Rattle.btf_plain.specs.declared.error.BtfError.{BtfError}
 use Rattle.btf_plain.specs.declared.error.BtfError.TheVariants as errors
 use Rattle.std.proofs.lemmas.Bool.{false≢true}

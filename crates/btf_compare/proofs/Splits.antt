@@ -9,9 +9,9 @@ use Rattle.std.proofs.Math.Nat.{pow-suc}
 use Rattle.std.proofs.Math.Seq.{get_or-append_seam}
 use Rattle.btf_compare.specs.Entries.{values_in}
 use Rattle.btf_compare.specs.Buckets.{bucket_of, is_numbered}
-use Rattle.btf_compare.specs.PairTable.{AreShared, IsTable, count_in, entries_of, held, layout, mark_of, place_in, value_of}
-use Rattle.btf_compare.specs.declared.bucket.Bucket.{Bucket}
-use Rattle.btf_compare.specs.declared.progress.Progress.{Progress}
+use Rattle.btf_compare.specs.PairTable.{AreShared, IsPairTable, count_in, entries_of, held, layout, mark_of, place_in, value_of}
+use Rattle.btf_compare.specs.declared.pair_table.Bucket.{Bucket}
+use Rattle.btf_compare.specs.declared.entries.Progress.{Progress}
 use Rattle.btf_compare.proofs.Buckets.{IsNextMask, bucket_within, half, next_bucket, split_from}
 use Rattle.btf_compare.proofs.PairTables.{held_push, held_set, read_column}
 
@@ -38,7 +38,7 @@ module _ {X : Type 0} (f : Bucket → X) (d : X) (buckets : List Bucket) (n : �
   column_other : (j : ℕ) → j < length buckets → j ≢ n → get_or (map f (set buckets n lo ++ up ∷ [])) j d ≡ get_or (map f buckets) j d
   column_other j lt differs = column_left j lt ∙ get_or-set_other (map f buckets) n j (f lo) d differs
 
-module _ (buckets : List Bucket) (mask : ℕ) (further : List ((ℕ × ℕ) × Progress)) (table : IsTable (layout buckets mask further)) where
+module _ (buckets : List Bucket) (mask : ℕ) (further : List ((ℕ × ℕ) × Progress)) (table : IsPairTable (layout buckets mask further)) where
   many : length (map entries_of buckets) ≡ length buckets
   many = length-map buckets entries_of
 
@@ -140,7 +140,7 @@ module _ (buckets : List Bucket) (mask : ℕ) (further : List ((ℕ × ℕ) × P
     longer : length (map entries_of (set buckets n lo ++ up ∷ [])) ≡ length buckets + 1
     longer = column_long entries_of [] buckets n lo up
 
-    pub split_table : IsTable (layout (set buckets n lo ++ up ∷ []) next further)
+    pub split_table : IsPairTable (layout (set buckets n lo ++ up ∷ []) next further)
     split_table =
         elim masks [
           | inl same ↦ record {

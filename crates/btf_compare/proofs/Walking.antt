@@ -12,7 +12,7 @@ use Rattle.btf_compare.specs.declared.frame.Frame.{Frame}
 use Rattle.btf_compare.specs.declared.frame.Place.{Place}
 use Rattle.btf_compare.specs.declared.frame.Place.TheVariants as places
 use Rattle.btf_compare.specs.declared.position.ProtoPair.{ProtoPair}
-use Rattle.btf_compare.specs.declared.progress.Progress.TheVariants.{Open, Compatible}
+use Rattle.btf_compare.specs.declared.entries.Progress.TheVariants.{Open, Compatible}
 use Rattle.btf_compare.specs.declared.pair_map.PairMap.{PairMap}
 use Rattle.btf_compare.specs.PairMap.{known, count, Learns}
 use Rattle.btf_compare.specs.Compared.{WalksTo, ComesTo, NextParameterIs, AreAt, GainsOnly, IsStarted, frame_of, pending_of, is_progress_open, is_progress_compatible, opened_in, compatible_in, passed_in}

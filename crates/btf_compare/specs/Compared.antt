@@ -5,14 +5,14 @@
 -- known to be compatible, so that a walk that meets them again continues with their return types.
 use Rattle.std.specs.BTreeSet as ordered
 use Rattle.std.specs.BTreeSet.{BTreeSet}
-use Rattle.std.specs.Prelude.{◌≡◌, ◌≢◌, ◌⊎◌, ◌<◌, ◌≤◌, ℕ, suc, ◌+◌, ◌-◌, ◌*◌, ◌^◌, length, All, Bool, true, false, cond, ltb, List, ◌++◌, map, slice_get, Option, Some, None, Result, Ok, Err}
+use Rattle.std.specs.Prelude.{◌≡◌, ◌≢◌, ◌⊎◌, ◌<◌, ◌≤◌, ℕ, suc, ◌+◌, ◌-◌, ◌*◌, ◌^◌, length, All, Bool, true, false, cond, ltb, List, [], ◌++◌, map, slice_get, Option, Some, None, Result, Ok, Err}
 use Rattle.std.specs.List.{IsDistinct}
 use Rattle.btf_model.specs.Record.{Record, Kind, compared_kind}
 use Rattle.btf_model.specs.Refusal.{Refusal}
 use Rattle.btf_model.specs.Table.{Table}
 use Rattle.btf_model.specs.Walk.{walk_limit}
 use Rattle.btf_model.specs.Fields.{Pair}
-use Rattle.btf_model.specs.Compat.{Decided, On, Pending, pairs, Finds, ResolvesPair, AreKnown, pair_eq}
+use Rattle.btf_model.specs.Compat.{Decided, On, Pending, Plain, firsts, pairs, Finds, ResolvesPair, AreKnown, pair_eq}
 use Rattle.btf_model.specs.Compat as model
 use Rattle.btf_model.specs.Laws.{AreIds}
 use Rattle.btf_model.specs.Run as runs
@@ -23,8 +23,8 @@ use Rattle.btf_plain.specs.declared.error.BtfError.{BtfError}
 use Rattle.btf_plain.specs.declared.error.BtfError.TheVariants as errors
 use Rattle.btf_plain.specs.declared.items.BtfParam.{BtfParam}
 use Rattle.btf_compare.specs.declared.pair_map.PairMap.{PairMap}
-use Rattle.btf_compare.specs.declared.progress.Progress.{Progress}
-use Rattle.btf_compare.specs.declared.progress.Progress.TheVariants as progresses
+use Rattle.btf_compare.specs.declared.entries.Progress.{Progress}
+use Rattle.btf_compare.specs.declared.entries.Progress.TheVariants as progresses
 use Rattle.btf_compare.specs.PairMap.{known}
 use Rattle.btf_compare.specs.Entries.{ids_cmp}
 use Rattle.btf_compare.specs.declared.position.Position.{Position}
@@ -191,8 +191,8 @@ HasStarted local target passed p f end =
     × ComesTo local target f end)
 
 -- The errors of a pair that cannot be started: an allocation fails, or an id is not known, the local one first.
-abbrev pub IsRefused : Table → Table → Pair → BtfError → Type 0
-IsRefused local target p e =
+abbrev pub CannotStart : Table → Table → Pair → BtfError → Type 0
+CannotStart local target p e =
     (e ≡ errors.OutOfMemory)
     ⊎ (((slice_get local.records p.local ≡ None) × (e ≡ errors.UnknownBtfType p.local))
     ⊎ ((r : Record) × (slice_get local.records p.local ≡ Some r) × (slice_get target.records p.target ≡ None)
@@ -211,6 +211,16 @@ Traces result answer old new listed =
     (Meets (λ b. b) result (λ a. a ≡ answer) × (new ≡ old ++ map ids_of listed))
     ⊎ ((result ≡ Err errors.OutOfMemory) × (front rest : List Pair) × (listed ≡ front ++ rest)
     × (new ≡ old ++ map ids_of front))
+
+-- The answer is that of the recursion, which starts anew at each pair.
+abbrev pub ComparesTypes : Table → Table → Pair → Result Bool Refusal → Type 0
+ComparesTypes local target ids answer = (listed : List Pair) × Plain local target [] ids answer listed
+
+-- The call returns that answer, and appends the pairs that the recursion starts, each at its first occurrence.
+abbrev pub ComparesTraced : Table → Table → Pair → Result Bool BtfError → List (ℕ × ℕ) → List (ℕ × ℕ) → Type 0
+ComparesTraced local target ids result old new =
+    (answer : Result Bool Refusal) × (listed : List Pair) × Plain local target [] ids answer listed
+    × Traces result answer old new (firsts listed)
 
 -- Pairs of known ids, each of them once. So their number is at most the product of the two numbers of types.
 pub record AreStarts (local target : Table) (ps : List Pair) : Type 0 where

@@ -3,7 +3,7 @@ use Rattle.std.specs.Prelude.{ℕ, length, List, Option, None, Some}
 use Rattle.btf_compare.specs.Entries.{Sets, values_in}
 use Rattle.btf_compare.specs.PairTable.{Layout, count_in, value_of}
 use Rattle.btf_compare.specs.declared.pair_map.PairMap.{PairMap}
-use Rattle.btf_compare.specs.declared.progress.Progress.{Progress}
+use Rattle.btf_compare.specs.declared.entries.Progress.{Progress}
 
 -- the progress of each pair: in the table, if there is one, and otherwise in the array
 abbrev pub known_in : List ((ℕ × ℕ) × Progress) → Option (Layout Progress) → ℕ × ℕ → Option Progress

@@ -3,8 +3,8 @@ use Rattle.std.specs.Prelude.{◌≡◌, ℕ, suc, ◌+◌, ◌-◌, ◌*◌, �
 use Rattle.std.specs.Option.{option_or}
 use Rattle.btf_compare.specs.Entries.{values_in}
 use Rattle.btf_compare.specs.Buckets.{bucket_of, is_numbered}
-use Rattle.btf_compare.specs.declared.bucket.Bucket.{Bucket}
-use Rattle.btf_compare.specs.declared.progress.Progress.{Progress}
+use Rattle.btf_compare.specs.declared.pair_table.Bucket.{Bucket}
+use Rattle.btf_compare.specs.declared.entries.Progress.{Progress}
 
 -- the mean number of pairs per bucket at which the table grows by a bucket
 abbrev pub load : ℕ
@@ -73,7 +73,7 @@ module _ {V : Type 0} where
 
   -- The mask covers the index of each bucket, and without its highest bit it is the index of a bucket. The ordered map
   -- has an entry only if the entry's bucket has overflowed.
-  pub record IsTable (t : Layout V) : Type 0 where
+  pub record IsPairTable (t : Layout V) : Type 0 where
     pub bits : ℕ
     pub ones : t.mask ≡ 2 ^ suc bits - 1
     pub least : 2 ^ bits ≤ length t.rows

@@ -3,8 +3,17 @@
 ghost use Rattle.std.specs.Prelude.{◌≡◌, ◌<◌, ◌++◌, ◌∷◌, [], length, IsTrue, false, is_some, IfSome, IfNone};
 ghost use Rattle.btf_compare.specs.Entries.{IsNoPair, IsPlaceOf, Sets, values_in};
 
-use crate::progress::Progress;
 use arrayvec::ArrayVec;
+
+/// The progress of a pair that a run has started.
+#[derive(Clone, Copy, Default)]
+pub enum Progress {
+    /// Its walk is not finished: it goes on, or waits for a pending parameter pair.
+    #[default]
+    Open,
+    /// It is known to be compatible.
+    Compatible,
+}
 
 /// At most `N` pairs of ids, the local id first, each with its progress.
 #[derive(Drop)]

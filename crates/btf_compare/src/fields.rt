@@ -8,7 +8,7 @@ ghost use Rattle.btf_records.specs.BtfType.{record_of, type_kind};
 ghost use Rattle.btf_compare.specs.FieldStep.{StepIs};
 ghost use Rattle.btf_compare.specs.Pairs.{pair};
 
-use crate::resolved::resolved;
+use crate::position::resolved;
 use bstr::ByteSlice;
 use btf_plain::BtfError;
 use btf_records::BtfType;

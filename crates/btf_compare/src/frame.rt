@@ -12,8 +12,7 @@ ghost use Rattle.btf_records.specs.BtfType.{record_of, type_kind};
 ghost use Rattle.btf_compare.specs.Compared.{AreAt, WalksTo, ComesTo, IsFound, AfterStep, AfterSteps, NextParameterIs, frame_of, passed_in};
 ghost use Rattle.btf_compare.specs.Pairs.{pair_of};
 
-use crate::position::{Position, ProtoPair, found_at, types_at};
-use crate::resolved::is_modifier;
+use crate::position::{Position, ProtoPair, found_at, is_modifier, types_at};
 use btf_plain::BtfError;
 use btf_records::BtfType;
 use btf_table::{Btf, WALK_LIMIT};

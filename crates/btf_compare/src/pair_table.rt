@@ -1,22 +1,67 @@
-//! A hash table of pairs of ids.
+//! A hash table of pairs of ids, and its buckets.
 
-ghost use Rattle.std.specs.Prelude.{◌≡◌, ℕ, ◌+◌, ◌<◌, length, None, IsSome, IfOk, OnOk};
+ghost use Rattle.std.specs.Prelude.{◌≡◌, ℕ, ◌+◌, ◌<◌, [], length, None, IsSome, IfOk, OnOk};
 ghost use Rattle.btf_compare.specs.Entries.{Sets, values_in};
-ghost use Rattle.btf_compare.specs.Buckets.{bucket_of};
-ghost use Rattle.btf_compare.specs.PairTable.{HasRoom, capacity, count_in, held, value_of};
+ghost use Rattle.btf_compare.specs.Buckets.{bucket_of, spread};
+ghost use Rattle.btf_compare.specs.PairTable.{AreShared, HasRoom, capacity, count_in, held, entries_of, value_of};
 
-use crate::bucket::{Bucket, ROOM, spread};
-use crate::entries::Entries;
-use crate::progress::Progress;
+use crate::entries::{Entries, Progress};
 use std::alloc::{AllocError, Global};
 use std::collections::BTreeMap;
 use std::marker::Model;
+
+/// The capacity of a bucket, in pairs.
+pub const ROOM: usize = 16;
 
 /// The mean number of pairs per bucket at which the table grows by a bucket.
 const LOAD: usize = 6;
 
 /// The number of buckets that a new table allocates memory for.
 const FIRST_BUCKETS: usize = 8;
+
+/// The pairs of a bucket, and whether the bucket has overflowed.
+#[derive(Drop)]
+pub struct Bucket {
+    pub entries: Entries<ROOM>,
+    /// Whether the ordered map may hold pairs of this bucket.
+    pub overflows: bool,
+}
+
+impl Bucket {
+    /// An empty bucket.
+    #[inline(always)]
+    pub fn new(overflows: bool) -> Self
+        ensures empty { entries_of result ≡ [] }
+        ensures overflows { result.overflows ≡ overflows }
+    {
+        Bucket {
+            entries: Entries::new(),
+            overflows,
+        }
+    }
+
+    /// Splits the bucket in two. A pair goes to the second bucket if its masked hash equals this number.
+    pub fn split(&self, mask: usize, number: usize) -> (Self, Self)
+        ensures shared { AreShared mask number (entries_of result.0) (entries_of result.1)
+            (entries_of self.now) }
+        ensures counts { length (entries_of result.0) + length (entries_of result.1)
+            ≡ length (entries_of self.now) }
+        ensures stay { result.0.overflows ≡ self.now.overflows }
+        ensures go { result.1.overflows ≡ self.now.overflows }
+    {
+        let mut stay = Bucket::new(self.overflows);
+        let mut go = Bucket::new(self.overflows);
+        for entry in self.entries.list.iter() {
+            let (pair, progress) = *entry;
+            if spread(pair) & mask == number {
+                go.entries.push(pair, progress);
+            } else {
+                stay.entries.push(pair, progress);
+            }
+        }
+        (stay, go)
+    }
+}
 
 /// A table of pairs of ids, each with its progress. It grows by one bucket at a time (linear hashing: Litwin, "Linear
 /// hashing: a new tool for file and table addressing", 1980). If a pair's bucket is full, the pair goes to an ordered
@@ -35,14 +80,14 @@ pub struct PairTable {
 }
 
 impl Model for PairTable {
-    ghost use Rattle.btf_compare.specs.PairTable.{IsTable, TakesMore, Layout, layout};
-    ghost use Rattle.btf_compare.specs.declared.progress.Progress.{Progress};
+    ghost use Rattle.btf_compare.specs.PairTable.{IsPairTable, TakesMore, Layout, layout};
+    ghost use Rattle.btf_compare.specs.declared.entries.Progress.{Progress};
 
     ghost Value = { Layout Progress };
 
     ghost view = { λ t. layout t.buckets.items t.mask t.further.entries };
 
-    ghost invariant = { λ t. IsTable (layout t.buckets.items t.mask t.further.entries)
+    ghost invariant = { λ t. IsPairTable (layout t.buckets.items t.mask t.further.entries)
         × TakesMore (layout t.buckets.items t.mask t.further.entries) t.left };
 }
 
@@ -173,4 +218,17 @@ fn bucket_of(mask: usize, many: usize, pair: (u32, u32)) -> usize
     } else {
         number & (mask / 2)
     }
+}
+
+/// The hash of a pair of ids, which selects its bucket. The comparison often visits pairs with neighbouring local ids
+/// and an equal difference of the two ids one after the other. Up to eight such pairs have consecutive hashes, so their
+/// buckets are adjacent in memory. A product spreads the first hashes of these groups (Knuth, "The Art of Computer
+/// Programming", volume 3, section 6.4).
+#[inline(always)]
+pub fn spread(pair: (u32, u32)) -> usize
+    ensures { result ≡ spread pair }
+{
+    let apart = pair.1.wrapping_sub(pair.0) as u64;
+    let bits = apart * (1 << 32) + (pair.0 / 8) as u64;
+    (bits.wrapping_mul(0x9e37_79b9_7f4a_7c15) >> 32) as usize + (pair.0 % 8) as usize
 }

@@ -1,15 +1,16 @@
-//! One position of the comparison of types.
+//! One position of the comparison of types, and types after modifiers.
 
-ghost use Rattle.std.specs.Prelude.{◌≡◌, ◌<◌, Ok, slice_get};
+ghost use Rattle.std.specs.Prelude.{◌≡◌, ◌<◌, Ok, is_some, slice_get};
 ghost use Rattle.std.specs.Option.{option_map};
 ghost use Rattle.btf_model.specs.Record as model;
 ghost use Rattle.btf_model.specs.Compat.{Finds, PositionFound, ResolvesPair, position_by};
+ghost use Rattle.btf_model.specs.Walk.{modified_type};
+ghost use Rattle.btf_plain.specs.Error.{Meets};
 ghost use Rattle.btf_records.specs.BtfType.{record_of, type_kind};
 ghost use Rattle.btf_compare.specs.Compared.{PositionIs, IfPrototypes, HasFew, are_long, pending_of};
-ghost use Rattle.btf_compare.specs.Pairs.{pair_of};
+ghost use Rattle.btf_compare.specs.Pairs.{IsResolved, pair_of};
 
-use crate::resolved::resolved;
-use btf_plain::{Array, BtfError, Int, Ptr};
+use btf_plain::{Array, BtfError, BtfKind, Int, Ptr};
 use btf_records::{BtfParam, BtfType, FuncProto};
 use btf_table::Btf;
 
@@ -178,5 +179,31 @@ impl ProtoPair<'_> {
         let param = self.params.get(index)?;
         let other = self.others.get(index)?;
         Some((param.btf_type, other.btf_type))
+    }
+}
+
+/// The id and the type that an id resolves to.
+#[inline(always)]
+pub fn resolved(table: &Btf, type_id: u32) -> Result<(u32, &BtfType), BtfError>
+    ensures { Meets (λ found. (found.0, type_kind found.1.now, record_of found.1.now)) result
+        (IsResolved table.now type_id) }
+{
+    let id = table.resolve_type(type_id)?;
+    let btf_type = table.type_by_id(id)?;
+    Ok((id, btf_type))
+}
+
+/// Whether a type is a modifier, which resolves to another type.
+#[inline(always)]
+pub fn is_modifier(btf_type: &BtfType) -> bool
+    ensures { result ≡ is_some (modified_type (record_of btf_type.now)) }
+{
+    match btf_type.kind() {
+        BtfKind::Typedef
+        | BtfKind::Volatile
+        | BtfKind::Const
+        | BtfKind::Restrict
+        | BtfKind::TypeTag => true,
+        _ => false,
     }
 }

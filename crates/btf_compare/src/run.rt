@@ -11,21 +11,58 @@ ghost use Rattle.std.specs.BTreeSet.{IsEmpty};
 ghost use Rattle.btf_model.specs.Fields.{Pair, HaveKinds};
 ghost use Rattle.btf_model.specs.Refusal.{Refusal};
 ghost use Rattle.btf_model.specs.Compat.{Plain, firsts};
-ghost use Rattle.btf_compare.specs.Compared.{IsStarted, FailsFor, HasStarted, IsRefused, TracesBy, GainsOnly, Passes, WalksTo, AreAt, frame_of, passed_in, progress_of, compatible_by};
+ghost use Rattle.btf_compare.specs.Compared.{IsStarted, FailsFor, HasStarted, CannotStart, TracesBy, GainsOnly, Passes, WalksTo, AreAt, frame_of, passed_in, progress_of, compatible_by};
 ghost use Rattle.btf_model.specs.Run.{new_frame};
 ghost use Rattle.btf_compare.specs.PairMap.{known, count, Learns};
 ghost use Rattle.btf_compare.specs.Pairs.{pair_of};
 
+use crate::entries::Progress;
 use crate::frame::{Frame, Place};
-use crate::listed::{Listed, NoneListed};
-use crate::pair_map::PairMap;
+use crate::pair_map::{Listed, NoneListed, PairMap};
 use crate::position::ProtoPair;
-use crate::progress::Progress;
-use crate::trace::Starts;
 use btf_plain::BtfError;
 use btf_table::{Btf, allocator_of};
 use std::alloc::{AllocError, Global};
 use std::collections::BTreeSet;
+
+/// A receiver of each pair that a run starts, in order.
+pub trait Starts {
+    ghost use Rattle.std.specs.Prelude.{ℕ, List, [], ◌∷◌, ◌++◌, OnOk, OnErr};
+
+    /// The second value is the first after it received these pairs.
+    ghost has_added: { Self → Self → List (ℕ × ℕ) → Type 0 };
+
+    /// Reports a pair.
+    fn add(&mut self, pair: (u32, u32)) -> Result<(), AllocError>
+        ensures added { OnOk result ((first : Self) → (ids : List (ℕ × ℕ))
+            → has_added first self.old ids → has_added first self.new (ids ++ pair ∷ [])) }
+        ensures refused { OnErr result ((first : Self) → (ids : List (ℕ × ℕ))
+            → has_added first self.old ids → has_added first self.new ids) };
+}
+
+/// A list that the pairs are appended to.
+impl Starts for Vec<(u32, u32)> {
+    ghost use Rattle.std.specs.Prelude.{◌≡◌, ◌++◌};
+
+    ghost has_added = { λ first now ids. now.items ≡ first.items ++ ids };
+
+    fn add(&mut self, pair: (u32, u32)) -> Result<(), AllocError> {
+        self.push(pair)?;
+        Ok(())
+    }
+}
+
+/// A receiver that drops the pairs.
+#[derive(Drop)]
+pub struct Untraced;
+
+impl Starts for Untraced {
+    ghost has_added = { λ first now ids. Unit {0} };
+
+    fn add(&mut self, _pair: (u32, u32)) -> Result<(), AllocError> {
+        Ok(())
+    }
+}
 
 /// The state of a run.
 #[derive(Drop)]
@@ -122,7 +159,7 @@ fn start<'a, L: Listed, S: Starts>(
     starts: &mut S,
 ) -> Result<Place<'a>, BtfError>
     requires { L.knows listed.old pair ≡ None }
-    ensures { (FailsFor result (IsRefused local.now target.now (pair_of pair))
+    ensures { (FailsFor result (CannotStart local.now target.now (pair_of pair))
         × ((first : S) → (ids : List (ℕ × ℕ)) → S.has_added first starts.old ids
         → S.has_added first starts.new ids))
         ⊎ (HasStarted local.now target.now (passed_in passed.now) (pair_of pair) frame.new result

@@ -1,15 +1,10 @@
 //! The comparison of two types.
 
-ghost use Rattle.std.specs.Prelude.{[], List, Bool, Result};
-ghost use Rattle.btf_model.specs.Fields.{Pair};
-ghost use Rattle.btf_model.specs.Refusal.{Refusal};
-ghost use Rattle.btf_model.specs.Compat.{Plain, firsts};
 ghost use Rattle.btf_plain.specs.Error.{MeetsOrNoMemory};
-ghost use Rattle.btf_compare.specs.Compared.{Traces, GainsStarts};
+ghost use Rattle.btf_compare.specs.Compared.{ComparesTypes, ComparesTraced, GainsStarts};
 ghost use Rattle.btf_compare.specs.Pairs.{pair};
 
-use crate::run::compare;
-use crate::trace::Untraced;
+use crate::run::{Untraced, compare};
 use btf_plain::BtfError;
 use btf_table::Btf;
 
@@ -44,8 +39,7 @@ pub fn types_are_compatible(
     target_id: u32,
 ) -> Result<bool, BtfError>
     ensures { MeetsOrNoMemory (λ b. b) result
-        (λ answer. (listed : List Pair)
-        × Plain local.now target.now [] (pair local_id target_id) answer listed) }
+        (ComparesTypes local.now target.now (pair local_id target_id)) }
 {
     compare(local, target, (local_id, target_id), &mut Untraced)
 }
@@ -64,9 +58,8 @@ pub fn types_are_compatible_traced(
     starts: &mut Vec<(u32, u32)>,
 ) -> Result<bool, BtfError>
     // The answer of the recursion without a record, and the pairs that it starts, each at its first occurrence.
-    ensures traces { (answer : Result Bool Refusal) × (listed : List Pair)
-        × Plain local.now target.now [] (pair local_id target_id) answer listed
-        × Traces result answer starts.old.items starts.new.items (firsts listed) }
+    ensures traces { ComparesTraced local.now target.now (pair local_id target_id) result
+        starts.old.items starts.new.items }
     // Whatever the result: each added pair has known ids, and no pair is added twice.
     ensures starts { GainsStarts local.now target.now starts.old.items starts.new.items }
 {

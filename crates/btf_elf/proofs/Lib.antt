@@ -2,6 +2,7 @@ pub mod Options
 pub mod Tables
 pub mod Parsing
 pub mod Names
+pub mod ShortNames
 pub mod Writes
 pub mod Placing
 pub mod Entries

@@ -14,7 +14,7 @@ use Rattle.btf_elf.specs.declared.error.ObjectError.TheVariants.{Parse}
 use Rattle.btf_elf_model.proofs.Errors.{Comes, NoneComes, first_comes, none_comes, errors_of, by_parts}
 use Rattle.btf_elf.specs.Results.{IsReason}
 use Rattle.btf_elf.specs.Table.{table_of}
-use Rattle.btf_elf.specs.SymbolTable.{IsTable}
+use Rattle.btf_elf.specs.SymbolTable.{IsSymbolTable}
 use Rattle.btf_elf.specs.declared.symbols.SymbolTable.{SymbolTable}
 
 -- the headers that the table spells are the sections of the bytes
@@ -42,7 +42,7 @@ parsed bytes h headers sections p q same none = record {
 }
 
 -- what was checked for the symbols that were read holds for the symbols of the bytes
-pub symbols_checked : (bytes : List ℕ) (h : FileHeader) (sections : List SectionHeader) (t : SymbolTable) → IsTable bytes sections (symbol_table sections) t
+pub symbols_checked : (bytes : List ℕ) (h : FileHeader) (sections : List SectionHeader) (t : SymbolTable) → IsSymbolTable bytes sections (symbol_table sections) t
     → (o : Option ParseError) → symbol_error t.names.now (map (symbol h.order) t.entries.now) ≡ o
     → symbol_error (symbol_names_of bytes sections (symbol_table sections)) (symbols_of h.order bytes (symbol_table sections)) ≡ o
 symbols_checked bytes h sections t is o checked =

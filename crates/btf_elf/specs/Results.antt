@@ -1,6 +1,6 @@
 -- The relation between results and the errors of the definitions.
 use Rattle.std.specs.Prelude.{◌≡◌, ⊤, ℕ, List, Option, Some, None, Result, Ok, Err}
-use Rattle.btf_elf_model.specs.Object.{IsRefused}
+use Rattle.btf_elf_model.specs.Object.{IsParseError}
 use Rattle.btf_elf_model.specs.declared.error.ParseError.{ParseError}
 use Rattle.btf_elf.specs.declared.error.ObjectError.{ObjectError}
 use Rattle.btf_elf.specs.declared.error.ObjectError.TheVariants.{Parse, OutOfMemory}
@@ -12,5 +12,5 @@ HasError (Err e) error = error ≡ Some e
 
 -- The error is the first error of the bytes, or reports that an allocation failed.
 abbrev pub IsReason : List ℕ → ObjectError → Type 0
-IsReason bytes (Parse e) = IsRefused bytes e
+IsReason bytes (Parse e) = IsParseError bytes e
 IsReason bytes OutOfMemory = ⊤

@@ -2,7 +2,7 @@
 use Rattle.std.specs.Prelude.{◌≡◌, Some}
 use Rattle.btf_elf_model.specs.Symbols.{symbol_table}
 use Rattle.btf_elf_model.specs.Object as model
-use Rattle.btf_elf.specs.SymbolTable.{IsTable}
+use Rattle.btf_elf.specs.SymbolTable.{IsSymbolTable}
 use Rattle.btf_elf.specs.declared.object.Object.TheInside.{Inside}
 
 -- the object as a value of the definitions
@@ -13,4 +13,4 @@ as_object a = record { header = a.header; sections = a.sections.items; bytes = a
 pub record IsWhole (a : Inside) : Type 0 where
   pub object : model.IsObject a.bytes.now (as_object a)
   pub names : model.name_table (as_object a) ≡ Some a.names.now
-  pub symbols : IsTable a.bytes.now a.sections.items (symbol_table a.sections.items) a.symbols
+  pub symbols : IsSymbolTable a.bytes.now a.sections.items (symbol_table a.sections.items) a.symbols

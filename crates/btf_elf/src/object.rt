@@ -1,6 +1,6 @@
 //! Objects.
 
-ghost use Rattle.std.specs.Prelude.{◌≡◌, ◌⊎◌, ◌<◌, true, Some, IsSome, IfSome, IfOk, IfErr, IsErrAnd, slice_get, position, MatchResult, length};
+ghost use Rattle.std.specs.Prelude.{◌≡◌, ◌⊎◌, ◌<◌, ◌≤◌, true, Some, IsSome, IfSome, IfNone, IfOk, IfErr, IsErrAnd, slice_get, position, MatchResult, length};
 ghost use Rattle.std.specs.Option.{option_copied};
 ghost use Rattle.std.specs.Str.{bytes_eq};
 ghost use Rattle.btf_elf_model.specs.Object as model;
@@ -12,7 +12,7 @@ use crate::error::{ObjectError, ReplaceError};
 use crate::header::{check_header, read_header};
 use crate::replace::{aligned_end, fits, is_replaceable, rewritten};
 use crate::section::{check_sections, contents};
-use crate::strings::{has_name, name_at, read_names};
+use crate::strings::{has_name, name_at, read_names, short_name};
 use crate::symbols::{SymbolTable, check_symbols, read_symbols, symbol};
 use crate::table::{read_sections, section_table, table_end};
 use btf_elf_model::{FileHeader, ParseError, SectionHeader, Symbol};
@@ -105,6 +105,15 @@ impl<'a> Object<'a> {
         name_at(self.names, section.name)
     }
 
+    /// The name of a section; None if it has `limit` bytes or more. Reads at most `limit` bytes of it.
+    pub fn short_section_name(&self, section: &SectionHeader, limit: usize) -> Option<&'a [u8]>
+        ensures some { IfSome result (λ name.
+            (name.now ≡ model.section_name self.now section.now) × (length name.now < limit)) }
+        ensures none { IfNone result (limit ≤ length (model.section_name self.now section.now)) }
+    {
+        short_name(self.names, section.name, limit)
+    }
+
     /// The index of the first section with this name.
     pub fn section_by_name(&self, name: &[u8]) -> Option<usize>
         ensures first { result ≡ position (λ s. bytes_eq (model.section_name self.now s) name.now)
@@ -137,6 +146,15 @@ impl<'a> Object<'a> {
         ensures { result.now ≡ model.symbol_name self.now symbol.now }
     {
         name_at(self.symbols.names, symbol.name)
+    }
+
+    /// The name of a symbol; None if it has `limit` bytes or more. Reads at most `limit` bytes of it.
+    pub fn short_symbol_name(&self, symbol: &Symbol, limit: usize) -> Option<&'a [u8]>
+        ensures some { IfSome result (λ name.
+            (name.now ≡ model.symbol_name self.now symbol.now) × (length name.now < limit)) }
+        ensures none { IfNone result (limit ≤ length (model.symbol_name self.now symbol.now)) }
+    {
+        short_name(self.symbols.names, symbol.name, limit)
     }
 
     /// The header of a section whose bytes can be replaced.

@@ -1,6 +1,6 @@
 //! String tables, and names in them.
 
-ghost use Rattle.std.specs.Prelude.{◌≡◌, Some, not, position, IfOk};
+ghost use Rattle.std.specs.Prelude.{◌≡◌, ◌<◌, ◌≤◌, Some, not, position, take, length, IfOk, IfSome, IfNone};
 ghost use Rattle.std.specs.List.{before_first};
 ghost use Rattle.std.specs.Option.{option_copied};
 ghost use Rattle.std.specs.Str.{bytes_eq};
@@ -87,6 +87,28 @@ pub fn name_at(strings: &[u8], offset: u32) -> &[u8]
     ensures { result.now ≡ name_at strings.now offset }
 {
     before_zero(tail(strings, u64::from(offset)))
+}
+
+/// At most as many bytes from the front.
+fn front(bytes: &[u8], most: usize) -> &[u8]
+    ensures { result.now ≡ take most bytes.now }
+{
+    let len = most.min(bytes.len());
+    &bytes[..len]
+}
+
+/// The name at an offset; None if it has `limit` bytes or more. Reads at most `limit` bytes.
+pub fn short_name(strings: &[u8], offset: u32, limit: usize) -> Option<&[u8]>
+    ensures some { IfSome result (λ name. (name.now ≡ name_at strings.now offset)
+        × (length name.now < limit)) }
+    ensures none { IfNone result (limit ≤ length (name_at strings.now offset)) }
+{
+    let rest = tail(strings, u64::from(offset));
+    match first_zero(front(rest, limit)) {
+        Some(len) => Some(&rest[..len]),
+        None if rest.len() < limit => Some(rest),
+        None => None,
+    }
 }
 
 /// Whether the name at an offset is this one. It reads at most one byte more than the name has.

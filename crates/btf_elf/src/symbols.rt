@@ -6,7 +6,7 @@ ghost use Rattle.btf_elf_model.specs.Section.{is_name};
 ghost use Rattle.btf_elf_model.specs.Symbols.{symbol, symbol_table, is_malformed};
 ghost use Rattle.btf_elf_model.specs.Object.{when, symbol_table_error, symbol_error};
 ghost use Rattle.btf_elf.specs.Results.{HasError};
-ghost use Rattle.btf_elf.specs.SymbolTable.{IsTable};
+ghost use Rattle.btf_elf.specs.SymbolTable.{IsSymbolTable};
 
 use crate::section::contents;
 use crate::strings::{is_name, string_table};
@@ -53,7 +53,7 @@ fn read_table<'a>(
 ) -> Result<SymbolTable<'a>, ParseError>
     ensures error { HasError result
         (when (is_malformed bytes.now sections.now section.now) ParseError.BadSymbolTable) }
-    ensures ok { IfOk result (IsTable bytes.now sections.now (Some section.now)) }
+    ensures ok { IfOk result (IsSymbolTable bytes.now sections.now (Some section.now)) }
 {
     let (entries, rest) = contents(bytes, section).as_chunks::<24>();
     if section.entry_size != 24 || !rest.is_empty() {
@@ -72,7 +72,7 @@ pub fn read_symbols<'a>(
     sections: &[SectionHeader],
 ) -> Result<SymbolTable<'a>, ParseError>
     ensures error { HasError result (symbol_table_error bytes.now sections.now) }
-    ensures ok { IfOk result (IsTable bytes.now sections.now (symbol_table sections.now)) }
+    ensures ok { IfOk result (IsSymbolTable bytes.now sections.now (symbol_table sections.now)) }
 {
     match find_table(sections) {
         Some(section) => read_table(bytes, sections, section),

@@ -2,7 +2,7 @@
 use Rattle.std.specs.Prelude.{◌≡◌, ◌⊎◌, ℕ, ◌+◌, ◌<◌, ◌≤◌, true, List, [], length, slice_get, Some, unwrap_or}
 use Rattle.btf_elf_model.specs.Header.{header_len}
 use Rattle.btf_elf_model.specs.Section.{has_bytes, table_end, name_at}
-use Rattle.btf_elf_model.specs.Object.{Object, IsObject, IsRefused, name_table, symbols, symbol_names}
+use Rattle.btf_elf_model.specs.Object.{Object, IsObject, IsParseError, name_table, symbols, symbol_names}
 use Rattle.btf_elf_model.specs.declared.section_header.SectionHeader.{SectionHeader}
 use Rattle.btf_elf_model.specs.declared.symbol.Symbol.{Symbol}
 use Rattle.btf_elf_model.specs.declared.error.ParseError.{ParseError}
@@ -10,9 +10,9 @@ use Rattle.btf_elf_model.specs.declared.error.ParseError.{ParseError}
 -- Bytes represent one object, or are refused with one error, and never both.
 pub record ObjectIsDetermined : Type 0 where
   pub one_object : (bytes : List ℕ) (o p : Object) → IsObject bytes o → IsObject bytes p → o ≡ p
-  pub one_error : (bytes : List ℕ) (e f : ParseError) → IsRefused bytes e → IsRefused bytes f → e ≡ f
-  pub not_both : (bytes : List ℕ) (o : Object) (e : ParseError) → IsObject bytes o → IsRefused bytes e → ⊥
-  pub one_of_both : (bytes : List ℕ) → ((o : Object) × IsObject bytes o) ⊎ ((e : ParseError) × IsRefused bytes e)
+  pub one_error : (bytes : List ℕ) (e f : ParseError) → IsParseError bytes e → IsParseError bytes f → e ≡ f
+  pub not_both : (bytes : List ℕ) (o : Object) (e : ParseError) → IsObject bytes o → IsParseError bytes e → ⊥
+  pub one_of_both : (bytes : List ℕ) → ((o : Object) × IsObject bytes o) ⊎ ((e : ParseError) × IsParseError bytes e)
 
 -- A name of a string table ends: a zero byte is right after the name, or it is the empty name in an empty table.
 abbrev pub Ends : List ℕ → ℕ → Type 0

@@ -130,5 +130,5 @@ pub record IsObject (bytes : List ℕ) (o : Object) : Type 0 where
   pub object : o ≡ object_of bytes
 
 -- The bytes represent no object, and this is their first error.
-abbrev pub IsRefused : List ℕ → ParseError → Type 0
-IsRefused bytes e = parse_error bytes ≡ Some e
+abbrev pub IsParseError : List ℕ → ParseError → Type 0
+IsParseError bytes e = parse_error bytes ≡ Some e

@@ -1,13 +1,12 @@
 //! The sections of code, by their names.
 
-ghost use Rattle.std.specs.Prelude.{◌≡◌, ◌+◌, ◌<◌, ◌∷◌, drop, length, if◌then◌else◌, nat_lt, unwrap_or, [], None, IfOk, OnOk};
-ghost use Rattle.btf_elf_model.specs.Object.{name_table};
+ghost use Rattle.std.specs.Prelude.{◌≡◌, ◌+◌, ◌<◌, ◌∷◌, drop, length, if◌then◌else◌, nat_lt, None, IfOk, OnOk};
 ghost use Rattle.btf_elf_model.specs.Section.{has_bytes};
 ghost use Rattle.btf_object_model.specs.Layout.{name_limit};
 ghost use Rattle.btf_loader.specs.Names.{HasIndices, HasIndicesFrom, index_in};
 
 use btf_elf::{Object, SectionHeader};
-use btf_object::{NAME_LIMIT, section_names, short_name};
+use btf_object::NAME_LIMIT;
 use std::alloc::{AllocError, Global};
 use std::collections::BTreeMap;
 
@@ -26,16 +25,13 @@ fn header_at(sections: &[SectionHeader], index: usize) -> &SectionHeader
     &sections[index]
 }
 
-/// Adds a section by its index, if the file has bytes of it, and its name is not too long. `names` is the string table
-/// of the sections.
+/// Adds a section by its index, if the file has bytes of it, and its name is not too long.
 fn add<'a>(
     named: &mut BTreeMap<&'a [u8], usize>,
     object: &Object<'a>,
-    names: &'a [u8],
     index: usize,
 ) -> Result<(), AllocError>
-    requires within { index < length object.now.sections }
-    requires table { names.now ≡ unwrap_or (name_table object.now) [] }
+    requires { index < length object.now.sections }
     ensures { OnOk result (HasIndicesFrom named.old object.now (index + 1)
         → HasIndicesFrom named.new object.now index) }
 {
@@ -43,7 +39,7 @@ fn add<'a>(
     if !has_bytes(section) {
         return Ok(());
     }
-    if let Some(name) = short_name(names, section.name) {
+    if let Some(name) = object.short_section_name(section, NAME_LIMIT) {
         let _ = named.insert(name, index)?;
     }
     Ok(())
@@ -57,12 +53,11 @@ pub fn sections_by_name<'a>(
 ) -> Result<BTreeMap<&'a [u8], usize>, AllocError>
     ensures { IfOk result (λ named. HasIndices named object.now) }
 {
-    let names = section_names(object);
     let mut named = BTreeMap::new(alloc);
     let count = object.sections().len();
     // From the last section to the first, so that the first one of a name remains.
     for done in 0..count {
-        add(&mut named, object, names, count - 1 - done)?;
+        add(&mut named, object, count - 1 - done)?;
     }
     Ok(named)
 }

@@ -10,7 +10,7 @@ use Rattle.btf_model.specs.Table.{Table}
 use Rattle.btf_model.proofs.Blobs.{same_table, same_refusal, table_not_refused}
 use Rattle.btf_model.proofs.Comparisons.{same_ok, same_err}
 use Rattle.btf_elf_model.proofs.Determined.{one_object, one_error, not_both}
-use Rattle.btf_elf_model.specs.Object.{Object, IsObject, IsRefused}
+use Rattle.btf_elf_model.specs.Object.{Object, IsObject, IsParseError}
 use Rattle.btf_elf_model.specs.declared.error.ParseError.{ParseError}
 use Rattle.btf_object_model.specs.Sanitized.{table_name, ext_name}
 use Rattle.btf_relocate_model.specs.Modules.{Targets}
@@ -56,7 +56,7 @@ module _ (bytes : List ℕ) (targets : Targets) (is_shared refuses_errors : Bool
       ⊎ ((table : List ℕ) × (bytes_named o table_name ≡ Some table) × AfterBytes o table x)
 
   abbrev InSteps : Option Reason → Type 0
-  InSteps x = ((e : ParseError) × IsRefused bytes e × (x ≡ Some (BadObject e))) ⊎ ((o : Object) × IsObject bytes o × AfterObject o x)
+  InSteps x = ((e : ParseError) × IsParseError bytes e × (x ≡ Some (BadObject e))) ⊎ ((o : Object) × IsObject bytes o × AfterObject o x)
 
   of_sections : (x : Option Reason) → HasReason bytes targets is_shared refuses_errors x → InSteps x
   of_sections x h = inr (h.object, h.has_table.is_object, inr (h.has_table.table, h.has_table.has_table, inr (h.local, h.has_table.is_table, inr (h.sections, h.are_sections, h.reason_is))))

@@ -9,7 +9,7 @@ use Rattle.btf_model.specs.Ext.{IsExt}
 use Rattle.btf_model.specs.Refusal.{Refusal}
 use Rattle.btf_model.specs.Table.{Table}
 use Rattle.btf_model.specs.Text.{text_at}
-use Rattle.btf_elf_model.specs.Object.{Object, IsObject, IsRefused}
+use Rattle.btf_elf_model.specs.Object.{Object, IsObject, IsParseError}
 use Rattle.btf_elf_model.specs.Replaced.{shares_bytes}
 use Rattle.btf_elf_model.specs.Section.{has_bytes}
 use Rattle.btf_elf_model.specs.declared.error.ParseError.{ParseError}
@@ -105,7 +105,7 @@ pub record HasReason (bytes : List ℕ) (targets : Targets) (is_shared refuses_e
 -- The reason for which an object is not relocated for a kernel with modules; none if it is relocated. The tests are in this
 -- order: the object, the section `.BTF`, its table, `.BTF.ext`, and each section of records in turn.
 abbrev pub IsReasonAmong : List ℕ → Targets → Bool → Bool → Option Reason → Type 0
-IsReasonAmong bytes targets is_shared refuses_errors (Some (BadObject error)) = IsRefused bytes error
+IsReasonAmong bytes targets is_shared refuses_errors (Some (BadObject error)) = IsParseError bytes error
 IsReasonAmong bytes targets is_shared refuses_errors (Some NoTable) =
     (o : Object) × IsObject bytes o × (bytes_named o table_name ≡ None)
 IsReasonAmong bytes targets is_shared refuses_errors (Some (BadTable refusal)) =

@@ -15,6 +15,7 @@ use Rattle.btf_rewrite_model.specs.Made.{Entry, entries, record_at, kind_at, str
 use Rattle.btf_rewrite_model.specs.Pass.{Layout}
 use Rattle.btf_records.specs.BtfType.{record_of, fallback_of, type_kind}
 use Rattle.btf_records.specs.declared.btf_type.BtfType.{BtfType}
+use Rattle.btf_table.specs.Btf.{IsType}
 use Rattle.btf_records.specs.declared.btf_type.BtfType.TheVariants as BtfTypes
 use Rattle.btf_object_model.specs.Finalized.{section_size, retains_offset, variable_offset, offset_by, entry_offset, AreInOrder, IsFinal, IsFinalized, is_data_sec, is_struct, sized_record, sized}
 use Rattle.btf_object.specs.Finalize.{FinalizesAt, ResizesAt, data_sec_size, resized}
@@ -220,12 +221,12 @@ all_sized base old new id end p =
 
 -- the type of an id is a DATASEC that is finalized
 pub section_final : (layout : Layout) (old new : Table) (id : ℕ) (b : BtfType) (r section : Record) → id < length old.records → b ≡ BtfTypes.DataSec r
-    → (slice_get old.records id ≡ Some (record_of b)) × (slice_get old.fallbacks id ≡ Some (fallback_of b)) × (kind_of (record_of b).info ≡ Some (type_kind b)) → IsFinal layout old (Some kinds.DataSec) r section → kind_of section.info ≡ Some kinds.DataSec
+    → IsType old id b → IsFinal layout old (Some kinds.DataSec) r section → kind_of section.info ≡ Some kinds.DataSec
     → new ≡ record old { records = set old.records id section; fallbacks = set old.fallbacks id None } → FinalizesAt layout id old new
 section_final layout old new id b r section lt is at final kind made =
-    let here : record_at old id ≡ r = ap (λ (o : Option Record). unwrap_or o unknown) at.0 ∙ ap record_of is in
-    let old_kind : kind_at old id ≡ Some kinds.DataSec = ap (λ (x : Record). kind_of x.info) (ap (λ (o : Option Record). unwrap_or o unknown) at.0) ∙ at.2 ∙ ap (λ (x : BtfType). Some (type_kind x)) is in
-    let put = replaces old new id section None lt (at.1 ∙ ap (λ (x : BtfType). Some (fallback_of x)) is) made in
+    let here : record_at old id ≡ r = ap (λ (o : Option Record). unwrap_or o unknown) at.record_is ∙ ap record_of is in
+    let old_kind : kind_at old id ≡ Some kinds.DataSec = ap (λ (x : Record). kind_of x.info) (ap (λ (o : Option Record). unwrap_or o unknown) at.record_is) ∙ at.kind_is ∙ ap (λ (x : BtfType). Some (type_kind x)) is in
+    let put = replaces old new id section None lt (at.fallback_is ∙ ap (λ (x : BtfType). Some (fallback_of x)) is) made in
     record {
       others = put.others;
       count = put.count;
@@ -237,12 +238,12 @@ section_final layout old new id b r section lt is at final kind made =
 
 -- the type of an id is a STRUCT that gets a size
 pub struct_sized : (old new : Table) (id size count : ℕ) (b : BtfType) (r made : Record) → id < length old.records → b ≡ BtfTypes.Struct r
-    → (slice_get old.records id ≡ Some (record_of b)) × (slice_get old.fallbacks id ≡ Some (fallback_of b)) × (kind_of (record_of b).info ≡ Some (type_kind b)) → count ≡ vlen r.info → made ≡ struct r.name size count r.tail
+    → IsType old id b → count ≡ vlen r.info → made ≡ struct r.name size count r.tail
     → new ≡ record old { records = set old.records id made; fallbacks = set old.fallbacks id None } → ResizesAt id size old new
 struct_sized old new id size count b r made lt is at count_is made_is new_is =
-    let here : record_at old id ≡ r = ap (λ (o : Option Record). unwrap_or o unknown) at.0 ∙ ap record_of is in
-    let kind : kind_of r.info ≡ Some kinds.Struct = ap (λ (x : BtfType). kind_of (record_of x).info) (sym is) ∙ at.2 ∙ ap (λ (x : BtfType). Some (type_kind x)) is in
-    let put = replaces old new id made None lt (at.1 ∙ ap (λ (x : BtfType). Some (fallback_of x)) is) new_is in
+    let here : record_at old id ≡ r = ap (λ (o : Option Record). unwrap_or o unknown) at.record_is ∙ ap record_of is in
+    let kind : kind_of r.info ≡ Some kinds.Struct = ap (λ (x : BtfType). kind_of (record_of x).info) (sym is) ∙ at.kind_is ∙ ap (λ (x : BtfType). Some (type_kind x)) is in
+    let put = replaces old new id made None lt (at.fallback_is ∙ ap (λ (x : BtfType). Some (fallback_of x)) is) new_is in
     record {
       others = put.others;
       count = put.count;

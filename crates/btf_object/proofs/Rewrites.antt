@@ -17,10 +17,10 @@ use Rattle.btf_rewrite_model.specs.declared.feature.FeatureAnswer.{FeatureAnswer
 use Rattle.btf_rewrite_model.specs.declared.feature.FillPolicy.TheVariants.{FillSized}
 use Rattle.btf_rewrite_model.specs.declared.ksyms_ids.KsymsIds.{KsymsIds}
 use Rattle.btf_rewrite_model.proofs.Kept.{by_table}
-use Rattle.btf_rules.specs.Checked.{checked}
-use Rattle.btf_rules.proofs.Checks.{checked_ok, checked_err}
+use Rattle.btf_table.specs.Checked.{checked}
+use Rattle.btf_table.proofs.Checks.{checked_ok, checked_err}
 use Rattle.btf_object_model.specs.Finalized.{with_int, with_variable, has_functions, with_placeholder, with_placeholder_id, placeholder_fault, with_ksyms_size, sized}
-use Rattle.btf_object_model.specs.Kernel.{answers_of}
+use Rattle.btf_rewrite_model.specs.FeatureSet.{answers_of}
 use Rattle.btf_object_model.specs.Ksyms.{FindsKsyms}
 use Rattle.btf_object_model.specs.Layout as model
 use Rattle.btf_object_model.specs.Sanitized.{Target, AreAnswers, RewritesTable, RefusesTable}
@@ -28,9 +28,9 @@ use Rattle.btf_object_model.specs.SanitizedFinalized.{kernel_target, IsOpened, R
 use Rattle.btf_object_model.proofs.Opened.{opened_others}
 use Rattle.btf_plain.specs.Error.{refusal_of}
 use Rattle.btf_plain.specs.declared.error.BtfError.{BtfError}
-use Rattle.btf_object.proofs.Kernels.{AreOfKernel}
+use Rattle.btf_rewrite_model.proofs.FeatureSet.{AreOfKernel}
 
-module _ (o : Object) (bytes : List ℕ) (target : Target) (old : Table) (ids : Option KsymsIds) (layout : Layout) (same : layout ≡ model.layout_of o) (table : IsTable o.header.order bytes old) (ksyms : FindsKsyms old target.placeholder (Ok ids)) where
+module _ (o : Object) (bytes : List ℕ) (target : Target) (old : Table) (ids : Option KsymsIds) (layout : Layout) (same : layout ≡ model.object_layout o) (table : IsTable o.header.order bytes old) (ksyms : FindsKsyms old target.placeholder (Ok ids)) where
   pub rewrites_so : (new : Table) (answers : List FeatureAnswer) → Rewritten target.policy old ids layout (answers_of target.has) new → AreOfKernel target.has answers → features_of answers ≡ Asked (pass_of target.policy old ids layout answers)
       → IsTable o.header.order (canon new) (strip new) → RewritesTable o bytes target old new answers
   rewrites_so new answers is are asked written = record {
@@ -56,8 +56,8 @@ placeholder_order t ids =
     (by_table (λ (u : Table). u.order ≡ t.order) (appends_int t None) (with_type (c_int (length t.strings)) None (with_string int_text t)) t refl refl)
     refl
 
-module _ (o : Object) (bytes : List ℕ) (has : BtfFeature → Bool) (old base : Table) (layout : Layout) (same : layout ≡ model.layout_of o) (table : IsTable o.header.order bytes old) (opened : IsOpened layout old base) where
-  opened_so : IsOpened (model.layout_of o) old base
+module _ (o : Object) (bytes : List ℕ) (has : BtfFeature → Bool) (old base : Table) (layout : Layout) (same : layout ≡ model.object_layout o) (table : IsTable o.header.order bytes old) (opened : IsOpened layout old base) where
+  opened_so : IsOpened (model.object_layout o) old base
   opened_so = subst (λ (l : Layout). IsOpened l old base) same opened
 
   -- the search for `.ksyms` fails
@@ -74,7 +74,7 @@ module _ (o : Object) (bytes : List ℕ) (has : BtfFeature → Bool) (old base :
       fits = checked_ok (placeholder_fault base ids) (with_placeholder_id base ids) given given_is
 
       -- what is known under these tables and ids is known under those of the definitions
-      known_so : (P : Table → Option KsymsIds → Layout → Type 0) → P begun given layout → P (with_placeholder base ids) (with_placeholder_id base ids) (model.layout_of o)
+      known_so : (P : Table → Option KsymsIds → Layout → Type 0) → P begun given layout → P (with_placeholder base ids) (with_placeholder_id base ids) (model.object_layout o)
       known_so P known =
           subst (P (with_placeholder base ids) (with_placeholder_id base ids)) same
           (subst (λ (i : Option KsymsIds). P (with_placeholder base ids) i layout) fits.1 (subst (λ (t : Table). P t given layout) begun_is known))

@@ -6,7 +6,7 @@ use Rattle.std.specs.Char.{is_ascii_digit}
 use Rattle.std.specs.Int.{IsInRange}
 use Rattle.std.specs.List.{position_or_len}
 use Rattle.std.specs.Str.{IsUtf8, IsCharBoundary}
-use Rattle.std.proofs.lemmas.Bool.{false≢true, and_parts, leb-true, le-leb, ltb-false}
+use Rattle.std.proofs.lemmas.Bool.{false≢true, and_parts, leb-true, le-leb}
 use Rattle.std.proofs.lemmas.List.{length-append, get_or_append_left, get_or-append-add}
 use Rattle.std.proofs.Math.Seq.{take-append_seam, drop-append_seam}
 use Rattle.std.proofs.lemmas.List.Sums.{position_or_len_is, fails_before_first, prefix_len-le-length}
@@ -37,16 +37,6 @@ pub first_or_len : {X : Type 0} (p : X → Bool) (xs : List X) (n : ℕ) → pos
 first_or_len p xs n is =
     elim (nat_lt (position_or_len p xs) (length xs)) as (λ (b : Bool). cond b (Some (position_or_len p xs)) None ≡ Some n → position_or_len p xs ≡ n)
     [ true ↦ λ some. same_Some (position_or_len p xs) n some | false ↦ λ none. absurd (none-some n none) ] is
-
--- the length, if no byte passes the test
-pub none_or_len : {X : Type 0} (p : X → Bool) (xs : List X) → position p xs ≡ None → position_or_len p xs ≡ length xs
-none_or_len p xs is =
-    elim (nat_lt (position_or_len p xs) (length xs)) as (λ (b : Bool). nat_lt (position_or_len p xs) (length xs) ≡ b → cond b (Some (position_or_len p xs)) None ≡ None → position_or_len p xs ≡ length xs) [
-      | true ↦ λ below some. absurd (none-some (position_or_len p xs) (sym some))
-      | false ↦ λ above none.
-          let le : length xs ≤ position_or_len p xs = ltb-false (position_or_len p xs) (length xs) above in
-          let most : position_or_len p xs ≤ length xs = prefix_len-le-length (λ x. not (p x)) xs in omega (arith, le, most)
-    ] refl is
 
 -- a text may be cut after the digits that it begins with
 pub digits_end : (text : List ℕ) → IsUtf8 text → IsCharBoundary text (position_or_len is_other text)

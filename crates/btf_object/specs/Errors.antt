@@ -18,7 +18,7 @@ use Rattle.btf_object_model.specs.SanitizedFinalized.{RewritesFinalized, Refuses
 use Rattle.btf_plain.specs.Error.{refusal_of}
 use Rattle.btf_plain.specs.declared.error.BtfError.{BtfError}
 use Rattle.btf_plain.specs.declared.error.BtfError.TheVariants as table
-use Rattle.btf_object.specs.Kernel.{has}
+use Rattle.btf_object.specs.Kernel.{kernel_has}
 use Rattle.btf_object.specs.declared.kernel.Kernel.{Kernel}
 use Rattle.btf_object.specs.declared.error.SanitizeError.{SanitizeError}
 use Rattle.btf_object.specs.declared.error.SanitizeError.TheVariants.{Object, NoTable, Table as TableError, Section, OutOfMemory}
@@ -41,13 +41,13 @@ of_section e = Section e
 
 -- the target of a rewrite, by the arguments of a call
 abbrev pub target_of : Kernel → FillPolicy → Option (List ℕ) → Target
-target_of kernel policy placeholder = record { has = has kernel; policy = policy; placeholder = placeholder }
+target_of kernel policy placeholder = record { has = kernel_has kernel; policy = policy; placeholder = placeholder }
 
 -- The bytes represent no object; or the object has no section `.BTF`; or the table of this section is refused; or it is
 -- rewritten, and the section cannot be replaced. An allocation may fail in each step.
 abbrev pub IsCauseBy : (elf.Object → List ℕ → Refusal → Type 0) → (elf.Object → List ℕ → Type 0) → List ℕ
     → SanitizeError → Type 0
-IsCauseBy Refuses Rewrites bytes (Object e) = (p : ParseError) × (e ≡ object.Parse p) × elf.IsRefused bytes p
+IsCauseBy Refuses Rewrites bytes (Object e) = (p : ParseError) × (e ≡ object.Parse p) × elf.IsParseError bytes p
 IsCauseBy Refuses Rewrites bytes NoTable =
     (o : elf.Object) × elf.IsObject bytes o × (index_of o table_name ≡ None)
 IsCauseBy Refuses Rewrites bytes (TableError e) =

@@ -1,6 +1,5 @@
 -- What is read from a section and from a symbol, and the section of the table.
-use Rattle.std.specs.Prelude.{◌≡◌, ◌⊎◌, ℕ, ◌==◌, List, [], true, false, if◌then◌else◌, slice_get, option_map, Option, Some, None, String}
-use Rattle.std.specs.Option.{option_map_or}
+use Rattle.std.specs.Prelude.{◌≡◌, ◌⊎◌, ℕ, List, true, false, slice_get, option_map, Option, Some, String}
 use Rattle.std.specs.HashMap.{HashMap, get_by_text}
 use Rattle.btf_elf_model.specs.Object.{Object, section_name, section_bytes, symbols, symbol_name}
 use Rattle.btf_elf_model.specs.declared.section_header.SectionHeader.{SectionHeader}
@@ -47,12 +46,3 @@ pub record IsTableSection (o : Object) (index : ℕ) (bytes : List ℕ) : Type 0
   pub first : index_of o table_name ≡ Some index
   pub here : slice_get o.sections index ≡ Some section
   pub bytes_are : bytes ≡ section_bytes o section
-
--- the bytes of the section of an index, whatever its type is; empty for index 0
-abbrev pub strings_at : Object → ℕ → List ℕ
-strings_at o index = if index == 0 then [] else option_map_or (section_bytes o) (slice_get o.sections index) []
-
--- sh_link of a symbol table: the index of its string table
-abbrev pub table_link : Option SectionHeader → ℕ
-table_link None = 0
-table_link (Some s) = s.link

@@ -8,7 +8,7 @@ mod sized;
 
 ghost use Rattle.std.specs.Prelude.{◌≡◌, ◌<◌, length, slice_get, Some, IfOk, IfErr, OnOk};
 ghost use Rattle.btf_model.specs.Record.{DataSec};
-ghost use Rattle.btf_rules.specs.Layout.{layout_of};
+ghost use Rattle.btf_table.specs.Layout.{layout_of};
 ghost use Rattle.btf_object_model.specs.Finalized.{IsFinal, IsFinalized};
 ghost use Rattle.btf_object_model.specs.SanitizedFinalized.{IsOpened};
 ghost use Rattle.btf_object.specs.Finalize.{AreRead, FinalizesAt};

@@ -5,10 +5,11 @@ ghost use Rattle.btf_rewrite_model.specs.Feature.{same_feature};
 ghost use Rattle.btf_rewrite_model.specs.declared.feature.BtfFeature.{BtfFeature};
 ghost use Rattle.btf_object_model.specs.Kernel.{IsVersion, has_by_version};
 ghost use Rattle.btf_object_model.specs.declared.version.Version.{Version};
-ghost use Rattle.btf_object.specs.Kernel.{has, has_bit};
+ghost use Rattle.btf_rewrite_model.specs.FeatureSet.{has_bit};
+ghost use Rattle.btf_object.specs.Kernel.{kernel_has};
 
 use crate::version::{has, read_version};
-use btf_rewrite_model::BtfFeature;
+use btf_rewrite_model::{BtfFeature, has_bit};
 
 /// The features that a kernel has.
 #[derive(Clone, Copy, Debug, PartialEq, Eq)]
@@ -23,17 +24,10 @@ pub struct Kernel {
     enum64: bool,
 }
 
-/// Whether the bit of a feature is set.
-fn is_set(bits: u32, feature: BtfFeature) -> bool
-    ensures { result ≡ has_bit bits feature }
-{
-    (bits >> (feature as u32)) % 2 == 1
-}
-
 impl Kernel {
     /// A kernel that has none of the eight features.
     pub fn new() -> Kernel
-        ensures { (f : BtfFeature) → has result f ≡ false }
+        ensures { (f : BtfFeature) → kernel_has result f ≡ false }
     {
         Kernel {
             func: false,
@@ -49,7 +43,8 @@ impl Kernel {
 
     /// The same kernel with one more feature.
     pub fn with(self, feature: BtfFeature) -> Kernel
-        ensures { (f : BtfFeature) → has result f ≡ (same_feature feature f || has self f) }
+        ensures { (f : BtfFeature) → kernel_has result f
+            ≡ (same_feature feature f || kernel_has self f) }
     {
         let mut kernel = self;
         match feature {
@@ -68,23 +63,23 @@ impl Kernel {
     /// The kernel whose features have their bits set. The bit of a feature is its number: Func is bit 0, and so on.
     /// Other bits are ignored.
     pub fn of_bits(bits: u32) -> Kernel
-        ensures { (f : BtfFeature) → has result f ≡ has_bit bits f }
+        ensures { (f : BtfFeature) → kernel_has result f ≡ has_bit bits f }
     {
         Kernel {
-            func: is_set(bits, BtfFeature::Func),
-            func_global: is_set(bits, BtfFeature::FuncGlobal),
-            data_sec: is_set(bits, BtfFeature::DataSec),
-            data_sec_zero: is_set(bits, BtfFeature::DataSecZero),
-            float: is_set(bits, BtfFeature::Float),
-            decl_tag: is_set(bits, BtfFeature::DeclTag),
-            type_tag: is_set(bits, BtfFeature::TypeTag),
-            enum64: is_set(bits, BtfFeature::Enum64),
+            func: has_bit(bits, BtfFeature::Func),
+            func_global: has_bit(bits, BtfFeature::FuncGlobal),
+            data_sec: has_bit(bits, BtfFeature::DataSec),
+            data_sec_zero: has_bit(bits, BtfFeature::DataSecZero),
+            float: has_bit(bits, BtfFeature::Float),
+            decl_tag: has_bit(bits, BtfFeature::DeclTag),
+            type_tag: has_bit(bits, BtfFeature::TypeTag),
+            enum64: has_bit(bits, BtfFeature::Enum64),
         }
     }
 
     /// Whether the kernel has a feature.
     pub fn has(&self, feature: BtfFeature) -> bool
-        ensures { result ≡ has self.now feature }
+        ensures { result ≡ kernel_has self.now feature }
     {
         match feature {
             BtfFeature::Func => self.func,
@@ -106,7 +101,7 @@ impl Kernel {
     /// its version, because features are backported.
     pub fn of_version(text: &str) -> Option<Kernel>
         ensures some { IfSome result (λ kernel. (v : Version) × IsVersion text.now v
-            × ((f : BtfFeature) → has kernel f ≡ has_by_version v f)) }
+            × ((f : BtfFeature) → kernel_has kernel f ≡ has_by_version v f)) }
         ensures none { IfNone result ((v : Version) → IsVersion text.now v → ⊥) }
     {
         let version = read_version(text)?;

@@ -1,12 +1,11 @@
 //! The data that the rewrite of a table needs from an object.
 
-ghost use Rattle.std.specs.Prelude.{◌≡◌, List, [], ℕ, unwrap_or, IfOk, IfSome, IfNone};
-ghost use Rattle.btf_elf_model.specs.Object as elf;
-ghost use Rattle.btf_rules.specs.Layout.{layout_of, sizes_of, offsets_of};
+ghost use Rattle.std.specs.Prelude.{◌≡◌, List, ℕ, IfOk, IfSome, IfNone};
+ghost use Rattle.btf_table.specs.Layout.{layout_of, sizes_of, offsets_of};
 ghost use Rattle.btf_object_model.specs.Layout as model;
 ghost use Rattle.btf_object.specs.Names.{indices_of, IsReadSection, IsSectionLeftOut, IsReadSymbol, IsSymbolLeftOut};
 
-use crate::names::{askable, section_names, symbol_names};
+use crate::names::{section_text, symbol_text};
 use btf_elf::{Object, Symbol};
 use btf_plain::SectionIndex;
 use std::alloc::{AllocError, Global};
@@ -42,7 +41,7 @@ impl<H: BuildHasher> ObjectLayout<H> {
     where
         H: Clone + Drop,
         ensures layout { IfOk result (λ l.
-            layout_of l.sections l.symbols ≡ model.layout_of object.now) }
+            layout_of l.sections l.symbols ≡ model.object_layout object.now) }
         ensures indices { IfOk result (λ l. (name : List ℕ)
             → indices_of l.sections name ≡ model.last_index_of object.now name) }
     {
@@ -65,9 +64,8 @@ fn is_read(symbol: &Symbol) -> bool
     symbol.binding != STB_LOCAL || symbol.kind == STT_OBJECT
 }
 
-/// The name and the value of the symbol of an index, if they are read. `names` is the string table of the symbols.
-fn read_symbol<'a>(object: &Object<'a>, names: &'a [u8], index: usize) -> Option<(&'a str, u64)>
-    requires { names.now ≡ elf.symbol_names object.now }
+/// The name and the value of the symbol of an index, if they are read.
+fn read_symbol<'a>(object: &Object<'a>, index: usize) -> Option<(&'a str, u64)>
     ensures some { IfSome result (λ named. IsReadSymbol object.now index named.0.now named.1) }
     ensures none { IfNone result (IsSymbolLeftOut object.now index) }
 {
@@ -75,19 +73,17 @@ fn read_symbol<'a>(object: &Object<'a>, names: &'a [u8], index: usize) -> Option
     if !is_read(&symbol) {
         return None;
     }
-    let name = askable(names, symbol.name)?;
+    let name = symbol_text(object, &symbol)?;
     Some((name, symbol.value))
 }
 
-/// The name and the size of the section of an index, if a rewrite may ask for the name. `names` is the string table of
-/// the sections.
-fn read_section<'a>(object: &Object<'a>, names: &'a [u8], index: usize) -> Option<(&'a str, u64)>
-    requires { names.now ≡ unwrap_or (elf.name_table object.now) [] }
+/// The name and the size of the section of an index, if a rewrite may ask for the name.
+fn read_section<'a>(object: &Object<'a>, index: usize) -> Option<(&'a str, u64)>
     ensures some { IfSome result (λ named. IsReadSection object.now index named.0.now named.1) }
     ensures none { IfNone result (IsSectionLeftOut object.now index) }
 {
     let section = object.sections().get(index)?;
-    let name = askable(names, section.name)?;
+    let name = section_text(object, section)?;
     Some((name, section.size))
 }
 
@@ -102,10 +98,9 @@ fn read_sections<H: BuildHasher + Drop>(
     ensures indices { IfOk result (λ map. (name : List ℕ)
         → indices_of map name ≡ model.last_index_of object.now name) }
 {
-    let names = section_names(object);
     let mut map = HashMap::with_hasher(alloc, hash_builder);
     for index in 0..object.sections().len() {
-        if let Some((name, size)) = read_section(object, names, index) {
+        if let Some((name, size)) = read_section(object, index) {
             map.insert(name.to_string(alloc)?, (SectionIndex(index), size))?;
         }
     }
@@ -121,10 +116,9 @@ fn read_symbols<H: BuildHasher + Drop>(
     ensures { IfOk result (λ map. (name : List ℕ)
         → offsets_of map name ≡ model.offset_of object.now name) }
 {
-    let names = symbol_names(object);
     let mut map = HashMap::with_hasher(alloc, hash_builder);
     for index in 0..object.symbol_count() {
-        if let Some((name, value)) = read_symbol(object, names, index) {
+        if let Some((name, value)) = read_symbol(object, index) {
             map.insert(name.to_string(alloc)?, value)?;
         }
     }

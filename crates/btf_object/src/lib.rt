@@ -19,7 +19,7 @@ pub use error::SanitizeError;
 pub use kernel::Kernel;
 pub use ksyms::ksyms_of;
 pub use layout::ObjectLayout;
-pub use names::{NAME_LIMIT, section_names, short_name};
+pub use names::NAME_LIMIT;
 pub use sanitize::{
     sanitize_finalized, sanitize_object, sanitize_object_with, sanitize_parsed,
     sanitize_parsed_finalized,

@@ -9,7 +9,7 @@ ghost use Rattle.btf_object_model.specs.Sanitized.{HasSection, IsSanitized, inde
 ghost use Rattle.btf_object.specs.Names.{IsTableSection};
 ghost use Rattle.btf_object_model.specs.SanitizedFinalized.{IsSanitizedFinalized};
 ghost use Rattle.btf_object.specs.Errors.{target_of, IsCause, IsFinalizedCause};
-ghost use Rattle.btf_object.specs.Kernel.{has};
+ghost use Rattle.btf_object.specs.Kernel.{kernel_has};
 
 use crate::error::SanitizeError;
 use crate::kernel::Kernel;
@@ -144,13 +144,13 @@ pub fn sanitize_finalized<H: BuildHasher + Clone + Drop>(
 ) -> Result<(Vec<u8>, ArrayVec<FeatureAnswer, 8>), SanitizeError>
     // The new file is the old object with the written form of the new table in its section `.BTF`.
     ensures sanitized { IfOk result
-        (λ r. IsSanitizedFinalized bytes.now (has kernel.now) r.0.items r.1.items) }
+        (λ r. IsSanitizedFinalized bytes.now (kernel_has kernel.now) r.0.items r.1.items) }
     // With the new table its section `.BTF.ext` has the same contents as with the old table.
     ensures ext { IfOk result (λ r. (o : elf.Object) (index : ℕ) (s : SectionHeader)
         → HasSection bytes.now ext_name o index s
         → (new : elf.Object) × KeepsExt bytes.now r.0.items o new index s) }
     // An error is the first one in the stated order.
-    ensures refused { IfErr result (IsFinalizedCause bytes.now (has kernel.now)) }
+    ensures refused { IfErr result (IsFinalizedCause bytes.now (kernel_has kernel.now)) }
 {
     let object = Object::parse(alloc, bytes)?;
     sanitize_parsed_finalized(alloc, &object, kernel, hash_builder)
@@ -164,11 +164,11 @@ pub fn sanitize_parsed_finalized<H: BuildHasher + Clone + Drop>(
     hash_builder: H,
 ) -> Result<(Vec<u8>, ArrayVec<FeatureAnswer, 8>), SanitizeError>
     ensures sanitized { IfOk result
-        (λ r. IsSanitizedFinalized object.now.bytes (has kernel.now) r.0.items r.1.items) }
+        (λ r. IsSanitizedFinalized object.now.bytes (kernel_has kernel.now) r.0.items r.1.items) }
     ensures ext { IfOk result (λ r. (o : elf.Object) (index : ℕ) (s : SectionHeader)
         → HasSection object.now.bytes ext_name o index s
         → (new : elf.Object) × KeepsExt object.now.bytes r.0.items o new index s) }
-    ensures refused { IfErr result (IsFinalizedCause object.now.bytes (has kernel.now)) }
+    ensures refused { IfErr result (IsFinalizedCause object.now.bytes (kernel_has kernel.now)) }
 {
     // The contract is about the object of its bytes, which this shows.
     let _ = object.bytes();

@@ -6,14 +6,14 @@ ghost use Rattle.btf_model.specs.Table.{Table};
 ghost use Rattle.btf_model.specs.Blob.{canon};
 ghost use Rattle.btf_rewrite_model.specs.Pass.{Asked};
 ghost use Rattle.btf_rewrite_model.specs.Rewritten.{pass_of, Rewritten, IsRefused};
-ghost use Rattle.btf_rules.specs.Layout.{layout_of};
+ghost use Rattle.btf_table.specs.Layout.{layout_of};
 ghost use Rattle.btf_object_model.specs.Finalized.{with_ksyms_size, sized};
-ghost use Rattle.btf_object_model.specs.Kernel.{answers_of};
+ghost use Rattle.btf_rewrite_model.specs.FeatureSet.{answers_of};
 ghost use Rattle.btf_object_model.specs.Sanitized.{RewritesTable, RefusesTable, AreAnswers};
 ghost use Rattle.btf_object_model.specs.SanitizedFinalized.{RewritesFinalized, RefusesFinalized};
 ghost use Rattle.btf_plain.specs.Error.{refusal_of};
 ghost use Rattle.btf_object.specs.Errors.{target_of};
-ghost use Rattle.btf_object.specs.Kernel.{has};
+ghost use Rattle.btf_object.specs.Kernel.{kernel_has};
 
 use crate::finalize::{add_placeholder, open, set_sizes, sizes_of};
 use crate::kernel::Kernel;
@@ -23,8 +23,7 @@ use arrayvec::ArrayVec;
 use btf_elf::Object;
 use btf_plain::BtfError;
 use btf_rewrite_model::{BtfFeature, FeatureAnswer, FillPolicy, KsymsIds};
-use btf_rules::BtfFeatureResolver;
-use btf_table::Btf;
+use btf_table::{Btf, BtfFeatureResolver};
 use std::alloc::Global;
 use std::hash::BuildHasher;
 
@@ -38,16 +37,17 @@ fn rewrite_for<H: BuildHasher>(
     ids: Option<KsymsIds>,
 ) -> Result<ArrayVec<FeatureAnswer, 8>, BtfError>
     ensures rewritten { IfOk result (λ answers. Rewritten policy btf.old ids
-        (layout_of layout.now.sections layout.now.symbols) (answers_of (has kernel.now)) btf.new) }
+        (layout_of layout.now.sections layout.now.symbols) (answers_of (kernel_has kernel.now))
+        btf.new) }
     ensures answers { IfOk result (λ answers. AreAnswers (target_of kernel.now policy None)
         (Asked (pass_of policy btf.old ids
         (layout_of layout.now.sections layout.now.symbols) answers.items)) answers.items) }
     ensures order { IfOk result (λ answers. btf.new.order ≡ btf.old.order) }
     ensures refused { IfErr result (λ e. IfSome (refusal_of e) (IsRefused policy btf.old ids
-        (layout_of layout.now.sections layout.now.symbols) (answers_of (has kernel.now)))) }
+        (layout_of layout.now.sections layout.now.symbols) (answers_of (kernel_has kernel.now)))) }
 {
     let has = |feature: BtfFeature| -> bool
-        ensures { result ≡ has kernel.entry.now feature }
+        ensures { result ≡ kernel_has kernel.entry.now feature }
     { kernel.has(feature) };
     let mut resolver = BtfFeatureResolver::new(has);
     let answers = btf.fixup_and_sanitize_with(
@@ -96,10 +96,11 @@ pub fn finalized<H: BuildHasher + Clone + Drop>(
     hash_builder: H,
 ) -> Result<(Vec<u8>, ArrayVec<FeatureAnswer, 8>), BtfError>
     ensures made { IfOk result (λ r. (old base new : Table)
-        × (made : RewritesFinalized object.now table.now (has kernel.now) old base new r.1.items)
+        × (made : RewritesFinalized object.now table.now (kernel_has kernel.now) old base new
+        r.1.items)
         × (r.0.items ≡ canon (sized (with_ksyms_size base made.ids) new))) }
     ensures refused { IfErr result (λ e. IfSome (refusal_of e)
-        (RefusesFinalized object.now table.now (has kernel.now))) }
+        (RefusesFinalized object.now table.now (kernel_has kernel.now))) }
 {
     let layout = ObjectLayout::read(alloc, object, hash_builder)?;
     let mut btf = Btf::parse(alloc, table, object.header().order)?;

@@ -30,8 +30,8 @@ use Rattle.btf_rewrite_model.specs.declared.feature.BtfFeature.{BtfFeature}
 use Rattle.btf_rewrite_model.specs.declared.feature.FillPolicy.{FillPolicy}
 use Rattle.btf_rewrite_model.specs.declared.feature.FillPolicy.TheVariants.{FillSized}
 use Rattle.btf_rewrite_model.specs.declared.ksyms_ids.KsymsIds.{KsymsIds}
-use Rattle.btf_object_model.specs.Kernel.{answers_of}
-use Rattle.btf_object_model.specs.Layout.{layout_of}
+use Rattle.btf_rewrite_model.specs.FeatureSet.{answers_of}
+use Rattle.btf_object_model.specs.Layout.{object_layout}
 use Rattle.btf_object_model.specs.Finalized.{placeholder_text, with_int, with_variable, has_functions, with_placeholder, with_placeholder_id, with_ksyms_size, sized}
 use Rattle.btf_object_model.specs.SanitizedFinalized.{RewritesFinalized, IsSanitizedFinalized}
 use Rattle.btf_object_model.specs.Laws.{HasSameContents, KeepsExt}
@@ -193,7 +193,7 @@ keeps_ext bytes file target answers z = rewritten_keeps_ext bytes file (record {
   new = z.new;
   table = z.table.table;
   written = z.table.written;
-  stays = texts_stay target.policy z.old z.new z.table.ids (layout_of z.object) (answers_of target.has) z.table.rewritten;
+  stays = texts_stay target.policy z.old z.new z.table.ids (object_layout z.object) (answers_of target.has) z.table.rewritten;
   replaced = z.replaced;
 })
 
@@ -217,8 +217,8 @@ final_texts_stay : (has : BtfFeature → Bool) (o : Object) (bytes : List ℕ) (
     → (offset : ℕ) (text : List ℕ) → text_at given.strings offset ≡ Ok text → text_at (sized (with_ksyms_size base r.ids) new).strings offset ≡ Ok text
 final_texts_stay has o bytes given base new answers r offset text reads =
     let more = placeholder_strings base r.ids in
-    let same : base.strings ≡ given.strings = ap (λ (t : Table). t.strings) (opened_others (layout_of o) given base r.opened) in
-    texts_stay FillSized (with_placeholder base r.ids) new (with_placeholder_id base r.ids) (layout_of o) (answers_of has) r.rewritten offset text
+    let same : base.strings ≡ given.strings = ap (λ (t : Table). t.strings) (opened_others (object_layout o) given base r.opened) in
+    texts_stay FillSized (with_placeholder base r.ids) new (with_placeholder_id base r.ids) (object_layout o) (answers_of has) r.rewritten offset text
     (ap (λ (xs : List ℕ). text_at xs offset) more.1 ∙ text_stays base.strings more.0 offset text (ap (λ (xs : List ℕ). text_at xs offset) same ∙ reads))
 
 pub finalized_keeps_ext : (bytes file : List ℕ) (has : BtfFeature → Bool) (answers : List FeatureAnswer) → IsSanitizedFinalized bytes has file answers → (o : Object) (index : ℕ) (s : SectionHeader) → HasSection bytes ext_name o index s

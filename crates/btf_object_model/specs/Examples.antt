@@ -5,7 +5,8 @@ use Rattle.std.specs.Str.{is_utf8, chars}
 use Rattle.btf_elf_model.specs.declared.symbol.Symbol.{Symbol}
 use Rattle.btf_rewrite_model.specs.declared.feature.FeatureAnswer.{FeatureAnswer}
 use Rattle.btf_object_model.specs.Layout.{last_named, is_read}
-use Rattle.btf_object_model.specs.Kernel.{version, is_up_to, has_by_version, answers_of}
+use Rattle.btf_rewrite_model.specs.FeatureSet.{answers_of}
+use Rattle.btf_object_model.specs.Kernel.{version, is_up_to, has_by_version}
 
 -- names and numbers; two numbers have the same name
 numbers : List (List ℕ × ℕ)

@@ -1,21 +1,10 @@
--- The features of a kernel, and the first version of Linux with each feature.
+-- The first version of Linux with each feature, and the text of a version.
 -- Source: the commit of Linux that introduced each feature, and the first release that has it.
-use Rattle.std.specs.Prelude.{◌≡◌, ℕ, ◌<◌, ◌^◌, ◌==◌, ◌&&◌, ◌||◌, nat_lt, nat_le, Bool, true, List, [], ◌∷◌, ◌++◌, map, codes}
+use Rattle.std.specs.Prelude.{◌≡◌, ℕ, ◌<◌, ◌^◌, ◌==◌, ◌&&◌, ◌||◌, nat_lt, nat_le, Bool, true, List, [], ◌∷◌, ◌++◌, codes}
 use Rattle.std.specs.Str.Parse.{IsNumeral, digits_value}
 use Rattle.btf_rewrite_model.specs.declared.feature.BtfFeature.{BtfFeature}
 use Rattle.btf_rewrite_model.specs.declared.feature.BtfFeature.TheVariants.{Func, FuncGlobal, DataSec, DataSecZero, Float, DeclTag, TypeTag, Enum64}
-use Rattle.btf_rewrite_model.specs.declared.feature.FeatureAnswer.{FeatureAnswer}
 use Rattle.btf_object_model.specs.declared.version.Version.{Version}
-
--- the eight features, by their numbers
-abbrev pub all_features : List BtfFeature
-all_features = Func ∷ FuncGlobal ∷ DataSec ∷ DataSecZero ∷ Float ∷ DeclTag ∷ TypeTag ∷ Enum64 ∷ []
-
--- the answers of a kernel with these features
-abbrev pub answers_of : (BtfFeature → Bool) → List FeatureAnswer
-answers_of has = map (λ f. record { feature = f; granted = has f }) all_features
-
--- ---- versions
 
 -- a version, such as 5.0
 abbrev pub version : ℕ → ℕ → Version

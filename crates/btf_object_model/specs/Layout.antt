@@ -56,5 +56,5 @@ abbrev pub offset_of : Object → List ℕ → Option ℕ
 offset_of o name = last_named (symbol_name o) (λ (s : Symbol). s.value) (filter is_read (symbols o)) name
 
 -- the layout that a rewrite reads from an object
-abbrev pub layout_of : Object → Layout
-layout_of o = record { sections = size_of o; symbols = offset_of o }
+abbrev pub object_layout : Object → Layout
+object_layout o = record { sections = size_of o; symbols = offset_of o }

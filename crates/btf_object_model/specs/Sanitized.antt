@@ -17,9 +17,9 @@ use Rattle.btf_rewrite_model.specs.declared.feature.BtfFeature.{BtfFeature}
 use Rattle.btf_rewrite_model.specs.declared.feature.FeatureAnswer.{FeatureAnswer}
 use Rattle.btf_rewrite_model.specs.declared.feature.FillPolicy.{FillPolicy}
 use Rattle.btf_rewrite_model.specs.declared.ksyms_ids.KsymsIds.{KsymsIds}
-use Rattle.btf_object_model.specs.Kernel.{answers_of}
+use Rattle.btf_rewrite_model.specs.FeatureSet.{answers_of}
 use Rattle.btf_object_model.specs.Ksyms.{FindsKsyms}
-use Rattle.btf_object_model.specs.Layout.{layout_of}
+use Rattle.btf_object_model.specs.Layout.{object_layout}
 
 -- the name of the section with the table, and the name of the section with function, line and relocation records
 abbrev pub table_name : List ℕ
@@ -56,8 +56,8 @@ pub record RewritesTable (o : Object) (bytes : List ℕ) (target : Target) (old 
   pub ids : Option KsymsIds
   pub table : IsTable o.header.order bytes old
   pub ksyms : FindsKsyms old target.placeholder (Ok ids)
-  pub rewritten : Rewritten target.policy old ids (layout_of o) (answers_of target.has) new
-  pub answers_are : AreAnswers target (Asked (pass_of target.policy old ids (layout_of o) answers)) answers
+  pub rewritten : Rewritten target.policy old ids (object_layout o) (answers_of target.has) new
+  pub answers_are : AreAnswers target (Asked (pass_of target.policy old ids (object_layout o) answers)) answers
   pub written : IsTable o.header.order (canon new) (strip new)
 
 -- The bytes of a section represent no table, or the search for the ids of `.ksyms` fails, or the rewrite is refused.
@@ -67,7 +67,7 @@ RefusesTable o bytes target refusal =
     ⊎ ((old : Table) × IsTable o.header.order bytes old × FindsKsyms old target.placeholder (Err refusal))
     ⊎ ((old : Table) × (ids : Option KsymsIds) × IsTable o.header.order bytes old
     × FindsKsyms old target.placeholder (Ok ids)
-    × IsRefused target.policy old ids (layout_of o) (answers_of target.has) refusal)
+    × IsRefused target.policy old ids (object_layout o) (answers_of target.has) refusal)
 
 -- The file is the object with its table rewritten for the target: the written form of the new table is in the section
 -- of the old one.

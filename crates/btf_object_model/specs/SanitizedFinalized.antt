@@ -16,9 +16,9 @@ use Rattle.btf_rewrite_model.specs.declared.feature.FillPolicy.TheVariants.{Fill
 use Rattle.btf_rewrite_model.specs.declared.ksyms_ids.KsymsIds.{KsymsIds}
 use Rattle.btf_object_model.specs.Finalized.{IsFinalized, placeholder_fault, with_placeholder, with_placeholder_id, with_ksyms_size, sized}
 use Rattle.btf_object_model.specs.Kconfig.{IsConfigured}
-use Rattle.btf_object_model.specs.Kernel.{answers_of}
+use Rattle.btf_rewrite_model.specs.FeatureSet.{answers_of}
 use Rattle.btf_object_model.specs.Ksyms.{FindsKsyms}
-use Rattle.btf_object_model.specs.Layout.{layout_of}
+use Rattle.btf_object_model.specs.Layout.{object_layout}
 use Rattle.btf_object_model.specs.Sanitized.{Target, HasSection, AreAnswers, table_name}
 
 -- the target of a rewrite for a kernel with these features, without a placeholder
@@ -37,13 +37,13 @@ pub record RewritesFinalized (o : Object) (bytes : List ℕ) (has : BtfFeature �
     (answers : List FeatureAnswer) : Type 0 where
   pub ids : Option KsymsIds
   pub table : IsTable o.header.order bytes old
-  pub opened : IsOpened (layout_of o) old base
+  pub opened : IsOpened (object_layout o) old base
   pub ksyms : FindsKsyms base None (Ok ids)
   pub fits : placeholder_fault base ids ≡ None
-  pub rewritten : Rewritten FillSized (with_placeholder base ids) (with_placeholder_id base ids) (layout_of o)
+  pub rewritten : Rewritten FillSized (with_placeholder base ids) (with_placeholder_id base ids) (object_layout o)
       (answers_of has) new
   pub answers_are : AreAnswers (kernel_target has)
-      (Asked (pass_of FillSized (with_placeholder base ids) (with_placeholder_id base ids) (layout_of o) answers))
+      (Asked (pass_of FillSized (with_placeholder base ids) (with_placeholder_id base ids) (object_layout o) answers))
       answers
   pub written : IsTable o.header.order (canon (sized (with_ksyms_size base ids) new))
       (strip (sized (with_ksyms_size base ids) new))
@@ -53,10 +53,10 @@ pub record RewritesFinalized (o : Object) (bytes : List ℕ) (has : BtfFeature �
 abbrev pub RefusesFinalized : Object → List ℕ → (BtfFeature → Bool) → Refusal → Type 0
 RefusesFinalized o bytes has refusal =
     IsRefusal o.header.order bytes refusal
-    ⊎ ((old base : Table) × IsTable o.header.order bytes old × IsOpened (layout_of o) old base
+    ⊎ ((old base : Table) × IsTable o.header.order bytes old × IsOpened (object_layout o) old base
     × (FindsKsyms base None (Err refusal) ⊎ ((ids : Option KsymsIds) × FindsKsyms base None (Ok ids)
     × ((placeholder_fault base ids ≡ Some refusal) ⊎ ((placeholder_fault base ids ≡ None)
-    × IsRefused FillSized (with_placeholder base ids) (with_placeholder_id base ids) (layout_of o) (answers_of has)
+    × IsRefused FillSized (with_placeholder base ids) (with_placeholder_id base ids) (object_layout o) (answers_of has)
     refusal)))))
 
 -- The file is the object with its table finalized and rewritten for a kernel with these features: the written form of

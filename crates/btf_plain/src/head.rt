@@ -1,11 +1,13 @@
 //! The three words that each record begins with.
 
-ghost use Rattle.std.specs.Prelude.{◌≡◌, ◌<◌, ◌^◌, length, MatchResult};
+ghost use Rattle.std.specs.Prelude.{◌≡◌, ◌<◌, ◌^◌, ◌+◌, ◌*◌, length, MatchResult};
 ghost use Rattle.btf_model.specs.Record as model;
-ghost use Rattle.btf_model.specs.Record.{kind_number};
+ghost use Rattle.btf_model.specs.Record.{kind_number, tail_words};
+ghost use Rattle.btf_plain.specs.Kind as kinds;
 
 use crate::bytes::split_word;
 use crate::error::BtfError;
+use crate::kind::BtfKind;
 use btf_model::Endianness;
 
 /// The length in bytes of the three words.
@@ -55,5 +57,20 @@ impl Head {
         ensures small { result < 2 ^ 16 }
     {
         (self.info & 0xffff) as usize
+    }
+
+    /// The length in bytes of a record of this kind with this head.
+    pub fn record_len(&self, kind: BtfKind) -> usize
+        ensures { result ≡ 12 + 4 * tail_words (kinds.kind kind) (model.vlen self.now.info) }
+    {
+        let words = match kind {
+            BtfKind::Int | BtfKind::Var | BtfKind::DeclTag => 1,
+            BtfKind::Array => 3,
+            BtfKind::Enum | BtfKind::FuncProto => 2 * self.vlen(),
+            BtfKind::Struct | BtfKind::Union | BtfKind::DataSec | BtfKind::Enum64 => 3
+                * self.vlen(),
+            _ => 0,
+        };
+        HEAD_LEN + 4 * words
     }
 }

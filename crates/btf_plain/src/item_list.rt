@@ -1,6 +1,6 @@
 //! The list of a record. A few items are stored in the record itself.
 
-ghost use Rattle.std.specs.Prelude.{◌≡◌, ◌<◌, ◌≤◌, length, map, take, slice_set, IfOk};
+ghost use Rattle.std.specs.Prelude.{◌≡◌, ◌<◌, ◌≤◌, length, map, take, slice_set, IfOk, IfSome};
 ghost use Rattle.std.specs.List.{flat_map};
 ghost use Rattle.btf_plain.specs.Error.{MeetsOrNoMemory};
 ghost use Rattle.btf_plain.specs.ReadItems.{ReadsItems};
@@ -20,8 +20,8 @@ const LONGEST_ITEM: usize = 12;
 /// The items of a record. Most records have a few items, which are stored in the record itself without an allocation.
 #[derive(Drop)]
 pub enum ItemList<T, const N: usize> {
-    /// A number of items at the front of an array.
-    Few(usize, [T; N]),
+    /// A number of items at the front of an array. With 32 bits the number and the enum's tag take 8 bytes together.
+    Few(u32, [T; N]),
     /// All items of a vector.
     Many(Vec<T>),
 }
@@ -34,7 +34,7 @@ impl<T, const N: usize> ItemList<T, N> {
         match self {
             ItemList::Few(count, items) => {
                 let items = items.as_slice();
-                &items[..items.len().min(*count)]
+                &items[..items.len().min(*count as usize)]
             }
             ItemList::Many(items) => items.as_slice(),
         }
@@ -52,32 +52,32 @@ impl<T: Item, const N: usize> ItemList<T, N> {
         ensures { MeetsOrNoMemory items_of result
             (ReadsItems T.WIDTH T.item_words endianness bytes.now count) }
     {
-        if count > N {
+        let Some(few) = few_of(count, N) else {
             return Ok(ItemList::Many(read_items(alloc, bytes, endianness, count)?));
-        }
+        };
         // A loop with a constant number of rounds is faster, so all places of the array are filled if there are enough
         // bytes.
         if bytes.len() / LONGEST_ITEM >= N {
             if let Ok(items) = read_few(bytes, endianness, N) {
-                return Ok(ItemList::Few(count, items));
+                return Ok(ItemList::Few(few, items));
             }
         }
         let items = read_few(bytes, endianness, count)?;
-        Ok(ItemList::Few(count, items))
+        Ok(ItemList::Few(few, items))
     }
 
     /// These items. A few are copied into the list itself, and their vector is freed.
     pub fn from_vec(items: Vec<T>) -> Self
         ensures { items_of result ≡ items.items }
     {
-        if items.len() > N {
+        let Some(count) = few_of(items.len(), N) else {
             return ItemList::Many(items);
-        }
+        };
         let mut few: [T; N] = array::from_fn(|_| T::from_words([0; 3]));
         for index in 0..items.len() {
             few[index] = copied(&items[index]);
         }
-        ItemList::Few(items.len(), few)
+        ItemList::Few(count, few)
     }
 
     /// Replaces the item at an index.
@@ -106,6 +106,18 @@ impl<T: Item, const N: usize> Clone for ItemList<T, N> {
             ItemList::Few(count, items) => Ok(ItemList::Few(*count, copy_few(items))),
             ItemList::Many(items) => Ok(ItemList::Many(items.clone()?)),
         }
+    }
+}
+
+/// The number of items if the record itself has places for them.
+#[inline(always)]
+fn few_of(count: usize, places: usize) -> Option<u32>
+    ensures { IfSome result (λ few. (few ≡ count) × (few ≤ places)) }
+{
+    if count > places {
+        None
+    } else {
+        u32::try_from(count).ok()
     }
 }
 

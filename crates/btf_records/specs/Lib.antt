@@ -1,5 +1,5 @@
 pub mod BtfType
-pub mod Members
+pub mod Parts
 pub mod Slot
 pub use Rattle.btf_model.specs.Word
 pub use Rattle.btf_model.specs.Record

@@ -20,41 +20,50 @@ use std::alloc::{AllocError, Global};
 use std::fmt;
 use std::marker::Model;
 
-/// The members of a union, and the ENUM64 that it replaces, if there is one. Most unions replace none, and then the
-/// space for a fallback stores a few members.
+/// The words and members of a union, and the ENUM64 that it replaces, if there is one. Most unions replace none, and
+/// then the space for a fallback stores a few members. The words are in the enum, because they fill the space after its
+/// tag.
 #[derive(Drop)]
-enum Members {
-    Alone(ItemList<BtfMember, 3>),
-    InsteadOf(Enum64Fallback, Vec<BtfMember>),
+enum Parts {
+    Alone(Head, ItemList<BtfMember, 4>),
+    InsteadOf(Head, Enum64Fallback, Vec<BtfMember>),
 }
 
 /// A union (the kernel's documentation, "BTF_KIND_UNION"). In contracts it is the record of its words, and its
 /// fallback.
 #[derive(Drop)]
 pub struct Union {
-    name_offset: u32,
-    info: u32,
-    size: u32,
-    members: Members,
+    parts: Parts,
 }
 
-impl Members {
+impl Parts {
     ghost use Rattle.std.specs.Prelude.{◌≡◌, Ok};
-    ghost use Rattle.btf_records.specs.Members.{members_of, kept_of};
+    ghost use Rattle.btf_records.specs.Parts.{head_of, members_of, kept_of};
 
-    /// These members, and this fallback.
-    fn new(members: Vec<BtfMember>, fallback: Option<Enum64Fallback>) -> Self
+    /// These words, these members, and this fallback.
+    fn new(head: Head, members: Vec<BtfMember>, fallback: Option<Enum64Fallback>) -> Self
+        ensures head { head_of result ≡ head }
         ensures members { members_of result ≡ members.items }
         ensures fallback { kept_of result ≡ fallback_of_option fallback }
     {
         match fallback {
-            Some(fallback) => Members::InsteadOf(fallback, members),
-            None => Members::Alone(ItemList::from_vec(members)),
+            Some(fallback) => Parts::InsteadOf(head, fallback, members),
+            None => Parts::Alone(head, ItemList::from_vec(members)),
         }
     }
 
-    /// A copy of the members and the fallback.
+    /// The first three words of the union.
+    fn head(&self) -> &Head
+        ensures { result.now ≡ head_of self.now }
+    {
+        match self {
+            Parts::Alone(head, _) | Parts::InsteadOf(head, _, _) => head,
+        }
+    }
+
+    /// A copy of the words, the members and the fallback.
     fn try_clone(&self) -> Result<Self, BtfError>
+        ensures head { IsOrNoMemory head_of result (Ok (head_of self.now)) }
         ensures members { IsOrNoMemory (λ m. flat_map member_words (members_of m)) result
             (Ok (flat_map member_words (members_of self.now))) }
         ensures count { IsOrNoMemory (λ m. length (members_of m)) result
@@ -62,21 +71,24 @@ impl Members {
         ensures fallback { IsOrNoMemory kept_of result (Ok (kept_of self.now)) }
     {
         match self {
-            Members::Alone(members) => Ok(Members::Alone(members.clone()?)),
-            Members::InsteadOf(fallback, members) => {
-                Ok(Members::InsteadOf(fallback.try_clone()?, members.clone()?))
-            }
+            Parts::Alone(head, members) => Ok(Parts::Alone(*head, members.clone()?)),
+            Parts::InsteadOf(head, fallback, members) => Ok(Parts::InsteadOf(
+                *head,
+                fallback.try_clone()?,
+                members.clone()?,
+            )),
         }
     }
 
-    /// The members, without the fallback.
+    /// The words and the members, without the fallback.
     fn without_fallback(self) -> Self
+        ensures head { head_of result ≡ head_of self }
         ensures members { members_of result ≡ members_of self }
         ensures fallback { kept_of result ≡ None }
     {
         match self {
-            Members::Alone(members) => Members::Alone(members),
-            Members::InsteadOf(_, members) => Members::Alone(ItemList::from_vec(members)),
+            Parts::Alone(head, members) => Parts::Alone(head, members),
+            Parts::InsteadOf(head, _, members) => Parts::Alone(head, ItemList::from_vec(members)),
         }
     }
 }
@@ -88,22 +100,18 @@ impl Model for Union {
     ghost use Rattle.btf_model.specs.Table.{UnionRecord};
     ghost use Rattle.btf_plain.specs.Items.{member_words};
     ghost use Rattle.btf_plain.specs.ItemList.{items_of};
-    ghost use Rattle.btf_records.specs.Members.{members_of, kept_of};
+    ghost use Rattle.btf_plain.specs.Head.{headed};
+    ghost use Rattle.btf_records.specs.Parts.{head_of, members_of, kept_of};
 
     ghost Value = { UnionRecord };
 
     ghost view = { λ a. record {
-      words = record {
-        name = a.name_offset;
-        info = a.info;
-        third = a.size;
-        tail = flat_map member_words (members_of a.members);
-      };
-      fallback = kept_of a.members;
+      words = headed (head_of a.parts) (flat_map member_words (members_of a.parts));
+      fallback = kept_of a.parts;
     } };
 
-    ghost invariant = { λ a. (kind_of a.info ≡ Some UnionKind)
-        × (vlen a.info ≡ length (members_of a.members)) };
+    ghost invariant = { λ a. (kind_of (head_of a.parts).info ≡ Some UnionKind)
+        × (vlen (head_of a.parts).info ≡ length (members_of a.parts)) };
 }
 
 impl Union {
@@ -121,12 +129,13 @@ impl Union {
           fallback = fallback_of_option fallback;
         } }
     {
-        let info = (BtfKind::Union as u32) << 24 | members.len() as u32;
+        let head = Head {
+            name: name_offset,
+            info: (BtfKind::Union as u32) << 24 | members.len() as u32,
+            third: size,
+        };
         Self {
-            name_offset,
-            info,
-            size,
-            members: Members::new(members, fallback),
+            parts: Parts::new(head, members, fallback),
         }
     }
 
@@ -145,10 +154,7 @@ impl Union {
     {
         let members = ItemList::read(alloc, rest, endianness, head.vlen())?;
         Ok(Self {
-            name_offset: head.name,
-            info: head.info,
-            size: head.third,
-            members: Members::Alone(members),
+            parts: Parts::Alone(head, members),
         })
     }
 
@@ -162,7 +168,8 @@ impl Union {
             ++ spell endianness self.now.words) }
         ensures whole { OnOk result (IsWhole self.now.words) }
     {
-        push_array(out, endianness, &[self.name_offset, self.info, self.size])?;
+        let head = self.parts.head();
+        push_array(out, endianness, &[head.name, head.info, head.third])?;
         push_items(out, endianness, self.members())
     }
 
@@ -178,7 +185,7 @@ impl Union {
         ensures value { result ≡ self.now.words.name }
         ensures kind { kind_of self.now.words.info ≡ Some model.Union }
     {
-        self.name_offset
+        self.parts.head().name
     }
 
     /// The info word, whose kind is UNION and whose vlen is the number of members.
@@ -187,14 +194,14 @@ impl Union {
         ensures kind { kind_of result ≡ Some model.Union }
         ensures tail { length self.now.words.tail ≡ 3 * vlen self.now.words.info }
     {
-        self.info
+        self.parts.head().info
     }
 
     /// The size in bytes.
     pub fn size(&self) -> u32
         ensures { result ≡ self.now.words.third }
     {
-        self.size
+        self.parts.head().third
     }
 
     /// The members, in order.
@@ -202,9 +209,9 @@ impl Union {
         ensures words { self.now.words.tail ≡ flat_map member_words result.now }
         ensures count { vlen self.now.words.info ≡ length result.now }
     {
-        match &self.members {
-            Members::Alone(members) => members.as_slice(),
-            Members::InsteadOf(_, members) => members.as_slice(),
+        match &self.parts {
+            Parts::Alone(_, members) => members.as_slice(),
+            Parts::InsteadOf(_, _, members) => members.as_slice(),
         }
     }
 
@@ -212,23 +219,23 @@ impl Union {
     pub fn member_bit_offset(&self, member: &BtfMember) -> usize
         ensures { result ≡ member_bit_offset self.now.words.info member.now.offset }
     {
-        bit_offset(self.info, member)
+        bit_offset(self.info(), member)
     }
 
     /// The number of bits of a member of this record that is a bit-field, else 0.
     pub fn member_bit_field_size(&self, member: &BtfMember) -> usize
         ensures { result ≡ member_bit_field_size self.now.words.info member.now.offset }
     {
-        bit_field_size(self.info, member)
+        bit_field_size(self.info(), member)
     }
 
     /// The ENUM64 that the union replaces, if there is one.
     pub fn enum64_fallback(&self) -> Option<&Enum64Fallback>
         ensures { self.now.fallback ≡ fallback_of_option (option_copied result) }
     {
-        match &self.members {
-            Members::Alone(_) => None,
-            Members::InsteadOf(fallback, _) => Some(fallback),
+        match &self.parts {
+            Parts::Alone(_, _) => None,
+            Parts::InsteadOf(_, fallback, _) => Some(fallback),
         }
     }
 
@@ -237,7 +244,7 @@ impl Union {
         ensures len { result ≡ 12 + 4 * length self.now.words.tail }
         ensures kind { kind_of self.now.words.info ≡ Some model.Union }
     {
-        3 * size_of_val(&self.info) + 12 * self.members().len()
+        size_of_val(self.parts.head()) + 12 * self.members().len()
     }
 
     /// A copy of the record. `OutOfMemory` is the only error.
@@ -245,10 +252,7 @@ impl Union {
         ensures { IsOrNoMemory (λ r. r) result (Ok self.now) }
     {
         Ok(Self {
-            name_offset: self.name_offset,
-            info: self.info,
-            size: self.size,
-            members: self.members.try_clone()?,
+            parts: self.parts.try_clone()?,
         })
     }
 
@@ -257,10 +261,7 @@ impl Union {
         ensures { result ≡ record { words = self.words; fallback = None } }
     {
         Self {
-            name_offset: self.name_offset,
-            info: self.info,
-            size: self.size,
-            members: self.members.without_fallback(),
+            parts: self.parts.without_fallback(),
         }
     }
 }
@@ -268,9 +269,9 @@ impl Union {
 impl fmt::Debug for Union {
     fn fmt<W: fmt::Write>(&self, f: &mut fmt::Formatter<W>) -> fmt::Result {
         f.debug_struct("Union")
-            .field("name_offset", &self.name_offset)
-            .field("info", &self.info)
-            .field("size", &self.size)
+            .field("name_offset", &self.name_offset())
+            .field("info", &self.info())
+            .field("size", &self.size())
             .field("members", &self.members())
             .field("fallback", &self.enum64_fallback())
             .finish()

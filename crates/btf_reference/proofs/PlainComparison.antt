@@ -20,8 +20,8 @@ use Rattle.btf_plain.specs.declared.error.BtfError.TheVariants as errors
 use Rattle.btf_plain.specs.declared.items.BtfParam.{BtfParam}
 use Rattle.btf_reference.specs.declared.plain_comparison.Position.{Position}
 use Rattle.btf_reference.specs.declared.plain_comparison.Position.TheVariants as positions
-use Rattle.btf_types.specs.Pairs.{pair_of, ids_of, IsResolved}
-use Rattle.btf_types.specs.Compared.{types_of}
+use Rattle.btf.specs.Pairs.{pair_of, ids_of, IsResolved}
+use Rattle.btf.specs.Compared.{types_of}
 use Rattle.btf_reference.specs.PlainComparison.{PositionIs, AreStarted, Lists}
 
 -- ---- the position after modifiers

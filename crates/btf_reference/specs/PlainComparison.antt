@@ -8,8 +8,8 @@ use Rattle.btf_model.specs.Compat.{Decided, On, Pending, pairs, AreKnown}
 use Rattle.btf_model.specs.Compat as model
 use Rattle.btf_plain.specs.Error.{Meets}
 use Rattle.btf_plain.specs.declared.error.BtfError.{BtfError}
-use Rattle.btf_types.specs.Pairs.{pair_of, ids_of}
-use Rattle.btf_types.specs.Compared.{types_of}
+use Rattle.btf.specs.Pairs.{pair_of, ids_of}
+use Rattle.btf.specs.Compared.{types_of}
 use Rattle.btf_reference.specs.declared.plain_comparison.Position.{Position}
 use Rattle.btf_reference.specs.declared.plain_comparison.Position.TheVariants as positions
 

@@ -7,13 +7,11 @@ ghost use Rattle.btf_model.specs.Walk.{walk_limit};
 ghost use Rattle.btf_model.specs.Compat.{Finds, Plain, Walked, ComparedInOrder, PositionFound, ResolvesPair, pairs, position_by};
 ghost use Rattle.btf_plain.specs.Error.{Meets};
 ghost use Rattle.btf_records.specs.BtfType.{record_of, type_kind};
-ghost use Rattle.btf_types.specs.Compared.{types_of};
-ghost use Rattle.btf_types.specs.Pairs.{IsResolved, pair_of};
+ghost use Rattle.btf.specs.Compared.{types_of};
+ghost use Rattle.btf.specs.Pairs.{IsResolved, pair_of};
 ghost use Rattle.btf_reference.specs.PlainComparison.{AreStarted, Lists, PositionIs};
 
-use btf_plain::{Array, BtfError, Int, Ptr};
-use btf_records::{BtfParam, BtfType, FuncProto};
-use btf_types::Btf;
+use btf::{Array, Btf, BtfError, BtfParam, BtfType, FuncProto, Int, Ptr};
 use std::alloc::{AllocError, AllocFailed, Global};
 
 /// The maximum number of positions of a walk.

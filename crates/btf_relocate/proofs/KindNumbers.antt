@@ -1,13 +1,15 @@
 -- The number of a kind, from the info word of a record.
-use Rattle.std.proofs.Common.{◌≡◌, ℕ, zero, suc, Some, refl, sym, ap, ◌∙◌, take, ◌+◌}
-use Rattle.std.specs.Prelude.{slice_get}
+use Rattle.std.proofs.Common.{◌≡◌, ℕ, zero, suc, ◌+◌, List, [], ◌∷◌, Some, slice_get, refl, sym, ap, ◌∙◌, arith, take}
+use Rattle.std.specs.Prelude.{map}
+use Rattle.std.specs.Option.{option_map}
+use Rattle.std.proofs.lemmas.Option.{same_Some, slice_get_within, slice_get-map}
 use Rattle.btf_model.specs.Record as model
 use Rattle.btf_model.specs.Record.{Kind, highest_kind, kinds, kind_number, kind_of}
-use Rattle.btf_plain.specs.Kind as plain
-use Rattle.btf_plain.specs.declared.kind.BtfKind.{BtfKind}
-use Rattle.btf_plain.specs.declared.kind.BtfKind.TheVariants as variants
+use Rattle.btf_plain.specs.Kind.{kind}
 use Rattle.btf_records.specs.BtfType.{record_of, type_kind}
 use Rattle.btf_records.specs.declared.btf_type.BtfType.{BtfType}
+use Rattle.btf_plain.specs.declared.kind.BtfKind.{BtfKind}
+use Rattle.btf_plain.specs.declared.kind.BtfKind.TheVariants as variants
 use Rattle.btf_relocate.specs.Index.{kind_code}
 
 abbrev number_of : Kind → ℕ
@@ -32,7 +34,7 @@ number_of model.DeclTag = 17
 number_of model.TypeTag = 18
 number_of model.Enum64 = 19
 
-same_number : (k : BtfKind) → kind_code k ≡ number_of (plain.kind k)
+same_number : (k : BtfKind) → kind_code k ≡ number_of (kind k)
 same_number variants.Unknown = refl
 same_number variants.Int = refl
 same_number variants.Ptr = refl
@@ -54,32 +56,28 @@ same_number variants.DeclTag = refl
 same_number variants.TypeTag = refl
 same_number variants.Enum64 = refl
 
-number_at : (n : ℕ) (q : Kind) → slice_get (take (highest_kind + 1) kinds) n ≡ Some q → number_of q ≡ n
-number_at zero q is = let same : model.Unknown ≡ q = cc in ap number_of (sym same)
-number_at (suc zero) q is = let same : model.Int ≡ q = cc in ap number_of (sym same)
-number_at (suc (suc zero)) q is = let same : model.Ptr ≡ q = cc in ap number_of (sym same)
-number_at (suc (suc (suc zero))) q is = let same : model.Array ≡ q = cc in ap number_of (sym same)
-number_at (suc (suc (suc (suc zero)))) q is = let same : model.Struct ≡ q = cc in ap number_of (sym same)
-number_at (suc (suc (suc (suc (suc zero))))) q is = let same : model.Union ≡ q = cc in ap number_of (sym same)
-number_at (suc (suc (suc (suc (suc (suc zero)))))) q is = let same : model.Enum ≡ q = cc in ap number_of (sym same)
-number_at (suc (suc (suc (suc (suc (suc (suc zero))))))) q is = let same : model.Fwd ≡ q = cc in ap number_of (sym same)
-number_at (suc (suc (suc (suc (suc (suc (suc (suc zero)))))))) q is = let same : model.Typedef ≡ q = cc in ap number_of (sym same)
-number_at (suc (suc (suc (suc (suc (suc (suc (suc (suc zero))))))))) q is = let same : model.Volatile ≡ q = cc in ap number_of (sym same)
-number_at (suc (suc (suc (suc (suc (suc (suc (suc (suc (suc zero)))))))))) q is = let same : model.Const ≡ q = cc in ap number_of (sym same)
-number_at (suc (suc (suc (suc (suc (suc (suc (suc (suc (suc (suc zero))))))))))) q is = let same : model.Restrict ≡ q = cc in ap number_of (sym same)
-number_at (suc (suc (suc (suc (suc (suc (suc (suc (suc (suc (suc (suc zero)))))))))))) q is = let same : model.Func ≡ q = cc in ap number_of (sym same)
-number_at (suc (suc (suc (suc (suc (suc (suc (suc (suc (suc (suc (suc (suc zero))))))))))))) q is = let same : model.FuncProto ≡ q = cc in ap number_of (sym same)
-number_at (suc (suc (suc (suc (suc (suc (suc (suc (suc (suc (suc (suc (suc (suc zero)))))))))))))) q is = let same : model.Var ≡ q = cc in ap number_of (sym same)
-number_at (suc (suc (suc (suc (suc (suc (suc (suc (suc (suc (suc (suc (suc (suc (suc zero))))))))))))))) q is = let same : model.DataSec ≡ q = cc in ap number_of (sym same)
-number_at (suc (suc (suc (suc (suc (suc (suc (suc (suc (suc (suc (suc (suc (suc (suc (suc zero)))))))))))))))) q is = let same : model.Float ≡ q = cc in ap number_of (sym same)
-number_at (suc (suc (suc (suc (suc (suc (suc (suc (suc (suc (suc (suc (suc (suc (suc (suc (suc zero))))))))))))))))) q is = let same : model.DeclTag ≡ q = cc in ap number_of (sym same)
-number_at (suc (suc (suc (suc (suc (suc (suc (suc (suc (suc (suc (suc (suc (suc (suc (suc (suc (suc zero)))))))))))))))))) q is = let same : model.TypeTag ≡ q = cc in ap number_of (sym same)
-number_at (suc (suc (suc (suc (suc (suc (suc (suc (suc (suc (suc (suc (suc (suc (suc (suc (suc (suc (suc zero))))))))))))))))))) q is = let same : model.Enum64 ≡ q = cc in ap number_of (sym same)
-number_at (suc (suc (suc (suc (suc (suc (suc (suc (suc (suc (suc (suc (suc (suc (suc (suc (suc (suc (suc (suc n)))))))))))))))))))) q is = absurd (cc)
+-- the kinds have the numbers of their places
+places : ℕ → List Kind → List ℕ
+places i [] = []
+places i (k ∷ ks) = i ∷ places (suc i) ks
+
+place_is : (i : ℕ) (ks : List Kind) (n m : ℕ) → slice_get (places i ks) n ≡ Some m → i + n ≡ m
+unfolding places
+place_is i [] n m is = absurd (omega (arith, slice_get_within [] n m is))
+place_is i (k ∷ ks) zero m is = omega (arith, same_Some i m is)
+place_is i (k ∷ ks) (suc n) m is = omega (arith, place_is (suc i) ks n m is)
+
+numbers : map number_of (take (highest_kind + 1) kinds) ≡ places 0 (take (highest_kind + 1) kinds)
+unfolding places
+numbers = refl
 
 -- the number of the kind that an info word has
-pub code_of_info : (k : BtfKind) (info : ℕ) → kind_of info ≡ Some (plain.kind k) → kind_code k ≡ kind_number info
-code_of_info k info is = same_number k ∙ number_at (kind_number info) (plain.kind k) is
+pub code_of_info : (k : BtfKind) (info : ℕ) → kind_of info ≡ Some (kind k) → kind_code k ≡ kind_number info
+code_of_info k info is =
+    let n = kind_number info in
+    let all = take (highest_kind + 1) kinds in
+    same_number k ∙ sym (place_is 0 all n (number_of (kind k)) (ap (λ (xs : List ℕ). slice_get xs n) (sym numbers) ∙ slice_get-map number_of all n ∙ ap (option_map number_of) is)) ∙ omega arith
 
-pub code_of_type : (k : BtfKind) (b : BtfType) → plain.kind k ≡ type_kind b → kind_of (record_of b).info ≡ Some (type_kind b) → kind_code k ≡ kind_number (record_of b).info
+-- the number of the kind of a type
+pub code_of_type : (k : BtfKind) (b : BtfType) → kind k ≡ type_kind b → kind_of (record_of b).info ≡ Some (type_kind b) → kind_code k ≡ kind_number (record_of b).info
 code_of_type k b same is = code_of_info k (record_of b).info (is ∙ ap (λ (q : Kind). Some q) (sym same))

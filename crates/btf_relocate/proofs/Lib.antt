@@ -12,7 +12,7 @@ mod Pointers
 mod Answering
 mod Resolves
 mod Sections
-mod KindNumbers
+pub mod KindNumbers
 mod Indexes
 mod Pairs
 mod Comparing

@@ -16,4 +16,5 @@ pub mod Passing
 pub mod FirstMade
 pub mod FewAdded
 pub mod Kernels
+pub mod FeatureSet
 pub mod KeepSized

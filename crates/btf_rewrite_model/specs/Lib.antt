@@ -1,4 +1,5 @@
 pub mod Feature
+pub mod FeatureSet
 pub mod Made
 pub mod Checks
 pub mod Ksyms

@@ -9,7 +9,9 @@ ghost use Rattle.btf_rewrite_model.specs.RewriteLaws.{AskedOnlyIfNeeded, Granted
 mod feature;
 mod ksyms_ids;
 
-pub use feature::{BtfFeature, FeatureAnswer, FillPolicy};
+pub use feature::{
+    BtfFeature, FEATURE_NAMES, FeatureAnswer, FillPolicy, feature_name, feature_named, has_bit,
+};
 pub use ksyms_ids::KsymsIds;
 
 /// A rewrite asks for a feature only if the kernel needs it for a record of the table.

@@ -1,8 +1,7 @@
 //! Whole tables, from the words of their types and from their strings.
 
 use crate::spelled::{push_words, spelled_text};
-use btf_plain::Endianness;
-use btf_types::Btf;
+use btf::{Btf, Endianness};
 use std::alloc::{AllocError, Global};
 use std::test::Fail;
 

@@ -1,6 +1,6 @@
 //! The layout of a program, which a rewrite needs besides its table.
 
-use btf_plain::SectionIndex;
+use btf::SectionIndex;
 use std::alloc::{AllocError, Global};
 use std::collections::HashMap;
 

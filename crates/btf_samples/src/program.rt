@@ -2,8 +2,7 @@
 
 use crate::blobs::{front, header, parsed_blob};
 use crate::spelled::{push_words, spelled_decimals, words};
-use btf_plain::{BtfKind, Endianness};
-use btf_types::Btf;
+use btf::{Btf, BtfKind, Endianness};
 use std::alloc::Global;
 use std::test::Fail;
 

@@ -1,7 +1,6 @@
 //! Words, bytes and records from human-readable text, written in a byte order.
 
-use btf_plain::Endianness;
-use btf_records::BtfType;
+use btf::{BtfType, Endianness};
 use std::alloc::{AllocError, Global};
 use std::test::Fail;
 

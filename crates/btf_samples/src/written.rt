@@ -5,9 +5,7 @@
 
 use crate::blobs::table_bytes;
 use crate::spelled::{bytes, spelled_text};
-use btf_plain::{BtfError, BtfKind, Endianness};
-use btf_records::BtfType;
-use btf_types::Btf;
+use btf::{Btf, BtfError, BtfKind, BtfType, Endianness};
 use std::alloc::Global;
 use std::test::Fail;
 

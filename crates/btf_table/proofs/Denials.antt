@@ -9,7 +9,7 @@ use Rattle.btf_model.specs.Record.{Kind, Record, unknown, kind_of}
 use Rattle.btf_rewrite_model.specs.Checks.{record_len}
 use Rattle.btf_records.specs.BtfType.{record_of, fallback_of, type_kind}
 use Rattle.btf_records.specs.declared.btf_type.BtfType.{BtfType}
-use Rattle.btf_rules.specs.InPlace.{denied}
+use Rattle.btf_table.specs.InPlace.{denied}
 use Rattle.btf_model.specs.Table.{Table, type_bytes}
 use Rattle.btf_table.specs.declared.table.Btf.TheInside.{Inside}
 use Rattle.btf_table.specs.Btf.{table_of, IsConsistent}

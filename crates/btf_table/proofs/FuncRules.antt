@@ -26,10 +26,10 @@ use Rattle.btf_records.specs.BtfType.{record_of, fallback_of}
 use Rattle.btf_records.specs.declared.btf_type.BtfType.{BtfType}
 use Rattle.btf_table.proofs.Adding.{adds_none}
 use Rattle.btf_table.proofs.PassRules.{record_there, kind_there, becomes_there, fault_there, texts_there, added_there, falls_back_there, made_on, wants_none, no_filler, grown_by, same_len}
-use Rattle.btf_rules.specs.Builtins.{begins_builtin}
+use Rattle.btf_table.specs.Builtins.{begins_builtin}
 use Rattle.std.specs.Result.{result_ok, result_err}
 use Rattle.std.proofs.lemmas.Option.{none-some, same_Some}
-use Rattle.btf_rules.specs.Checked.{checked}
+use Rattle.btf_table.specs.Checked.{checked}
 use Rattle.btf_table.proofs.Readable.{builtin_is}
 use Rattle.btf_table.specs.Btf.{IsType}
 use Rattle.btf_table.specs.PassStep.{Given, pass_on, IsHere, IsRuled, AsksUpTo}

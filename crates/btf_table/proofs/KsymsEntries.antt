@@ -15,7 +15,7 @@ use Rattle.btf_plain.specs.Items.{entry_words}
 use Rattle.btf_plain.specs.declared.items.DataSecEntry.{DataSecEntry}
 use Rattle.btf_table.specs.KsymsStep.{entry, has, is_this, prototype_of, HasSymbols, FindsSymbols}
 use Rattle.btf_table.specs.declared.sanitize.ksyms.Symbols.{Symbols}
-use Rattle.btf_rules.proofs.Checks.{fault_after, fault_before}
+use Rattle.btf_table.proofs.Checks.{fault_after, fault_before}
 
 -- the words of entries are read as these
 pub entries_of_words : (es : List DataSecEntry) → entries (flat_map entry_words es) ≡ map entry es

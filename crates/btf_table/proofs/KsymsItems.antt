@@ -12,7 +12,7 @@ use Rattle.btf_rewrite_model.specs.Ksyms.{named, laid_out, entry_type}
 use Rattle.btf_plain.specs.Items.{entry_words}
 use Rattle.btf_plain.specs.declared.items.DataSecEntry.{DataSecEntry}
 use Rattle.btf_table.specs.KsymsStep.{entry, laid_out_anew}
-use Rattle.btf_rules.proofs.NamedParams.{put_at}
+use Rattle.btf_table.proofs.NamedParams.{put_at}
 use Rattle.btf_table.proofs.KsymsEntries.{entries_of_words}
 
 -- ---- entries

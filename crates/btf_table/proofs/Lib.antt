@@ -24,3 +24,8 @@ pub mod Names
 pub mod Ascii
 pub mod Readable
 pub mod Walks
+pub mod Answered
+pub mod Checks
+pub mod Enum64s
+pub mod SectionNames
+pub mod NamedParams

@@ -9,7 +9,7 @@ use Rattle.btf_plain.specs.declared.error.BtfError.{BtfError}
 use Rattle.btf_records.specs.BtfType.{record_of, fallback_of, type_kind}
 use Rattle.btf_records.specs.declared.btf_type.BtfType.TheVariants as types
 use Rattle.btf_records.specs.declared.btf_type.BtfType.{BtfType}
-use Rattle.btf_rules.specs.InPlace.{denied, denied_by, denied_type}
+use Rattle.btf_table.specs.InPlace.{denied, denied_by, denied_type}
 use Rattle.btf_table.specs.PassStep.{outcome_of, made_of, placed_of}
 use Rattle.btf_table.specs.declared.sanitize.outcome.Outcome.{Outcome}
 use Rattle.btf_table.specs.declared.sanitize.outcome.Outcome.TheVariants.{Same, Denied, Other}

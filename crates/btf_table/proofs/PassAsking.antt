@@ -12,7 +12,7 @@ use Rattle.btf_rewrite_model.specs.Pass.{asks as model_asks}
 use Rattle.btf_rewrite_model.specs.RewriteLaws.{IsAmong}
 use Rattle.btf_rewrite_model.specs.Passing.{AreAnswersTo, features_of, IsAt}
 use Rattle.btf_rewrite_model.proofs.Passing.{NextAnswers, AnswersWith, asked_next, grants_append, among_each, further_same, asks_begin, each_once_begins}
-use Rattle.btf_rules.specs.Features.{Asks, AsksFor, Called, IsFurther}
+use Rattle.btf_table.specs.Features.{Resolver, Asks, AsksFor, Called, IsFurther}
 use Rattle.btf_table.specs.PassStep.{HasAsked, AsksUpTo, BeginsAsked}
 
 -- ---- the predicate
@@ -23,19 +23,19 @@ called_next step first before after [] f granted called now = (after, subst (λ 
 called_next step first before after (a ∷ answers) f granted called now = (called.0, called.1, called_next step called.0 before after answers f granted called.2 now)
 
 -- asking for a feature is one call of the predicate, or nothing
-pub asks_called : {F : Type 0} (step : F → BtfFeature → Bool → F → Type 0) (first : F) (f : BtfFeature) (old new : F × List FeatureAnswer) (granted : Bool) → Asks step f old granted new → Called step first old.1 old.0 → Called step first new.1 new.0
+pub asks_called : {F : Type 0} (step : F → BtfFeature → Bool → F → Type 0) (first : F) (f : BtfFeature) (old new : Resolver F) (granted : Bool) → Asks step f old granted new → Called step first old.answers old.predicate → Called step first new.answers new.predicate
 asks_called {F} step first f old new granted asks called =
-    elim (answer_to old.1 f) as (λ (o : Option Bool). AsksFor step f o old granted new → Called step first new.1 new.0) [
-      | None ↦ λ one. subst (λ answers. Called step first answers new.0) (sym one.1) (called_next step first old.0 new.0 old.1 f granted called one.0)
-      | Some was ↦ λ same. subst (λ (s : F × List FeatureAnswer). Called step first s.1 s.0) (sym same.1) called
+    elim (answer_to old.answers f) as (λ (o : Option Bool). AsksFor step f o old granted new → Called step first new.answers new.predicate) [
+      | None ↦ λ one. subst (λ answers. Called step first answers new.predicate) (sym one.1) (called_next step first old.predicate new.predicate old.answers f granted called one.0)
+      | Some was ↦ λ same. subst (λ (s : Resolver F). Called step first s.answers s.predicate) (sym same.1) called
     ] asks
 
 -- and appends one answer, or none
-pub asks_further : {F : Type 0} (step : F → BtfFeature → Bool → F → Type 0) (f : BtfFeature) (old new : F × List FeatureAnswer) (granted : Bool) → Asks step f old granted new → IsFurther old.1 new.1
+pub asks_further : {F : Type 0} (step : F → BtfFeature → Bool → F → Type 0) (f : BtfFeature) (old new : Resolver F) (granted : Bool) → Asks step f old granted new → IsFurther old.answers new.answers
 asks_further {F} step f old new granted asks =
-    elim (answer_to old.1 f) as (λ (o : Option Bool). AsksFor step f o old granted new → IsFurther old.1 new.1) [
+    elim (answer_to old.answers f) as (λ (o : Option Bool). AsksFor step f o old granted new → IsFurther old.answers new.answers) [
       | None ↦ λ one. (record { feature = f; granted = granted } ∷ [], one.1)
-      | Some was ↦ λ same. ([], ap (λ (s : F × List FeatureAnswer). s.1) same.1 ∙ sym (append-nil old.1))
+      | Some was ↦ λ same. ([], ap (λ (s : Resolver F). s.answers) same.1 ∙ sym (append-nil old.answers))
     ] asks
 
 pub further_then : (old mid new : List FeatureAnswer) → IsFurther old mid → IsFurther mid new → IsFurther old new
@@ -50,12 +50,12 @@ further_answers old new further = further.1
 
 -- ---- the answers
 
-pub asks_next : {F : Type 0} (step : F → BtfFeature → Bool → F → Type 0) (f : BtfFeature) (old new : F × List FeatureAnswer) (granted : Bool) → Asks step f old granted new
-    → NextAnswers old.1 f granted new.1
+pub asks_next : {F : Type 0} (step : F → BtfFeature → Bool → F → Type 0) (f : BtfFeature) (old new : Resolver F) (granted : Bool) → Asks step f old granted new
+    → NextAnswers old.answers f granted new.answers
 asks_next {F} step f old new granted asks =
-    elim (answer_to old.1 f) as (λ (o : Option Bool). AsksFor step f o old granted new → AnswersWith o old.1 f granted new.1) [
+    elim (answer_to old.answers f) as (λ (o : Option Bool). AsksFor step f o old granted new → AnswersWith o old.answers f granted new.answers) [
       | None ↦ λ one. one.1
-      | Some was ↦ λ same. (same.0, ap (λ (s : F × List FeatureAnswer). s.1) same.1)
+      | Some was ↦ λ same. (same.0, ap (λ (s : Resolver F). s.answers) same.1)
     ] asks
 
 -- ---- an id

@@ -18,7 +18,7 @@ use Rattle.btf_records.specs.declared.btf_type.BtfType.TheVariants as types
 use Rattle.btf_records.specs.declared.btf_type.BtfType.{BtfType}
 use Rattle.btf_table.specs.Btf.{IsType}
 use Rattle.btf_table.specs.PassStep.{Given, pass_on, AsksUpTo}
-use Rattle.btf_rules.specs.SoleFeature.{sole_feature, asks_one, IsGranted}
+use Rattle.btf_table.specs.SoleFeature.{sole_feature, asks_one, IsGranted}
 use Rattle.btf_table.proofs.PassAsking.{asked_none, asked_more}
 use Rattle.btf_table.proofs.PassRules.{record_there, kind_there}
 

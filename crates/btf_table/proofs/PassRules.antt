@@ -30,8 +30,8 @@ use Rattle.btf_table.proofs.Prototypes.{no_texts, names_stay}
 use Rattle.btf_table.proofs.Adding.{adds_none}
 use Rattle.btf_table.specs.Btf.{IsType}
 use Rattle.btf_table.specs.PassStep.{IsHere, IsGrown, IsRuled, growth}
-use Rattle.btf_rules.specs.SoleFeature.{asks_one}
-use Rattle.btf_rules.specs.InPlace.{denied_type}
+use Rattle.btf_table.specs.SoleFeature.{asks_one}
+use Rattle.btf_table.specs.InPlace.{denied_type}
 use Rattle.btf_table.specs.declared.sanitize.made.Made.{Made}
 
 -- ---- the record of an id

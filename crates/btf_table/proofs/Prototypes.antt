@@ -20,8 +20,8 @@ use Rattle.btf_plain.specs.declared.items.BtfParam.{BtfParam}
 use Rattle.btf_table.specs.declared.table.changes.Changes.{Changes}
 use Rattle.btf_table.specs.Adding.{strings_end, Adds}
 use Rattle.btf_table.specs.Params.{lack_a_name}
-use Rattle.btf_rules.proofs.Checks.{fault_after, fault_before}
-use Rattle.btf_rules.proofs.NamedParams.{put_at}
+use Rattle.btf_table.proofs.Checks.{fault_after, fault_before}
+use Rattle.btf_table.proofs.NamedParams.{put_at}
 
 -- ---- texts
 

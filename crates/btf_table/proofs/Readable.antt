@@ -20,7 +20,7 @@ use Rattle.btf_model.proofs.Comparisons.{same_ok}
 use Rattle.btf_model.specs.Text.{is_zero, bytes_at, lossy, text_of, text_at}
 use Rattle.btf_model.proofs.Texts.{has_bytes, some_mapped, added_text, text_stays, no_bytes}
 use Rattle.btf_rewrite_model.specs.Pass.{is_builtin, builtins}
-use Rattle.btf_rules.specs.Builtins.{begins_builtin}
+use Rattle.btf_table.specs.Builtins.{begins_builtin}
 use Rattle.btf_table.specs.Readable.{HasNameAt, IsComparable}
 
 -- ---- the place of a zero byte

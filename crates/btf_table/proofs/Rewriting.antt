@@ -19,7 +19,7 @@ use Rattle.btf_model.proofs.Blobs.{same_table}
 use Rattle.btf_plain.specs.declared.error.BtfError.{BtfError}
 use Rattle.btf_plain.specs.Error.{MeetsOrNoMemory, refusal_of}
 use Rattle.btf_table.specs.PassStep.{Given, pass_on}
-use Rattle.btf_table.specs.Rewrites.{Rewrites, Sanitizes, NeedsAreGranted, KeepsSizes, KeepsResolutions, KeepsValues, AppendsAtMost, OfTables}
+use Rattle.btf_table.specs.Rewrites.{Rewrites, Sanitizes, NeedsAreGranted, KeepsMeaning, OfTables}
 
 -- a pass over the table as it begins, after the step
 sanitized : {X : Type 0} (old new : Table) (k : Option KsymsIds) (given : Given) (answers : List FeatureAnswer) (r : Result X Refusal) → step_fault old k ≡ None → Sanitizes (pass_of given.policy old k given.layout answers) new r → Rewrites given.policy old k given.layout answers new r
@@ -41,22 +41,23 @@ rewrites_by {X} {Y} view (Err e) old t new k given answers step is told = refuse
 
 -- ---- what follows
 
--- What a rewrite guarantees: needed features are granted, and facts of the old table are retained.
+-- What a rewrite guarantees: needed features are granted, and the old table's meaning is kept.
 pub record Keeps (policy : FillPolicy) (old : Table) (k : Option KsymsIds) (answers : List FeatureAnswer) (new : Table) : Type 0 where
   pub granted : NeedsAreGranted policy old k answers new
-  pub sizes : KeepsSizes old new
-  pub resolutions : KeepsResolutions old new
-  pub values : KeepsValues old new
-  pub appended : AppendsAtMost 4 old new
+  pub meaning : KeepsMeaning old new
 
 -- a rewrite that succeeds guarantees this
 pub keeps_of : {X : Type 0} (old new : Table) (k : Option KsymsIds) (given : Given) (answers : List FeatureAnswer) (x : X) → Rewrites given.policy old k given.layout answers new (Ok x) → Keeps given.policy old k answers new
 keeps_of old new k given answers x h = record {
   granted = suffice given.policy old new k given.layout answers h.0 h.1;
-  sizes = kept.sizes_stay given.policy old new k given.layout answers h.0;
-  resolutions = kept.resolutions_stay given.policy old new k given.layout answers h.0;
-  values = value_stays given.policy old new k given.layout answers h.0;
-  appended = few_in_a_rewrite given.policy old new k given.layout answers h.0;
+  meaning = record {
+    types = record {
+      sizes = kept.sizes_stay given.policy old new k given.layout answers h.0;
+      resolutions = kept.resolutions_stay given.policy old new k given.layout answers h.0;
+      appended = few_in_a_rewrite given.policy old new k given.layout answers h.0;
+    };
+    values = value_stays given.policy old new k given.layout answers h.0;
+  };
 }
 
 -- bytes represent at most one table each

@@ -17,7 +17,7 @@ use Rattle.btf_table.specs.Adding.{strings_end, next_id, Adds}
 use Rattle.btf_table.specs.KsymsStep.{entry}
 use Rattle.btf_table.specs.declared.table.changes.Changes.{Changes}
 use Rattle.btf_table.proofs.Adding.{adds_then}
-use Rattle.btf_rules.proofs.Checks.{fault_after, fault_before}
+use Rattle.btf_table.proofs.Checks.{fault_after, fault_before}
 use Rattle.btf_table.proofs.KsymsEntries.{at, zero_entry, entries_of_words}
 
 -- ---- the filler

@@ -36,17 +36,17 @@ use Rattle.btf_records.specs.BtfType.{record_of, fallback_of}
 use Rattle.btf_records.specs.declared.btf_type.BtfType.{BtfType}
 use Rattle.btf_records.specs.declared.btf_type.BtfType.TheVariants.{DataSec}
 use Rattle.btf_table.specs.Adding.{strings_end, next_id, Adds}
-use Rattle.btf_rules.specs.Checked.{checked}
+use Rattle.btf_table.specs.Checked.{checked}
 use Rattle.btf_table.specs.Btf.{IsType}
 use Rattle.btf_table.specs.PassStep.{IsHere, IsRuled, Rules, growth, HasAsked, AsksUpTo}
 use Rattle.btf_table.specs.SectionStep.{HasNewName, filled, final_size, is_fillable, asks_zero}
 use Rattle.btf_table.specs.declared.sanitize.made.Made.{Made}
 use Rattle.btf_table.proofs.Adding.{adds_none, adds_then}
-use Rattle.btf_rules.proofs.Checks.{fault_after, fault_before, fault_third, checked_ok, checked_err}
+use Rattle.btf_table.proofs.Checks.{fault_after, fault_before, fault_third, checked_ok, checked_err}
 use Rattle.btf_table.proofs.Prototypes.{end_after}
 use Rattle.btf_plain.proofs.Refused.{handed_on}
 use Rattle.btf_table.proofs.SectionItems.{id_stays}
-use Rattle.btf_rules.specs.Features.{Asks, Called, IsFurther}
+use Rattle.btf_table.specs.Features.{Resolver, Asks, Called, IsFurther}
 use Rattle.btf_table.proofs.PassAsking.{asks_called, asks_further, further_none, asked_none, asked_more, asked_kept}
 use Rattle.btf_table.proofs.PassRules.{record_there, kind_there, becomes_there, fault_there, texts_there, added_there, falls_back_there, made_on, wants_none, grown_by, same_len}
 
@@ -634,18 +634,18 @@ module _ (p : Pass) (id : ℕ) (r : Record) (there : IsType p.table id (DataSec 
       fills_two is = is ∙ sym second_asked.2
 
 -- the predicate was called for what was asked
-pub zero_called : {F : Type 0} (step : F → BtfFeature → Bool → F → Type 0) (first : F) (policy : FillPolicy) (r : Record) (size : ℕ) (old new : F × List FeatureAnswer) (fills : Bool)
-    → (asks_zero policy r size ≡ false → (new ≡ old) × (fills ≡ is_fillable policy r)) → (asks_zero policy r size ≡ true → Asks step features.DataSecZero old (not fills) new) → Called step first old.1 old.0 → Called step first new.1 new.0
+pub zero_called : {F : Type 0} (step : F → BtfFeature → Bool → F → Type 0) (first : F) (policy : FillPolicy) (r : Record) (size : ℕ) (old new : Resolver F) (fills : Bool)
+    → (asks_zero policy r size ≡ false → (new ≡ old) × (fills ≡ is_fillable policy r)) → (asks_zero policy r size ≡ true → Asks step features.DataSecZero old (not fills) new) → Called step first old.answers old.predicate → Called step first new.answers new.predicate
 zero_called {F} step first policy r size old new fills quiet asked called =
-    elim (asks_zero policy r size) as (λ (b : Bool). asks_zero policy r size ≡ b → Called step first new.1 new.0) [
+    elim (asks_zero policy r size) as (λ (b : Bool). asks_zero policy r size ≡ b → Called step first new.answers new.predicate) [
       | true ↦ λ is. asks_called step first features.DataSecZero old new (not fills) (asked is) called
-      | false ↦ λ is. subst (λ (s : F × List FeatureAnswer). Called step first s.1 s.0) (sym (quiet is).0) called
+      | false ↦ λ is. subst (λ (s : Resolver F). Called step first s.answers s.predicate) (sym (quiet is).0) called
     ] refl
 
-pub zero_further : {F : Type 0} (step : F → BtfFeature → Bool → F → Type 0) (policy : FillPolicy) (r : Record) (size : ℕ) (old new : F × List FeatureAnswer) (fills : Bool) → (asks_zero policy r size ≡ false → (new ≡ old) × (fills ≡ is_fillable policy r))
-    → (asks_zero policy r size ≡ true → Asks step features.DataSecZero old (not fills) new) → IsFurther old.1 new.1
+pub zero_further : {F : Type 0} (step : F → BtfFeature → Bool → F → Type 0) (policy : FillPolicy) (r : Record) (size : ℕ) (old new : Resolver F) (fills : Bool) → (asks_zero policy r size ≡ false → (new ≡ old) × (fills ≡ is_fillable policy r))
+    → (asks_zero policy r size ≡ true → Asks step features.DataSecZero old (not fills) new) → IsFurther old.answers new.answers
 zero_further {F} step policy r size old new fills quiet asked =
-    elim (asks_zero policy r size) as (λ (b : Bool). asks_zero policy r size ≡ b → IsFurther old.1 new.1) [
+    elim (asks_zero policy r size) as (λ (b : Bool). asks_zero policy r size ≡ b → IsFurther old.answers new.answers) [
       | true ↦ λ is. asks_further step features.DataSecZero old new (not fills) (asked is)
-      | false ↦ λ is. subst (λ (s : F × List FeatureAnswer). IsFurther old.1 s.1) (sym (quiet is).0) (further_none old.1)
+      | false ↦ λ is. subst (λ (s : Resolver F). IsFurther old.answers s.answers) (sym (quiet is).0) (further_none old.answers)
     ] refl

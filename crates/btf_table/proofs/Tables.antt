@@ -19,8 +19,8 @@ use Rattle.btf_model.proofs.Blobs.{same_table, same_refusal, table_not_refused}
 use Rattle.btf_plain.specs.declared.error.BtfError.{BtfError}
 use Rattle.btf_plain.specs.Error.{MeetsOrNoMemory, IsOrNoMemory, refusal_of}
 use Rattle.btf_rewrite_model.specs.Checks.{fits}
-use Rattle.btf_rules.specs.Checked.{checked}
-use Rattle.btf_rules.proofs.Checks.{checked_ok}
+use Rattle.btf_table.specs.Checked.{checked}
+use Rattle.btf_table.proofs.Checks.{checked_ok}
 use Rattle.btf_records.specs.BtfType.{record_of, fallback_of}
 use Rattle.btf_records.specs.declared.btf_type.BtfType.{BtfType}
 use Rattle.btf_table.specs.declared.table.Btf.{Btf}

@@ -6,7 +6,7 @@ use Rattle.btf_model.specs.Table.{Table}
 use Rattle.btf_rewrite_model.specs.Checks.{record_len}
 use Rattle.btf_records.specs.BtfType.{record_of, fallback_of}
 use Rattle.btf_records.specs.declared.btf_type.BtfType.{BtfType}
-use Rattle.btf_rules.specs.InPlace.{denied}
+use Rattle.btf_table.specs.InPlace.{denied}
 
 -- each of these records has a kind
 abbrev pub AllHaveKinds : List Record → Type 0

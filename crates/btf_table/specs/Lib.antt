@@ -15,6 +15,12 @@ pub mod Records
 pub mod BtfStr
 pub mod Extent
 pub mod Joined
+pub mod Layout
+pub mod Checked
+pub mod Features
+pub mod SoleFeature
+pub mod Builtins
+pub mod InPlace
 pub use Rattle.btf_rewrite_model.specs.Feature
 pub use Rattle.btf_rewrite_model.specs.Ksyms
 pub use Rattle.btf_rewrite_model.specs.Made
@@ -22,10 +28,6 @@ pub use Rattle.btf_model.specs.Record
 pub use Rattle.btf_rewrite_model.specs.Rewritten
 pub use Rattle.btf_rewrite_model.specs.RewriteLaws
 pub use Rattle.btf_plain.specs.Error
-pub use Rattle.btf_rules.specs.Checked
-pub use Rattle.btf_rules.specs.Features
-pub use Rattle.btf_rules.specs.Layout
-pub use Rattle.btf_rules.specs.InPlace
 pub use Rattle.btf_rewrite_model.specs.Checks
 pub use Rattle.btf_rewrite_model.specs.Pass
 pub use Rattle.btf_rewrite_model.specs.Rule

@@ -19,7 +19,7 @@ use Rattle.btf_records.specs.BtfType.{record_of, fallback_of}
 use Rattle.btf_records.specs.declared.btf_type.BtfType.{BtfType}
 use Rattle.btf_table.specs.Btf.{IsType}
 use Rattle.btf_table.specs.Adding.{strings_end, next_id, HasRoom}
-use Rattle.btf_rules.specs.InPlace.{denied_type}
+use Rattle.btf_table.specs.InPlace.{denied_type}
 use Rattle.btf_table.specs.Changes.{put_all, each, AreInside, AreOf, changed}
 use Rattle.btf_table.specs.Denied.{AreIds, deny_all, with_denied}
 use Rattle.btf_rewrite_model.specs.declared.feature.FillPolicy.{FillPolicy}

@@ -84,6 +84,22 @@ KeepsValues old new =
 abbrev pub AppendsAtMost : ℕ → Table → Table → Type 0
 AppendsAtMost n old new = (length old.records ≤ length new.records) × (length new.records ≤ length old.records + n)
 
+-- What a rewrite leaves unchanged of types, and how many it appends.
+pub record KeepsTypes (old new : Table) : Type 0 where
+  -- The size of a type is unchanged if the walk for it meets no VAR, FUNC, FUNC_PROTO, DATASEC or DECL_TAG.
+  pub sizes : KeepsSizes old new
+  -- If an id resolves to a type that is no FUNC, it still resolves to the same type.
+  pub resolutions : KeepsResolutions old new
+  -- No type is removed, and at most four are appended.
+  pub appended : AppendsAtMost 4 old new
+
+-- What a rewrite leaves unchanged of a table. It does not hold for the table that the written bytes represent, because
+-- bytes have no fallbacks: a UNION that replaced an ENUM64 has no values there.
+pub record KeepsMeaning (old new : Table) : Type 0 where
+  pub types : KeepsTypes old new
+  -- The value of a variant's name in an ENUM or ENUM64 is unchanged, also if a UNION replaced the ENUM64.
+  pub values : KeepsValues old new
+
 -- There are no answers; or the bytes represent a table, and the answers are to the first features that its rewrite asks
 -- for.
 abbrev pub BeginsAskedOf : FillPolicy → Endianness → List ℕ → Option KsymsIds → Layout → List FeatureAnswer → Type 0

@@ -4,9 +4,10 @@
 mod sanitize;
 mod table;
 
-pub use btf_rewrite_model::KsymsIds;
-pub use sanitize::{rewrite_bytes, rewrite_bytes_with};
+pub use btf_rewrite_model::{BtfFeature, FeatureAnswer, FillPolicy, KsymsIds};
+pub use sanitize::{BtfFeatureResolver, int_of_4, known_offset, rewrite_bytes, rewrite_bytes_with};
 pub use table::{
     Btf, BtfStr, WALK_LIMIT, allocator_of, append_table, comparable_end, cut_table, is_named,
-    join_tables, name_bytes, set_type, short_name, string_len, type_count, types_len,
+    join_tables, name_bytes, readable_strings, set_type, short_name, string_len, string_section,
+    type_count, types_len,
 };

@@ -1,16 +1,18 @@
 //! Rewriting a table for a kernel that lacks some features.
 
 mod data_sec;
+mod enumeration64;
+mod features;
 mod filler;
 mod func;
 mod func_proto;
+mod in_place;
 mod ksyms;
 mod made;
-mod member_type;
 mod outcome;
 mod pass;
 mod read_names;
-mod single;
+mod request;
 
 ghost use Rattle.std.specs.Prelude.{◌≡◌, [], Option, Some, OnOk, OnErr, IfOk};
 ghost use Rattle.btf_rewrite_model.specs.declared.feature.BtfFeature.{BtfFeature};
@@ -18,20 +20,25 @@ ghost use Rattle.btf_rewrite_model.specs.declared.feature.FillPolicy.TheVariants
 ghost use Rattle.btf_rewrite_model.specs.Ksyms.{ksyms_fault, ksyms_table};
 ghost use Rattle.btf_rewrite_model.specs.Rewritten.{pass_of};
 ghost use Rattle.btf_plain.specs.Error.{MeetsOrNoMemory, IsOrNoMemory};
-ghost use Rattle.btf_rules.specs.Checked.{checked};
-ghost use Rattle.btf_rules.specs.Features.{Called};
+ghost use Rattle.btf_table.specs.Checked.{checked};
+ghost use Rattle.btf_table.specs.Features.{Called};
 ghost use Rattle.btf_table.specs.KsymsStep.{ksyms_ids};
-ghost use Rattle.btf_rules.specs.Layout.{layout_of};
+ghost use Rattle.btf_table.specs.Layout.{layout_of};
 ghost use Rattle.btf_table.specs.PassStep.{pass_on, under, BeginsAsked};
-ghost use Rattle.btf_table.specs.Rewrites.{Rewrites, RewritesBytes, Sanitizes, NeedsAreGranted, KeepsSizes, KeepsResolutions, KeepsValues, AppendsAtMost, BeginsAskedOf, OfTables};
+ghost use Rattle.btf_table.specs.Rewrites.{Rewrites, RewritesBytes, Sanitizes, NeedsAreGranted, KeepsTypes, KeepsMeaning, AppendsAtMost, BeginsAskedOf, OfTables};
 
+pub use crate::sanitize::data_sec::known_offset;
+pub use crate::sanitize::features::BtfFeatureResolver;
+use crate::sanitize::features::copied_answers;
+pub use crate::sanitize::in_place::deny;
+pub use crate::sanitize::ksyms::int_of_4;
 use crate::sanitize::ksyms::ksyms_changes;
 use crate::sanitize::pass::pass_changes;
+use crate::sanitize::request::Request;
 use crate::table::Btf;
 use arrayvec::ArrayVec;
 use btf_plain::{BtfError, Endianness, SectionIndex};
-use btf_rewrite_model::KsymsIds;
-use btf_rules::{BtfFeature, BtfFeatureResolver, FeatureAnswer, FillPolicy, copied_answers};
+use btf_rewrite_model::{BtfFeature, FeatureAnswer, FillPolicy, KsymsIds};
 use std::alloc::Global;
 use std::collections::HashMap;
 use std::hash::BuildHasher;
@@ -73,24 +80,25 @@ impl Btf {
     /// The pass of a rewrite, without the step of `.ksyms`. An error leaves the table unchanged.
     fn sanitize<F: FnMut(BtfFeature) -> bool, G: BuildHasher, H: BuildHasher>(
         &mut self,
-        sections: &HashMap<String, (SectionIndex, u64), G>,
-        symbols: &HashMap<String, u64, H>,
-        policy: FillPolicy,
+        request: &Request<G, H>,
         resolver: &mut BtfFeatureResolver<F>,
     ) -> Result<ArrayVec<FeatureAnswer, 8>, BtfError>
-        requires callable { F.IsAlwaysCallable resolver.old.0 }
-        requires unasked { resolver.old.1 ≡ [] }
-        ensures callable { F.IsAlwaysCallable resolver.new.0 }
-        ensures called { Called F.step resolver.old.0 resolver.new.1 resolver.new.0 }
+        requires callable { F.IsAlwaysCallable resolver.old.predicate }
+        requires unasked { resolver.old.answers ≡ [] }
+        ensures callable { F.IsAlwaysCallable resolver.new.predicate }
+        ensures called { Called F.step resolver.old.predicate resolver.new.answers
+            resolver.new.predicate }
         ensures asked { BeginsAsked (pass_on self.old
-            (under policy (layout_of sections.now symbols.now)) resolver.new.1) }
+            (under request.now.policy
+            (layout_of request.now.sections.now request.now.symbols.now)) resolver.new.answers) }
         ensures sanitizes { MeetsOrNoMemory (λ a. a.items) result
-            (Sanitizes (pass_on self.old (under policy (layout_of sections.now symbols.now))
-            resolver.new.1) self.new) }
-        ensures answers { IfOk result (λ a. a.items ≡ resolver.new.1) }
+            (Sanitizes (pass_on self.old (under request.now.policy
+            (layout_of request.now.sections.now request.now.symbols.now))
+            resolver.new.answers) self.new) }
+        ensures answers { IfOk result (λ a. a.items ≡ resolver.new.answers) }
         ensures err { OnErr result (self.new ≡ self.old) }
     {
-        let passed = pass_changes(self, sections, symbols, policy, resolver)?;
+        let passed = pass_changes(self, request, resolver)?;
         let answers = copied_answers(resolver)?;
         self.apply(passed.changes)?;
         self.deny_types(&passed.denied);
@@ -118,32 +126,28 @@ impl Btf {
         ksyms: Option<KsymsIds>,
         resolver: &mut BtfFeatureResolver<F>,
     ) -> Result<ArrayVec<FeatureAnswer, 8>, BtfError>
-        requires callable { F.IsAlwaysCallable resolver.old.0 }
-        requires unasked { resolver.old.1 ≡ [] }
-        ensures callable { F.IsAlwaysCallable resolver.new.0 }
+        requires callable { F.IsAlwaysCallable resolver.old.predicate }
+        requires unasked { resolver.old.answers ≡ [] }
+        ensures callable { F.IsAlwaysCallable resolver.new.predicate }
         // The predicate is called once for each answer, in order, and not otherwise.
-        ensures called { Called F.step resolver.old.0 resolver.new.1 resolver.new.0 }
+        ensures called { Called F.step resolver.old.predicate resolver.new.answers
+            resolver.new.predicate }
         // Whether the rewrite succeeds or fails, the answers are to the first features that it asks for.
         ensures asked { BeginsAsked (pass_of KeepSized self.old ksyms
-            (layout_of sections.now symbols.now) resolver.new.1) }
+            (layout_of sections.now symbols.now) resolver.new.answers) }
         // On success the table is the rewritten one, and all features were asked for; otherwise the first error is
         // returned.
         ensures rewrites { MeetsOrNoMemory (λ a. a.items) result
             (Rewrites KeepSized self.old ksyms (layout_of sections.now symbols.now)
-            resolver.new.1 self.new) }
-        ensures answers { IfOk result (λ a. a.items ≡ resolver.new.1) }
+            resolver.new.answers self.new) }
+        ensures answers { IfOk result (λ a. a.items ≡ resolver.new.answers) }
         ensures err { OnErr result (self.new ≡ self.old) }
         // Each feature that the kernel needs for the new table was asked for once and granted.
         ensures granted { OnOk result (NeedsAreGranted KeepSized self.old ksyms
-            resolver.new.1 self.new) }
-        // The size of a type is unchanged if the walk for it meets no VAR, FUNC, FUNC_PROTO, DATASEC or DECL_TAG.
-        ensures sizes { OnOk result (KeepsSizes self.old self.new) }
-        // If an id resolves to a type that is no FUNC, it still resolves to the same type.
-        ensures resolutions { OnOk result (KeepsResolutions self.old self.new) }
-        // The value of a variant's name in an ENUM or ENUM64 is unchanged, also if a UNION replaced the ENUM64.
-        ensures values { OnOk result (KeepsValues self.old self.new) }
-        // No type is removed, and at most four are appended.
-        ensures appended { OnOk result (AppendsAtMost 4 self.old self.new) }
+            resolver.new.answers self.new) }
+        // The record states which sizes, resolutions and values of variants are unchanged, and that at most four types
+        // are appended.
+        ensures kept { OnOk result (KeepsMeaning self.old self.new) }
     {
         self.fixup_and_sanitize_with(sections, symbols, ksyms, FillPolicy::KeepSized, resolver)
     }
@@ -164,39 +168,40 @@ impl Btf {
         policy: FillPolicy,
         resolver: &mut BtfFeatureResolver<F>,
     ) -> Result<ArrayVec<FeatureAnswer, 8>, BtfError>
-        requires callable { F.IsAlwaysCallable resolver.old.0 }
-        requires unasked { resolver.old.1 ≡ [] }
-        ensures callable { F.IsAlwaysCallable resolver.new.0 }
+        requires callable { F.IsAlwaysCallable resolver.old.predicate }
+        requires unasked { resolver.old.answers ≡ [] }
+        ensures callable { F.IsAlwaysCallable resolver.new.predicate }
         // The predicate is called once for each answer, in order, and not otherwise.
-        ensures called { Called F.step resolver.old.0 resolver.new.1 resolver.new.0 }
+        ensures called { Called F.step resolver.old.predicate resolver.new.answers
+            resolver.new.predicate }
         // Whether the rewrite succeeds or fails, the answers are to the first features that it asks for.
         ensures asked { BeginsAsked (pass_of policy self.old ksyms
-            (layout_of sections.now symbols.now) resolver.new.1) }
+            (layout_of sections.now symbols.now) resolver.new.answers) }
         // On success the table is the rewritten one, and all features were asked for; otherwise the first error is
         // returned.
         ensures rewrites { MeetsOrNoMemory (λ a. a.items) result
             (Rewrites policy self.old ksyms
-            (layout_of sections.now symbols.now) resolver.new.1 self.new) }
-        ensures answers { IfOk result (λ a. a.items ≡ resolver.new.1) }
+            (layout_of sections.now symbols.now) resolver.new.answers self.new) }
+        ensures answers { IfOk result (λ a. a.items ≡ resolver.new.answers) }
         ensures err { OnErr result (self.new ≡ self.old) }
         // Each feature that the kernel needs for the new table was asked for once and granted.
         ensures granted { OnOk result (NeedsAreGranted policy self.old
-            ksyms resolver.new.1 self.new) }
-        // The size of a type is unchanged if the walk for it meets no VAR, FUNC, FUNC_PROTO, DATASEC or DECL_TAG.
-        ensures sizes { OnOk result (KeepsSizes self.old self.new) }
-        // If an id resolves to a type that is no FUNC, it still resolves to the same type.
-        ensures resolutions { OnOk result (KeepsResolutions self.old self.new) }
-        // The value of a variant's name in an ENUM or ENUM64 is unchanged, also if a UNION replaced the ENUM64.
-        ensures values { OnOk result (KeepsValues self.old self.new) }
-        // No type is removed, and at most four are appended.
-        ensures appended { OnOk result (AppendsAtMost 4 self.old self.new) }
+            ksyms resolver.new.answers self.new) }
+        // The record states which sizes, resolutions and values of variants are unchanged, and that at most four types
+        // are appended.
+        ensures kept { OnOk result (KeepsMeaning self.old self.new) }
     {
+        let request = Request {
+            sections,
+            symbols,
+            policy,
+        };
         let Some(ids) = ksyms else {
-            return self.sanitize(sections, symbols, policy, resolver);
+            return self.sanitize(&request, resolver);
         };
         let changes = ksyms_changes(self, ids.datasec_id, ids.placeholder_id)?;
         let undo = self.apply(changes)?;
-        match self.sanitize(sections, symbols, policy, resolver) {
+        match self.sanitize(&request, resolver) {
             Ok(answers) => Ok(answers),
             Err(error) => {
                 self.undo(undo);
@@ -217,31 +222,25 @@ pub fn rewrite_bytes<F: FnMut(BtfFeature) -> bool>(
     ksyms: Option<KsymsIds>,
     resolver: &mut BtfFeatureResolver<F>,
 ) -> Result<(Vec<u8>, ArrayVec<FeatureAnswer, 8>), BtfError>
-    requires callable { F.IsAlwaysCallable resolver.old.0 }
-    requires unasked { resolver.old.1 ≡ [] }
-    ensures callable { F.IsAlwaysCallable resolver.new.0 }
-    ensures called { Called F.step resolver.old.0 resolver.new.1 resolver.new.0 }
+    requires callable { F.IsAlwaysCallable resolver.old.predicate }
+    requires unasked { resolver.old.answers ≡ [] }
+    ensures callable { F.IsAlwaysCallable resolver.new.predicate }
+    ensures called { Called F.step resolver.old.predicate resolver.new.answers
+        resolver.new.predicate }
     ensures rewrites { MeetsOrNoMemory (λ r. (r.0.items, r.1.items)) result
         (RewritesBytes KeepSized endianness «data».now ksyms
-        (layout_of sections.now symbols.now) resolver.new.1) }
-    ensures answers { IfOk result (λ r. r.1.items ≡ resolver.new.1) }
+        (layout_of sections.now symbols.now) resolver.new.answers) }
+    ensures answers { IfOk result (λ r. r.1.items ≡ resolver.new.answers) }
     // In every outcome there are no answers, or the bytes represent a table and the answers are to the first features
     // that its rewrite asks for.
     ensures asked { BeginsAskedOf KeepSized endianness «data».now ksyms
-        (layout_of sections.now symbols.now) resolver.new.1 }
+        (layout_of sections.now symbols.now) resolver.new.answers }
     // For the table that the bytes represent and the table that the written bytes represent: each feature that the
     // kernel needs for the new table was asked for once and granted;
     ensures granted { IfOk result (λ r. OfTables endianness «data».now r.0.items
-        (λ old new. NeedsAreGranted KeepSized old ksyms resolver.new.1 new)) }
-    // the size of a type is unchanged if the walk for it meets no VAR, FUNC, FUNC_PROTO, DATASEC or DECL_TAG;
-    ensures sizes { IfOk result (λ r. OfTables
-        endianness «data».now r.0.items KeepsSizes) }
-    // if an id resolves to a type that is no FUNC, it still resolves to the same type;
-    ensures resolutions { IfOk result
-        (λ r. OfTables endianness «data».now r.0.items KeepsResolutions) }
-    // no type is removed, and at most four are appended.
-    ensures appended { IfOk result (λ r. OfTables endianness «data».now r.0.items
-        (AppendsAtMost 4)) }
+        (λ old new. NeedsAreGranted KeepSized old ksyms resolver.new.answers new)) }
+    // the record states which sizes and resolutions are unchanged, and that at most four types are appended.
+    ensures kept { IfOk result (λ r. OfTables endianness «data».now r.0.items KeepsTypes) }
 {
     let policy = FillPolicy::KeepSized;
     rewrite_bytes_with(
@@ -262,33 +261,27 @@ pub fn rewrite_bytes_with<F: FnMut(BtfFeature) -> bool, G: BuildHasher, H: Build
     policy: FillPolicy,
     resolver: &mut BtfFeatureResolver<F>,
 ) -> Result<(Vec<u8>, ArrayVec<FeatureAnswer, 8>), BtfError>
-    requires callable { F.IsAlwaysCallable resolver.old.0 }
-    requires unasked { resolver.old.1 ≡ [] }
-    ensures callable { F.IsAlwaysCallable resolver.new.0 }
-    ensures called { Called F.step resolver.old.0 resolver.new.1 resolver.new.0 }
+    requires callable { F.IsAlwaysCallable resolver.old.predicate }
+    requires unasked { resolver.old.answers ≡ [] }
+    ensures callable { F.IsAlwaysCallable resolver.new.predicate }
+    ensures called { Called F.step resolver.old.predicate resolver.new.answers
+        resolver.new.predicate }
     ensures rewrites { MeetsOrNoMemory (λ r. (r.0.items, r.1.items)) result
         (RewritesBytes policy endianness «data».now ksyms
-        (layout_of sections.now symbols.now) resolver.new.1) }
-    ensures answers { IfOk result (λ r. r.1.items ≡ resolver.new.1) }
+        (layout_of sections.now symbols.now) resolver.new.answers) }
+    ensures answers { IfOk result (λ r. r.1.items ≡ resolver.new.answers) }
     // In every outcome there are no answers, or the bytes represent a table and the answers are to the first features
     // that its rewrite asks for.
     ensures asked { BeginsAskedOf policy endianness «data».now
         ksyms
-        (layout_of sections.now symbols.now) resolver.new.1 }
+        (layout_of sections.now symbols.now) resolver.new.answers }
     // For the table that the bytes represent and the table that the written bytes represent: each feature that the
     // kernel needs for the new table was asked for once and granted;
     ensures granted { IfOk result (λ r. OfTables endianness «data».now r.0.items
         (λ old new. NeedsAreGranted policy old ksyms
-        resolver.new.1 new)) }
-    // the size of a type is unchanged if the walk for it meets no VAR, FUNC, FUNC_PROTO, DATASEC or DECL_TAG;
-    ensures sizes { IfOk result (λ r. OfTables
-        endianness «data».now r.0.items KeepsSizes) }
-    // if an id resolves to a type that is no FUNC, it still resolves to the same type;
-    ensures resolutions { IfOk result
-        (λ r. OfTables endianness «data».now r.0.items KeepsResolutions) }
-    // no type is removed, and at most four are appended.
-    ensures appended { IfOk result (λ r. OfTables endianness «data».now r.0.items
-        (AppendsAtMost 4)) }
+        resolver.new.answers new)) }
+    // the record states which sizes and resolutions are unchanged, and that at most four types are appended.
+    ensures kept { IfOk result (λ r. OfTables endianness «data».now r.0.items KeepsTypes) }
 {
     let mut btf = Btf::parse(alloc, data, endianness)?;
     let answers = btf.fixup_and_sanitize_with(sections, symbols, ksyms, policy, resolver)?;

@@ -9,7 +9,7 @@ mod text;
 mod types;
 mod walk;
 
-ghost use Rattle.std.specs.Prelude.{◌≡◌, List, ◌+◌, ◌*◌, ◌≤◌, ◌↔◌, [], ◌∷◌, map, IsTrue, IfOk, OnOk, OnErr, MatchResult, Ok, Err, Some, slice_get, set, length, take, drop, ◌<◌, ◌^◌};
+ghost use Rattle.std.specs.Prelude.{◌≡◌, ℕ, List, ◌+◌, ◌*◌, ◌≤◌, ◌↔◌, [], ◌∷◌, map, IsTrue, IfOk, OnOk, OnErr, MatchResult, Ok, Err, Some, slice_get, set, length, take, drop, ◌<◌, ◌^◌};
 ghost use Rattle.std.specs.Slice.Iter.{iter_rest};
 ghost use Rattle.btf_model.specs.Record.{Record, unknown, kind_of};
 ghost use Rattle.btf_model.specs.Refusal.{Refusal};
@@ -26,7 +26,7 @@ ghost use Rattle.btf_table.specs.Btf.{IsType, HasShapeOf};
 ghost use Rattle.btf_table.specs.BtfStr.{text_bytes, HasName};
 ghost use Rattle.btf_model.specs.Text.{text_at};
 ghost use Rattle.btf_rewrite_model.specs.Checks.{is_read};
-ghost use Rattle.btf_rules.specs.Checked.{checked};
+ghost use Rattle.btf_table.specs.Checked.{checked};
 ghost use Rattle.btf_table.specs.Readable.{IsReadableEnd, IsComparable};
 ghost use Rattle.std.specs.Prelude.{IfSome, string_bytes};
 ghost use Rattle.std.specs.Option.{option_map};
@@ -237,10 +237,7 @@ impl Btf {
     /// The type of an id. Its kind is the kind in its info word. Fails with `UnknownBtfType` of the id if there is no
     /// such type.
     pub fn type_by_id(&self, type_id: u32) -> Result<&BtfType, BtfError>
-        ensures { MatchResult result
-            (λ t. (slice_get self.now.records type_id ≡ Some (record_of t.now))
-            × (slice_get self.now.fallbacks type_id ≡ Some (fallback_of t.now))
-            × (kind_of (record_of t.now).info ≡ Some (type_kind t.now)))
+        ensures { MatchResult result (λ t. IsType self.now type_id t.now)
             (λ e. (length self.now.records ≤ type_id) × (e ≡ BtfError.UnknownBtfType type_id)) }
     {
         if type_id as usize >= self.types.len() {
@@ -427,6 +424,22 @@ pub fn name_bytes<'a>(table: &'a Btf, btf_type: &BtfType) -> Option<&'a [u8]>
         ≡ model.bytes_at table.now.strings (record_of btf_type.now).name }
 {
     bytes_at(&table.strings, btf_type.name_offset(), 0)
+}
+
+/// The string section, for the crates that use this one.
+pub fn string_section(table: &Btf) -> &[u8]
+    ensures { result.now ≡ table.now.strings }
+{
+    &table.strings
+}
+
+/// The strings up to and with the last zero byte: a name can be read at each of their offsets, and at no other one.
+pub fn readable_strings(table: &Btf) -> &[u8]
+    ensures { (end : ℕ) × IsReadableEnd table.now.strings end
+        × (result.now ≡ take end table.now.strings) }
+{
+    let end = readable_end(&table.strings);
+    &table.strings[..end]
 }
 
 /// The bytes of the name at a string offset, from the offset up to the first zero byte, if it is among the first

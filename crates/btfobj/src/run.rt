@@ -8,7 +8,7 @@ use btf_rewrite_model::{BtfFeature, FeatureAnswer};
 use btf_table::Btf;
 use btf_text::Selection;
 use btfobj_cli::{
-    Blob, Ending, Fault, Request, Rewrite, check, compat, dump, ext, layout, running_base,
+    Ending, Fault, InputFile, Request, Rewrite, check, compat, dump, ext, layout, running_base,
     sanitize, table_alone,
 };
 use std::alloc::Global;
@@ -327,8 +327,8 @@ pub fn read_over<'a>(
     base: Option<&Btf>,
 ) -> Result<Btf, Failure<'a>> {
     let bytes = read(rt, file)?;
-    let blob = blame(file, Blob::read(rt.alloc(), &bytes))?;
-    blame(file, blob.whole_table_over(rt.alloc(), base))
+    let input = blame(file, InputFile::read(rt.alloc(), &bytes))?;
+    blame(file, input.whole_table_over(rt.alloc(), base))
 }
 
 /// The base of the table in a file: the table of the file that is given as the base; or else, for a module of the running

@@ -6,18 +6,18 @@ use Rattle.btf_model.specs.Blob.{IsRefusal}
 use Rattle.btf_model.specs.Refusal.{Refusal}
 use Rattle.btf_plain.specs.Error.{refusal_of}
 use Rattle.btf_plain.specs.declared.error.BtfError.{BtfError}
-use Rattle.btfobj_cli.specs.Blob.{HasTableBytes, order_of}
+use Rattle.btfobj_cli.specs.InputFile.{HasTableBytes, order_of}
 use Rattle.btfobj_cli.specs.Fault.{ReportsTable, fault_by, table_fault}
-use Rattle.btfobj_cli.specs.declared.blob.Blob.{Blob}
+use Rattle.btfobj_cli.specs.declared.input_file.InputFile.{InputFile}
 use Rattle.btfobj_cli.specs.declared.fault.Fault.{Fault}
 
-by_refusal : (blob : Blob) (bytes : List ℕ) (e : BtfError) (o : Option Refusal) → refusal_of e ≡ o → HasTableBytes blob bytes → IfSome o (IsRefusal (order_of blob) bytes) → ReportsTable blob (fault_by e o)
-by_refusal blob bytes e (Some refusal) is has h = (bytes, refusal, has, is, h)
-by_refusal blob bytes e None is has h = tt
+by_refusal : (input : InputFile) (bytes : List ℕ) (e : BtfError) (o : Option Refusal) → refusal_of e ≡ o → HasTableBytes input bytes → IfSome o (IsRefusal (order_of input) bytes) → ReportsTable input (fault_by e o)
+by_refusal input bytes e (Some refusal) is has h = (bytes, refusal, has, is, h)
+by_refusal input bytes e None is has h = tt
 
 -- an error of the bytes of the table, which `?` returns as a fault
-pub reports : {X : Type 0} (blob : Blob) (bytes : List ℕ) (e : BtfError) (r : Result X Fault) (P : X → Type 0) → HasTableBytes blob bytes → IfSome (refusal_of e) (IsRefusal (order_of blob) bytes) → IsErrAnd r (λ fault. fault ≡ table_fault e)
-    → MatchResult r P (ReportsTable blob)
-reports {X} blob bytes e r P has h err =
+pub reports : {X : Type 0} (input : InputFile) (bytes : List ℕ) (e : BtfError) (r : Result X Fault) (P : X → Type 0) → HasTableBytes input bytes → IfSome (refusal_of e) (IsRefusal (order_of input) bytes) → IsErrAnd r (λ fault. fault ≡ table_fault e)
+    → MatchResult r P (ReportsTable input)
+reports {X} input bytes e r P has h err =
     let given = err_from_is_err_and r err in
-    subst (λ (x : Result X Fault). MatchResult x P (ReportsTable blob)) (sym (given.1 ∙ ap (λ (f : Fault). Err f) given.2)) (by_refusal blob bytes e (refusal_of e) refl has h)
+    subst (λ (x : Result X Fault). MatchResult x P (ReportsTable input)) (sym (given.1 ∙ ap (λ (f : Fault). Err f) given.2)) (by_refusal input bytes e (refusal_of e) refl has h)

@@ -7,9 +7,9 @@ use Rattle.btf_model.specs.Spelling.{spell}
 use Rattle.btf_model.specs.Table as tables
 use Rattle.btf_model.specs.declared.endianness.Endianness.TheVariants.{Little}
 use Rattle.btf_rewrite_model.specs.declared.feature.FeatureAnswer.{FeatureAnswer}
-use Rattle.btfobj_cli.specs.Blob.{IsBlob, HasTable}
+use Rattle.btfobj_cli.specs.InputFile.{IsFile, HasTable}
 use Rattle.btfobj_cli.specs.Rewrite.{IsRewritten}
-use Rattle.btfobj_cli.specs.declared.blob.Blob.{Blob}
+use Rattle.btfobj_cli.specs.declared.input_file.InputFile.{InputFile}
 use Rattle.btfobj_cli.specs.declared.changes.Checked.{Checked}
 use Rattle.btfobj_cli.specs.declared.rewrite.Rewrite.{Rewrite}
 
@@ -25,7 +25,7 @@ has_changed old new =
 
 -- The file of these bytes has this table.
 abbrev pub FileHasTable : List ℕ → tables.Table → Type 0
-FileHasTable bytes t = (blob : Blob) × IsBlob bytes blob × HasTable blob t
+FileHasTable bytes t = (input : InputFile) × IsFile bytes input × HasTable input t
 
 -- whether one of these answers is that the kernel lacks the feature
 abbrev pub lacks_any : List FeatureAnswer → Bool

@@ -9,9 +9,9 @@ use Rattle.btf_elf.specs.declared.error.ObjectError.TheVariants as errors
 use Rattle.btf_elf.specs.Results.{IsReason}
 use Rattle.btf_elf_model.specs.Object.{Object}
 use Rattle.btf_object_model.specs.Sanitized.{index_of, table_name, ext_name}
-use Rattle.btfobj_cli.specs.Blob.{HasTableBytes, order_of}
-use Rattle.btfobj_cli.specs.declared.blob.Blob.{Blob}
-use Rattle.btfobj_cli.specs.declared.blob.Blob.TheVariants as blobs
+use Rattle.btfobj_cli.specs.InputFile.{HasTableBytes, order_of}
+use Rattle.btfobj_cli.specs.declared.input_file.InputFile.{InputFile}
+use Rattle.btfobj_cli.specs.declared.input_file.InputFile.TheVariants as inputs
 use Rattle.btfobj_cli.specs.declared.fault.Fault.{Fault}
 use Rattle.btfobj_cli.specs.declared.fault.Fault.TheVariants as faults
 
@@ -41,21 +41,21 @@ LacksSection o name (faults.NoSection named) = (index_of o name ≡ None) × (na
 LacksSection o name fault = ⊥
 
 -- The file is an object without a section `.BTF`, which has this name.
-abbrev pub LacksTable : Blob → List ℕ → Type 0
-LacksTable (blobs.Object object) name = (index_of object table_name ≡ None) × (name ≡ table_name)
-LacksTable (blobs.Table own order) name = ⊥
+abbrev pub LacksTable : InputFile → List ℕ → Type 0
+LacksTable (inputs.Object object) name = (index_of object table_name ≡ None) × (name ≡ table_name)
+LacksTable (inputs.Table own order) name = ⊥
 
 -- The fault reports why the file has no table: its object has no section `.BTF`, the bytes represent no table, or an
 -- allocation failed.
-abbrev pub ReportsTable : Blob → Fault → Type 0
-ReportsTable blob (faults.NoSection name) = LacksTable blob name.now
-ReportsTable blob (faults.Table e) =
-    (bytes : List ℕ) × (refusal : Refusal) × HasTableBytes blob bytes × (refusal_of e ≡ Some refusal)
-    × IsRefusal (order_of blob) bytes refusal
-ReportsTable blob faults.OutOfMemory = Unit {0}
-ReportsTable blob fault = ⊥
+abbrev pub ReportsTable : InputFile → Fault → Type 0
+ReportsTable input (faults.NoSection name) = LacksTable input name.now
+ReportsTable input (faults.Table e) =
+    (bytes : List ℕ) × (refusal : Refusal) × HasTableBytes input bytes × (refusal_of e ≡ Some refusal)
+    × IsRefusal (order_of input) bytes refusal
+ReportsTable input faults.OutOfMemory = Unit {0}
+ReportsTable input fault = ⊥
 
 -- The fault reports that the file is a table alone, or an object without a section `.BTF.ext`.
-abbrev pub ReportsExt : Blob → Fault → Type 0
-ReportsExt (blobs.Table own order) fault = fault ≡ faults.NoExt
-ReportsExt (blobs.Object object) fault = LacksSection object ext_name fault
+abbrev pub ReportsExt : InputFile → Fault → Type 0
+ReportsExt (inputs.Table own order) fault = fault ≡ faults.NoExt
+ReportsExt (inputs.Object object) fault = LacksSection object ext_name fault

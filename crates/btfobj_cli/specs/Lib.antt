@@ -1,4 +1,4 @@
-pub mod Blob
+pub mod InputFile
 pub mod Fault
 pub mod Rewrite
 pub mod Changes

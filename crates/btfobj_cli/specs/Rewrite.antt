@@ -8,15 +8,15 @@ use Rattle.btf_rewrite_model.specs.Pass.{Layout, Asked}
 use Rattle.btf_rewrite_model.specs.Rewritten.{Rewritten, pass_of}
 use Rattle.btf_rewrite_model.specs.declared.feature.FeatureAnswer.{FeatureAnswer}
 use Rattle.btf_rewrite_model.specs.declared.ksyms_ids.KsymsIds.{KsymsIds}
-use Rattle.btf_object_model.specs.Kernel.{answers_of}
+use Rattle.btf_rewrite_model.specs.FeatureSet.{answers_of}
 use Rattle.btf_object_model.specs.Ksyms.{FindsKsyms}
 use Rattle.btf_object_model.specs.Sanitized.{Target, AreAnswers, IsSanitized}
 use Rattle.btf_object_model.specs.SanitizedFinalized.{IsSanitizedFinalized}
 use Rattle.btf_object.specs.Errors.{target_of}
-use Rattle.btf_object.specs.Kernel.{has}
-use Rattle.btfobj_cli.specs.Blob.{BeginsObject, BeginsTable}
-use Rattle.btfobj_cli.specs.declared.blob.Blob.{Blob}
-use Rattle.btfobj_cli.specs.declared.blob.Blob.TheVariants.{Object, Table as TableAlone}
+use Rattle.btf_object.specs.Kernel.{kernel_has}
+use Rattle.btfobj_cli.specs.InputFile.{BeginsObject, BeginsTable}
+use Rattle.btfobj_cli.specs.declared.input_file.InputFile.{InputFile}
+use Rattle.btfobj_cli.specs.declared.input_file.InputFile.TheVariants.{Object, Table as TableAlone}
 use Rattle.btfobj_cli.specs.declared.rewrite.Rewrite.{Rewrite}
 
 -- the target that the settings give
@@ -48,13 +48,13 @@ RewritesTable old target file answers =
 -- The file is the object with its table rewritten: after it is finalized, or as it is.
 abbrev pub RewritesObject : List ℕ → Rewrite → List ℕ → List FeatureAnswer → Type 0
 RewritesObject bytes rewrite file answers =
-    MatchBool rewrite.is_finalized (IsSanitizedFinalized bytes (has rewrite.kernel) file answers)
+    MatchBool rewrite.is_finalized (IsSanitizedFinalized bytes (kernel_has rewrite.kernel) file answers)
     (IsSanitized bytes (chosen_target rewrite) file answers)
 
 -- The same for a file that is read: an object, or a table alone.
-abbrev pub RewritesBlob : Blob → Rewrite → List ℕ → List FeatureAnswer → Type 0
-RewritesBlob (Object object) rewrite file answers = RewritesObject object.bytes rewrite file answers
-RewritesBlob (TableAlone bytes order) rewrite file answers =
+abbrev pub RewritesFile : InputFile → Rewrite → List ℕ → List FeatureAnswer → Type 0
+RewritesFile (Object object) rewrite file answers = RewritesObject object.bytes rewrite file answers
+RewritesFile (TableAlone bytes order) rewrite file answers =
     RewritesAlone order bytes.now (chosen_target rewrite) file answers
 
 -- The new file is the old one, rewritten by these settings: an object with its table rewritten, or a table alone.

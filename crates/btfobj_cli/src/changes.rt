@@ -3,12 +3,12 @@
 ghost use Rattle.std.specs.Prelude.{◌≡◌, IfOk};
 ghost use Rattle.btfobj_cli.specs.Changes.{Checks, has_changed, lacks_any};
 
-use crate::blob::Blob;
 use crate::fault::Fault;
-use crate::rewrite::{Rewrite, sanitize_parsed_blob};
+use crate::input_file::InputFile;
+use crate::rewrite::{Rewrite, sanitize_parsed_input};
 use btf_model::Endianness;
 use btf_records::BtfType;
-use btf_rewrite_model::{BtfFeature, FeatureAnswer};
+use btf_rewrite_model::{FeatureAnswer, feature_name};
 use btf_table::Btf;
 use btf_text::{TextBuffer, write_type_line};
 use std::alloc::Global;
@@ -27,7 +27,7 @@ pub struct Checked {
 
 /// Writes a line for each feature that a file's table needs, with whether the kernel has the feature, and a line for
 /// each type that a rewrite for the kernel changes or adds. Returns whether there is a feature that the kernel lacks,
-/// and whether there is such a type. The errors are those of `sanitize` and of `Blob::whole_table`, and `Write`.
+/// and whether there is such a type. The errors are those of `sanitize` and of `InputFile::whole_table`, and `Write`.
 pub fn check<W: io::Write, H: BuildHasher + Clone + Drop>(
     alloc: Global,
     bytes: &[u8],
@@ -37,10 +37,10 @@ pub fn check<W: io::Write, H: BuildHasher + Clone + Drop>(
 ) -> Result<Checked, Fault>
     ensures { IfOk result (Checks bytes.now rewrite.now) }
 {
-    let blob = Blob::read(alloc, bytes)?;
-    let old = blob.whole_table(alloc)?;
-    let (written, answers) = sanitize_parsed_blob(alloc, &blob, &old, rewrite, hash_builder)?;
-    let new = Blob::read(alloc, &written)?.table(alloc)?;
+    let input = InputFile::read(alloc, bytes)?;
+    let old = input.whole_table(alloc)?;
+    let (written, answers) = sanitize_parsed_input(alloc, &input, &old, rewrite, hash_builder)?;
+    let new = InputFile::read(alloc, &written)?.table(alloc)?;
     let mut text = TextBuffer::new(out);
     write_features(answers.as_slice(), &mut text)?;
     let changes = write_changes(alloc, &old, &new, &mut text)?;
@@ -67,20 +67,6 @@ fn write_features<W: fmt::Write>(answers: &[FeatureAnswer], out: &mut W) -> fmt:
         }
     }
     Ok(())
-}
-
-/// The name of a feature on a command line.
-pub fn feature_name(feature: BtfFeature) -> &'static str {
-    match feature {
-        BtfFeature::Func => "Func",
-        BtfFeature::FuncGlobal => "FuncGlobal",
-        BtfFeature::DataSec => "DataSec",
-        BtfFeature::DataSecZero => "DataSecZero",
-        BtfFeature::Float => "Float",
-        BtfFeature::DeclTag => "DeclTag",
-        BtfFeature::TypeTag => "TypeTag",
-        BtfFeature::Enum64 => "Enum64",
-    }
 }
 
 /// Writes a line for each type of the new table that differs from the old table's, and returns whether there is one.

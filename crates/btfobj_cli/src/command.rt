@@ -1,5 +1,6 @@
 //! The commands and arguments of `btfobj`, and the help for them.
 
+use btf_rewrite_model::FEATURE_NAMES;
 use clap::{Arg, ArgAction, ArgGroup, Command};
 use std::alloc::{AllocError, Global};
 
@@ -27,18 +28,6 @@ static KINDS: [&str; 19] = [
     "DECL_TAG",
     "TYPE_TAG",
     "ENUM64",
-];
-
-/// The features that `--has` takes.
-static FEATURES: [&str; 8] = [
-    "Func",
-    "FuncGlobal",
-    "DataSec",
-    "DataSecZero",
-    "Float",
-    "DeclTag",
-    "TypeTag",
-    "Enum64",
 ];
 
 /// The whole command line.
@@ -193,7 +182,7 @@ fn with_kernel<'a>(alloc: Global, command: Command<'a>) -> Result<Command<'a>, A
         .long("has")
         .value_name("FEATURE")
         .value_delimiter(',')
-        .value_parser(FEATURES.as_slice())
+        .value_parser(FEATURE_NAMES.as_slice())
         .help("These features, with commas between them");
     let fill_sized = Arg::new(alloc, "fill-sized")
         .long("fill-sized")

@@ -1,7 +1,7 @@
 //! The commands that write the contents of a file.
 
-use crate::blob::Blob;
 use crate::fault::Fault;
+use crate::input_file::InputFile;
 use crate::split::continues_base;
 use btf_plain::{BtfError, BtfKind};
 use btf_table::{Btf, type_count};
@@ -34,7 +34,7 @@ pub fn dump<W: Write>(
     selection: &Selection<'_>,
     out: &mut W,
 ) -> Result<(), Fault> {
-    let table = Blob::read(alloc, bytes)?.table_over(alloc, base)?;
+    let table = InputFile::read(alloc, bytes)?.table_over(alloc, base)?;
     let mut text = TextBuffer::new(out);
     let is_any = write_dump(&table, &above(base, selection), &mut text)?;
     text.flush()?;
@@ -68,7 +68,7 @@ pub fn layout<W: Write>(
     name: &str,
     out: &mut W,
 ) -> Result<(), Fault> {
-    let table = Blob::read(alloc, bytes)?.whole_table_over(alloc, base)?;
+    let table = InputFile::read(alloc, bytes)?.whole_table_over(alloc, base)?;
     let type_id = match find_layout(&table, name) {
         Ok(type_id) => type_id,
         Err(e) => return Err(no_layout(&table, name, e)),
@@ -117,11 +117,11 @@ pub fn ext<W: Write>(
     base: Option<&Btf>,
     out: &mut W,
 ) -> Result<(), Fault> {
-    let blob = Blob::read(alloc, bytes)?;
-    let table = blob.whole_table_over(alloc, base)?;
-    let section = blob.ext()?;
+    let input = InputFile::read(alloc, bytes)?;
+    let table = input.whole_table_over(alloc, base)?;
+    let section = input.ext()?;
     let mut text = TextBuffer::new(out);
-    write_ext(alloc, &table, section, blob.endianness(), &mut text)?;
+    write_ext(alloc, &table, section, input.endianness(), &mut text)?;
     text.flush()?;
     Ok(())
 }

@@ -6,7 +6,7 @@ use crate::rewrite::Rewrite;
 use btf_loader::{CandidatePolicy, Refusals};
 use btf_object::Kernel;
 use btf_plain::BtfKind;
-use btf_rewrite_model::{BtfFeature, FillPolicy};
+use btf_rewrite_model::{FillPolicy, feature_named};
 use btf_text::Selection;
 use clap::error::ErrorKind;
 use clap::{ArgMatches, Command, Error};
@@ -308,24 +308,9 @@ fn first_number(text: &str) -> Option<u32> {
 fn kernel_with(names: &[&str]) -> Kernel {
     let mut kernel = Kernel::new();
     for name in names {
-        if let Some(feature) = feature_of_name(name) {
+        if let Some(feature) = feature_named(name) {
             kernel = kernel.with(feature);
         }
     }
     kernel
-}
-
-/// The feature of a name.
-fn feature_of_name(name: &str) -> Option<BtfFeature> {
-    match name {
-        "Func" => Some(BtfFeature::Func),
-        "FuncGlobal" => Some(BtfFeature::FuncGlobal),
-        "DataSec" => Some(BtfFeature::DataSec),
-        "DataSecZero" => Some(BtfFeature::DataSecZero),
-        "Float" => Some(BtfFeature::Float),
-        "DeclTag" => Some(BtfFeature::DeclTag),
-        "TypeTag" => Some(BtfFeature::TypeTag),
-        "Enum64" => Some(BtfFeature::Enum64),
-        _ => None,
-    }
 }

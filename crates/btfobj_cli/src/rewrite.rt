@@ -1,20 +1,19 @@
 //! The rewrite of files for a kernel.
 
 ghost use Rattle.std.specs.Prelude.{◌≡◌, ℕ, List, None, IfOk};
-ghost use Rattle.btf_object.specs.Kernel.{has};
-ghost use Rattle.btf_rules.specs.Layout.{sizes_of, offsets_of};
-ghost use Rattle.btfobj_cli.specs.Blob.{HasTable, IsTableOf};
-ghost use Rattle.btfobj_cli.specs.Rewrite.{chosen_target, RewritesTable, RewritesObject, RewritesBlob, IsRewritten};
+ghost use Rattle.btf_object.specs.Kernel.{kernel_has};
+ghost use Rattle.btf_table.specs.Layout.{sizes_of, offsets_of};
+ghost use Rattle.btfobj_cli.specs.InputFile.{HasTable, IsTableOf};
+ghost use Rattle.btfobj_cli.specs.Rewrite.{chosen_target, RewritesTable, RewritesObject, RewritesFile, IsRewritten};
 
-use crate::blob::Blob;
 use crate::fault::Fault;
+use crate::input_file::InputFile;
 use arrayvec::ArrayVec;
 use btf_elf::Object;
 use btf_object::{Kernel, ksyms_of, sanitize_parsed, sanitize_parsed_finalized};
 use btf_plain::SectionIndex;
 use btf_rewrite_model::{BtfFeature, FeatureAnswer, FillPolicy};
-use btf_rules::BtfFeatureResolver;
-use btf_table::Btf;
+use btf_table::{Btf, BtfFeatureResolver};
 use std::alloc::Global;
 use std::collections::HashMap;
 use std::hash::BuildHasher;
@@ -49,8 +48,8 @@ pub fn sanitize<H: BuildHasher + Clone + Drop>(
     // new file of a table alone is the written form of the rewritten table.
     ensures { IfOk result (λ r. IsRewritten bytes.now rewrite.now r.0.items r.1.items) }
 {
-    let blob = Blob::read(alloc, bytes)?;
-    sanitize_blob(alloc, &blob, rewrite, hash_builder)
+    let input = InputFile::read(alloc, bytes)?;
+    sanitize_input(alloc, &input, rewrite, hash_builder)
 }
 
 /// The bytes of the table of a file: of the section `.BTF` of an object, or of the file. The errors are `UnknownFormat`,
@@ -58,41 +57,41 @@ pub fn sanitize<H: BuildHasher + Clone + Drop>(
 pub fn table_alone(alloc: Global, file: &[u8]) -> Result<Vec<u8>, Fault>
     ensures { IfOk result (λ table. IsTableOf file.now table.items) }
 {
-    let blob = Blob::read(alloc, file)?;
-    Ok(Vec::from_slice(alloc, blob.table_bytes()?)?)
+    let input = InputFile::read(alloc, file)?;
+    Ok(Vec::from_slice(alloc, input.table_bytes()?)?)
 }
 
 /// `sanitize` of a file that is already read, with its errors but `UnknownFormat`.
-pub fn sanitize_blob<H: BuildHasher + Clone + Drop>(
+pub fn sanitize_input<H: BuildHasher + Clone + Drop>(
     alloc: Global,
-    blob: &Blob<'_>,
+    input: &InputFile<'_>,
     rewrite: &Rewrite<'_>,
     hash_builder: H,
 ) -> Result<(Vec<u8>, ArrayVec<FeatureAnswer, 8>), Fault>
-    ensures { IfOk result (λ r. RewritesBlob blob.now rewrite.now r.0.items r.1.items) }
+    ensures { IfOk result (λ r. RewritesFile input.now rewrite.now r.0.items r.1.items) }
 {
-    match blob {
-        Blob::Object(object) => rewrite_object(alloc, object, rewrite, hash_builder),
-        Blob::Table(bytes, endianness) => {
+    match input {
+        InputFile::Object(object) => rewrite_object(alloc, object, rewrite, hash_builder),
+        InputFile::Table(bytes, endianness) => {
             sanitize_table(alloc, Btf::parse(alloc, bytes, *endianness)?, rewrite)
         }
     }
 }
 
-/// `sanitize_blob` of a file whose table is already parsed: a table alone is not parsed again.
-pub fn sanitize_parsed_blob<H: BuildHasher + Clone + Drop>(
+/// `sanitize_input` of a file whose table is already parsed: a table alone is not parsed again.
+pub fn sanitize_parsed_input<H: BuildHasher + Clone + Drop>(
     alloc: Global,
-    blob: &Blob<'_>,
+    input: &InputFile<'_>,
     table: &Btf,
     rewrite: &Rewrite<'_>,
     hash_builder: H,
 ) -> Result<(Vec<u8>, ArrayVec<FeatureAnswer, 8>), Fault>
-    requires { HasTable blob.now table.now }
-    ensures { IfOk result (λ r. RewritesBlob blob.now rewrite.now r.0.items r.1.items) }
+    requires { HasTable input.now table.now }
+    ensures { IfOk result (λ r. RewritesFile input.now rewrite.now r.0.items r.1.items) }
 {
-    match blob {
-        Blob::Object(object) => rewrite_object(alloc, object, rewrite, hash_builder),
-        Blob::Table(_, _) => sanitize_table(alloc, table.try_clone()?, rewrite),
+    match input {
+        InputFile::Object(object) => rewrite_object(alloc, object, rewrite, hash_builder),
+        InputFile::Table(_, _) => sanitize_table(alloc, table.try_clone()?, rewrite),
     }
 }
 
@@ -148,7 +147,7 @@ fn sanitize_table(
     let symbols = no_symbols(alloc);
     let kernel = &rewrite.kernel;
     let has = |feature: BtfFeature| -> bool
-        ensures { result ≡ has kernel.entry.now feature }
+        ensures { result ≡ kernel_has kernel.entry.now feature }
     { kernel.has(feature) };
     let mut resolver = BtfFeatureResolver::new(has);
     let answers = table.fixup_and_sanitize_with(

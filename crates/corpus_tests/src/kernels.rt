@@ -3,7 +3,7 @@
 use btf_elf::Object;
 use btf_object::Kernel;
 use btf_rewrite_model::FillPolicy;
-use btfobj_cli::{Blob, Rewrite, sanitize};
+use btfobj_cli::{InputFile, Rewrite, sanitize};
 use std::hash::RandomState;
 
 /// The versions for which each object is rewritten. Each has features that the one before it lacks.
@@ -60,7 +60,7 @@ fn try_rewrite(
     let alloc = rt.alloc();
     let keys = RandomState::new(rt)?;
     let (written, _) = sanitize(alloc, object, rewrite, keys)?;
-    let _table = Blob::read(alloc, &written)?.table(alloc)?;
+    let _table = InputFile::read(alloc, &written)?.table(alloc)?;
     let (again, _) = sanitize(alloc, &written, rewrite, keys)?;
     if again.as_slice() != written.as_slice() {
         return Ok(Some("a second rewrite changes it"));

@@ -5,7 +5,7 @@ use btf_elf::Endianness;
 use btf_split::{parse_split, split_bytes, string_len};
 use btf_table::{Btf, type_count};
 use btf_text::Selection;
-use btfobj_cli::{Blob, Fault, dump};
+use btfobj_cli::{Fault, InputFile, dump};
 use std::fs;
 
 /// The split tables, all over one base.
@@ -54,9 +54,9 @@ pub fn try_split_tables(rt: &HostRuntime) -> anyhow::Result<()> {
         try_module(rt, module, &base)?;
     }
     let object = fs::read(rt, "distilled.x86_64.module.o")?;
-    let blob = Blob::read(rt.alloc(), &object)?;
+    let input = InputFile::read(rt.alloc(), &object)?;
     if !matches!(
-        blob.table_over(rt.alloc(), Some(&base)),
+        input.table_over(rt.alloc(), Some(&base)),
         Err(Fault::DistilledBase)
     ) {
         println!(rt; "a distilled base is taken")?;

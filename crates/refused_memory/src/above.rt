@@ -2,11 +2,9 @@
 
 use crate::probe::Probe;
 use crate::report::Report;
-use btf_above::{relocations_of, variant_value};
-use btf_plain::BtfError;
+use btf::{Btf, BtfError, BtfExt, relocations_of, variant_value};
 use btf_samples::blobs::front;
 use btf_samples::spelled::spelled_decimals;
-use btf_types::{Btf, BtfExt};
 use std::test::Fail;
 
 /// A `.BTF.ext` section of two relocation sections, whose names are at offset 1.

@@ -2,8 +2,9 @@
 
 use crate::probe::Probe;
 use crate::report::Report;
-use btf_plain::BtfError;
-use btf_types::{Btf, fields_are_compatible, types_are_compatible, types_are_compatible_traced};
+use btf::{
+    Btf, BtfError, fields_are_compatible, types_are_compatible, types_are_compatible_traced,
+};
 use std::test::Fail;
 
 /// Compares, and reports the pairs that the traced comparison starts.

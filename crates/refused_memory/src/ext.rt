@@ -2,11 +2,10 @@
 
 use crate::probe::Probe;
 use crate::report::{Report, Show};
-use btf_plain::{BtfError, Endianness};
+use btf::{Btf, BtfError, BtfExt, Endianness, SecInfoIter};
 use btf_samples::blobs::front;
 use btf_samples::program::program_ext;
 use btf_samples::spelled::push_words;
-use btf_types::{Btf, BtfExt, SecInfoIter};
 use std::fmt::Write;
 use std::hash::{BuildHasherDefault, DefaultHasher};
 use std::test::Fail;

@@ -4,13 +4,12 @@ use crate::object::{Section, push_header, push_section};
 use crate::probe::Probe;
 use crate::relocated::{CODE, RECORDS};
 use crate::report::Report;
+use btf::{Btf, BtfError, Endianness};
 use btf_loader::{LoaderError, PrepareError, Refusals, prepare_object, relocate_object};
 use btf_object::{FillPolicy, Kernel, SanitizeError};
-use btf_plain::{BtfError, Endianness};
 use btf_relocate::{CandidatePolicy, Target};
 use btf_samples::blobs::front;
 use btf_samples::spelled::push_words;
-use btf_types::Btf;
 use std::alloc::{AllocError, Global};
 use std::test::Fail;
 

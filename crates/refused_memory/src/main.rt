@@ -22,7 +22,7 @@ mod tables;
 use crate::probe::Probe;
 use crate::report::Report;
 use crate::tables::bytes_of;
-use btf_plain::Endianness;
+use btf::Endianness;
 use std::alloc::Global;
 use std::io::Write;
 use std::test::Fail;

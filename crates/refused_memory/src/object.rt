@@ -2,9 +2,9 @@
 
 use crate::probe::Probe;
 use crate::report::Report;
+use btf::{BtfError, Endianness};
 use btf_elf::{Object, ObjectError, ReplaceError, SectionHeader};
 use btf_object::{FillPolicy, Kernel, SanitizeError, sanitize_finalized, sanitize_object};
-use btf_plain::{BtfError, Endianness};
 use btf_samples::spelled::push_words;
 use std::alloc::{AllocError, Global};
 use std::hash::{BuildHasherDefault, FoldHasher};

@@ -1,8 +1,7 @@
 //! Allocations before a call and after it.
 
 use crate::report::{Report, Show};
-use btf_plain::{BtfError, Endianness};
-use btf_types::Btf;
+use btf::{Btf, BtfError, Endianness};
 use std::alloc::Global;
 use std::test::Fail;
 

@@ -2,9 +2,7 @@
 
 use crate::probe::Probe;
 use crate::report::Report;
-use btf_plain::BtfError;
-use btf_records::BtfType;
-use btf_types::Btf;
+use btf::{Btf, BtfError, BtfType};
 use std::alloc::Global;
 use std::test::Fail;
 

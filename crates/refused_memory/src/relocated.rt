@@ -2,11 +2,10 @@
 
 use crate::probe::Probe;
 use crate::report::Report;
-use btf_plain::{BtfError, BtfKind};
+use btf::{Btf, BtfError, BtfKind};
 use btf_relocate::{
     CandidatePolicy, RelocationError, Target, candidates_of, relocate_section, resolve,
 };
-use btf_types::Btf;
 use std::test::Fail;
 
 /// Records about one instruction: the offset of the first member, the existence of the type, and whether it matches.

@@ -1,8 +1,9 @@
 //! The report of a work, with a line for each name.
 
-use btf_plain::{BtfError, Endianness, Enum64VariantFallback};
-use btf_records::BtfType;
-use btf_types::{Btf, BtfExt, BtfFeature, BtfStr, FeatureAnswer};
+use btf::{
+    Btf, BtfError, BtfExt, BtfFeature, BtfStr, BtfType, Endianness, Enum64VariantFallback,
+    FeatureAnswer,
+};
 use std::alloc::{AllocError, Global};
 use std::fmt::Write;
 use std::hash::BuildHasher;

@@ -3,11 +3,11 @@
 use crate::probe::Probe;
 use crate::report::Report;
 use crate::tables::last_id;
-use btf_plain::BtfError;
-use btf_samples::layout::Layout;
-use btf_types::{
-    Btf, BtfFeature, BtfFeatureResolver, FeatureAnswer, FillPolicy, KsymsIds, rewrite_bytes_with,
+use btf::{
+    Btf, BtfError, BtfFeature, BtfFeatureResolver, FeatureAnswer, FillPolicy, KsymsIds,
+    rewrite_bytes_with,
 };
+use btf_samples::layout::Layout;
 use std::alloc::{AllocError, Global};
 use std::test::Fail;
 

@@ -3,9 +3,9 @@
 use crate::probe::Probe;
 use crate::report::Report;
 use crate::tables::bytes_of;
+use btf::Btf;
 use btf_split::{append_split, parse_split, split_bytes, string_len};
 use btf_table::type_count;
-use btf_types::Btf;
 use std::test::Fail;
 
 pub fn split(work: &str, probe: &Probe, blob: &[u8], report: &mut Report) -> Result<(), Fail> {

@@ -4,9 +4,7 @@ use crate::probe::Probe;
 use crate::report::Report;
 use crate::rewrite::deny_all;
 use crate::tables::last_id;
-use btf_plain::{BtfError, BtfKind, Int, IntEncoding};
-use btf_records::BtfType;
-use btf_types::Btf;
+use btf::{Btf, BtfError, BtfKind, BtfType, Int, IntEncoding};
 use std::test::Fail;
 
 /// Makes a table.

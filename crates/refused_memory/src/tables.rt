@@ -1,10 +1,9 @@
 //! The tables of the works, by name.
 
-use btf_plain::Endianness;
+use btf::{Btf, Endianness};
 use btf_samples::blobs::blob;
 use btf_samples::program::{TYPE_LEN, program};
 use btf_samples::spelled::{push_words, spelled_text};
-use btf_types::Btf;
 use std::alloc::Global;
 use std::test::Fail;
 

@@ -1,6 +1,6 @@
 //! The numbers and the texts of the kinds.
 
-use btf_plain::BtfKind;
+use btf::BtfKind;
 use std::alloc::{AllocError, Global};
 use std::test::Fail;
 

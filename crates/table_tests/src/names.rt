@@ -1,10 +1,8 @@
 //! Texts of the string section, and names of types.
 
-use btf_plain::{BtfError, BtfKind, Endianness, Int, IntEncoding};
-use btf_records::BtfType;
+use btf::{Btf, BtfError, BtfKind, BtfStr, BtfType, Endianness, Int, IntEncoding};
 use btf_samples::blobs::{parsed, parsed_blob};
 use btf_samples::program::program_table;
-use btf_types::{Btf, BtfStr};
 use std::alloc::Global;
 use std::test::Fail;
 

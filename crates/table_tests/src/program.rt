@@ -1,12 +1,10 @@
 //! The table of a small program, in both byte orders: complete, truncated, and with another length of its types.
 
-use btf_plain::{BtfError, Endianness};
-use btf_records::{BtfMember, BtfType};
+use btf::{Btf, BtfError, BtfMember, BtfType, Endianness};
 use btf_samples::blobs::parsed_blob;
 use btf_samples::program::{KINDS, TYPE_LEN, program, program_table};
 use btf_samples::spelled::ORDERS;
 use btf_samples::written::{has_kinds, is_written_as};
-use btf_types::Btf;
 use std::alloc::Global;
 use std::test::Fail;
 

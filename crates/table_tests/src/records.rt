@@ -1,15 +1,12 @@
 //! Records of every kind, read from bytes and written, and records built in memory.
 
-use btf_plain::{
-    Array, BtfError, BtfKind, DeclTag, Endianness, Int, IntEncoding, Ptr, Var, VarLinkage,
-};
-use btf_records::{
-    BtfEnum, BtfEnum64, BtfParam, BtfType, DataSec, DataSecEntry, Enum, Enum64, FuncProto,
+use btf::{
+    Array, Btf, BtfEnum, BtfEnum64, BtfError, BtfKind, BtfParam, BtfType, DataSec, DataSecEntry,
+    DeclTag, Endianness, Enum, Enum64, FuncProto, Int, IntEncoding, Ptr, Var, VarLinkage,
 };
 use btf_samples::blobs::{blob, parsed_blob};
 use btf_samples::spelled::{ORDERS, push_words, read, record, spelled, spelled_text};
 use btf_samples::written::{has_bytes, has_table_bytes, has_words};
-use btf_types::Btf;
 use std::alloc::{AllocError, Global};
 use std::test::Fail;
 

@@ -1,11 +1,9 @@
 //! Tables, built, parsed and written.
 
-use btf_plain::{BtfError, BtfKind, Endianness, Int, IntEncoding, VarLinkage};
-use btf_records::BtfType;
+use btf::{Btf, BtfError, BtfKind, BtfType, Endianness, Int, IntEncoding, VarLinkage};
 use btf_samples::blobs::{blob, parsed, parsed_blob};
 use btf_samples::spelled::bytes;
 use btf_samples::written::{has_table_bytes, is_written_as};
-use btf_types::Btf;
 use std::alloc::Global;
 use std::test::Fail;
 

@@ -1,10 +1,8 @@
 //! Walks from type to type: resolving modifiers, and sizes.
 
-use btf_plain::{BtfError, Const, Endianness, Int, IntEncoding};
-use btf_records::BtfType;
+use btf::{Btf, BtfError, BtfType, Const, Endianness, Int, IntEncoding};
 use btf_samples::blobs::table_of;
 use btf_samples::program::program_table;
-use btf_types::Btf;
 use std::alloc::Global;
 use std::test::Fail;
 

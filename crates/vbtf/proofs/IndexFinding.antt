@@ -10,12 +10,12 @@ use Rattle.btf_model.specs.Table.{Table}
 use Rattle.btf_model.specs.Text.{bytes_at}
 use Rattle.btf_plain.specs.Kind.{kind}
 use Rattle.btf_plain.specs.declared.kind.BtfKind.{BtfKind}
-use Rattle.vbtf.proofs.KindNumbers.{code_of_info}
+use Rattle.btf_relocate.proofs.KindNumbers.{code_of_info}
 use Rattle.btf_relocate.specs.Index.{kind_code}
 use Rattle.btf_relocate_model.specs.Candidates.{candidates, compared_number, ids_from, is_candidate, is_nameless}
 use Rattle.btf_relocate_model.specs.Name.{essential}
 use Rattle.btf_relocate_model.specs.Types.{bytes_or_none, name_or_none}
-use Rattle.vbtf.specs.IndexFinding.{FindsPlace, IsNamedAt}
+use Rattle.vbtf.specs.IndexFinding.{FindsIndexPlace, IsNamedAt}
 
 -- ---- the ids of the records that pass a test
 
@@ -87,7 +87,7 @@ module _ (t : Table) (name : List ℕ) (k : BtfKind) (ids : List ℕ) (full : na
   above_zero n id is = omega (arith, at_least (is_candidate t name (kind_code k)) 1 (drop 1 t.records) n id (ap (λ (xs : List ℕ). slice_get xs n) (sym are) ∙ is))
 
   -- the first of them is the least id
-  pub first_is : (n id : ℕ) → slice_get ids n ≡ Some id → IsNamedAt t (kind k) name id → ((m x : ℕ) → m < n → slice_get ids m ≡ Some x → IsNamedAt t (kind k) name x → ⊥) → FindsPlace t (kind k) name (Some id)
+  pub first_is : (n id : ℕ) → slice_get ids n ≡ Some id → IsNamedAt t (kind k) name id → ((m x : ℕ) → m < n → slice_get ids m ≡ Some x → IsNamedAt t (kind k) name x → ⊥) → FindsIndexPlace t (kind k) name (Some id)
   first_is n id is here before = (
     above_zero n id is,
     here,
@@ -109,7 +109,7 @@ module _ (t : Table) (name : List ℕ) (k : BtfKind) (ids : List ℕ) (full : na
             | inr ge ↦ omega (arith, less, same_place n m id low (omega (arith, le, ge)) is at)
           ]
 
-  pub none_is : ((m x : ℕ) → m < length ids → slice_get ids m ≡ Some x → IsNamedAt t (kind k) name x → ⊥) → FindsPlace t (kind k) name None
+  pub none_is : ((m x : ℕ) → m < length ids → slice_get ids m ≡ Some x → IsNamedAt t (kind k) name x → ⊥) → FindsIndexPlace t (kind k) name None
   none_is before id more h =
       let p = place id more h in
       before p.0 id (slice_get_within ids p.0 id p.1) p.1 h

@@ -6,7 +6,7 @@ use Rattle.std.proofs.lemmas.List.{length-map}
 use Rattle.std.proofs.lemmas.Map.Steps.{length-le_from_distinct_below}
 use Rattle.btf_rewrite_model.specs.Feature.{number}
 use Rattle.btf_rewrite_model.specs.declared.feature.BtfFeature.TheVariants as features
-use Rattle.btf_rules.specs.Features.{numbers, AreDistinct}
+use Rattle.btf_table.specs.Features.{numbers, AreDistinct}
 use Rattle.std.specs.Prelude.{IfSome, OnOk}
 use Rattle.arrayvec.specs.declared.array_vec.ArrayVec.{ArrayVec}
 use Rattle.btf_model.specs.Refusal.{Refusal}
@@ -17,15 +17,16 @@ use Rattle.btf_rewrite_model.specs.Pass.{Layout}
 use Rattle.btf_rewrite_model.specs.declared.feature.BtfFeature.{BtfFeature}
 use Rattle.btf_rewrite_model.specs.declared.feature.FeatureAnswer.{FeatureAnswer}
 use Rattle.btf_table.specs.Rewrites.{Rewrites, NeedsAreGranted}
-use Rattle.btf_types.specs.Features.{Called}
+use Rattle.btf.specs.Features.{Called}
 use Rattle.btf_plain.specs.declared.error.BtfError.{BtfError}
 use Rattle.btf_plain.specs.Error.{MeetsOrNoMemory, refusal_of}
-use Rattle.vbtf.specs.Kernel.{has_bit, AreOf, RewritesFor}
+use Rattle.btf_rewrite_model.specs.FeatureSet.{has_bit}
+use Rattle.vbtf.specs.Kernel.{AreAnswersOf, RewritesForKernel}
 
 -- a predicate that gives these answers for every feature
 pub all_of : {F : Type 0} (step : F → BtfFeature → Bool → F → Type 0) (features : ℕ) (Is : F → Type 0)
     → ((f g : F) (feature : BtfFeature) (granted : Bool) → Is f → step f feature granted g → (granted ≡ has_bit features feature) × Is g)
-    → (before : F) (answers : List FeatureAnswer) (after : F) → Is before → Called step before answers after → AreOf features answers
+    → (before : F) (answers : List FeatureAnswer) (after : F) → Is before → Called step before answers after → AreAnswersOf features answers
 all_of step features Is each before [] after is called = tt
 all_of step features Is each before (a ∷ answers) after is called =
     let one = each before called.0 a.feature a.granted is called.1 in (one.0, all_of step features Is each called.0 answers after one.1 called.2)
@@ -60,19 +61,19 @@ few_answers answers distinct =
 
 -- a rewrite with these answers is one for the kernel
 pub for_kernel : (features : ℕ) (policy : FillPolicy) (old : Table) (ids : Option KsymsIds) (layout : Layout) (new : Table) (asked : List FeatureAnswer) (r : Result (ArrayVec FeatureAnswer 8 (Unit {0})) BtfError)
-    → AreOf features asked → IfOk r (λ a. a.items ≡ asked) → MeetsOrNoMemory (λ a. a.items) r (Rewrites policy old ids layout asked new)
-    → MeetsOrNoMemory (λ a. a.items) r (RewritesFor features policy old ids layout new)
+    → AreAnswersOf features asked → IfOk r (λ a. a.items ≡ asked) → MeetsOrNoMemory (λ a. a.items) r (Rewrites policy old ids layout asked new)
+    → MeetsOrNoMemory (λ a. a.items) r (RewritesForKernel features policy old ids layout new)
 for_kernel features policy old ids layout new asked (Ok a) of is rewrites =
-    (subst (λ xs. AreOf features xs) (sym is) of, subst (λ xs. Rewrites {X = List FeatureAnswer} policy old ids layout xs new (Ok a.items)) (sym is) rewrites)
+    (subst (λ xs. AreAnswersOf features xs) (sym is) of, subst (λ xs. Rewrites {X = List FeatureAnswer} policy old ids layout xs new (Ok a.items)) (sym is) rewrites)
 for_kernel features policy old ids layout new asked (Err e) of is refused =
     some_map (refusal_of e) (λ r found. (asked, of, found)) refused
 
 -- the same for equal tables and layouts
 pub for_handle : (features : ℕ) (policy : FillPolicy) (ids : Option KsymsIds) (t old : Table) (l layout : Layout) (n new : Table) (r : Result (List FeatureAnswer) Refusal)
-    → t ≡ old → l ≡ layout → new ≡ n → RewritesFor features policy t ids l n r → RewritesFor features policy old ids layout new r
+    → t ≡ old → l ≡ layout → new ≡ n → RewritesForKernel features policy t ids l n r → RewritesForKernel features policy old ids layout new r
 for_handle features policy ids t old l layout n new r same_old same_layout same_new rewrites =
-    subst (λ x. RewritesFor features policy x ids layout new r) same_old
-    (subst (λ x. RewritesFor features policy t ids x new r) same_layout (subst (λ x. RewritesFor features policy t ids l x r) (sym same_new) rewrites))
+    subst (λ x. RewritesForKernel features policy x ids layout new r) same_old
+    (subst (λ x. RewritesForKernel features policy t ids x new r) same_layout (subst (λ x. RewritesForKernel features policy t ids l x r) (sym same_new) rewrites))
 
 -- the features that the answers grant, of equal answers, policies and ids
 pub granted_for : (policy other : FillPolicy) (old new : Table) (ids same : Option KsymsIds) (asked : List FeatureAnswer) (r : Result (ArrayVec FeatureAnswer 8 (Unit {0})) BtfError)

@@ -9,7 +9,7 @@ use Rattle.std.proofs.Math.Seq.{take-suc}
 use Rattle.btf_plain.specs.declared.section_index.SectionIndex.{SectionIndex}
 use Rattle.vbtf.specs.declared.program.Named.{Named}
 use Rattle.btf_rewrite_model.specs.Pass.{Layout}
-use Rattle.vbtf.specs.Program.{name_in, number_named, layout_named, IsReadable, AreReadable}
+use Rattle.vbtf.specs.Program.{name_in, number_named, layout_named, IsReadable, AreReadableEntries}
 
 -- the value at an index past the end
 abbrev pub no_entry : Named
@@ -42,11 +42,11 @@ all_push : (P : Named → Type 0) (entries : List Named) (entry : Named) → All
 all_push P [] entry all one = (one, tt)
 all_push P (e ∷ entries) entry all one = (all.0, all_push P entries entry all.1 one)
 
-pub next_readable : (names : List ℕ) (entries : List Named) (i : ℕ) → AreReadable names (take i entries) → IsReadable names (slice_index_or entries i no_entry) → i < length entries → AreReadable names (take (i + 1) entries)
+pub next_readable : (names : List ℕ) (entries : List Named) (i : ℕ) → AreReadableEntries names (take i entries) → IsReadable names (slice_index_or entries i no_entry) → i < length entries → AreReadableEntries names (take (i + 1) entries)
 next_readable names entries i before this lt =
     let next : suc i ≡ i + 1 = omega arith in
-    subst (λ (n : ℕ). AreReadable names (take n entries)) next
-    (subst (λ es. AreReadable names es) (sym (take-suc entries i no_entry lt)) (all_push (IsReadable names) (take i entries) (slice_index_or entries i no_entry) before this))
+    subst (λ (n : ℕ). AreReadableEntries names (take n entries)) next
+    (subst (λ es. AreReadableEntries names es) (sym (take-suc entries i no_entry lt)) (all_push (IsReadable names) (take i entries) (slice_index_or entries i no_entry) before this))
 
 -- the contents of a map after the insertion of an entry
 pub section_kept : (b : Bool) (section : SectionIndex × ℕ) (old : Option (SectionIndex × ℕ)) (rest : Option ℕ) → option_map (λ (s : SectionIndex × ℕ). s.1) old ≡ rest

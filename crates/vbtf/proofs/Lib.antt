@@ -16,5 +16,5 @@ pub mod Relocations
 pub mod Places
 pub mod Listing
 pub mod Search
-mod KindNumbers
 pub mod IndexFinding
+mod Naming

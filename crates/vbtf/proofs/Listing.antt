@@ -17,7 +17,7 @@ use Rattle.btf_plain.specs.declared.items.DataSecEntry.{DataSecEntry}
 use Rattle.btf_records.specs.BtfType.{record_of, type_kind}
 use Rattle.btf_records.specs.declared.btf_type.BtfType.{BtfType}
 use Rattle.btf_records.specs.declared.btf_type.BtfType.TheVariants as types
-use Rattle.vbtf.specs.Lists.{ItemsOf, Lists, member, members, members_in, variant, variants, variants_in, wide_variants_in, param, params, params_in, entry, entries, entries_in}
+use Rattle.vbtf.specs.Lists.{ItemsOf, ListsItems, member, members, members_in, variant, variants, variants_in, wide_variants_in, param, params, params_in, entry, entries, entries_in}
 use Rattle.vbtf.specs.Status.{Begins}
 
 -- the forms of items are the items in their words
@@ -45,7 +45,7 @@ entries_listed (e ∷ es) = ap (λ xs. entry e.btf_type e.offset e.size ∷ xs) 
 pub listed : {X : Type 0} (items_of : Kind → Record → Option (List X)) (records : List Record) (id : ℕ) (t u : BtfType) (xs ys old new : List X) (count : ℕ)
     → slice_get records id ≡ Some (record_of t) → kind_of (record_of t).info ≡ Some (type_kind t) → t ≡ u
     → items_of (type_kind u) (record_of u) ≡ Some xs → xs ≡ ys → Begins (take (length old) ys) old new count
-    → Lists old new (Ok count) (ItemsOf items_of records id)
+    → ListsItems old new (Ok count) (ItemsOf items_of records id)
 listed {X} items_of records id t u xs ys old new count there kind is items same begins = (
   xs,
   subst (λ (zs : List X). Begins (take (length old) zs) old new count) (sym same) begins,
@@ -60,16 +60,16 @@ listed {X} items_of records id t u xs ys old new count there kind is items same 
 
 -- no type has the id
 pub unknown : {X : Type 0} (items_of : Kind → Record → Option (List X)) (records : List Record) (id : ℕ) (old : List X) (e : BtfError) (r : Result ℕ BtfError)
-    → IsErrAnd r (λ y. y ≡ e) → length records ≤ id → e ≡ errors.UnknownBtfType id → Lists old old r (ItemsOf items_of records id)
+    → IsErrAnd r (λ y. y ≡ e) → length records ≤ id → e ≡ errors.UnknownBtfType id → ListsItems old old r (ItemsOf items_of records id)
 unknown items_of records id old e r err past is =
     let p = err_from_is_err_and r err in
-    subst (λ (x : Result ℕ BtfError). Lists old old x (ItemsOf items_of records id)) (sym (p.1 ∙ ap (λ (x : BtfError). Err x) (p.2 ∙ is)))
+    subst (λ (x : Result ℕ BtfError). ListsItems old old x (ItemsOf items_of records id)) (sym (p.1 ∙ ap (λ (x : BtfError). Err x) (p.2 ∙ is)))
     (refl, refusals.UnknownBtfType id, refl, inl (past, refl))
 
 -- the type has another kind
 pub unexpected : {X : Type 0} (items_of : Kind → Record → Option (List X)) (records : List Record) (id : ℕ) (t : BtfType) (old : List X)
     → slice_get records id ≡ Some (record_of t) → kind_of (record_of t).info ≡ Some (type_kind t) → items_of (type_kind t) (record_of t) ≡ None
-    → Lists old old (Err (errors.UnexpectedBtfType id)) (ItemsOf items_of records id)
+    → ListsItems old old (Err (errors.UnexpectedBtfType id)) (ItemsOf items_of records id)
 unexpected items_of records id t old there kind none =
     (refl, refusals.UnexpectedBtfType id, refl, inr (type_kind t, record_of t, there, kind, none, refl))
 

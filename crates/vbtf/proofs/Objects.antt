@@ -8,13 +8,14 @@ use Rattle.btf_elf.specs.declared.error.ObjectError.TheVariants as elf
 use Rattle.btf_elf.specs.declared.error.ReplaceError.TheVariants as replace
 use Rattle.btf_object_model.specs.Sanitized.{Target}
 use Rattle.btf_object.specs.Errors.{target_of}
-use Rattle.btf_object.specs.Kernel.{has}
+use Rattle.btf_object.specs.Kernel.{kernel_has}
 use Rattle.btf_object.specs.declared.error.SanitizeError.{SanitizeError}
 use Rattle.btf_object.specs.declared.error.SanitizeError.TheVariants.{Object, NoTable, Table, Section, OutOfMemory}
 use Rattle.btf_object.specs.declared.kernel.Kernel as object
 use Rattle.btf_plain.specs.Error.{refusal_of}
-use Rattle.vbtf.specs.Kernel.{has_bit, policy_chosen}
-use Rattle.vbtf.specs.Object.{name_or_none, target_chosen, ReportsCause}
+use Rattle.btf_rewrite_model.specs.FeatureSet.{has_bit}
+use Rattle.vbtf.specs.Kernel.{policy_chosen}
+use Rattle.vbtf.specs.Object.{text_or_none, target_chosen, ReportsCause}
 use Rattle.vbtf.specs.declared.fault.Fault.{Fault}
 use Rattle.vbtf.proofs.Ending.{error_is_no_success}
 use Rattle.vbtf.specs.declared.kernel.Kernel.{Kernel}
@@ -23,11 +24,11 @@ abbrev target : (BtfFeature → Bool) → FillPolicy → Option (List ℕ) → T
 target h policy placeholder = record { has = h; policy = policy; placeholder = placeholder }
 
 pub chosen : (k : object.Kernel) (kernel : Kernel) (policy : FillPolicy) (o : Option (List ℕ)) (name placeholder : List ℕ)
-    → ((f : BtfFeature) → has k f ≡ has_bit kernel.features f) → policy ≡ policy_chosen kernel → o ≡ name_or_none name → name ≡ placeholder
+    → ((f : BtfFeature) → kernel_has k f ≡ has_bit kernel.features f) → policy ≡ policy_chosen kernel → o ≡ text_or_none name → name ≡ placeholder
     → target_of k policy o ≡ target_chosen kernel placeholder
 chosen k kernel policy o name placeholder bits policy_is named name_is =
     ap (λ h. target h policy o) (fun_ext bits) ∙ ap (λ p. target (has_bit kernel.features) p o) policy_is
-    ∙ ap (λ n. target (has_bit kernel.features) (policy_chosen kernel) n) (named ∙ ap name_or_none name_is)
+    ∙ ap (λ n. target (has_bit kernel.features) (policy_chosen kernel) n) (named ∙ ap text_or_none name_is)
 
 -- no cause has the status of success
 pub cause_is_no_success : (status : ℕ) (fault : Fault) (e : SanitizeError) → ReportsCause status fault e → status ≡ 0 → ⊥

@@ -9,12 +9,12 @@ use Rattle.btf_rewrite_model.specs.Checks.{record_len}
 use Rattle.vbtf.specs.declared.fault.Fault.{Fault}
 use Rattle.vbtf.specs.declared.handle.Handle.{Handle}
 use Rattle.vbtf.specs.Changed.{ChangedTo}
-use Rattle.vbtf.specs.Status.{Reports, ReportsNoMemory, Fails}
+use Rattle.vbtf.specs.Status.{ReportsRefusal, ReportsNoMemory, Fails}
 
 -- The outcomes of a call that adds to the table of a handle: status 0 and the position, and the handle owns the new
 -- table; or an error or a failed allocation, and the handle owns the unchanged table. No index is open then.
-abbrev pub Adds : ℕ → Handle → Handle → ℕ → Fault → Result ℕ Refusal → Table → Type 0
-Adds status old new value fault place table =
+abbrev pub EndsAdding : ℕ → Handle → Handle → ℕ → Fault → Result ℕ Refusal → Table → Type 0
+EndsAdding status old new value fault place table =
     (new.state ≡ 1)
     × (((status ≡ 0) × (Ok value ≡ place) × ChangedTo old.opened new.opened table)
     ⊎ (ChangedTo old.opened new.opened old.opened.btf × Fails status fault (λ answer. answer ≡ place)))
@@ -40,5 +40,5 @@ EndsAddingType status order bytes old new id fault =
     × (((status ≡ 0) × AddsRecord order bytes old.opened.btf new.opened.btf (Ok (Some id)))
     ⊎ ((status ≡ 102) × AddsRecord order bytes old.opened.btf new.opened.btf (Ok None))
     ⊎ (ReportsNoMemory status fault × (new.opened.btf ≡ old.opened.btf))
-    ⊎ ((refusal : Refusal) × Reports status fault refusal
+    ⊎ ((refusal : Refusal) × ReportsRefusal status fault refusal
     × AddsRecord order bytes old.opened.btf new.opened.btf (Err refusal)))

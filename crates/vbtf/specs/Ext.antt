@@ -14,7 +14,7 @@ use Rattle.vbtf.specs.declared.ext.ExtSizes.{ExtSizes}
 use Rattle.vbtf.specs.declared.fault.Fault.{Fault}
 use Rattle.vbtf.specs.declared.handle.Handle.{Handle}
 use Rattle.vbtf.specs.declared.opened.Opened.{Opened}
-use Rattle.vbtf.specs.Status.{Reports, ReportsNoMemory}
+use Rattle.vbtf.specs.Status.{ReportsRefusal, ReportsNoMemory}
 
 -- a .BTF.ext whose maps have random keys
 abbrev pub OpenedExt : Type 0
@@ -43,7 +43,8 @@ EndsOpeningExt status order bytes old new fault =
     × (((status ≡ 0) × AddsExt order bytes old.opened new.opened (Ok true))
     ⊎ ((status ≡ 102) × AddsExt order bytes old.opened new.opened (Ok false))
     ⊎ (ReportsNoMemory status fault × (new.opened ≡ old.opened))
-    ⊎ ((refusal : Refusal) × Reports status fault refusal × AddsExt order bytes old.opened new.opened (Err refusal)))
+    ⊎ ((refusal : Refusal) × ReportsRefusal status fault refusal
+    × AddsExt order bytes old.opened new.opened (Err refusal)))
 
 -- These are the names for which a look-up finds something, each once, in any order.
 pub record AreNames {X : Type 0} (found : List ℕ → Option X) (names : List (List ℕ)) : Type 0 where

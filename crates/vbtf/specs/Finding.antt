@@ -25,10 +25,10 @@ IsSkipped strings wanted name r =
     (IsWanted wanted r → ⊥) ⊎ ((other : List ℕ) × (text_at strings r.name ≡ Ok other) × (other ≢ name))
 
 -- Whether a record has a wanted kind and the name, or why its name cannot be read if it has a wanted kind.
-abbrev pub IsFound : List ℕ → Option Kind → List ℕ → Record → Result Bool Refusal → Type 0
-IsFound strings wanted name r (Ok true) = IsWanted wanted r × (text_at strings r.name ≡ Ok name)
-IsFound strings wanted name r (Ok false) = IsSkipped strings wanted name r
-IsFound strings wanted name r (Err refusal) = IsWanted wanted r × (text_at strings r.name ≡ Err refusal)
+abbrev pub IsSought : List ℕ → Option Kind → List ℕ → Record → Result Bool Refusal → Type 0
+IsSought strings wanted name r (Ok true) = IsWanted wanted r × (text_at strings r.name ≡ Ok name)
+IsSought strings wanted name r (Ok false) = IsSkipped strings wanted name r
+IsSought strings wanted name r (Err refusal) = IsWanted wanted r × (text_at strings r.name ≡ Err refusal)
 
 -- The search skips the ids from the first one on that are below this one.
 abbrev pub AreSkipped : List ℕ → List Record → Option Kind → List ℕ → ℕ → ℕ → Type 0

@@ -13,12 +13,12 @@ IsNamedAt t k name id =
     × (bytes_at t.strings r.name ≡ Some name)
 
 -- the least id above 0 of a type with this kind and name, or none if there is no such type
-abbrev pub FindsPlace : Table → Kind → List ℕ → Option ℕ → Type 0
-FindsPlace t k name (Some id) =
+abbrev pub FindsIndexPlace : Table → Kind → List ℕ → Option ℕ → Type 0
+FindsIndexPlace t k name (Some id) =
     (0 < id) × IsNamedAt t k name id × ((low : ℕ) → 0 < low → low < id → IsNamedAt t k name low → ⊥)
-FindsPlace t k name None = (id : ℕ) → 0 < id → IsNamedAt t k name id → ⊥
+FindsIndexPlace t k name None = (id : ℕ) → 0 < id → IsNamedAt t k name id → ⊥
 
 -- what the search returns
 abbrev pub FindsIndexed : Table → Kind → List ℕ → Result ℕ Refusal → Type 0
-FindsIndexed t k name (Ok id) = FindsPlace t k name (Some id)
-FindsIndexed t k name (Err refusal) = FindsPlace t k name None × (refusal ≡ UnknownBtfTypeName name)
+FindsIndexed t k name (Ok id) = FindsIndexPlace t k name (Some id)
+FindsIndexed t k name (Err refusal) = FindsIndexPlace t k name None × (refusal ≡ UnknownBtfTypeName name)

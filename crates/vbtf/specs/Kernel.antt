@@ -1,10 +1,10 @@
 -- The description of a kernel by C, and the features that a rewrite asked about.
-use Rattle.std.specs.Prelude.{◌≡◌, ℕ, ◌/◌, ◌%◌, ◌^◌, ◌==◌, ◌⊎◌, Bool, List, map, take, length, Option, Some, None, Result, Ok, Err, if◌then◌else◌}
+use Rattle.std.specs.Prelude.{◌≡◌, ℕ, ◌==◌, ◌⊎◌, List, map, take, length, Option, Some, None, Result, Ok, Err, if◌then◌else◌}
 use Rattle.std.specs.List.{AllByRecursion}
 use Rattle.btf_model.specs.Refusal.{Refusal}
 use Rattle.btf_model.specs.Table.{Table}
 use Rattle.btf_rewrite_model.specs.Feature.{number}
-use Rattle.btf_rewrite_model.specs.declared.feature.BtfFeature.{BtfFeature}
+use Rattle.btf_rewrite_model.specs.FeatureSet.{has_bit}
 use Rattle.btf_rewrite_model.specs.declared.feature.FeatureAnswer.{FeatureAnswer}
 use Rattle.btf_rewrite_model.specs.declared.feature.FillPolicy.{FillPolicy}
 use Rattle.btf_rewrite_model.specs.declared.feature.FillPolicy.TheVariants.{KeepSized, FillSized}
@@ -17,10 +17,6 @@ use Rattle.vbtf.specs.declared.kernel.Asked.{Asked}
 use Rattle.vbtf.specs.declared.fault.Fault.{Fault}
 use Rattle.vbtf.specs.declared.handle.Handle.{Handle}
 use Rattle.vbtf.specs.Status.{Fails}
-
--- whether the bit of a feature is set
-abbrev pub has_bit : ℕ → BtfFeature → Bool
-has_bit features f = features / 2 ^ number f % 2 == 1
 
 -- the policy for DATASECs that have a size and no entries
 abbrev pub policy_chosen : Kernel → FillPolicy
@@ -35,8 +31,8 @@ abbrev pub ids_chosen : Kernel → Option KsymsIds
 ids_chosen kernel = if kernel.ksyms == 0 then None else Some (ksyms_ids kernel.ksyms (id_or_none kernel.placeholder))
 
 -- each answer is the kernel's bit
-abbrev pub AreOf : ℕ → List FeatureAnswer → Type 0
-AreOf features answers = AllByRecursion (λ answer. answer.granted ≡ has_bit features answer.feature) answers
+abbrev pub AreAnswersOf : ℕ → List FeatureAnswer → Type 0
+AreAnswersOf features answers = AllByRecursion (λ answer. answer.granted ≡ has_bit features answer.feature) answers
 
 -- 1 if the feature of the answer is granted, and otherwise 0
 abbrev pub granted_number : FeatureAnswer → ℕ
@@ -49,13 +45,13 @@ pub record ListsAnswers (asked : Asked) (answers : List FeatureAnswer) : Type 0 
   pub granted : take asked.count asked.granted ≡ map granted_number answers
 
 -- The outcomes of the rewrite of a table for a kernel with these features: the answers that it got, or an error.
-abbrev pub RewritesFor : ℕ → FillPolicy → Table → Option KsymsIds → Layout → Table
+abbrev pub RewritesForKernel : ℕ → FillPolicy → Table → Option KsymsIds → Layout → Table
     → Result (List FeatureAnswer) Refusal → Type 0
-RewritesFor features policy old ids layout new (Ok listed) =
-    AreOf features listed
+RewritesForKernel features policy old ids layout new (Ok listed) =
+    AreAnswersOf features listed
     × Rewrites {X = List FeatureAnswer} policy old ids layout listed new (Ok listed)
-RewritesFor features policy old ids layout new (Err refusal) =
-    (answers : List FeatureAnswer) × AreOf features answers
+RewritesForKernel features policy old ids layout new (Err refusal) =
+    (answers : List FeatureAnswer) × AreAnswersOf features answers
     × Rewrites {X = List FeatureAnswer} policy old ids layout answers new (Err refusal)
 
 -- The outcomes of a rewrite for C: status 0, and the handle owns the rewritten table; or an error or a failed
@@ -64,7 +60,9 @@ abbrev pub EndsRewriting : ℕ → Kernel → Layout → Handle → Handle → A
 EndsRewriting status kernel layout old new asked fault =
     (new.state ≡ 1) × (new.opened.ext ≡ old.opened.ext)
     × (((status ≡ 0) × (new.opened.index ≡ None) × (listed : List FeatureAnswer) × ListsAnswers asked listed
-    × RewritesFor kernel.features (policy_chosen kernel) old.opened.btf (ids_chosen kernel) layout new.opened.btf (Ok listed))
+    × RewritesForKernel kernel.features (policy_chosen kernel) old.opened.btf (ids_chosen kernel) layout
+    new.opened.btf (Ok listed))
     ⊎ ((new.opened.btf ≡ old.opened.btf)
     × ((new.opened.index ≡ None) ⊎ (new.opened.index ≡ old.opened.index)) × Fails status fault
-    (RewritesFor kernel.features (policy_chosen kernel) old.opened.btf (ids_chosen kernel) layout new.opened.btf)))
+    (RewritesForKernel kernel.features (policy_chosen kernel) old.opened.btf (ids_chosen kernel) layout
+    new.opened.btf)))

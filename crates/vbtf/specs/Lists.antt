@@ -7,7 +7,7 @@ use Rattle.btf_model.specs.Record.{Kind, Record, kind_of, kind_flag, member_bit_
 use Rattle.btf_model.specs.Refusal.{Refusal, UnknownBtfType, UnexpectedBtfType}
 use Rattle.btf_plain.specs.Error.{refusal_of}
 use Rattle.btf_plain.specs.declared.error.BtfError.{BtfError}
-use Rattle.vbtf.specs.Status.{Begins, Reports}
+use Rattle.vbtf.specs.Status.{Begins, ReportsRefusal}
 use Rattle.vbtf.specs.declared.fault.Fault.{Fault}
 use Rattle.vbtf.specs.declared.lists.Member.{Member}
 use Rattle.vbtf.specs.declared.lists.Variant.{Variant}
@@ -90,15 +90,16 @@ ItemsOf items_of records id (Err refusal) =
 
 -- The outcomes of writing items to a buffer: items that meet P are written, as many as fit; or an error that meets P,
 -- and the buffer is unchanged.
-abbrev pub Lists : {X : Type 0} → List X → List X → Result ℕ BtfError → (Result (List X) Refusal → Type 0) → Type 0
-Lists {X} old new (Ok count) P = (items : List X) × Begins (take (length old) items) old new count × P (Ok items)
-Lists old new (Err error) P = (new ≡ old) × (refusal : Refusal) × (refusal_of error ≡ Some refusal) × P (Err refusal)
+abbrev pub ListsItems : {X : Type 0} → List X → List X → Result ℕ BtfError → (Result (List X) Refusal → Type 0) → Type 0
+ListsItems {X} old new (Ok count) P = (items : List X) × Begins (take (length old) items) old new count × P (Ok items)
+ListsItems old new (Err error) P =
+    (new ≡ old) × (refusal : Refusal) × (refusal_of error ≡ Some refusal) × P (Err refusal)
 
 -- The outcomes of a call that writes items to a buffer: the same, with status 0 or the error's status.
 abbrev pub EndsListing : {X : Type 0} → ℕ → List X → List X → ℕ → Fault → (Result (List X) Refusal → Type 0) → Type 0
 EndsListing {X} status old new count fault P =
     ((status ≡ 0) × (items : List X) × Begins (take (length old) items) old new count × P (Ok items))
-    ⊎ ((new ≡ old) × (refusal : Refusal) × Reports status fault refusal × P (Err refusal))
+    ⊎ ((new ≡ old) × (refusal : Refusal) × ReportsRefusal status fault refusal × P (Err refusal))
 
 -- Two members at bits 0 and 32; with the kind flag, a bit-field of 3 bits at bit 5.
 two_members : members_in 0x04000002 (10 ∷ 1 ∷ 0 ∷ 15 ∷ 2 ∷ 32 ∷ []) ≡ member 0 10 1 0 ∷ member 0 15 2 32 ∷ []

@@ -10,48 +10,49 @@ use Rattle.btf_object.specs.declared.error.SanitizeError.{SanitizeError}
 use Rattle.btf_object.specs.declared.error.SanitizeError.TheVariants.{Object, NoTable, Table, Section, OutOfMemory}
 use Rattle.btf_rewrite_model.specs.declared.feature.FeatureAnswer.{FeatureAnswer}
 use Rattle.btf_plain.specs.Error.{refusal_of}
-use Rattle.vbtf.specs.Kernel.{has_bit, policy_chosen, ListsAnswers}
+use Rattle.btf_rewrite_model.specs.FeatureSet.{has_bit}
+use Rattle.vbtf.specs.Kernel.{policy_chosen, ListsAnswers}
 use Rattle.vbtf.specs.Status.{Details, no_details, HasDetails, Fills, ReportsError, ReportsNoMemory}
 use Rattle.vbtf.specs.declared.fault.Fault.{Fault}
 use Rattle.vbtf.specs.declared.kernel.Asked.{Asked}
 use Rattle.vbtf.specs.declared.kernel.Kernel.{Kernel}
 
 -- a name, or None if it is empty
-abbrev pub name_or_none : List ℕ → Option (List ℕ)
-name_or_none name = if length name == 0 then None else Some name
+abbrev pub text_or_none : List ℕ → Option (List ℕ)
+text_or_none name = if length name == 0 then None else Some name
 
 -- the target of the rewrite of an object, by the kernel and the name of a placeholder
 abbrev pub target_chosen : Kernel → List ℕ → Target
 target_chosen kernel placeholder = record {
   has = has_bit kernel.features;
   policy = policy_chosen kernel;
-  placeholder = name_or_none placeholder;
+  placeholder = text_or_none placeholder;
 }
 
 -- The position of an error in `ParseError`, from 1 on.
-abbrev pub place_of : ParseError → ℕ
-place_of parse.NotElf = 1
-place_of (parse.UnsupportedClass class) = 2
-place_of (parse.UnsupportedEncoding encoding) = 3
-place_of parse.UnsupportedVersion = 4
-place_of parse.BadHeaderSize = 5
-place_of parse.SectionTableOutOfRange = 6
-place_of (parse.SectionOutOfRange index) = 7
-place_of (parse.SectionOverHeaders index) = 8
-place_of parse.BadNameTable = 9
-place_of (parse.BadSectionName index) = 10
-place_of parse.BadSymbolTable = 11
-place_of (parse.BadSymbolName index) = 12
+abbrev pub parse_place : ParseError → ℕ
+parse_place parse.NotElf = 1
+parse_place (parse.UnsupportedClass class) = 2
+parse_place (parse.UnsupportedEncoding encoding) = 3
+parse_place parse.UnsupportedVersion = 4
+parse_place parse.BadHeaderSize = 5
+parse_place parse.SectionTableOutOfRange = 6
+parse_place (parse.SectionOutOfRange index) = 7
+parse_place (parse.SectionOverHeaders index) = 8
+parse_place parse.BadNameTable = 9
+parse_place (parse.BadSectionName index) = 10
+parse_place parse.BadSymbolTable = 11
+parse_place (parse.BadSymbolName index) = 12
 
 -- The detail of an error: a class, an encoding, or the index of a section or symbol; 0 if it has none.
-abbrev pub detail_of : ParseError → ℕ
-detail_of (parse.UnsupportedClass class) = class
-detail_of (parse.UnsupportedEncoding encoding) = encoding
-detail_of (parse.SectionOutOfRange index) = index
-detail_of (parse.SectionOverHeaders index) = index
-detail_of (parse.BadSectionName index) = index
-detail_of (parse.BadSymbolName index) = index
-detail_of e = 0
+abbrev pub parse_detail : ParseError → ℕ
+parse_detail (parse.UnsupportedClass class) = class
+parse_detail (parse.UnsupportedEncoding encoding) = encoding
+parse_detail (parse.SectionOutOfRange index) = index
+parse_detail (parse.SectionOverHeaders index) = index
+parse_detail (parse.BadSectionName index) = index
+parse_detail (parse.BadSymbolName index) = index
+parse_detail e = 0
 
 -- The status and the fault report an error of an object by its number, with these details.
 abbrev pub ReportsNumber : ℕ → Fault → ℕ → Details → Type 0
@@ -61,7 +62,7 @@ ReportsNumber status fault number details =
 -- The status and the fault report the cause.
 abbrev pub ReportsCause : ℕ → Fault → SanitizeError → Type 0
 ReportsCause status fault (Object (elf.Parse e)) =
-    ReportsNumber status fault 104 (record no_details { id = place_of e; offset = detail_of e })
+    ReportsNumber status fault 104 (record no_details { id = parse_place e; offset = parse_detail e })
 ReportsCause status fault (Object elf.OutOfMemory) = ReportsNoMemory status fault
 ReportsCause status fault NoTable = ReportsNumber status fault 105 no_details
 ReportsCause status fault (Table e) = ReportsError status fault (refusal_of e)

@@ -15,8 +15,8 @@ abbrev pub IsReadable : List ℕ → Named → Type 0
 IsReadable names entry = (entry.at + entry.len ≤ length names) × IsUtf8 (name_in names entry)
 
 -- the name of each entry is readable
-abbrev pub AreReadable : List ℕ → List Named → Type 0
-AreReadable names entries = AllByRecursion (IsReadable names) entries
+abbrev pub AreReadableEntries : List ℕ → List Named → Type 0
+AreReadableEntries names entries = AllByRecursion (IsReadable names) entries
 
 -- the number of the last entry of a name
 abbrev pub number_named : List ℕ → List Named → List ℕ → Option ℕ

@@ -34,10 +34,10 @@ abbrev pub Outcome : Type 0
 Outcome = Result Patched RelocationError
 
 -- the instruction of the record is poisoned
-abbrev pub is_poisoned : Outcome → Bool
-is_poisoned (Ok Written) = false
-is_poisoned (Ok Poisoned) = true
-is_poisoned (Err error) = false
+abbrev pub poisons : Outcome → Bool
+poisons (Ok Written) = false
+poisons (Ok Poisoned) = true
+poisons (Err error) = false
 
 -- the outcomes of the records of a section; none if it has no code in the file
 abbrev pub outcomes_in : ℕ × Outcomes → List Outcome
@@ -50,63 +50,68 @@ all_outcomes sections = flat_map outcomes_in sections
 -- The numbers of records, of poisoned instructions and of errors; 2^64 - 1 for a number that does not fit.
 pub record Counts (tally : Tally) (outcomes : List Outcome) : Type 0 where
   pub records : tally.records ≡ u64_saturate (length outcomes)
-  pub poisoned : tally.poisoned ≡ u64_saturate (count_by is_poisoned outcomes)
+  pub poisoned : tally.poisoned ≡ u64_saturate (count_by poisons outcomes)
   pub refused : tally.refused ≡ u64_saturate (count_by is_error outcomes)
 
 -- ---- errors
 
 -- The position of an error in `RelocationError`, from 1 on.
-abbrev pub place_of : RelocationError → ℕ
-place_of relocation.OrderMismatch = 1
-place_of (relocation.UnknownKind kind) = 2
-place_of (relocation.UnknownBtfType type_id) = 3
-place_of (relocation.InvalidStringOffset offset) = 4
-place_of (relocation.MaximumTypeDepthReached type_id) = 5
-place_of (relocation.AnonymousType type_id) = 6
-place_of relocation.BadAccess = 7
-place_of relocation.BadIndex = 8
-place_of (relocation.NoSize type_id) = 9
-place_of relocation.BitOffsetTooBig = 10
-place_of relocation.NotForElement = 11
-place_of relocation.BitfieldTooWide = 12
-place_of (relocation.BadBitfield type_id) = 13
-place_of relocation.ShiftTooWide = 14
-place_of relocation.TooDeep = 15
-place_of relocation.Ambiguous = 16
-place_of relocation.Misaligned = 17
-place_of relocation.NoInstruction = 18
-place_of relocation.NoSecondSlot = 19
-place_of relocation.NotImmediate = 20
-place_of relocation.WrongImmediate = 21
-place_of relocation.ImmediateOverflow = 22
-place_of relocation.OffsetTooBig = 23
-place_of relocation.WrongAccessSize = 24
-place_of relocation.BadAccessSize = 25
-place_of relocation.BadLdImm64 = 26
-place_of relocation.NotPatchable = 27
-place_of relocation.OutOfMemory = 28
+abbrev pub relocation_place : RelocationError → ℕ
+relocation_place relocation.OrderMismatch = 1
+relocation_place (relocation.UnknownKind kind) = 2
+relocation_place (relocation.UnknownBtfType type_id) = 3
+relocation_place (relocation.InvalidStringOffset offset) = 4
+relocation_place (relocation.MaximumTypeDepthReached type_id) = 5
+relocation_place (relocation.AnonymousType type_id) = 6
+relocation_place relocation.BadAccess = 7
+relocation_place relocation.BadIndex = 8
+relocation_place (relocation.NoSize type_id) = 9
+relocation_place relocation.BitOffsetTooBig = 10
+relocation_place relocation.NotForElement = 11
+relocation_place relocation.BitfieldTooWide = 12
+relocation_place (relocation.BadBitfield type_id) = 13
+relocation_place relocation.ShiftTooWide = 14
+relocation_place relocation.TooDeep = 15
+relocation_place relocation.Ambiguous = 16
+relocation_place relocation.Misaligned = 17
+relocation_place relocation.NoInstruction = 18
+relocation_place relocation.NoSecondSlot = 19
+relocation_place relocation.NotImmediate = 20
+relocation_place relocation.WrongImmediate = 21
+relocation_place relocation.ImmediateOverflow = 22
+relocation_place relocation.OffsetTooBig = 23
+relocation_place relocation.WrongAccessSize = 24
+relocation_place relocation.BadAccessSize = 25
+relocation_place relocation.BadLdImm64 = 26
+relocation_place relocation.NotPatchable = 27
+relocation_place relocation.OutOfMemory = 28
 
 -- The field of an error: a kind, the id of a type, or a string offset; 0 if it has none.
-abbrev pub detail_of : RelocationError → ℕ
-detail_of (relocation.UnknownKind kind) = kind
-detail_of (relocation.UnknownBtfType type_id) = type_id
-detail_of (relocation.InvalidStringOffset offset) = offset
-detail_of (relocation.MaximumTypeDepthReached type_id) = type_id
-detail_of (relocation.AnonymousType type_id) = type_id
-detail_of (relocation.NoSize type_id) = type_id
-detail_of (relocation.BadBitfield type_id) = type_id
-detail_of e = 0
+abbrev pub relocation_detail : RelocationError → ℕ
+relocation_detail (relocation.UnknownKind kind) = kind
+relocation_detail (relocation.UnknownBtfType type_id) = type_id
+relocation_detail (relocation.InvalidStringOffset offset) = offset
+relocation_detail (relocation.MaximumTypeDepthReached type_id) = type_id
+relocation_detail (relocation.AnonymousType type_id) = type_id
+relocation_detail (relocation.NoSize type_id) = type_id
+relocation_detail (relocation.BadBitfield type_id) = type_id
+relocation_detail e = 0
 
 -- The status and the fault report the error of a record, with its field, the string offset of the section's name and
 -- the index of the record in the section.
 abbrev pub ReportsRefused : ℕ → Fault → RelocationError → ℕ → ℕ → Type 0
 ReportsRefused status fault e name_offset index = ReportsNumber status fault 107
-    (record no_details { id = place_of e; offset = name_offset; len = index; section_len = detail_of e })
+    (record no_details {
+      id = relocation_place e;
+      offset = name_offset;
+      len = index;
+      section_len = relocation_detail e;
+    })
 
 -- The status and the fault report the reason for which an object is not relocated, or a failed allocation.
 abbrev pub ReportsReason : ℕ → Fault → LoaderError → Type 0
 ReportsReason status fault (Object (elf.Parse e)) =
-    ReportsNumber status fault 104 (record no_details { id = object.place_of e; offset = object.detail_of e })
+    ReportsNumber status fault 104 (record no_details { id = object.parse_place e; offset = object.parse_detail e })
 ReportsReason status fault (Object elf.OutOfMemory) = ReportsNoMemory status fault
 ReportsReason status fault NoTable = ReportsNumber status fault 105 no_details
 ReportsReason status fault (Table e) = ReportsError status fault (refusal_of e)

@@ -38,11 +38,11 @@ ReportsRelocation status fault OutOfMemory = ReportsNoMemory status fault
 ReportsRelocation status fault e = ReportsRefused status fault e 0 0
 
 -- The result for a record that has all candidates of the target, or its first error, or a failed allocation.
-abbrev pub Resolves : Table → Table → Relocation → Result Resolved RelocationError → Type 0
-Resolves local target relocation (Ok r) =
+abbrev pub ResolvesRecord : Table → Table → Relocation → Result Resolved RelocationError → Type 0
+ResolvesRecord local target relocation (Ok r) =
     (rest : List ℕ) × (resolution (record { local = local; target = target })
     (candidates_of local target relocation.type_id) (words_of relocation) ≡ Ok (r, rest))
-Resolves local target relocation (Err e) =
+ResolvesRecord local target relocation (Err e) =
     (e ≡ OutOfMemory) ⊎ (resolution (record { local = local; target = target })
     (candidates_of local target relocation.type_id) (words_of relocation) ≡ Err e)
 
@@ -50,6 +50,6 @@ Resolves local target relocation (Err e) =
 -- result is unchanged.
 abbrev pub EndsResolving : ℕ → Table → Table → Relocation → Relocated → Relocated → Fault → Type 0
 EndsResolving status local target relocation old new fault =
-    ((r : Resolved) × (status ≡ 0) × (new ≡ relocated_of r) × Resolves local target relocation (Ok r))
+    ((r : Resolved) × (status ≡ 0) × (new ≡ relocated_of r) × ResolvesRecord local target relocation (Ok r))
     ⊎ ((e : RelocationError) × (new ≡ old) × ReportsRelocation status fault e
-    × Resolves local target relocation (Err e))
+    × ResolvesRecord local target relocation (Err e))

@@ -17,9 +17,9 @@ abbrev pub place_in : Object → SectionHeader → Place
 place_in o s = record { offset = s.offset; len = length (section_bytes o s); order = order_number o.header.order }
 
 -- the place of the first section of a name, if there is one
-abbrev pub FindsPlace : Object → List ℕ → Option Place → Type 0
-FindsPlace o name None = index_of o name ≡ None
-FindsPlace o name (Some place) =
+abbrev pub FindsSection : Object → List ℕ → Option Place → Type 0
+FindsSection o name None = index_of o name ≡ None
+FindsSection o name (Some place) =
     (index : ℕ) × (s : SectionHeader) × (index_of o name ≡ Some index) × (slice_get o.sections index ≡ Some s)
     × (place ≡ place_in o s)
 

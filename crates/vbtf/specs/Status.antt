@@ -90,8 +90,8 @@ pub record HasDetails (fault : Fault) (details : Details) : Type 0 where
   pub name : take fault.name_len fault.name ≡ take name_room details.name
 
 -- The status and the fault report the error.
-abbrev pub Reports : ℕ → Fault → Refusal → Type 0
-Reports status fault refusal =
+abbrev pub ReportsRefusal : ℕ → Fault → Refusal → Type 0
+ReportsRefusal status fault refusal =
     (status ≡ status_of refusal) × (fault.number ≡ status_of refusal) × HasDetails fault (details_of refusal)
 
 -- The status and the fault report a failed allocation.
@@ -100,20 +100,20 @@ ReportsNoMemory status fault = (status ≡ no_memory) × (fault.number ≡ no_me
 
 -- The status and the fault report the error, or a failed allocation.
 abbrev pub ReportsError : ℕ → Fault → Option Refusal → Type 0
-ReportsError status fault (Some refusal) = Reports status fault refusal
+ReportsError status fault (Some refusal) = ReportsRefusal status fault refusal
 ReportsError status fault None = ReportsNoMemory status fault
 
 -- The outcomes of a call that allocates nothing: status 0 and a value, or an error; each meets P.
-abbrev pub Ends : {Y : Type 0} → ℕ → Y → Fault → (Result Y Refusal → Type 0) → Type 0
-Ends status value fault P =
-    ((status ≡ 0) × P (Ok value)) ⊎ ((refusal : Refusal) × Reports status fault refusal × P (Err refusal))
+abbrev pub EndsCall : {Y : Type 0} → ℕ → Y → Fault → (Result Y Refusal → Type 0) → Type 0
+EndsCall status value fault P =
+    ((status ≡ 0) × P (Ok value)) ⊎ ((refusal : Refusal) × ReportsRefusal status fault refusal × P (Err refusal))
 
 -- The outcomes of a search that allocates nothing: status 0 and a value, status 103 if there is none, or an error; each
 -- meets P.
 abbrev pub EndsFinding : {Y : Type 0} → ℕ → Y → Fault → (Result (Option Y) Refusal → Type 0) → Type 0
 EndsFinding status value fault P =
     ((status ≡ 0) × P (Ok (Some value))) ⊎ ((status ≡ 103) × P (Ok None))
-    ⊎ ((refusal : Refusal) × Reports status fault refusal × P (Err refusal))
+    ⊎ ((refusal : Refusal) × ReportsRefusal status fault refusal × P (Err refusal))
 
 -- The outcomes of a search that allocates: the same, or an allocation fails.
 abbrev pub EndsFindingOrNoMemory : {Y : Type 0} → ℕ → Y → Fault → (Result (Option Y) Refusal → Type 0) → Type 0
@@ -121,12 +121,12 @@ EndsFindingOrNoMemory status value fault P = EndsFinding status value fault P �
 
 -- The outcomes of a call that allocates: as of one that does not, or an allocation fails.
 abbrev pub EndsOrNoMemory : {Y : Type 0} → ℕ → Y → Fault → (Result Y Refusal → Type 0) → Type 0
-EndsOrNoMemory status value fault P = Ends status value fault P ⊎ ReportsNoMemory status fault
+EndsOrNoMemory status value fault P = EndsCall status value fault P ⊎ ReportsNoMemory status fault
 
 -- The failures of a call: a failed allocation, or an error that meets P.
 abbrev pub Fails : {Y : Type 0} → ℕ → Fault → (Result Y Refusal → Type 0) → Type 0
 Fails status fault P =
-    ReportsNoMemory status fault ⊎ ((refusal : Refusal) × Reports status fault refusal × P (Err refusal))
+    ReportsNoMemory status fault ⊎ ((refusal : Refusal) × ReportsRefusal status fault refusal × P (Err refusal))
 
 -- The outcomes of a call that opens a handle: status 0, and the handle owns a table that meets P, without .BTF.ext and
 -- index; or an error that meets P or a failed allocation, and the handle is unchanged.
@@ -137,7 +137,7 @@ Opens status old new fault P =
     ⊎ ((new ≡ old) × Fails status fault P)
 
 -- A call that only reads leaves the handle unchanged.
-pub record Keeps (old new : Handle) : Type 0 where
+pub record KeepsHandle (old new : Handle) : Type 0 where
   pub at : new.at ≡ old.at
   pub state : new.state ≡ old.state
   pub opened : new.opened ≡ old.opened
@@ -172,4 +172,4 @@ EndsFilling status old new needed fault P =
 abbrev pub FillsOrReports : ℕ → List ℕ → List ℕ → ℕ → Fault → (Result (List ℕ) Refusal → Type 0) → Type 0
 FillsOrReports status old new needed fault P =
     ((bytes : List ℕ) × Fills bytes old new needed status × P (Ok bytes))
-    ⊎ ((new ≡ old) × (refusal : Refusal) × Reports status fault refusal × P (Err refusal))
+    ⊎ ((new ≡ old) × (refusal : Refusal) × ReportsRefusal status fault refusal × P (Err refusal))

@@ -4,7 +4,7 @@ ghost use Rattle.std.specs.Prelude.{◌≡◌, ◌≢◌, ◌<◌, ◌≤◌, On
 ghost use Rattle.std.specs.Str.{IsUtf8};
 ghost use Rattle.btf_model.specs.Table.{with_string, string_place};
 ghost use Rattle.btf_plain.specs.Error.{MeetsOrNoMemory};
-ghost use Rattle.vbtf.specs.Adding.{AddsRecord, EndsAddingType, Adds};
+ghost use Rattle.vbtf.specs.Adding.{AddsRecord, EndsAddingType, EndsAdding};
 ghost use Rattle.vbtf.specs.Orders.{order_named};
 
 use crate::fault::{CLOSED, Fault, INVALID_ARGUMENT, report};
@@ -26,7 +26,7 @@ pub extern "C" fn vbtf_raw_add_string(
     fault: &mut Fault,
 ) -> u32
     ensures added { table.old.state ≡ 1 → IsUtf8 text.now
-        → Adds result table.old table.new offset.new fault.new
+        → EndsAdding result table.old table.new offset.new fault.new
         (string_place text.now table.old.opened.btf) (with_string text.now table.old.opened.btf) }
     ensures closed { table.old.state ≢ 1 → IsUtf8 text.now
         → (result ≡ CLOSED) × (table.new ≡ table.old) }
@@ -89,7 +89,7 @@ pub extern "C" fn vbtf_raw_add_type(
     }
 }
 
-/// Adds the type of a record in bytes, and returns its id. Returns None if bytes follow the record.
+/// EndsAdding the type of a record in bytes, and returns its id. Returns None if bytes follow the record.
 fn add_record(
     alloc: Global,
     btf: &mut Btf,

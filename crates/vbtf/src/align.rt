@@ -5,7 +5,7 @@ ghost use Rattle.btf_layout_model.specs.Alignment.{HasAlignment};
 ghost use Rattle.btf_model.specs.Record.{Record};
 ghost use Rattle.btf_plain.specs.declared.error.BtfError.TheVariants.{OutOfMemory};
 ghost use Rattle.vbtf.specs.Aligning.{AlignmentOrNone, AreAlignments, EndsAligning, FillsAlignments};
-ghost use Rattle.vbtf.specs.Status.{EndsOrNoMemory, Keeps};
+ghost use Rattle.vbtf.specs.Status.{EndsOrNoMemory, KeepsHandle};
 
 use crate::fault::{CLOSED, Fault, report};
 use crate::handle::{Handle, lent};
@@ -27,7 +27,7 @@ pub extern "C" fn vbtf_lent_alignment(
     ensures found { table.old.state ≡ 2 → EndsOrNoMemory result alignment.new fault.new
         (HasAlignment table.old.opened.btf.records id) }
     ensures closed { table.old.state ≢ 2 → result ≡ CLOSED }
-    ensures kept { Keeps table.old table.new }
+    ensures kept { KeepsHandle table.old table.new }
 {
     let Some(loan) = lent(table) else {
         return CLOSED;
@@ -59,7 +59,7 @@ pub extern "C" fn vbtf_lent_alignments(
     ensures filled { table.old.state ≡ 2 → EndsAligning result table.old.opened.btf.records first
         out.old out.new count.new fault.new }
     ensures closed { table.old.state ≢ 2 → (result ≡ CLOSED) × (out.new ≡ out.old) }
-    ensures kept { Keeps table.old table.new }
+    ensures kept { KeepsHandle table.old table.new }
 {
     let Some(loan) = lent(table) else {
         return CLOSED;

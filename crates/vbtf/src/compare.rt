@@ -1,10 +1,10 @@
 //! Comparisons of types of two tables.
 
-ghost use Rattle.std.specs.Prelude.{◌≡◌, ◌≢◌, ◌⊎◌, [], List};
-ghost use Rattle.btf_model.specs.Fields.{Fields, Pair};
-ghost use Rattle.btf_model.specs.Compat.{Plain};
+ghost use Rattle.std.specs.Prelude.{◌≡◌, ◌≢◌, ◌⊎◌};
+ghost use Rattle.btf_model.specs.Fields.{Fields};
+ghost use Rattle.btf_compare.specs.Compared.{ComparesTypes};
 ghost use Rattle.btf_compare.specs.Pairs.{pair};
-ghost use Rattle.vbtf.specs.Status.{EndsOrNoMemory, Keeps};
+ghost use Rattle.vbtf.specs.Status.{EndsOrNoMemory, KeepsHandle};
 
 use crate::fault::{CLOSED, Fault, report};
 use crate::handle::{Handle, lent};
@@ -27,8 +27,8 @@ pub extern "C" fn vbtf_lent_fields_compatible(
         → EndsOrNoMemory result answer.new fault.new
         (Fields local.old.opened.btf local_id target.old.opened.btf target_id) }
     ensures closed { (local.old.state ≢ 2) ⊎ (target.old.state ≢ 2) → result ≡ CLOSED }
-    ensures kept_local { Keeps local.old local.new }
-    ensures kept_target { Keeps target.old target.new }
+    ensures kept_local { KeepsHandle local.old local.new }
+    ensures kept_target { KeepsHandle target.old target.new }
 {
     let Some(first) = lent(local) else {
         return CLOSED;
@@ -63,11 +63,11 @@ pub extern "C" fn vbtf_lent_types_compatible(
     fault: &mut Fault,
 ) -> u32
     ensures compared { local.old.state ≡ 2 → target.old.state ≡ 2
-        → EndsOrNoMemory result answer.new fault.new (λ found. (listed : List Pair)
-        × Plain local.old.opened.btf target.old.opened.btf [] (pair local_id target_id) found listed) }
+        → EndsOrNoMemory result answer.new fault.new
+        (ComparesTypes local.old.opened.btf target.old.opened.btf (pair local_id target_id)) }
     ensures closed { (local.old.state ≢ 2) ⊎ (target.old.state ≢ 2) → result ≡ CLOSED }
-    ensures kept_local { Keeps local.old local.new }
-    ensures kept_target { Keeps target.old target.new }
+    ensures kept_local { KeepsHandle local.old local.new }
+    ensures kept_target { KeepsHandle target.old target.new }
 {
     let Some(first) = lent(local) else {
         return CLOSED;

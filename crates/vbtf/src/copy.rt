@@ -1,7 +1,7 @@
 //! Copying a table.
 
 ghost use Rattle.std.specs.Prelude.{◌≡◌, ◌≢◌, Ok};
-ghost use Rattle.vbtf.specs.Status.{Opens, Keeps};
+ghost use Rattle.vbtf.specs.Status.{Opens, KeepsHandle};
 
 use crate::fault::{CLOSED, Fault, INVALID_ARGUMENT, report};
 use crate::handle::{Handle, lent, owner};
@@ -26,7 +26,7 @@ pub extern "C" fn vbtf_lent_clone(
     ensures open { table.old.state ≡ 2 → copy.old.state ≢ 0
         → (result ≡ INVALID_ARGUMENT) × (copy.new ≡ copy.old) }
     ensures closed { table.old.state ≢ 2 → (result ≡ CLOSED) × (copy.new ≡ copy.old) }
-    ensures kept { Keeps table.old table.new }
+    ensures kept { KeepsHandle table.old table.new }
 {
     let Some(loan) = lent(table) else {
         return CLOSED;

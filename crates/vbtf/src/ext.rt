@@ -5,7 +5,7 @@ ghost use Rattle.std.specs.Option.{MatchOption};
 ghost use Rattle.btf_plain.specs.Error.{MeetsOrNoMemory};
 ghost use Rattle.vbtf.specs.Ext.{OpenedExt, ExtChangedTo, AddsExt, EndsOpeningExt, HasSizes};
 ghost use Rattle.vbtf.specs.Orders.{order_chosen};
-ghost use Rattle.vbtf.specs.Status.{Keeps};
+ghost use Rattle.vbtf.specs.Status.{KeepsHandle};
 
 use crate::fault::{CLOSED, Fault, INVALID_ARGUMENT, report};
 use crate::handle::{Handle, lent, owner, taken};
@@ -91,7 +91,7 @@ pub extern "C" fn vbtf_lent_ext(table: &mut Handle, sizes: &mut ExtSizes) -> u32
         → (result ≡ 0) × HasSizes ext sizes.new }
     ensures none { table.old.state ≡ 2 → table.old.opened.ext ≡ None → result ≡ CLOSED }
     ensures closed { table.old.state ≢ 2 → result ≡ CLOSED }
-    ensures kept { Keeps table.old table.new }
+    ensures kept { KeepsHandle table.old table.new }
 {
     let Some(loan) = lent(table) else {
         return CLOSED;

@@ -8,7 +8,7 @@ ghost use Rattle.btf_ext.specs.BtfExt.{ext as said};
 ghost use Rattle.btf_plain.specs.Error.{MeetsOrNoMemory, IsOrNoMemory};
 ghost use Rattle.vbtf.specs.Ext.{OpenedExt};
 ghost use Rattle.vbtf.specs.ExtRead.{NamesOf, ListsNames, HasSectionName, RecordsOf, RelocationsOf, record_bytes};
-ghost use Rattle.vbtf.specs.Status.{EndsFilling, Keeps};
+ghost use Rattle.vbtf.specs.Status.{EndsFilling, KeepsHandle};
 
 use crate::fault::{CLOSED, Fault, INVALID_ARGUMENT, NO_ITEM, report};
 use crate::handle::{Handle, lent};
@@ -40,7 +40,7 @@ pub extern "C" fn vbtf_lent_ext_names(
     ensures none { table.old.state ≡ 2 → table.old.opened.ext ≡ None
         → (result ≡ CLOSED) × (out.new ≡ out.old) }
     ensures closed { table.old.state ≢ 2 → (result ≡ CLOSED) × (out.new ≡ out.old) }
-    ensures kept { Keeps table.old table.new }
+    ensures kept { KeepsHandle table.old table.new }
 {
     let Some(loan) = lent(table) else {
         return CLOSED;
@@ -61,7 +61,7 @@ pub extern "C" fn vbtf_lent_ext_section(table: &mut Handle, index: u32, name: &m
         → HasSectionName result name.new (slice_get (said ext).relocations index) }
     ensures none { table.old.state ≡ 2 → table.old.opened.ext ≡ None → result ≡ CLOSED }
     ensures closed { table.old.state ≢ 2 → result ≡ CLOSED }
-    ensures kept { Keeps table.old table.new }
+    ensures kept { KeepsHandle table.old table.new }
 {
     let Some(loan) = lent(table) else {
         return CLOSED;
@@ -98,7 +98,7 @@ pub extern "C" fn vbtf_lent_ext_records(
     ensures closed { table.old.state ≢ 2 → IsUtf8 name.now
         → (result ≡ CLOSED) × (out.new ≡ out.old) }
     ensures not_utf8 { (IsUtf8 name.now → ⊥) → (result ≡ INVALID_ARGUMENT) × (out.new ≡ out.old) }
-    ensures kept { Keeps table.old table.new }
+    ensures kept { KeepsHandle table.old table.new }
 {
     let Ok(name) = str::from_utf8(name) else {
         return INVALID_ARGUMENT;
@@ -135,7 +135,7 @@ pub extern "C" fn vbtf_lent_ext_relocations(
     ensures closed { table.old.state ≢ 2 → IsUtf8 name.now
         → (result ≡ CLOSED) × (out.new ≡ out.old) }
     ensures not_utf8 { (IsUtf8 name.now → ⊥) → (result ≡ INVALID_ARGUMENT) × (out.new ≡ out.old) }
-    ensures kept { Keeps table.old table.new }
+    ensures kept { KeepsHandle table.old table.new }
 {
     let Ok(name) = str::from_utf8(name) else {
         return INVALID_ARGUMENT;

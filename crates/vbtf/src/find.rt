@@ -8,8 +8,8 @@ ghost use Rattle.btf_plain.specs.Error.{MeetsOrNoMemory};
 ghost use Rattle.btf_plain.specs.Kind as kinds;
 ghost use Rattle.btf_records.specs.BtfType.{record_of};
 ghost use Rattle.btf_table.specs.Readable.{IsComparable, IsReadableEnd};
-ghost use Rattle.vbtf.specs.Finding.{FindsFrom, IsFound, IsWanted, asked_kind};
-ghost use Rattle.vbtf.specs.Status.{EndsOrNoMemory, Keeps};
+ghost use Rattle.vbtf.specs.Finding.{FindsFrom, IsSought, IsWanted, asked_kind};
+ghost use Rattle.vbtf.specs.Status.{EndsOrNoMemory, KeepsHandle};
 
 use crate::fault::{CLOSED, Fault, INVALID_ARGUMENT, report};
 use crate::handle::{Handle, lent};
@@ -41,7 +41,7 @@ pub extern "C" fn vbtf_lent_find_from(
     ensures not_utf8 { table.old.state ≡ 2 → (IsUtf8 name.now → ⊥) → result ≡ INVALID_ARGUMENT }
     ensures no_kind { table.old.state ≡ 2 → asked_kind kind ≡ None → result ≡ INVALID_ARGUMENT }
     ensures closed { table.old.state ≢ 2 → result ≡ CLOSED }
-    ensures kept { Keeps table.old table.new }
+    ensures kept { KeepsHandle table.old table.new }
 {
     let Some(loan) = lent(table) else {
         return CLOSED;
@@ -112,7 +112,7 @@ fn has_kind_and_name(
 ) -> Result<bool, BtfError>
     requires { IfSome readable_end
         (λ end. IsReadableEnd table.now.strings end × IsComparable name.now) }
-    ensures { MeetsOrNoMemory (λ b. b) result (IsFound table.now.strings
+    ensures { MeetsOrNoMemory (λ b. b) result (IsSought table.now.strings
         (option_map kinds.kind wanted) name.now (record_of btf_type.now)) }
 {
     if !is_wanted(btf_type, wanted) {

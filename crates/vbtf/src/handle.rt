@@ -3,15 +3,14 @@
 ghost use Rattle.std.specs.Prelude.{◌≡◌, ◌≢◌, ℕ, length};
 ghost use Rattle.std.specs.Option.{MatchOption};
 ghost use base.Fml.{Share};
-ghost use Rattle.btf_model.specs.Text.{bytes_at};
 ghost use Rattle.vbtf.specs.declared.opened.Opened.{Opened};
 ghost use Rattle.vbtf.specs.Changed.{ChangedTo};
 ghost use Rattle.vbtf.specs.Held.{held, coded_opened, coded_share};
-ghost use Rattle.vbtf.specs.Lent.{bytes_or_none};
+ghost use Rattle.vbtf.specs.Lent.{AreNamesFrom};
 
 use crate::lent_name::Name;
 use crate::loan::Loan;
-use crate::name::name_in;
+use crate::name::names_from;
 use crate::opened::Opened;
 use crate::parts::Parts;
 use std::alloc::Global;
@@ -110,18 +109,19 @@ impl Handle {
         }
     }
 
-    /// The bytes of the name at a string offset, lent for as long as the loan lasts; none if there is no name.
-    pub(crate) fn name_at(&mut self, offset: u32) -> Name
+    /// The strings of the table from an offset on, up to and with their last zero byte, lent for as long as the loan
+    /// lasts.
+    pub(crate) fn names_at(&mut self, offset: u32) -> Name
         requires { self.old.state ≡ 2 }
         ensures { (self.new ≡ self.old) × (result.life ≡ self.old.life)
-            × (result.bytes ≡ bytes_or_none (bytes_at self.old.opened.btf.strings offset))
+            × AreNamesFrom self.old.opened.btf.strings offset result.bytes
             × (result.len ≡ length result.bytes) }
     {
         let opened = unsafe { &*(self.at as *mut Opened) };
-        let name = name_in(opened, offset);
+        let names = names_from(opened, offset);
         Name {
-            at: name.as_ptr(),
-            len: name.len(),
+            at: names.as_ptr(),
+            len: names.len(),
         }
     }
 }

@@ -7,8 +7,8 @@ ghost use Rattle.btf_model.specs.Record.{Kind, kinds};
 ghost use Rattle.btf_model.specs.Refusal.{UnknownBtfTypeName};
 ghost use Rattle.btf_plain.specs.Error.{MeetsOrNoMemory};
 ghost use Rattle.btf_plain.specs.Kind as plain;
-ghost use Rattle.vbtf.specs.IndexFinding.{FindsIndexed, FindsPlace, IsNamedAt};
-ghost use Rattle.vbtf.specs.Status.{EndsOrNoMemory, Keeps};
+ghost use Rattle.vbtf.specs.IndexFinding.{FindsIndexed, FindsIndexPlace, IsNamedAt};
+ghost use Rattle.vbtf.specs.Status.{EndsOrNoMemory, KeepsHandle};
 
 use crate::fault::{CLOSED, Fault, INVALID_ARGUMENT, report};
 use crate::handle::{Handle, lent};
@@ -44,7 +44,7 @@ pub extern "C" fn vbtf_lent_index_find(
         → (IsUtf8 name.now → ⊥) ⊎ (name.now ≡ []) ⊎ (slice_get kinds kind ≡ None)
         → result ≡ INVALID_ARGUMENT }
     ensures closed { table.old.state ≢ 2 → result ≡ CLOSED }
-    ensures kept { Keeps table.old table.new }
+    ensures kept { KeepsHandle table.old table.new }
 {
     let Some(loan) = lent(table) else {
         return CLOSED;
@@ -120,7 +120,7 @@ fn no_such_name(alloc: Global, name: &str) -> Result<u32, BtfError>
 /// The least id above 0 of a type with this kind and name.
 fn place_of(target: &Target<'_>, name: &[u8], kind: BtfKind) -> Option<u32>
     requires { name.now ≢ [] }
-    ensures { FindsPlace target.now (plain.kind kind) name.now result }
+    ensures { FindsIndexPlace target.now (plain.kind kind) name.now result }
 {
     let table = target.table();
     for id in target.candidates(name, kind) {

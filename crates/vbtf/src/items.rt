@@ -5,7 +5,7 @@ ghost use Rattle.std.specs.List.{flat_map};
 ghost use Rattle.btf_plain.specs.Error.{Meets};
 ghost use Rattle.btf_records.specs.BtfType.{record_of, type_kind};
 ghost use Rattle.vbtf.specs.Items.{IsGroup, IsItem, ItemOf};
-ghost use Rattle.vbtf.specs.Status.{EndsFinding, Keeps};
+ghost use Rattle.vbtf.specs.Status.{EndsFinding, KeepsHandle};
 
 use crate::fault::{CLOSED, Fault, NO_ITEM, report};
 use crate::handle::{Handle, lent};
@@ -54,7 +54,7 @@ pub extern "C" fn vbtf_lent_item(
     ensures found { table.old.state ≡ 2 → EndsFinding result item.new fault.new
         (ItemOf table.old.opened.btf.records id index) }
     ensures closed { table.old.state ≢ 2 → result ≡ CLOSED }
-    ensures kept { Keeps table.old table.new }
+    ensures kept { KeepsHandle table.old table.new }
 {
     let Some(loan) = lent(table) else {
         return CLOSED;

@@ -1,9 +1,11 @@
 //! The description of a kernel by C, and the features that a rewrite asked about.
 
 ghost use Rattle.std.specs.Prelude.{◌≡◌, ◌≤◌, length};
-ghost use Rattle.vbtf.specs.Kernel.{has_bit, policy_chosen, ids_chosen, ListsAnswers};
+ghost use Rattle.btf_rewrite_model.specs.FeatureSet.{has_bit};
+ghost use Rattle.vbtf.specs.Kernel.{policy_chosen, ids_chosen, ListsAnswers};
 
 use btf::{BtfFeature, FeatureAnswer, FillPolicy, KsymsIds};
+use btf_rewrite_model::has_bit;
 
 /// The kernel that a table is rewritten for, and the ids of `.ksyms` in the table.
 #[repr(C)]
@@ -38,7 +40,7 @@ impl Kernel {
     pub(crate) fn has(&self, feature: BtfFeature) -> bool
         ensures { result ≡ has_bit self.now.features feature }
     {
-        (self.features >> (feature as u32)) % 2 == 1
+        has_bit(self.features, feature)
     }
 
     /// The policy for DATASECs that have a size and no entries.

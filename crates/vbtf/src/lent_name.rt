@@ -1,11 +1,11 @@
 //! A name in the memory of a table, as C reads it.
 
-ghost use Rattle.std.specs.Prelude.{◌≡◌, ℕ, List};
+ghost use Rattle.std.specs.Prelude.{ℕ, List};
 ghost use Rattle.vbtf.specs.Lent.{lent_bytes};
 
 use std::marker::Model;
 
-/// The bytes of a name in the memory of a table. They do not change during a loan of the table.
+/// The bytes of a name in the memory of a table, or of all names. They do not change during a loan of the table.
 #[repr(C)]
 #[derive(Drop)]
 pub struct Name {
@@ -18,13 +18,4 @@ pub struct Name {
 
 impl Model for Name {
     ghost also_owns = { λ n. lent_bytes n.at n.bytes n.life };
-}
-
-impl Name {
-    /// The number of bytes.
-    pub(crate) fn len(&mut self) -> usize
-        ensures { (result ≡ self.old.len) × (self.new ≡ self.old) }
-    {
-        self.len
-    }
 }

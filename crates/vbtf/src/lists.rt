@@ -2,8 +2,8 @@
 
 ghost use Rattle.std.specs.Prelude.{◌≡◌, ◌≢◌, ◌+◌, ◌*◌, ◌^◌, length, take, map};
 ghost use Rattle.btf_model.specs.Record.{member_bit_field_size, member_bit_offset};
-ghost use Rattle.vbtf.specs.Lists.{EndsListing, ItemsOf, Lists, entries, entry, member, members, param, params, variant, variants};
-ghost use Rattle.vbtf.specs.Status.{Begins, Keeps};
+ghost use Rattle.vbtf.specs.Lists.{EndsListing, ItemsOf, ListsItems, entries, entry, member, members, param, params, variant, variants};
+ghost use Rattle.vbtf.specs.Status.{Begins, KeepsHandle};
 
 use crate::fault::{CLOSED, Fault, report};
 use crate::handle::{Handle, lent};
@@ -180,7 +180,7 @@ pub extern "C" fn vbtf_lent_members(
         → EndsListing result out.old out.new count.new fault.new
         (ItemsOf members table.old.opened.btf.records id) }
     ensures closed { table.old.state ≢ 2 → (result ≡ CLOSED) × (out.new ≡ out.old) }
-    ensures kept { Keeps table.old table.new }
+    ensures kept { KeepsHandle table.old table.new }
 {
     let Some(loan) = lent(table) else {
         return CLOSED;
@@ -198,7 +198,7 @@ pub extern "C" fn vbtf_lent_members(
 
 /// Writes the members of a type, as many as fit, and returns their number.
 fn fill_members(table: &Btf, id: u32, out: &mut [Member]) -> Result<u64, BtfError>
-    ensures { Lists out.old out.new result (ItemsOf members table.now.records id) }
+    ensures { ListsItems out.old out.new result (ItemsOf members table.now.records id) }
 {
     match table.type_by_id(id)? {
         BtfType::Struct(t) => Ok(fill_forms(t.info(), t.members(), out)),
@@ -223,7 +223,7 @@ pub extern "C" fn vbtf_lent_variants(
         → EndsListing result out.old out.new count.new fault.new
         (ItemsOf variants table.old.opened.btf.records id) }
     ensures closed { table.old.state ≢ 2 → (result ≡ CLOSED) × (out.new ≡ out.old) }
-    ensures kept { Keeps table.old table.new }
+    ensures kept { KeepsHandle table.old table.new }
 {
     let Some(loan) = lent(table) else {
         return CLOSED;
@@ -241,7 +241,7 @@ pub extern "C" fn vbtf_lent_variants(
 
 /// Writes the variants of a type, as many as fit, and returns their number.
 fn fill_variants(table: &Btf, id: u32, out: &mut [Variant]) -> Result<u64, BtfError>
-    ensures { Lists out.old out.new result (ItemsOf variants table.now.records id) }
+    ensures { ListsItems out.old out.new result (ItemsOf variants table.now.records id) }
 {
     match table.type_by_id(id)? {
         BtfType::Enum(t) => Ok(fill_forms(t.info(), t.variants(), out)),
@@ -266,7 +266,7 @@ pub extern "C" fn vbtf_lent_params(
         → EndsListing result out.old out.new count.new fault.new
         (ItemsOf params table.old.opened.btf.records id) }
     ensures closed { table.old.state ≢ 2 → (result ≡ CLOSED) × (out.new ≡ out.old) }
-    ensures kept { Keeps table.old table.new }
+    ensures kept { KeepsHandle table.old table.new }
 {
     let Some(loan) = lent(table) else {
         return CLOSED;
@@ -284,7 +284,7 @@ pub extern "C" fn vbtf_lent_params(
 
 /// Writes the parameters of a type, as many as fit, and returns their number.
 fn fill_params(table: &Btf, id: u32, out: &mut [Param]) -> Result<u64, BtfError>
-    ensures { Lists out.old out.new result (ItemsOf params table.now.records id) }
+    ensures { ListsItems out.old out.new result (ItemsOf params table.now.records id) }
 {
     match table.type_by_id(id)? {
         BtfType::FuncProto(t) => Ok(fill_forms(t.info(), t.params(), out)),
@@ -308,7 +308,7 @@ pub extern "C" fn vbtf_lent_entries(
         → EndsListing result out.old out.new count.new fault.new
         (ItemsOf entries table.old.opened.btf.records id) }
     ensures closed { table.old.state ≢ 2 → (result ≡ CLOSED) × (out.new ≡ out.old) }
-    ensures kept { Keeps table.old table.new }
+    ensures kept { KeepsHandle table.old table.new }
 {
     let Some(loan) = lent(table) else {
         return CLOSED;
@@ -326,7 +326,7 @@ pub extern "C" fn vbtf_lent_entries(
 
 /// Writes the entries of a type, as many as fit, and returns their number.
 fn fill_entries(table: &Btf, id: u32, out: &mut [Entry]) -> Result<u64, BtfError>
-    ensures { Lists out.old out.new result (ItemsOf entries table.now.records id) }
+    ensures { ListsItems out.old out.new result (ItemsOf entries table.now.records id) }
 {
     match table.type_by_id(id)? {
         BtfType::DataSec(t) => Ok(fill_forms(t.info(), t.entries(), out)),

@@ -3,7 +3,7 @@
 ghost use Rattle.std.specs.Prelude.{◌≡◌, ◌≢◌, ◌<◌, ◌+◌, ◌-◌, ◌^◌, length, take, drop, map, min};
 ghost use Rattle.btf_records.specs.BtfType.{record_of};
 ghost use Rattle.vbtf.specs.Many.{FillsResolved, FillsSizes, ResolvedOrMost, SizeOrMost};
-ghost use Rattle.vbtf.specs.Status.{Begins, Keeps};
+ghost use Rattle.vbtf.specs.Status.{Begins, KeepsHandle};
 ghost use Rattle.vbtf.specs.TypeWords.{words_in};
 
 use crate::fault::CLOSED;
@@ -27,7 +27,7 @@ pub extern "C" fn vbtf_lent_types(
         × Begins (take (length out.old) (drop first (map words_in table.old.opened.btf.records)))
         out.old out.new count.new }
     ensures closed { table.old.state ≢ 2 → (result ≡ CLOSED) × (out.new ≡ out.old) }
-    ensures kept { Keeps table.old table.new }
+    ensures kept { KeepsHandle table.old table.new }
 {
     let Some(loan) = lent(table) else {
         return CLOSED;
@@ -76,7 +76,7 @@ pub extern "C" fn vbtf_lent_sizes(
     ensures filled { table.old.state ≡ 2 → (result ≡ 0)
         × FillsSizes table.old.opened.btf.records first out.old out.new count.new }
     ensures closed { table.old.state ≢ 2 → (result ≡ CLOSED) × (out.new ≡ out.old) }
-    ensures kept { Keeps table.old table.new }
+    ensures kept { KeepsHandle table.old table.new }
 {
     let Some(loan) = lent(table) else {
         return CLOSED;
@@ -131,7 +131,7 @@ pub extern "C" fn vbtf_lent_resolved(
     ensures filled { table.old.state ≡ 2 → (result ≡ 0)
         × FillsResolved table.old.opened.btf.records first out.old out.new count.new }
     ensures closed { table.old.state ≢ 2 → (result ≡ CLOSED) × (out.new ≡ out.old) }
-    ensures kept { Keeps table.old table.new }
+    ensures kept { KeepsHandle table.old table.new }
 {
     let Some(loan) = lent(table) else {
         return CLOSED;

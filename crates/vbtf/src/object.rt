@@ -9,7 +9,7 @@ ghost use Rattle.btf_elf_model.specs.declared.section_header.SectionHeader.{Sect
 ghost use Rattle.btf_object_model.specs.Laws.{KeepsExt};
 ghost use Rattle.btf_object_model.specs.Sanitized.{HasSection, ext_name};
 ghost use Rattle.vbtf.specs.Status.{Fills, no_details};
-ghost use Rattle.vbtf.specs.Object.{name_or_none, target_chosen, place_of, detail_of, ReportsNumber, ReportsCause, EndsSanitizing};
+ghost use Rattle.vbtf.specs.Object.{text_or_none, target_chosen, parse_place, parse_detail, ReportsNumber, ReportsCause, EndsSanitizing};
 
 use crate::fault::{Fault, INVALID_ARGUMENT, OUT_OF_MEMORY, report, report_number};
 use crate::kernel::{Asked, Kernel};
@@ -85,7 +85,7 @@ pub extern "C" fn vbtf_raw_sanitize_object(
 
 /// A name, or None if it is empty.
 fn named(name: &str) -> Option<&str>
-    ensures { option_map (λ text. text.now) result ≡ name_or_none name.now }
+    ensures { option_map (λ text. text.now) result ≡ text_or_none name.now }
 {
     if name.is_empty() {
         return None;
@@ -114,14 +114,14 @@ fn report_cause(error: SanitizeError, fault: &mut Fault) -> u32
 /// Writes why the bytes are no object, and returns the status.
 pub(crate) fn report_parse(error: ParseError, fault: &mut Fault) -> u32
     ensures { ReportsNumber result fault.new 104
-        (record no_details { id = place_of error; offset = detail_of error }) }
+        (record no_details { id = parse_place error; offset = parse_detail error }) }
 {
     report_number(fault, NOT_AN_OBJECT, place(&error), detail(&error))
 }
 
 /// The position of an error in `ParseError`, from 1 on.
 fn place(error: &ParseError) -> u32
-    ensures { result ≡ place_of error.now }
+    ensures { result ≡ parse_place error.now }
 {
     match error {
         ParseError::NotElf => 1,
@@ -141,7 +141,7 @@ fn place(error: &ParseError) -> u32
 
 /// The detail of an error in `ParseError`: a class, an encoding, or the index of a section or symbol; otherwise 0.
 fn detail(error: &ParseError) -> u64
-    ensures { result ≡ detail_of error.now }
+    ensures { result ≡ parse_detail error.now }
 {
     match error {
         ParseError::UnsupportedClass { class } => *class as u64,

@@ -3,7 +3,7 @@
 ghost use Rattle.std.specs.Prelude.{◌≡◌, ◌≢◌, ◌<◌, ◌≤◌};
 ghost use Rattle.std.specs.Option.{MatchOption};
 ghost use Rattle.vbtf.specs.Orders.{order_named, order_number, order_by_magic, order_chosen};
-ghost use Rattle.vbtf.specs.Status.{Keeps};
+ghost use Rattle.vbtf.specs.Status.{KeepsHandle};
 
 use crate::fault::CLOSED;
 use crate::handle::{Handle, lent};
@@ -17,7 +17,7 @@ pub extern "C" fn vbtf_lent_order(table: &mut Handle, order: &mut u32) -> u32
     ensures ordered { table.old.state ≡ 2
         → (result ≡ 0) × (order.new ≡ order_number table.old.opened.btf.order) }
     ensures closed { table.old.state ≢ 2 → result ≡ CLOSED }
-    ensures kept { Keeps table.old table.new }
+    ensures kept { KeepsHandle table.old table.new }
 {
     let Some(loan) = lent(table) else {
         return CLOSED;

@@ -1,8 +1,8 @@
 //! The sections and symbols of a program, as C names them.
 
 ghost use Rattle.std.specs.Prelude.{◌≡◌, ℕ, List, IfOk, IfSome, IfNone};
-ghost use Rattle.btf_types.specs.Layout.{sizes_of, offsets_of, layout_of};
-ghost use Rattle.vbtf.specs.Program.{name_in, number_named, layout_named, IsReadable, AreReadable};
+ghost use Rattle.btf.specs.Layout.{sizes_of, offsets_of, layout_of};
+ghost use Rattle.vbtf.specs.Program.{name_in, number_named, layout_named, IsReadable, AreReadableEntries};
 
 use crate::seed::Keys;
 use btf::SectionIndex;
@@ -43,11 +43,11 @@ impl Program {
         ensures some { IfOk result (λ found. IfSome found (λ p. layout_of p.sections p.symbols
             ≡ layout_named section_names.now sections.now symbol_names.now symbols.now)) }
         ensures readable { IfOk result (λ found. IfSome found
-            (λ _. AreReadable section_names.now sections.now
-            × AreReadable symbol_names.now symbols.now)) }
+            (λ _. AreReadableEntries section_names.now sections.now
+            × AreReadableEntries symbol_names.now symbols.now)) }
         ensures none { IfOk result (λ found. IfNone found
-            (AreReadable section_names.now sections.now
-            × AreReadable symbol_names.now symbols.now → ⊥)) }
+            (AreReadableEntries section_names.now sections.now
+            × AreReadableEntries symbol_names.now symbols.now → ⊥)) }
     {
         let Some(sections) = read_sections(alloc, keys, section_names, sections)? else {
             return Ok(None);
@@ -80,8 +80,9 @@ fn read_sections(
     ensures some { IfOk result (λ found. IfSome found (λ map. (name : List ℕ)
         → sizes_of map name ≡ number_named names.now entries.now name)) }
     ensures readable { IfOk result (λ found. IfSome found
-        (λ _. AreReadable names.now entries.now)) }
-    ensures none { IfOk result (λ found. IfNone found (AreReadable names.now entries.now → ⊥)) }
+        (λ _. AreReadableEntries names.now entries.now)) }
+    ensures none { IfOk result
+        (λ found. IfNone found (AreReadableEntries names.now entries.now → ⊥)) }
 {
     let mut map = HashMap::with_hasher(alloc, keys);
     for entry in entries {
@@ -103,8 +104,9 @@ fn read_symbols(
     ensures some { IfOk result (λ found. IfSome found (λ map. (name : List ℕ)
         → offsets_of map name ≡ number_named names.now entries.now name)) }
     ensures readable { IfOk result (λ found. IfSome found
-        (λ _. AreReadable names.now entries.now)) }
-    ensures none { IfOk result (λ found. IfNone found (AreReadable names.now entries.now → ⊥)) }
+        (λ _. AreReadableEntries names.now entries.now)) }
+    ensures none { IfOk result
+        (λ found. IfNone found (AreReadableEntries names.now entries.now → ⊥)) }
 {
     let mut map = HashMap::with_hasher(alloc, keys);
     for entry in entries {

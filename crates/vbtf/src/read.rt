@@ -7,7 +7,7 @@ ghost use Rattle.btf_model.specs.Record.{Kind, kinds};
 ghost use Rattle.btf_model.specs.Text.{FindsName};
 ghost use Rattle.btf_plain.specs.Error.{Meets, MeetsOrNoMemory};
 ghost use Rattle.btf_records.specs.BtfType.{record_of, type_kind, has_no_third};
-ghost use Rattle.vbtf.specs.Status.{Ends, EndsOrNoMemory, Keeps};
+ghost use Rattle.vbtf.specs.Status.{EndsCall, EndsOrNoMemory, KeepsHandle};
 ghost use Rattle.vbtf.specs.TypeWords.{WordsOf, words_in};
 
 use crate::fault::{CLOSED, Fault, INVALID_ARGUMENT, report};
@@ -22,7 +22,7 @@ pub extern "C" fn vbtf_lent_count(table: &mut Handle, count: &mut u64) -> u32
     ensures counted { table.old.state ≡ 2
         → (result ≡ 0) × (count.new ≡ length table.old.opened.btf.records) }
     ensures closed { table.old.state ≢ 2 → result ≡ CLOSED }
-    ensures kept { Keeps table.old table.new }
+    ensures kept { KeepsHandle table.old table.new }
 {
     let Some(loan) = lent(table) else {
         return CLOSED;
@@ -64,10 +64,10 @@ pub extern "C" fn vbtf_lent_type(
     out: &mut TypeWords,
     fault: &mut Fault,
 ) -> u32
-    ensures found { table.old.state ≡ 2 → Ends result out.new fault.new
+    ensures found { table.old.state ≡ 2 → EndsCall result out.new fault.new
         (WordsOf table.old.opened.btf.records id) }
     ensures closed { table.old.state ≢ 2 → result ≡ CLOSED }
-    ensures kept { Keeps table.old table.new }
+    ensures kept { KeepsHandle table.old table.new }
 {
     let Some(loan) = lent(table) else {
         return CLOSED;
@@ -103,7 +103,7 @@ pub extern "C" fn vbtf_lent_find(
     ensures not_utf8 { table.old.state ≡ 2 → (IsUtf8 name.now → ⊥) → result ≡ INVALID_ARGUMENT }
     ensures no_kind { table.old.state ≡ 2 → slice_get kinds kind ≡ None → result ≡ INVALID_ARGUMENT }
     ensures closed { table.old.state ≢ 2 → result ≡ CLOSED }
-    ensures kept { Keeps table.old table.new }
+    ensures kept { KeepsHandle table.old table.new }
 {
     let Some(loan) = lent(table) else {
         return CLOSED;

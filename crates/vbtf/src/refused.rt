@@ -2,7 +2,7 @@
 
 ghost use Rattle.std.specs.Prelude.{◌≡◌, ◌⊎◌, ◌<◌, ◌≤◌};
 ghost use Rattle.std.specs.Option.{MatchOption};
-ghost use Rattle.vbtf.specs.Relocate.{place_of, detail_of, ReportsRefused};
+ghost use Rattle.vbtf.specs.Relocate.{relocation_place, relocation_detail, ReportsRefused};
 
 use crate::fault::{Fault, write};
 use btf_relocate::RelocationError;
@@ -32,7 +32,7 @@ pub(crate) fn report_refused(
 
 /// The position of an error in `RelocationError`, from 1 on.
 fn error_place(error: RelocationError) -> u32
-    ensures { result ≡ place_of error }
+    ensures { result ≡ relocation_place error }
 {
     match error {
         RelocationError::OrderMismatch => 1,
@@ -68,7 +68,7 @@ fn error_place(error: RelocationError) -> u32
 
 /// The field of an error: a kind, the id of a type, or a string offset; otherwise 0.
 fn error_detail(error: RelocationError) -> u32
-    ensures { result ≡ detail_of error }
+    ensures { result ≡ relocation_detail error }
 {
     match error {
         RelocationError::UnknownKind { kind } => kind,
@@ -85,7 +85,7 @@ fn error_detail(error: RelocationError) -> u32
 /// The error at a position in `RelocationError`, from 1 on, with this field. None if there is no such position.
 pub(crate) fn error_at(place: u32, detail: u32) -> Option<RelocationError>
     ensures { MatchOption result ((place < 1) ⊎ (28 < place))
-        (λ error. (1 ≤ place) × (place ≤ 28) × (place_of error ≡ place)) }
+        (λ error. (1 ≤ place) × (place ≤ 28) × (relocation_place error ≡ place)) }
 {
     let type_id = detail;
     let error = match place {

@@ -5,7 +5,7 @@ ghost use Rattle.btf_loader.specs.Results.{outcomes_of, refuses_errors};
 ghost use Rattle.btf_plain.specs.declared.error.BtfError.TheVariants.{OutOfMemory as NoMemory};
 ghost use Rattle.btf_relocate.specs.Sections.{is_shared};
 ghost use Rattle.vbtf.specs.Relocate.{Outcome as Said, shares_candidates, refuses_records, outcomes_in, all_outcomes, Counts, ReportsReason, EndsRelocating};
-ghost use Rattle.vbtf.specs.Status.{Keeps};
+ghost use Rattle.vbtf.specs.Status.{KeepsHandle};
 
 use crate::fault::{CLOSED, Fault, INVALID_ARGUMENT, OUT_OF_MEMORY, report, report_number};
 use crate::handle::{Handle, lent};
@@ -79,7 +79,7 @@ pub extern "C" fn vbtf_lent_relocate_object(
         → (result ≡ INVALID_ARGUMENT) × (out.new ≡ out.old) × (tally.new ≡ tally.old) }
     ensures closed { target.old.state ≢ 2
         → (result ≡ CLOSED) × (out.new ≡ out.old) × (tally.new ≡ tally.old) }
-    ensures kept { Keeps target.old target.new }
+    ensures kept { KeepsHandle target.old target.new }
 {
     let Some(loan) = lent(target) else {
         return CLOSED;

@@ -2,13 +2,14 @@
 
 ghost use Rattle.std.specs.Prelude.{◌≡◌, ◌≢◌, ◌⊎◌, List, IfOk, OnOk, OnErr};
 ghost use Rattle.btf_rewrite_model.specs.declared.feature.FeatureAnswer.{FeatureAnswer};
-ghost use Rattle.btf_types.specs.Layout.{layout_of};
-ghost use Rattle.btf_table.specs.Rewrites.{NeedsAreGranted, KeepsSizes, KeepsResolutions, KeepsValues, AppendsAtMost};
+ghost use Rattle.btf.specs.Layout.{layout_of};
+ghost use Rattle.btf_table.specs.Rewrites.{NeedsAreGranted, KeepsMeaning};
 ghost use Rattle.btf_plain.specs.Error.{MeetsOrNoMemory};
 ghost use Rattle.btf_rewrite_model.specs.Rewritten.{pass_of};
 ghost use Rattle.btf_table.specs.PassStep.{BeginsAsked};
-ghost use Rattle.vbtf.specs.Kernel.{AreOf, has_bit, policy_chosen, ids_chosen, ListsAnswers, RewritesFor, EndsRewriting};
-ghost use Rattle.vbtf.specs.Program.{layout_named, AreReadable};
+ghost use Rattle.btf_rewrite_model.specs.FeatureSet.{has_bit};
+ghost use Rattle.vbtf.specs.Kernel.{AreAnswersOf, policy_chosen, ids_chosen, ListsAnswers, RewritesForKernel, EndsRewriting};
+ghost use Rattle.vbtf.specs.Program.{layout_named, AreReadableEntries};
 ghost use Rattle.vbtf.specs.Status.{no_memory};
 
 use crate::fault::{CLOSED, Fault, INVALID_ARGUMENT, report};
@@ -42,18 +43,18 @@ pub extern "C" fn vbtf_raw_rewrite(
     asked: &mut Asked,
     fault: &mut Fault,
 ) -> u32
-    ensures rewritten { table.old.state ≡ 1 → AreReadable section_names.now sections.now
-        → AreReadable symbol_names.now symbols.now → EndsRewriting result kernel.now
+    ensures rewritten { table.old.state ≡ 1 → AreReadableEntries section_names.now sections.now
+        → AreReadableEntries symbol_names.now symbols.now → EndsRewriting result kernel.now
         (layout_named section_names.now sections.now symbol_names.now symbols.now)
         table.old table.new asked.new fault.new }
     ensures closed { table.old.state ≢ 1 → (result ≡ CLOSED) × (table.new ≡ table.old) }
-    ensures unreadable { table.old.state ≡ 1 → (AreReadable section_names.now sections.now
-        × AreReadable symbol_names.now symbols.now → ⊥)
+    ensures unreadable { table.old.state ≡ 1 → (AreReadableEntries section_names.now sections.now
+        × AreReadableEntries symbol_names.now symbols.now → ⊥)
         → ((result ≡ INVALID_ARGUMENT) ⊎ (result ≡ no_memory)) × (table.new ≡ table.old) }
     // Whether the rewrite succeeds or fails, the reported features are the first ones that it asks for, each with
     // whether the kernel has it; there are none if the call fails before the rewrite begins.
     ensures asked { (listed : List FeatureAnswer) × ListsAnswers asked.new listed
-        × AreOf kernel.now.features listed
+        × AreAnswersOf kernel.now.features listed
         × BeginsAsked (pass_of (policy_chosen kernel.now) table.old.opened.btf
         (ids_chosen kernel.now) (layout_named section_names.now sections.now symbol_names.now
         symbols.now) listed) }
@@ -61,14 +62,9 @@ pub extern "C" fn vbtf_raw_rewrite(
     ensures granted { result ≡ 0 → (listed : List FeatureAnswer) × ListsAnswers asked.new listed
         × NeedsAreGranted (policy_chosen kernel.now) table.old.opened.btf
         (ids_chosen kernel.now) listed table.new.opened.btf }
-    // The size of a type does not change if its walk meets no VAR, FUNC, FUNC_PROTO, DATASEC or DECL_TAG.
-    ensures sizes { result ≡ 0 → KeepsSizes table.old.opened.btf table.new.opened.btf }
-    // An id resolves to the same id as before, unless that was a FUNC.
-    ensures resolutions { result ≡ 0 → KeepsResolutions table.old.opened.btf table.new.opened.btf }
-    // The value of each name in an ENUM or ENUM64 does not change, even if a UNION replaces the type.
-    ensures values { result ≡ 0 → KeepsValues table.old.opened.btf table.new.opened.btf }
-    // No type is removed, and at most four are appended.
-    ensures appended { result ≡ 0 → AppendsAtMost 4 table.old.opened.btf table.new.opened.btf }
+    // The record states which sizes, resolutions and values of variants are unchanged, and that at most four types
+    // are appended.
+    ensures kept { result ≡ 0 → KeepsMeaning table.old.opened.btf table.new.opened.btf }
 {
     asked.list(&[]);
     if table.seen() != OWNED {
@@ -100,20 +96,17 @@ fn rewritten(
     asked: &mut Asked,
 ) -> Result<ArrayVec<FeatureAnswer, 8>, BtfError>
     ensures rewrites { MeetsOrNoMemory (λ a. a.items) result
-        (RewritesFor kernel.now.features (policy_chosen kernel.now) btf.old
+        (RewritesForKernel kernel.now.features (policy_chosen kernel.now) btf.old
         (ids_chosen kernel.now) (layout_of program.now.sections program.now.symbols) btf.new) }
     ensures err { OnErr result (btf.new ≡ btf.old) }
     ensures listed { IfOk result (λ a. ListsAnswers asked.new a.items) }
     ensures asked { (listed : List FeatureAnswer) × ListsAnswers asked.new listed
-        × AreOf kernel.now.features listed
+        × AreAnswersOf kernel.now.features listed
         × BeginsAsked (pass_of (policy_chosen kernel.now) btf.old (ids_chosen kernel.now)
         (layout_of program.now.sections program.now.symbols) listed) }
     ensures granted { IfOk result (λ a. NeedsAreGranted (policy_chosen kernel.now) btf.old
         (ids_chosen kernel.now) a.items btf.new) }
-    ensures sizes { OnOk result (KeepsSizes btf.old btf.new) }
-    ensures resolutions { OnOk result (KeepsResolutions btf.old btf.new) }
-    ensures values { OnOk result (KeepsValues btf.old btf.new) }
-    ensures appended { OnOk result (AppendsAtMost 4 btf.old btf.new) }
+    ensures kept { OnOk result (KeepsMeaning btf.old btf.new) }
 {
     let is_granted = |feature: BtfFeature| -> bool
         ensures { result ≡ has_bit kernel.entry.now.features feature }

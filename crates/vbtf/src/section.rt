@@ -5,7 +5,7 @@ ghost use Rattle.btf_elf_model.specs.declared.section_header.SectionHeader.{Sect
 ghost use Rattle.btf_object_model.specs.Sanitized.{index_of};
 ghost use Rattle.std.specs.Prelude.{◌≡◌};
 ghost use Rattle.std.specs.Option.{MatchOption};
-ghost use Rattle.vbtf.specs.Section.{EndsLocating, FindsPlace};
+ghost use Rattle.vbtf.specs.Section.{EndsLocating, FindsSection};
 
 use crate::fault::{Fault, OUT_OF_MEMORY, report_number};
 use crate::object::{NO_TABLE, report_parse};
@@ -53,7 +53,7 @@ pub extern "C" fn vbtf_raw_section(
 
 /// The place of the first section of a name.
 fn place_of_section(object: &Object<'_>, name: &[u8]) -> Option<Place>
-    ensures { FindsPlace object.now name.now result }
+    ensures { FindsSection object.now name.now result }
 {
     let index = object.section_by_name(name)?;
     let section = &object.sections()[index];

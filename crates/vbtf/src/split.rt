@@ -5,7 +5,7 @@ ghost use Rattle.btf_model.specs.Table.{Table};
 ghost use Rattle.btf_split_model.specs.Split.{Appends, IsJoined, Joins, cut, over_base, split_blob};
 ghost use Rattle.vbtf.specs.Orders.{order_chosen};
 ghost use Rattle.vbtf.specs.Changing.{EndsChanging};
-ghost use Rattle.vbtf.specs.Status.{EndsFilling, Keeps, Opens};
+ghost use Rattle.vbtf.specs.Status.{EndsFilling, KeepsHandle, Opens};
 
 use crate::fault::{CLOSED, Fault, INVALID_ARGUMENT, report};
 use crate::handle::{Handle, lent, owner, taken_to_change};
@@ -43,7 +43,7 @@ pub extern "C" fn vbtf_lent_parse_over(
     ensures order { base.old.state ≡ 2 → 2 < order
         → (result ≡ INVALID_ARGUMENT) × (table.new ≡ table.old) }
     ensures closed { base.old.state ≢ 2 → (result ≡ CLOSED) × (table.new ≡ table.old) }
-    ensures kept { Keeps base.old base.new }
+    ensures kept { KeepsHandle base.old base.new }
 {
     let Some(loan) = lent(base) else {
         return CLOSED;
@@ -105,7 +105,7 @@ pub extern "C" fn vbtf_lent_split_bytes(
     ensures written { table.old.state ≡ 2 → EndsFilling result out.old out.new needed.new fault.new
         (λ answer. answer ≡ split_blob base_types base_strings table.old.opened.btf) }
     ensures closed { table.old.state ≢ 2 → (result ≡ CLOSED) × (out.new ≡ out.old) }
-    ensures kept { Keeps table.old table.new }
+    ensures kept { KeepsHandle table.old table.new }
 {
     let Some(loan) = lent(table) else {
         return CLOSED;
@@ -148,7 +148,7 @@ pub extern "C" fn vbtf_lent_string_len(table: &mut Handle, len: &mut u32) -> u32
     ensures counted { table.old.state ≡ 2
         → (result ≡ 0) × (len.new ≡ length table.old.opened.btf.strings) }
     ensures closed { table.old.state ≢ 2 → result ≡ CLOSED }
-    ensures kept { Keeps table.old table.new }
+    ensures kept { KeepsHandle table.old table.new }
 {
     let Some(loan) = lent(table) else {
         return CLOSED;

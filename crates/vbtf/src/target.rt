@@ -4,8 +4,8 @@ ghost use Rattle.std.specs.Prelude.{◌≡◌, ◌≢◌, ◌⊎◌, true, false
 ghost use Rattle.btf_plain.specs.declared.error.BtfError.TheVariants.{OutOfMemory};
 ghost use Rattle.vbtf.specs.Changed.{ChangedTo};
 ghost use Rattle.vbtf.specs.Indexed.{Indexes, EndsIndexing};
-ghost use Rattle.vbtf.specs.Resolved.{EndsResolving, ReportsRelocation, Resolves, relocated_of};
-ghost use Rattle.vbtf.specs.Status.{Keeps};
+ghost use Rattle.vbtf.specs.Resolved.{EndsResolving, ReportsRelocation, ResolvesRecord, relocated_of};
+ghost use Rattle.vbtf.specs.Status.{KeepsHandle};
 
 use crate::fault::{CLOSED, Fault, INVALID_ARGUMENT, OUT_OF_MEMORY, report, report_number};
 use crate::handle::{Handle, lent, owner, taken, taken_to_change};
@@ -107,8 +107,8 @@ pub extern "C" fn vbtf_lent_relocate(
         → (result ≡ CLOSED) × (relocated.new ≡ relocated.old) }
     ensures closed { (local.old.state ≢ 2) ⊎ (target.old.state ≢ 2)
         → (result ≡ CLOSED) × (relocated.new ≡ relocated.old) }
-    ensures kept_local { Keeps local.old local.new }
-    ensures kept_target { Keeps target.old target.new }
+    ensures kept_local { KeepsHandle local.old local.new }
+    ensures kept_target { KeepsHandle target.old target.new }
 {
     let Some(first) = lent(local) else {
         return CLOSED;
@@ -181,7 +181,7 @@ fn resolved(
     target: &Target<'_>,
     relocation: &Relocation,
 ) -> Result<Resolved, RelocationError>
-    ensures { Resolves local.now target.now relocation.now result }
+    ensures { ResolvesRecord local.now target.now relocation.now result }
 {
     let record = [
         relocation.offset,

@@ -4,7 +4,7 @@ ghost use Rattle.std.specs.Prelude.{◌≡◌, ◌≢◌};
 ghost use Rattle.std.specs.Str.{IsUtf8};
 ghost use Rattle.btf_model.specs.Value.{Value};
 ghost use Rattle.btf_above.specs.Variants.{NamesAreUtf8};
-ghost use Rattle.vbtf.specs.Status.{EndsFinding, EndsFindingOrNoMemory, Keeps};
+ghost use Rattle.vbtf.specs.Status.{EndsFinding, EndsFindingOrNoMemory, KeepsHandle};
 
 use crate::fault::{CLOSED, Fault, INVALID_ARGUMENT, NO_ITEM, report};
 use crate::handle::{Handle, lent};
@@ -32,7 +32,7 @@ pub extern "C" fn vbtf_lent_value(
         (Value table.old.opened.btf id name.now) }
     ensures closed { table.old.state ≢ 2 → IsUtf8 name.now → result ≡ CLOSED }
     ensures not_utf8 { (IsUtf8 name.now → ⊥) → result ≡ INVALID_ARGUMENT }
-    ensures kept { Keeps table.old table.new }
+    ensures kept { KeepsHandle table.old table.new }
 {
     let Ok(name) = str::from_utf8(name) else {
         return INVALID_ARGUMENT;

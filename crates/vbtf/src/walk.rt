@@ -2,7 +2,7 @@
 
 ghost use Rattle.std.specs.Prelude.{◌≡◌, ◌≢◌};
 ghost use Rattle.btf_model.specs.Walk.{Resolves, HasSize};
-ghost use Rattle.vbtf.specs.Status.{Ends, Keeps};
+ghost use Rattle.vbtf.specs.Status.{EndsCall, KeepsHandle};
 
 use crate::fault::{CLOSED, Fault, report};
 use crate::handle::{Handle, lent};
@@ -18,9 +18,9 @@ pub extern "C" fn vbtf_lent_size(
     fault: &mut Fault,
 ) -> u32
     ensures sized { table.old.state ≡ 2
-        → Ends result size.new fault.new (HasSize table.old.opened.btf.records id) }
+        → EndsCall result size.new fault.new (HasSize table.old.opened.btf.records id) }
     ensures closed { table.old.state ≢ 2 → result ≡ CLOSED }
-    ensures kept { Keeps table.old table.new }
+    ensures kept { KeepsHandle table.old table.new }
 {
     let Some(loan) = lent(table) else {
         return CLOSED;
@@ -47,9 +47,9 @@ pub extern "C" fn vbtf_lent_resolve(
     fault: &mut Fault,
 ) -> u32
     ensures resolved { table.old.state ≡ 2
-        → Ends result to.new fault.new (Resolves table.old.opened.btf.records id) }
+        → EndsCall result to.new fault.new (Resolves table.old.opened.btf.records id) }
     ensures closed { table.old.state ≢ 2 → result ≡ CLOSED }
-    ensures kept { Keeps table.old table.new }
+    ensures kept { KeepsHandle table.old table.new }
 {
     let Some(loan) = lent(table) else {
         return CLOSED;

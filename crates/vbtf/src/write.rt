@@ -4,7 +4,7 @@ ghost use Rattle.std.specs.Prelude.{◌≡◌, ◌≢◌, Ok, IfSome};
 ghost use Rattle.std.specs.Str.{IsUtf8};
 ghost use Rattle.btf_model.specs.Blob.{canon};
 ghost use Rattle.btf_model.specs.Text.{bytes_at, text_at};
-ghost use Rattle.vbtf.specs.Status.{Fills, EndsFilling, FillsOrReports, Keeps};
+ghost use Rattle.vbtf.specs.Status.{Fills, EndsFilling, FillsOrReports, KeepsHandle};
 
 use crate::fault::{CLOSED, Fault, NO_ROOM, report};
 use crate::handle::{Handle, lent};
@@ -30,7 +30,7 @@ pub extern "C" fn vbtf_lent_text(
         → FillsOrReports result out.old out.new needed.new fault.new
         (λ answer. answer ≡ text_at table.old.opened.btf.strings offset) }
     ensures closed { table.old.state ≢ 2 → (result ≡ CLOSED) × (out.new ≡ out.old) }
-    ensures kept { Keeps table.old table.new }
+    ensures kept { KeepsHandle table.old table.new }
 {
     let Some(loan) = lent(table) else {
         return CLOSED;
@@ -54,7 +54,7 @@ pub extern "C" fn vbtf_lent_bytes(
     ensures written { table.old.state ≡ 2 → EndsFilling result out.old out.new needed.new fault.new
         (λ answer. answer ≡ Ok (canon table.old.opened.btf)) }
     ensures closed { table.old.state ≢ 2 → (result ≡ CLOSED) × (out.new ≡ out.old) }
-    ensures kept { Keeps table.old table.new }
+    ensures kept { KeepsHandle table.old table.new }
 {
     let Some(loan) = lent(table) else {
         return CLOSED;

@@ -110,7 +110,7 @@ pub struct vbtf_entry {
     pub size: u32,
 }
 
-/// The bytes of a name in the memory of a table.
+/// The bytes of names in the memory of a table, up to the last zero byte.
 #[repr(C)]
 #[derive(Debug, Clone, Copy)]
 pub struct vbtf_name_bytes {
@@ -253,6 +253,7 @@ extern "C" {
         error: *mut vbtf_error,
     ) -> u32;
     pub fn vbtf_lent_string_len(table: *mut vbtf_table, len: *mut u32) -> u32;
+    pub fn vbtf_lent_string_count(table: *mut vbtf_table, count: *mut u64) -> u32;
     pub fn vbtf_raw_append_split(
         table: *mut vbtf_table,
         data: *const u8,
@@ -403,8 +404,10 @@ extern "C" {
         table: *mut vbtf_table,
         offset: u32,
         name: *mut vbtf_name_bytes,
+        len: *mut usize,
         error: *mut vbtf_error,
     ) -> u32;
+    pub fn vbtf_lent_names(table: *mut vbtf_table, names: *mut vbtf_name_bytes) -> u32;
     pub fn vbtf_lent_find_from(
         table: *mut vbtf_table,
         name: *const u8,

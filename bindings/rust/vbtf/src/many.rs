@@ -6,7 +6,7 @@ use crate::kind::{Endianness, Kind};
 use crate::table::Table;
 use std::borrow::Cow;
 use std::ops::Range;
-use std::slice;
+use std::{ptr, slice};
 use vbtf_sys::*;
 
 /// The number of the kind that stands for every kind.
@@ -45,9 +45,30 @@ impl Table {
     pub fn bytes_at(&self, offset: u32) -> Result<&[u8], Error> {
         // SAFETY: the loan lives as long as the call. The bytes are the table's, which is borrowed as long as the slice.
         unsafe {
-            let name: vbtf_name_bytes =
-                called(|name, error| vbtf_lent_name(&mut self.loan(), offset, name, error))?;
-            Ok(slice::from_raw_parts(name.at, name.len))
+            let mut len = 0;
+            let name: vbtf_name_bytes = called(|name, error| {
+                vbtf_lent_name(&mut self.loan(), offset, name, &mut len, error)
+            })?;
+            Ok(slice::from_raw_parts(name.at, len))
+        }
+    }
+
+    /// The strings up to and with their last zero byte, in the memory of the table: the name at each offset below their
+    /// number is there, up to its zero byte.
+    ///
+    /// ```
+    /// let mut table = vbtf::Table::new()?;
+    /// table.add_string("int")?;
+    /// assert_eq!(table.names(), b"\0int\0");
+    /// # Ok::<(), vbtf::Error>(())
+    /// ```
+    pub fn names(&self) -> &[u8] {
+        let mut names = vbtf_name_bytes { at: ptr::null(), len: 0 };
+        // SAFETY: the loan lives as long as the call. The bytes are the table's, which is borrowed as long as the slice.
+        // A handle that is open gets no null pointer.
+        unsafe {
+            vbtf_lent_names(&mut self.loan(), &mut names);
+            slice::from_raw_parts(names.at, names.len)
         }
     }
 

@@ -171,6 +171,21 @@ impl Table {
         len
     }
 
+    /// The number of strings, which is the number of zero bytes in them.
+    ///
+    /// ```
+    /// let mut table = vbtf::Table::new()?;
+    /// table.add_string("int")?;
+    /// assert_eq!(table.string_count(), 2);
+    /// # Ok::<(), vbtf::Error>(())
+    /// ```
+    pub fn string_count(&self) -> u64 {
+        let mut count = 0;
+        // SAFETY: as above.
+        unsafe { vbtf_lent_string_count(&mut self.loan(), &mut count) };
+        count
+    }
+
     /// Appends the types and the strings of a split table to the table, which is its base and keeps its byte order.
     /// [`Table::truncate`] removes them, so that the modules of a kernel can be read one after another over one table.
     ///

@@ -4,14 +4,13 @@ ghost use Rattle.std.specs.Prelude.{◌≡◌, IfOk, IfErr, OnOk};
 ghost use Rattle.btf_model.specs.Text.{text_at};
 ghost use Rattle.btf_rewrite_model.specs.Checks.{in_a_word};
 ghost use Rattle.btf_rewrite_model.specs.Pass.{Layout};
-ghost use Rattle.btf_rules.specs.Layout.{layout_of, sizes_of, offsets_of};
+ghost use Rattle.btf_table.specs.Layout.{layout_of, sizes_of, offsets_of};
 ghost use Rattle.btf_object_model.specs.Finalized.{is_of_externs, if_positive, section_size};
 ghost use Rattle.btf_object.specs.Finalize.{symbol_of, AreRead};
 
 use crate::layout::ObjectLayout;
 use btf_plain::{BtfError, SectionIndex};
-use btf_rules::known_offset;
-use btf_table::Btf;
+use btf_table::{Btf, known_offset};
 use std::alloc::Global;
 use std::collections::{BTreeMap, HashMap};
 use std::hash::BuildHasher;

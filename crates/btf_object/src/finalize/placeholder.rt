@@ -6,7 +6,7 @@ ghost use Rattle.btf_rewrite_model.specs.Ksyms.{int_of_4, is_func, placeholder_c
 ghost use Rattle.btf_rewrite_model.specs.Made.{kind_at};
 ghost use Rattle.btf_model.specs.Table.{type_bytes};
 ghost use Rattle.btf_plain.specs.Error.{IsOrNoMemory};
-ghost use Rattle.btf_rules.specs.Checked.{checked};
+ghost use Rattle.btf_table.specs.Checked.{checked};
 ghost use Rattle.btf_object_model.specs.Finalized as model;
 ghost use Rattle.btf_object_model.specs.Finalized.{placeholder_text, placeholder, with_int, with_variable, with_placeholder, with_placeholder_id, placeholder_fault};
 ghost use Rattle.btf_object_model.specs.Ksyms.{FindsKsyms};
@@ -14,8 +14,7 @@ ghost use Rattle.btf_object_model.specs.Ksyms.{FindsKsyms};
 use btf_plain::{BtfError, Int, IntEncoding, Var, VarLinkage};
 use btf_records::BtfType;
 use btf_rewrite_model::KsymsIds;
-use btf_rules::int_of_4;
-use btf_table::{Btf, type_count};
+use btf_table::{Btf, int_of_4, type_count};
 
 /// Whether the type of an id is a FUNC.
 fn is_function(btf: &Btf, type_id: u32) -> bool

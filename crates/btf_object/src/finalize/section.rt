@@ -6,7 +6,7 @@ ghost use Rattle.std.specs.Option.{option_map, is_some};
 ghost use Rattle.btf_model.specs.Record as model;
 ghost use Rattle.btf_model.specs.Record.{kind_of, vlen};
 ghost use Rattle.btf_rewrite_model.specs.Made.{entries};
-ghost use Rattle.btf_rules.specs.Layout.{layout_of};
+ghost use Rattle.btf_table.specs.Layout.{layout_of};
 ghost use Rattle.btf_table.specs.KsymsStep.{entry as entry_of};
 ghost use Rattle.btf_object_model.specs.Finalized.{entry_offset, placed, IsFinal};
 ghost use Rattle.btf_object.specs.Finalize.{AreRead, parts_of, completed_parts, final_parts};

@@ -1,6 +1,7 @@
 //! The rule of a DATASEC.
 
 mod entries;
+mod layout;
 mod name;
 
 ghost use Rattle.std.specs.Prelude.{◌≡◌, ◌==◌, ℕ, List, [], ◌∷◌, length, map, not, true, false, None, Some, Ok, IfOk, OnOk};
@@ -19,9 +20,9 @@ ghost use Rattle.btf_model.specs.Text.{text_at};
 ghost use Rattle.btf_plain.specs.Error.{MeetsOrNoMemory, IsOrNoMemory};
 ghost use Rattle.btf_records.specs.BtfType.{record_of, fallback_of};
 ghost use Rattle.btf_table.specs.Adding.{HasRoom};
-ghost use Rattle.btf_rules.specs.Checked.{checked};
-ghost use Rattle.btf_rules.specs.Features.{Called, Asks, IsFurther};
-ghost use Rattle.btf_rules.specs.Layout.{sizes_of, offsets_of, layout_of};
+ghost use Rattle.btf_table.specs.Checked.{checked};
+ghost use Rattle.btf_table.specs.Features.{Called, Asks, IsFurther};
+ghost use Rattle.btf_table.specs.Layout.{sizes_of, offsets_of, layout_of};
 ghost use Rattle.btf_table.specs.ReadNames.{AreFound, AreRead};
 ghost use Rattle.btf_table.specs.Readable.{IsReadableEnd};
 ghost use Rattle.btf_table.specs.PassStep.{Given, pass_on, under, Comes, AsksUpTo, Steps, Rules};
@@ -29,18 +30,86 @@ ghost use Rattle.btf_table.specs.SectionStep.{HasNewName, final_size, is_fillabl
 ghost use Rattle.btf_records.specs.declared.btf_type.BtfType.{BtfType};
 
 use crate::sanitize::data_sec::entries::{members, placed_entries};
+pub use crate::sanitize::data_sec::layout::known_offset;
+use crate::sanitize::data_sec::layout::section_size;
 use crate::sanitize::data_sec::name::new_name;
+use crate::sanitize::features::BtfFeatureResolver;
 use crate::sanitize::made::Made;
 use crate::sanitize::read_names::{LONG_NAME, ReadNames};
+use crate::sanitize::request::Request;
 use crate::table::{Btf, record_fits};
 use btf_plain::{BtfError, SectionIndex};
 use btf_records::{BtfType, DataSec, DataSecEntry, Struct};
-use btf_rules::{BtfFeature, BtfFeatureResolver, FillPolicy, renamed, section_size};
+use btf_rewrite_model::{BtfFeature, FillPolicy};
 use std::collections::{BTreeMap, HashMap};
 use std::hash::BuildHasher;
 
 /// The length of an entry in bytes.
 const ENTRY_LEN: usize = 12;
+
+/// The rule of a DATASEC; None if it is unchanged. For a kernel without DATASEC it becomes a STRUCT of its entries. For
+/// a kernel with DATASEC, its name becomes one that the kernel accepts. A DATASEC of size 0 gets the size of its
+/// section, and each entry gets the offset of its symbol; if it has no entries, it gets the filler if its section has
+/// size 0, or if the kernel does not accept a DATASEC without entries. A DATASEC that has a size retains it; if it has
+/// no entries, it gets the filler only if the policy fills it and the kernel does not accept a DATASEC without entries.
+///
+/// Reports the first error, in this order. `InvalidStringOffset` if the name can't be read or the new name does not fit
+/// in the strings. If it becomes a STRUCT: `UnknownBtfType` of an entry's id that has no type, and `InvalidTypeInfo` if
+/// the entry's offset in bits has more than 32 bits. For a DATASEC of size 0: `UnknownSectionSize` if the size of its
+/// section isn't known or has more than 32 bits. For a DATASEC that gets the filler: `InvalidStringOffset` or
+/// `InvalidTypeInfo` if the filler does not fit in the strings or the types. For each entry of a DATASEC of size 0, in
+/// order: `UnknownBtfType`, `InvalidDatasec` if the entry names no VAR, `InvalidStringOffset` if the VAR's name can't
+/// be read, and `SymbolOffsetNotFound` if the offset of its symbol isn't known or has more than 32 bits.
+pub fn rewrite_section<F: FnMut(BtfFeature) -> bool, G: BuildHasher, H: BuildHasher>(
+    made: &mut Made,
+    btf: &Btf,
+    request: &Request<G, H>,
+    data_sec: &DataSec,
+    names: &mut ReadNames,
+    resolver: &mut BtfFeatureResolver<F>,
+) -> Result<Option<BtfType>, BtfError>
+    requires room { HasRoom btf.now made.old.changes }
+    requires read { AreRead btf.now.strings
+        (layout_of request.now.sections.now request.now.symbols.now) names.old }
+    requires callable { F.IsAlwaysCallable resolver.old.predicate }
+    ensures callable { F.IsAlwaysCallable resolver.new.predicate }
+    ensures called { (first : F) → Called F.step first resolver.old.answers resolver.old.predicate
+        → Called F.step first resolver.new.answers resolver.new.predicate }
+    ensures further { IsFurther resolver.old.answers resolver.new.answers }
+    ensures asks { (given : Given) (id : ℕ)
+        → given ≡ under request.now.policy
+        (layout_of request.now.sections.now request.now.symbols.now)
+        → Comes btf.now given id (BtfType.DataSec data_sec.now) resolver.old.answers
+        resolver.new.answers made.old
+        → (left : List BtfFeature)
+        × AsksUpTo (pass_on btf.now given resolver.old.answers) id
+        resolver.new.answers left }
+    ensures steps { (given : Given) (id : ℕ)
+        → given ≡ under request.now.policy
+        (layout_of request.now.sections.now request.now.symbols.now)
+        → Comes btf.now given id (BtfType.DataSec data_sec.now) resolver.old.answers
+        resolver.new.answers made.old
+        → MeetsOrNoMemory (λ new. unwrap_or new (BtfType.DataSec data_sec.now)) result
+        (Steps (pass_on btf.now given resolver.old.answers) id resolver.new.answers
+        (BtfType.DataSec data_sec.now) made.old made.new) }
+    ensures read { OnOk result
+        (AreRead btf.now.strings
+        (layout_of request.now.sections.now request.now.symbols.now) names.new) }
+{
+    let granted = resolver.is_supported(BtfFeature::DataSec);
+    let name_offset = new_name(btf, &mut made.changes, &mut names.kept, data_sec, granted)?;
+    if !granted {
+        return as_struct(btf, &made.names, data_sec, name_offset);
+    }
+    let size = final_size(btf, request.sections, &mut names.sizes, data_sec)?;
+    if wants_filler(data_sec, size, request.policy, resolver) {
+        return filled(made, btf, name_offset, size);
+    }
+    if data_sec.size() != 0 {
+        return renamed(data_sec, name_offset);
+    }
+    with_symbol_offsets(btf, request.symbols, names, data_sec, name_offset, size)
+}
 
 /// The STRUCT of this name that a DATASEC becomes, with a member for each entry. `names` has the string offsets of the
 /// new names of all lower ids.
@@ -65,39 +134,6 @@ fn as_struct(
     let members = members(btf, names, data_sec)?;
     let size = members.len() as u32;
     Ok(Some(BtfType::Struct(Struct::new(name_offset, members, size))))
-}
-
-/// The DATASEC of this name and size, with each entry at the offset of its symbol; entries of Static variables are
-/// unchanged.
-///
-/// Reports the first error of the entries in order: `UnknownBtfType` of an id that has no type, `InvalidDatasec` if the
-/// type is no VAR, `InvalidStringOffset` if its name can't be read, and `SymbolOffsetNotFound` if no symbol has the
-/// name, or if the symbol's offset has more than 32 bits.
-fn with_symbol_offsets<H: BuildHasher>(
-    btf: &Btf,
-    symbols: &HashMap<String, u64, H>,
-    names: &mut ReadNames,
-    data_sec: &DataSec,
-    name_offset: u32,
-    size: u32,
-) -> Result<Option<BtfType>, BtfError>
-    requires readable { IsReadableEnd btf.now.strings names.old.readable_end }
-    requires found { AreFound btf.now.strings (offsets_of symbols.now) names.old.offsets }
-    ensures answer { (p : Pass) → p.table ≡ btf.now → p.layout.symbols ≡ offsets_of symbols.now
-        → IsOrNoMemory (λ new. record_of (unwrap_or new (BtfType.DataSec data_sec.now))) result
-        (checked (first_fault (flat_map (entry_checks p) (entries data_sec.now.tail)))
-        (model.data_sec name_offset size (vlen data_sec.now.info)
-        (map (placed p) (entries data_sec.now.tail)))) }
-    ensures fallback { IfOk result (λ new. fallback_of
-        (unwrap_or new (BtfType.DataSec data_sec.now)) ≡ None) }
-    ensures found { OnOk result
-        (AreFound btf.now.strings (offsets_of symbols.now) names.new.offsets) }
-    ensures same { (names.new.readable_end ≡ names.old.readable_end)
-        × (names.new.kept ≡ names.old.kept) × (names.new.sizes ≡ names.old.sizes) }
-{
-    let end = names.readable_end;
-    let entries = placed_entries(btf, symbols, end, &mut names.offsets, data_sec)?;
-    Ok(Some(BtfType::DataSec(DataSec::new(name_offset, entries, size))))
 }
 
 /// The final size of a DATASEC: its own size, or the size of its section, by its name, if its own size is 0. `sizes`
@@ -147,8 +183,8 @@ fn wants_filler<F: FnMut(BtfFeature) -> bool>(
     policy: FillPolicy,
     resolver: &mut BtfFeatureResolver<F>,
 ) -> bool
-    requires { F.IsAlwaysCallable resolver.old.0 }
-    ensures callable { F.IsAlwaysCallable resolver.new.0 }
+    requires { F.IsAlwaysCallable resolver.old.predicate }
+    ensures callable { F.IsAlwaysCallable resolver.new.predicate }
     ensures quiet { asks_zero policy data_sec.now size ≡ false
         → (resolver.new ≡ resolver.old) × (result ≡ is_fillable policy data_sec.now) }
     ensures asks { asks_zero policy data_sec.now size ≡ true
@@ -196,62 +232,51 @@ fn filled(
     Ok(Some(BtfType::DataSec(DataSec::new(name_offset, entries, size))))
 }
 
-/// The rule of a DATASEC; None if it is unchanged. For a kernel without DATASEC it becomes a STRUCT of its entries. For
-/// a kernel with DATASEC, its name becomes one that the kernel accepts. A DATASEC of size 0 gets the size of its
-/// section, and each entry gets the offset of its symbol; if it has no entries, it gets the filler if its section has
-/// size 0, or if the kernel does not accept a DATASEC without entries. A DATASEC that has a size retains it; if it has
-/// no entries, it gets the filler only if the policy fills it and the kernel does not accept a DATASEC without entries.
-///
-/// Reports the first error, in this order. `InvalidStringOffset` if the name can't be read or the new name does not fit
-/// in the strings. If it becomes a STRUCT: `UnknownBtfType` of an entry's id that has no type, and `InvalidTypeInfo` if
-/// the entry's offset in bits has more than 32 bits. For a DATASEC of size 0: `UnknownSectionSize` if the size of its
-/// section isn't known or has more than 32 bits. For a DATASEC that gets the filler: `InvalidStringOffset` or
-/// `InvalidTypeInfo` if the filler does not fit in the strings or the types. For each entry of a DATASEC of size 0, in
-/// order: `UnknownBtfType`, `InvalidDatasec` if the entry names no VAR, `InvalidStringOffset` if the VAR's name can't
-/// be read, and `SymbolOffsetNotFound` if the offset of its symbol isn't known or has more than 32 bits.
-pub fn rewrite_section<F: FnMut(BtfFeature) -> bool, G: BuildHasher, H: BuildHasher>(
-    made: &mut Made,
-    btf: &Btf,
-    sections: &HashMap<String, (SectionIndex, u64), G>,
-    symbols: &HashMap<String, u64, H>,
-    data_sec: &DataSec,
-    policy: FillPolicy,
-    names: &mut ReadNames,
-    resolver: &mut BtfFeatureResolver<F>,
-) -> Result<Option<BtfType>, BtfError>
-    requires room { HasRoom btf.now made.old.changes }
-    requires read { AreRead btf.now.strings (layout_of sections.now symbols.now) names.old }
-    requires callable { F.IsAlwaysCallable resolver.old.0 }
-    ensures callable { F.IsAlwaysCallable resolver.new.0 }
-    ensures called { (first : F) → Called F.step first resolver.old.1 resolver.old.0
-        → Called F.step first resolver.new.1 resolver.new.0 }
-    ensures further { IsFurther resolver.old.1 resolver.new.1 }
-    ensures asks { (given : Given) (id : ℕ)
-        → given ≡ under policy (layout_of sections.now symbols.now)
-        → Comes btf.now given id (BtfType.DataSec data_sec.now) resolver.old.1 resolver.new.1 made.old
-        → (left : List BtfFeature)
-        × AsksUpTo (pass_on btf.now given resolver.old.1) id
-        resolver.new.1 left }
-    ensures steps { (given : Given) (id : ℕ)
-        → given ≡ under policy (layout_of sections.now symbols.now)
-        → Comes btf.now given id (BtfType.DataSec data_sec.now) resolver.old.1 resolver.new.1 made.old
-        → MeetsOrNoMemory (λ new. unwrap_or new (BtfType.DataSec data_sec.now)) result
-        (Steps (pass_on btf.now given resolver.old.1) id resolver.new.1
-        (BtfType.DataSec data_sec.now) made.old made.new) }
-    ensures read { OnOk result
-        (AreRead btf.now.strings (layout_of sections.now symbols.now) names.new) }
+/// The DATASEC with this name; None if it already has this name.
+fn renamed(data_sec: &DataSec, name_offset: u32) -> Result<Option<BtfType>, BtfError>
+    ensures answer { IsOrNoMemory
+        (λ new. record_of (unwrap_or new (BtfType.DataSec data_sec.now))) result
+        (Ok (record data_sec.now { name = name_offset })) }
+    ensures fallback { IfOk result (λ new. fallback_of
+        (unwrap_or new (BtfType.DataSec data_sec.now)) ≡ None) }
 {
-    let granted = resolver.is_supported(BtfFeature::DataSec);
-    let name_offset = new_name(btf, &mut made.changes, &mut names.kept, data_sec, granted)?;
-    if !granted {
-        return as_struct(btf, &made.names, data_sec, name_offset);
+    if name_offset == data_sec.name_offset() {
+        return Ok(None);
     }
-    let size = final_size(btf, sections, &mut names.sizes, data_sec)?;
-    if wants_filler(data_sec, size, policy, resolver) {
-        return filled(made, btf, name_offset, size);
-    }
-    if data_sec.size() != 0 {
-        return renamed(data_sec, name_offset);
-    }
-    with_symbol_offsets(btf, symbols, names, data_sec, name_offset, size)
+    let mut renamed = data_sec.try_clone()?;
+    renamed.set_name_offset(name_offset);
+    Ok(Some(BtfType::DataSec(renamed)))
+}
+
+/// The DATASEC of this name and size, with each entry at the offset of its symbol; entries of Static variables are
+/// unchanged.
+///
+/// Reports the first error of the entries in order: `UnknownBtfType` of an id that has no type, `InvalidDatasec` if the
+/// type is no VAR, `InvalidStringOffset` if its name can't be read, and `SymbolOffsetNotFound` if no symbol has the
+/// name, or if the symbol's offset has more than 32 bits.
+fn with_symbol_offsets<H: BuildHasher>(
+    btf: &Btf,
+    symbols: &HashMap<String, u64, H>,
+    names: &mut ReadNames,
+    data_sec: &DataSec,
+    name_offset: u32,
+    size: u32,
+) -> Result<Option<BtfType>, BtfError>
+    requires readable { IsReadableEnd btf.now.strings names.old.readable_end }
+    requires found { AreFound btf.now.strings (offsets_of symbols.now) names.old.offsets }
+    ensures answer { (p : Pass) → p.table ≡ btf.now → p.layout.symbols ≡ offsets_of symbols.now
+        → IsOrNoMemory (λ new. record_of (unwrap_or new (BtfType.DataSec data_sec.now))) result
+        (checked (first_fault (flat_map (entry_checks p) (entries data_sec.now.tail)))
+        (model.data_sec name_offset size (vlen data_sec.now.info)
+        (map (placed p) (entries data_sec.now.tail)))) }
+    ensures fallback { IfOk result (λ new. fallback_of
+        (unwrap_or new (BtfType.DataSec data_sec.now)) ≡ None) }
+    ensures found { OnOk result
+        (AreFound btf.now.strings (offsets_of symbols.now) names.new.offsets) }
+    ensures same { (names.new.readable_end ≡ names.old.readable_end)
+        × (names.new.kept ≡ names.old.kept) × (names.new.sizes ≡ names.old.sizes) }
+{
+    let end = names.readable_end;
+    let entries = placed_entries(btf, symbols, end, &mut names.offsets, data_sec)?;
+    Ok(Some(BtfType::DataSec(DataSec::new(name_offset, entries, size))))
 }

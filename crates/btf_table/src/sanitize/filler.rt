@@ -5,7 +5,7 @@ ghost use Rattle.btf_rewrite_model.specs.Checks.{first_fault};
 ghost use Rattle.btf_rewrite_model.specs.Pass.{filler_type_text, filler_text, filler};
 ghost use Rattle.btf_plain.specs.Error.{IsOrNoMemory};
 ghost use Rattle.btf_table.specs.Adding.{strings_end, next_id, HasRoom, Adds};
-ghost use Rattle.btf_rules.specs.Checked.{checked};
+ghost use Rattle.btf_table.specs.Checked.{checked};
 ghost use Rattle.btf_rewrite_model.specs.Fault.{filler_has_room};
 
 use crate::table::{Btf, Changes};

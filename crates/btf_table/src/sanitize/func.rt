@@ -1,21 +1,25 @@
-//! The rule of a FUNC.
+//! The rule of a FUNC, and FUNCs with another linkage.
 
-ghost use Rattle.std.specs.Prelude.{ℕ, List, Ok};
+ghost use Rattle.std.specs.Prelude.{◌≡◌, ℕ, List, IfOk, Ok};
 ghost use Rattle.btf_rewrite_model.specs.declared.feature.BtfFeature.{BtfFeature};
+ghost use Rattle.btf_rewrite_model.specs.Made.{with_linkage};
 ghost use Rattle.btf_rewrite_model.specs.Pass.{asks_below};
 ghost use Rattle.btf_rewrite_model.specs.Passing.{AreAnswersTo};
 ghost use Rattle.btf_plain.specs.Error.{MeetsOrNoMemory};
-ghost use Rattle.btf_rules.specs.Features.{Called, IsFurther};
+ghost use Rattle.btf_table.specs.Builtins.{begins_builtin};
+ghost use Rattle.btf_table.specs.Features.{Called, IsFurther};
 ghost use Rattle.btf_table.specs.Btf.{IsType};
 ghost use Rattle.btf_table.specs.PassStep.{Given, pass_on, Comes, AsksUpTo, Steps, made_of};
 ghost use Rattle.btf_table.specs.Readable.{IsReadableEnd};
 ghost use Rattle.btf_table.specs.declared.sanitize.made.Made as made;
 
+use crate::sanitize::features::BtfFeatureResolver;
 use crate::sanitize::outcome::Outcome;
 use crate::table::Btf;
 use btf_plain::{BtfError, Func, FuncLinkage};
 use btf_records::BtfType;
-use btf_rules::{BtfFeature, BtfFeatureResolver, is_builtin, made_static};
+use btf_rewrite_model::BtfFeature;
+use std::alloc::AllocError;
 
 /// What a FUNC becomes. For a kernel without FUNC it changes in place to a TYPEDEF of the prototype. A Global FUNC
 /// becomes Static if the kernel has no Global functions, or if the kernel has a builtin of this name.
@@ -28,22 +32,23 @@ pub fn rewrite_func<F: FnMut(BtfFeature) -> bool>(
     readable_end: usize,
     resolver: &mut BtfFeatureResolver<F>,
 ) -> Result<Outcome, BtfError>
-    requires callable { F.IsAlwaysCallable resolver.old.0 }
+    requires callable { F.IsAlwaysCallable resolver.old.predicate }
     requires readable { IsReadableEnd btf.now.strings readable_end }
-    ensures callable { F.IsAlwaysCallable resolver.new.0 }
-    ensures called { (first : F) → Called F.step first resolver.old.1 resolver.old.0
-        → Called F.step first resolver.new.1 resolver.new.0 }
-    ensures further { IsFurther resolver.old.1 resolver.new.1 }
+    ensures callable { F.IsAlwaysCallable resolver.new.predicate }
+    ensures called { (first : F) → Called F.step first resolver.old.answers resolver.old.predicate
+        → Called F.step first resolver.new.answers resolver.new.predicate }
+    ensures further { IsFurther resolver.old.answers resolver.new.answers }
     ensures asks { (given : Given) (id : ℕ) → IsType btf.now id (BtfType.Func func.now)
-        → AreAnswersTo (asks_below (pass_on btf.now given resolver.old.1) id)
-        resolver.old.1
+        → AreAnswersTo (asks_below (pass_on btf.now given resolver.old.answers) id)
+        resolver.old.answers
         → (left : List BtfFeature)
-        × AsksUpTo (pass_on btf.now given resolver.old.1) id
-        resolver.new.1 left }
+        × AsksUpTo (pass_on btf.now given resolver.old.answers) id
+        resolver.new.answers left }
     ensures steps { (given : Given) (id : ℕ) (made : made.Made)
-        → Comes btf.now given id (BtfType.Func func.now) resolver.old.1 resolver.new.1 made
+        → Comes btf.now given id (BtfType.Func func.now) resolver.old.answers
+        resolver.new.answers made
         → MeetsOrNoMemory (λ o. made_of o (BtfType.Func func.now)) result
-        (Steps (pass_on btf.now given resolver.old.1) id resolver.new.1
+        (Steps (pass_on btf.now given resolver.old.answers) id resolver.new.answers
         (BtfType.Func func.now) made made) }
 {
     let name_offset = func.name_offset();
@@ -61,4 +66,33 @@ pub fn rewrite_func<F: FnMut(BtfFeature) -> bool>(
         return Ok(Outcome::Same);
     }
     Ok(Outcome::Other(BtfType::Func(made_static(func)?)))
+}
+
+/// Whether the name at the front of these strings is the name of a function that compilers emit as Global, and that
+/// kernels require to be Static. No byte after such a name and its zero byte is read, however long the strings are.
+fn is_builtin(strings: &[u8]) -> bool
+    ensures { result ≡ begins_builtin strings.now }
+{
+    strings.starts_with(b"memset\0")
+        || strings.starts_with(b"memcpy\0")
+        || strings.starts_with(b"memmove\0")
+        || strings.starts_with(b"memcmp\0")
+}
+
+/// The function with Static linkage.
+fn made_static(func: &Func) -> Result<Func, AllocError>
+    ensures { IfOk result (λ r. r ≡ with_linkage 0 func.now) }
+{
+    let mut func = func.clone()?;
+    func.set_linkage(FuncLinkage::Static);
+    Ok(func)
+}
+
+/// The function with Global linkage.
+pub fn global(func: &Func) -> Result<Func, AllocError>
+    ensures { IfOk result (λ r. r ≡ with_linkage 1 func.now) }
+{
+    let mut global = func.clone()?;
+    global.set_linkage(FuncLinkage::Global);
+    Ok(global)
 }

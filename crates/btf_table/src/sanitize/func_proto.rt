@@ -1,27 +1,57 @@
-//! Prototypes: with names for all their parameters, or as enumerations.
+//! The rule of a FUNC_PROTO, and FUNC_PROTOs whose parameters get one name.
 
-ghost use Rattle.std.specs.Prelude.{◌≡◌, if◌then◌else◌, [], OnOk, Ok};
+ghost use Rattle.std.specs.Prelude.{◌≡◌, if◌then◌else◌, [], string_bytes, IfOk, OnOk, Ok};
 ghost use Rattle.std.specs.List.{list_any};
+ghost use Rattle.std.specs.Option.{unwrap_or};
+ghost use Rattle.btf_rewrite_model.specs.declared.feature.BtfFeature.TheVariants as features;
+ghost use Rattle.btf_rewrite_model.specs.Ksyms.{named};
 ghost use Rattle.btf_rewrite_model.specs.Made.{wants_name};
 ghost use Rattle.btf_rewrite_model.specs.Checks.{first_fault, have_room};
-ghost use Rattle.btf_rewrite_model.specs.Pass.{param_texts};
+ghost use Rattle.btf_rewrite_model.specs.Pass as model;
+ghost use Rattle.btf_rewrite_model.specs.Pass.{has, param_texts};
 ghost use Rattle.btf_rewrite_model.specs.Rule.{named_params};
 ghost use Rattle.btf_plain.specs.Error.{IsOrNoMemory};
 ghost use Rattle.btf_plain.specs.Items.{param_words};
 ghost use Rattle.btf_table.specs.Adding.{strings_end, HasRoom, Adds};
+ghost use Rattle.btf_table.specs.Checked.{checked};
 ghost use Rattle.btf_table.specs.Params.{lack_a_name};
-ghost use Rattle.btf_rules.specs.Checked.{checked};
+ghost use Rattle.btf_table.specs.PassStep.{FollowsRule};
 
+use crate::sanitize::made::Made;
 use crate::table::{Btf, Changes};
 use btf_plain::BtfError;
-use btf_records::{BtfParam, FuncProto};
-use btf_rules::param_text;
+use btf_records::{BtfParam, BtfType, FuncProto, as_enum};
+use std::alloc::{AllocError, Global};
 
-/// Whether a parameter gets a new text for its name: it has a type and no name.
-fn is_unnamed(param: &BtfParam) -> bool
-    ensures { result ≡ wants_name param.now.name_offset param.now.btf_type }
+/// The rule of a FUNC_PROTO: its parameters get names, or it becomes an ENUM; None if it is unchanged. Fails with
+/// `InvalidStringOffset` if the names do not fit in the strings.
+#[inline(never)]
+pub fn rewrite_proto(
+    made: &mut Made,
+    btf: &Btf,
+    proto: &FuncProto,
+    granted: bool,
+) -> Result<Option<BtfType>, BtfError>
+    requires { HasRoom btf.now made.old.changes }
+    ensures { FollowsRule btf.now (BtfType.FuncProto proto.now)
+        (λ p. has p features.Func ≡ granted) made.old made.new
+        (λ new. unwrap_or new (BtfType.FuncProto proto.now)) result }
 {
-    param.name_offset == 0 && param.btf_type != 0
+    if !granted {
+        return Ok(Some(BtfType::Enum(as_enum(proto)?)));
+    }
+    if !has_unnamed(proto) {
+        return Ok(None);
+    }
+    let proto = with_param_names(btf, &mut made.changes, proto)?;
+    Ok(Some(BtfType::FuncProto(proto)))
+}
+
+/// Whether a parameter of the prototype has a type and no name.
+fn has_unnamed(proto: &FuncProto) -> bool
+    ensures { result ≡ lack_a_name proto.now.tail }
+{
+    any_unnamed(proto.params())
 }
 
 /// Whether one of the parameters has a type and no name.
@@ -31,11 +61,37 @@ fn any_unnamed(params: &[BtfParam]) -> bool
     params.iter().any(|param| is_unnamed(param))
 }
 
-/// Whether a parameter of the prototype has a type and no name.
-pub fn has_unnamed(proto: &FuncProto) -> bool
-    ensures { result ≡ lack_a_name proto.now.tail }
+/// Whether a parameter gets a new text for its name: it has a type and no name.
+fn is_unnamed(param: &BtfParam) -> bool
+    ensures { result ≡ wants_name param.now.name_offset param.now.btf_type }
 {
-    any_unnamed(proto.params())
+    param.name_offset == 0 && param.btf_type != 0
+}
+
+/// The prototype, with a new text for the name of each parameter that has a type and no name: `param` and its index
+/// among all parameters in decimal. Fails with `InvalidStringOffset` if such a text does not fit.
+fn with_param_names(
+    btf: &Btf,
+    changes: &mut Changes,
+    proto: &FuncProto,
+) -> Result<FuncProto, BtfError>
+    requires { HasRoom btf.now changes.old }
+    ensures answer { IsOrNoMemory (λ r. r) result
+        (checked (first_fault (have_room (strings_end btf.now changes.old)
+        (param_texts 0 proto.now.tail)))
+        (record proto.now {
+          tail = named_params 0
+              (strings_end btf.now changes.old) proto.now.tail;
+        })) }
+    ensures adds { OnOk result (Adds btf.now changes.old changes.new
+        (param_texts 0 proto.now.tail) []) }
+{
+    let mut with_names = proto.try_clone()?;
+    for (index, param) in proto.params().iter().enumerate() {
+        let name_offset = param_name_offset(btf, changes, index, param)?;
+        with_names.set_param_name(index, name_offset);
+    }
+    Ok(with_names)
 }
 
 /// The string offset of the new name of the parameter at an index: a new text is appended if the parameter has a type
@@ -63,28 +119,33 @@ fn param_name_offset(
     }
 }
 
-/// The prototype, with a new text for the name of each parameter that has a type and no name: `param` and its index
-/// among all parameters in decimal. Fails with `InvalidStringOffset` if such a text does not fit.
-pub fn with_param_names(
-    btf: &Btf,
-    changes: &mut Changes,
-    proto: &FuncProto,
-) -> Result<FuncProto, BtfError>
-    requires { HasRoom btf.now changes.old }
-    ensures answer { IsOrNoMemory (λ r. r) result
-        (checked (first_fault (have_room (strings_end btf.now changes.old)
-        (param_texts 0 proto.now.tail)))
-        (record proto.now {
-          tail = named_params 0
-              (strings_end btf.now changes.old) proto.now.tail;
-        })) }
-    ensures adds { OnOk result (Adds btf.now changes.old changes.new
-        (param_texts 0 proto.now.tail) []) }
+/// The name of the parameter at an index.
+fn param_text(alloc: Global, index: usize) -> Result<String, AllocError>
+    ensures { IfOk result (λ text. string_bytes text ≡ model.param_text index) }
+{
+    format!(in alloc; "param{index}")
+}
+
+/// The prototype, with a name for each parameter that has a type and no name.
+pub fn with_names(proto: &FuncProto, name_offset: u32) -> Result<FuncProto, BtfError>
+    ensures { IsOrNoMemory (λ r. r) result
+        (Ok (record proto.now { tail = named name_offset proto.now.tail })) }
 {
     let mut with_names = proto.try_clone()?;
     for (index, param) in proto.params().iter().enumerate() {
-        let name_offset = param_name_offset(btf, changes, index, param)?;
-        with_names.set_param_name(index, name_offset);
+        with_names.set_param_name(index, param_name(param, name_offset));
     }
     Ok(with_names)
+}
+
+/// The string offset of a parameter's new name: this offset if it has a type and no name, else its old name.
+fn param_name(param: &BtfParam, name_offset: u32) -> u32
+    ensures { result ≡ if wants_name param.now.name_offset param.now.btf_type then name_offset
+        else param.now.name_offset }
+{
+    if param.name_offset == 0 && param.btf_type != 0 {
+        name_offset
+    } else {
+        param.name_offset
+    }
 }

@@ -1,21 +1,23 @@
 //! The first step of a rewrite: the kernel's symbols become ordinary variables.
 
-ghost use Rattle.std.specs.Prelude.{◌≡◌, ◌<◌, ◌^◌, ◌∷◌, ℕ, List, length, map, Option, None, Ok, IfOk};
-ghost use Rattle.btf_model.specs.Record.{Record, unknown};
+ghost use Rattle.std.specs.Prelude.{◌≡◌, ◌<◌, ◌≤◌, ◌^◌, [], ◌∷◌, ℕ, List, length, map, Option, None, Ok, IfOk};
+ghost use Rattle.std.specs.List.{position_or_len};
+ghost use Rattle.btf_model.specs.Record.{Record, unknown, kind_of};
 ghost use Rattle.btf_rewrite_model.specs.Made.{Entry, entries, record_at};
 ghost use Rattle.btf_rewrite_model.specs.Checks.{first_fault};
 ghost use Rattle.btf_rewrite_model.specs.Ksyms as model;
 ghost use Rattle.btf_rewrite_model.specs.Ksyms.{placeholder_checks, data_sec_checks, ksyms_entry_checks};
 ghost use Rattle.btf_plain.specs.Error.{IsOrNoMemory, MeetsOrNoMemory};
 ghost use Rattle.btf_records.specs.BtfType.{record_of, fallback_of};
-ghost use Rattle.btf_rules.specs.Checked.{checked};
+ghost use Rattle.btf_table.specs.Checked.{checked};
 ghost use Rattle.btf_table.specs.KsymsStep.{target_of, prototype_of, laid_out_anew, FindsSymbols, StepsWith, ksyms_ids, MakesKsyms};
 ghost use Rattle.btf_table.specs.Readable.{IsReadableEnd};
 
+use crate::sanitize::func::global;
+use crate::sanitize::func_proto::with_names;
 use crate::table::{Btf, Changes, record_fits, text_fits};
-use btf_plain::{BtfError, Func, Int, IntEncoding, Var};
+use btf_plain::{BtfError, BtfKind, Func, Int, IntEncoding, Var, VarLinkage};
 use btf_records::{BtfType, DataSec, DataSecEntry, FuncProto};
-use btf_rules::{global, global_of, int_of_4, with_names};
 use std::alloc::{AllocError, Global};
 use std::collections::BTreeSet;
 
@@ -81,6 +83,28 @@ impl Symbols {
         }
         Ok(())
     }
+}
+
+/// Whether a type is an INT of 4 bytes.
+fn is_int_of_4(btf_type: &BtfType) -> bool
+    ensures { result ≡ model.is_int_of_4 (kind_of (record_of btf_type.now).info)
+        (record_of btf_type.now) }
+{
+    btf_type.kind() == BtfKind::Int && btf_type.size() == Some(4)
+}
+
+/// The id of the first INT of 4 bytes, or the number of types if there is none.
+pub fn int_of_4(types: &[BtfType]) -> usize
+    ensures bound { result ≤ length types.now }
+    ensures first { result ≡ position_or_len (λ r. model.is_int_of_4 (kind_of r.info) r)
+        (map record_of types.now) }
+{
+    for (id, btf_type) in types.iter().enumerate() {
+        if is_int_of_4(btf_type) {
+            return id;
+        }
+    }
+    types.len()
 }
 
 /// What symbols become without a placeholder.
@@ -186,6 +210,14 @@ fn find_symbols(
         symbols.add(entry.btf_type, prototype)?;
     }
     Ok(symbols)
+}
+
+/// The variable with Global linkage and this type.
+pub fn global_of(var: &Var, btf_type: u32) -> Var
+    ensures words { result ≡ record var.now { third = btf_type; tail = 1 ∷ [] } }
+    ensures same_length { length result.tail ≡ length var.now.tail }
+{
+    Var::new(var.name_offset(), btf_type, VarLinkage::Global).with_info(var.info())
 }
 
 impl Target {

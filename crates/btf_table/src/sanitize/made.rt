@@ -8,16 +8,16 @@ ghost use Rattle.btf_model.specs.Table.{type_bytes};
 ghost use Rattle.btf_plain.specs.Error.{IsOrNoMemory};
 ghost use Rattle.btf_records.specs.BtfType.{record_of};
 ghost use Rattle.btf_table.specs.Adding.{strings_end, next_id, HasRoom, Adds};
-ghost use Rattle.btf_rules.specs.Checked.{checked};
+ghost use Rattle.btf_table.specs.Checked.{checked};
 ghost use Rattle.btf_rewrite_model.specs.Fault.{filler_has_room, member_type_has_room};
 
+use crate::sanitize::enumeration64::append_member_type;
 use crate::sanitize::filler::append_filler;
-use crate::sanitize::member_type::append_member_type;
+use crate::sanitize::in_place::denied_name_offset;
 use crate::sanitize::outcome::Outcome;
 use crate::table::{Btf, Changes};
 use btf_plain::BtfError;
 use btf_records::BtfType;
-use btf_rules::denied_name_offset;
 use std::alloc::AllocError;
 
 /// What a pass has made of the ids below the current one.

@@ -5,11 +5,11 @@ ghost use Rattle.btf_model.specs.Table.{Table};
 ghost use Rattle.btf_table.specs.Denied.{AreDenied, AreIds, with_denied};
 ghost use Rattle.btf_table.specs.Changes.{put_all, put_back, replaced, changed, AreInside, AreOf, Undoes};
 
+use crate::sanitize::deny;
 use crate::table::Btf;
 use crate::table::limits::{record_fits, text_fits};
 use btf_plain::BtfError;
 use btf_records::BtfType;
-use btf_rules::deny;
 use std::alloc::{AllocError, Global};
 use std::mem;
 
@@ -34,7 +34,7 @@ impl Changes {
     ghost use Rattle.btf_rewrite_model.specs.Checks.{has_room, fits, record_len};
     ghost use Rattle.btf_plain.specs.Error.{IsOrNoMemory};
     ghost use Rattle.btf_table.specs.Adding.{strings_end, next_id, HasRoom, Adds};
-    ghost use Rattle.btf_rules.specs.Checked.{checked};
+    ghost use Rattle.btf_table.specs.Checked.{checked};
 
     /// No changes of a table.
     pub fn new(btf: &Btf) -> Changes

@@ -3,7 +3,7 @@
 ghost use Rattle.std.specs.Prelude.{◌≡◌, ◌≤◌};
 ghost use Rattle.btf_rewrite_model.specs.Checks.{has_room, fits};
 ghost use Rattle.btf_plain.specs.Error.{Meets};
-ghost use Rattle.btf_rules.specs.Checked.{checked};
+ghost use Rattle.btf_table.specs.Checked.{checked};
 
 use crate::table::SECTION_LIMIT;
 use btf_plain::BtfError;

@@ -1,6 +1,6 @@
 //! The type section: records, one after another.
 
-ghost use Rattle.std.specs.Prelude.{◌≡◌, ◌≤◌, ◌++◌, length, map, Ok, OnOk};
+ghost use Rattle.std.specs.Prelude.{◌≡◌, ◌+◌, ◌*◌, ◌≤◌, ◌++◌, length, map, Ok, OnOk, IfSome};
 ghost use Rattle.std.specs.List.{flat_map, AllByRecursion};
 ghost use Rattle.btf_model.specs.Spelling.{spell, IsWhole};
 ghost use Rattle.btf_model.specs.Table.{no_fallbacks, section_limit};
@@ -8,7 +8,7 @@ ghost use Rattle.btf_plain.specs.Error.{MeetsOrNoMemory, IsOrNoMemory};
 ghost use Rattle.btf_records.specs.BtfType.{record_of, fallback_of};
 ghost use Rattle.btf_table.specs.Records.{ReadsTypes};
 
-use btf_plain::{BtfError, Endianness};
+use btf_plain::{BtfError, BtfKind, Endianness, Head};
 use btf_records::{BtfType, without_fallback};
 use std::alloc::{AllocError, Global};
 
@@ -26,7 +26,8 @@ pub fn read_types(
 ) -> Result<Vec<BtfType>, BtfError>
     ensures { MeetsOrNoMemory (λ v. v.items) result (ReadsTypes endianness «data».now) }
 {
-    let mut types = Vec::new(alloc);
+    // Counted first, because a vector that grows ends with room for up to twice its records.
+    let mut types = Vec::with_capacity(alloc, 1 + count_records(data, endianness))?;
     types.push(BtfType::Unknown)?;
     let mut rest = data;
     while !rest.is_empty() {
@@ -35,6 +36,28 @@ pub fn read_types(
         rest = behind;
     }
     Ok(types)
+}
+
+/// The number of records at the front of a type section, up to the first one that is truncated or of no known kind.
+fn count_records(data: &[u8], endianness: Endianness) -> usize
+    ensures { 12 * result ≤ length data.now }
+{
+    let mut count = 0;
+    let mut rest = data;
+    while let Some(behind) = after_record(rest, endianness) {
+        count += 1;
+        rest = behind;
+    }
+    count
+}
+
+/// The bytes after the record at the front of bytes; None if there is no whole record of a known kind.
+fn after_record(bytes: &[u8], endianness: Endianness) -> Option<&[u8]>
+    ensures { IfSome result (λ behind. 12 + length behind.now ≤ length bytes.now) }
+{
+    let (head, _) = Head::read(bytes, endianness).ok()?;
+    let kind = BtfKind::try_from(head.kind()).ok()?;
+    bytes.get(head.record_len(kind)..)
 }
 
 /// Appends records to bytes, in this byte order.

@@ -1,10 +1,9 @@
 //! The answers of the comparison of types, and the pairs that it starts.
 
-use btf_plain::{BtfError, Endianness};
+use btf::{Btf, BtfError, Endianness, types_are_compatible, types_are_compatible_traced};
 use btf_reference::plain_comparison::compare_plainly;
 use btf_samples::blobs::parsed;
 use btf_samples::spelled::spelled;
-use btf_types::{Btf, types_are_compatible, types_are_compatible_traced};
 use std::alloc::{AllocError, Global};
 use std::test::Fail;
 

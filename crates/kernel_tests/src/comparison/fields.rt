@@ -1,8 +1,8 @@
 //! The comparison of the types of two fields.
 
 use crate::comparison::answers::{Answer, answer_of};
+use btf::{Btf, fields_are_compatible};
 use btf_samples::blobs::table_of;
-use btf_types::{Btf, fields_are_compatible};
 use std::alloc::Global;
 use std::test::Fail;
 

@@ -1,7 +1,7 @@
 //! The comparison of types in long and nested tables, and in all small ones of a form.
 
 use crate::comparison::answers::{Answer, Pairs, gives, is_plain, table_of_words};
-use btf_types::Btf;
+use btf::Btf;
 use std::alloc::{AllocError, Global};
 use std::test::Fail;
 

@@ -1,11 +1,10 @@
 //! The comparison of types in small tables.
 
 use crate::comparison::answers::{Answer, gives, is_plain};
-use btf_plain::Endianness;
+use btf::{Btf, Endianness};
 use btf_samples::blobs::table_of;
 use btf_samples::program::program_table;
 use btf_samples::spelled::decimals;
-use btf_types::Btf;
 use std::alloc::{AllocError, Global};
 use std::test::Fail;
 

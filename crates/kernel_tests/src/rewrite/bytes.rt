@@ -1,12 +1,13 @@
 //! Rewrites from bytes to bytes.
 
 use crate::rewrite::kernel::{are_answers, known};
-use btf_plain::{BtfError, Endianness};
+use btf::{
+    BtfError, BtfFeature, BtfFeatureResolver, Endianness, FeatureAnswer, KsymsIds, rewrite_bytes,
+};
 use btf_samples::blobs::table_bytes;
 use btf_samples::layout::Layout;
 use btf_samples::program::{STRINGS, TYPE_LEN, program};
 use btf_samples::spelled::ORDERS;
-use btf_types::{BtfFeature, BtfFeatureResolver, FeatureAnswer, KsymsIds, rewrite_bytes};
 use std::alloc::Global;
 use std::test::Fail;
 

@@ -1,10 +1,11 @@
 //! DATASECs that have a size and no entries, under both policies.
 
 use crate::rewrite::kernel::{Case, are_answers, is_new, new_bytes};
-use btf_plain::{Endianness, SectionIndex};
+use btf::{
+    Btf, BtfFeature, BtfFeatureResolver, Endianness, FillPolicy, SectionIndex, rewrite_bytes_with,
+};
 use btf_samples::blobs::{table_bytes, table_of};
 use btf_samples::layout::Layout;
-use btf_types::{Btf, BtfFeature, BtfFeatureResolver, FillPolicy, rewrite_bytes_with};
 use std::alloc::{AllocError, Global};
 use std::collections::HashMap;
 use std::test::Fail;

@@ -1,10 +1,9 @@
 //! Shared parts of the tests of rewrites: the features of a kernel, and the result of a rewrite for it.
 
-use btf_plain::Endianness;
+use btf::{Btf, BtfFeature, BtfFeatureResolver, Endianness, FeatureAnswer, KsymsIds};
 use btf_samples::blobs::{table_bytes, table_of};
 use btf_samples::layout::Layout;
 use btf_samples::written::has_table_bytes;
-use btf_types::{Btf, BtfFeature, BtfFeatureResolver, FeatureAnswer, KsymsIds};
 use std::alloc::{AllocError, Global};
 use std::test::Fail;
 

@@ -1,9 +1,8 @@
 //! The step that changes the kernel's symbols to ordinary variables.
 
-use btf_plain::BtfError;
+use btf::{Btf, BtfError};
 use btf_samples::blobs::table_of;
 use btf_samples::written::is_table;
-use btf_types::Btf;
 use std::alloc::Global;
 use std::test::Fail;
 

@@ -1,11 +1,9 @@
 //! Rewrites of types that depend on others: functions, sections, ENUM64, and the kernel's symbols.
 
 use crate::rewrite::kernel::{Case, is_new, is_rewritten, new_bytes};
-use btf_plain::Endianness;
-use btf_records::{BtfType, Enum64Fallback};
+use btf::{Btf, BtfFeature, BtfFeatureResolver, BtfType, Endianness, Enum64Fallback, KsymsIds};
 use btf_samples::blobs::{parsed_blob, table_of};
 use btf_samples::layout::Layout;
-use btf_types::{Btf, BtfFeature, BtfFeatureResolver, KsymsIds};
 use std::alloc::Global;
 use std::test::Fail;
 

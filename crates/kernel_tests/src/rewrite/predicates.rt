@@ -1,10 +1,10 @@
 //! The questions that a resolver asks its predicate, in rewrites and alone.
 
 use crate::rewrite::kernel::are_answers;
+use btf::{Btf, BtfFeature, BtfFeatureResolver, FeatureAnswer};
 use btf_samples::blobs::table_of;
 use btf_samples::layout::Layout;
 use btf_samples::written::is_table;
-use btf_types::{Btf, BtfFeature, BtfFeatureResolver, FeatureAnswer};
 use std::alloc::Global;
 use std::mem;
 use std::test::Fail;

@@ -1,11 +1,10 @@
 //! Rewrites that fail.
 
 use crate::rewrite::kernel::{are_answers, known};
-use btf_plain::BtfError;
+use btf::{Btf, BtfError, BtfFeature, BtfFeatureResolver, FeatureAnswer, KsymsIds};
 use btf_samples::blobs::table_of;
 use btf_samples::layout::Layout;
 use btf_samples::written::is_table;
-use btf_types::{Btf, BtfFeature, BtfFeatureResolver, FeatureAnswer, KsymsIds};
 use std::alloc::Global;
 use std::test::Fail;
 

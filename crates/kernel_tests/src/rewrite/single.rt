@@ -1,7 +1,7 @@
 //! Rewrites of types that depend on no others.
 
 use crate::rewrite::kernel::{Case, is_rewritten};
-use btf_types::BtfFeature;
+use btf::BtfFeature;
 use std::test::Fail;
 
 /// Rewrites of these types.

@@ -1,10 +1,9 @@
 //! The `.BTF` and `.BTF.ext` sections of a small C program, as a compiler writes them.
 
-use btf_plain::{BtfKind, Endianness};
+use btf::{Btf, BtfExt, BtfKind, Endianness, FuncSecInfo, LineSecInfo};
 use btf_samples::blobs::parsed_blob;
 use btf_samples::spelled::bytes;
 use btf_samples::written::{has_kinds, is_written_as};
-use btf_types::{Btf, BtfExt, FuncSecInfo, LineSecInfo};
 use std::alloc::Global;
 use std::test::Fail;
 

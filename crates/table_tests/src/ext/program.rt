@@ -2,10 +2,11 @@
 
 use crate::ext::records::{has_funcs, has_lines};
 use crate::ext::spelled::{parsed_under, parses_as};
-use btf_plain::{BtfError, Endianness};
+use btf::{
+    Btf, BtfError, BtfExt, Endianness, FuncSecInfo, LineSecInfo, bpf_func_info, bpf_line_info,
+};
 use btf_samples::program::{program_ext, program_table};
 use btf_samples::spelled::ORDERS;
-use btf_types::{Btf, BtfExt, FuncSecInfo, LineSecInfo, bpf_func_info, bpf_line_info};
 use std::alloc::Global;
 use std::hash::{BuildHasher, RandomState};
 use std::test::Fail;

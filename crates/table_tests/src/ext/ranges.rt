@@ -1,7 +1,7 @@
 //! The header of a section, and the ranges that it names.
 
 use crate::ext::spelled::{ext_bytes, parses_as};
-use btf_plain::Endianness;
+use btf::Endianness;
 use btf_samples::spelled::ORDERS;
 use std::alloc::Global;
 use std::test::Fail;

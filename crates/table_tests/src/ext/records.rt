@@ -1,9 +1,8 @@
 //! The records of functions, of lines and of relocations.
 
 use crate::ext::spelled::parsed_words;
-use btf_plain::Endianness;
+use btf::{BtfExt, Endianness, FuncInfo, FuncSecInfo, LineInfo, LineSecInfo};
 use btf_samples::spelled::{ORDERS, spelled_decimals};
-use btf_types::{BtfExt, FuncInfo, FuncSecInfo, LineInfo, LineSecInfo};
 use std::alloc::Global;
 use std::hash::BuildHasher;
 use std::test::Fail;

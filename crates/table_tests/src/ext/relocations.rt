@@ -1,10 +1,8 @@
 //! The relocations of a section of a program.
 
 use crate::ext::spelled::{ext_bytes, parsed_under};
-use btf_above::relocations_of;
-use btf_plain::{BtfError, Endianness};
+use btf::{Btf, BtfError, BtfExt, Endianness, relocations_of};
 use btf_samples::blobs::table_of;
-use btf_types::{Btf, BtfExt};
 use std::alloc::Global;
 use std::test::Fail;
 

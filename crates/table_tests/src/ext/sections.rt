@@ -1,8 +1,7 @@
 //! The sections of a range of `.BTF.ext`, one by one.
 
-use btf_plain::{BtfError, Endianness};
+use btf::{BtfError, Endianness, SecInfo, SecInfoIter};
 use btf_samples::spelled::{ORDERS, spelled_decimals};
-use btf_types::{SecInfo, SecInfoIter};
 use std::alloc::Global;
 use std::fmt::Write;
 use std::test::Fail;

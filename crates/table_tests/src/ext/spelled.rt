@@ -1,9 +1,8 @@
 //! `.BTF.ext` sections from words, and the results of parsing them.
 
-use btf_plain::{BtfError, Endianness};
+use btf::{Btf, BtfError, BtfExt, Endianness};
 use btf_samples::blobs::front;
 use btf_samples::spelled::{decimals, push_words};
-use btf_types::{Btf, BtfExt};
 use std::alloc::Global;
 use std::test::Fail;
 

@@ -1,10 +1,8 @@
 //! Values of variants, in tables before and after a rewrite.
 
-use btf_above::variant_value;
-use btf_plain::{BtfError, Endianness};
+use btf::{Btf, BtfError, BtfFeatureResolver, Endianness, variant_value};
 use btf_samples::blobs::{parsed, parsed_blob, table_of};
 use btf_samples::spelled::spelled_text;
-use btf_types::{Btf, BtfFeatureResolver};
 use std::alloc::Global;
 use std::collections::HashMap;
 use std::test::Fail;

@@ -4,7 +4,7 @@ use Rattle.std.specs.HashMap.{get_by_text}
 use Rattle.std.specs.Str.{bytes_eq}
 use Rattle.std.proofs.lemmas.Map.Text.{hash_map_updates_text}
 use Rattle.btf_plain.specs.declared.section_index.SectionIndex.{SectionIndex}
-use Rattle.btf_rules.specs.Layout.{sizes_of}
+use Rattle.btf_table.specs.Layout.{sizes_of}
 use Rattle.btf_cli.specs.Settings.{last_set, size_set}
 use Rattle.btf_cli.proofs.Layouts.{next_set, settings_whole, no_section, one_section, section_kept}
 use Rattle.btf_cli.proofs.rewrite.sections.Goals as goal

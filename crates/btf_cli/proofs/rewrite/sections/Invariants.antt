@@ -1,5 +1,5 @@
 use Rattle.std.proofs.Common.{◌≡◌, ℕ, List, take}
-use Rattle.btf_rules.specs.Layout.{sizes_of}
+use Rattle.btf_table.specs.Layout.{sizes_of}
 use Rattle.btf_cli.specs.Setting.{Setting, texts}
 use Rattle.btf_cli.specs.Settings.{SetAll, last_set, size_set}
 use Rattle.btf_cli.proofs.rewrite.sections.Given as goal

@@ -3,7 +3,7 @@ use Rattle.std.specs.Prelude.{if◌then◌else◌, string_bytes}
 use Rattle.std.specs.HashMap.{get_by_text}
 use Rattle.std.specs.Str.{bytes_eq}
 use Rattle.std.proofs.lemmas.Map.Text.{hash_map_updates_text}
-use Rattle.btf_rules.specs.Layout.{offsets_of}
+use Rattle.btf_table.specs.Layout.{offsets_of}
 use Rattle.btf_cli.specs.Settings.{last_set, offset_set}
 use Rattle.btf_cli.proofs.Layouts.{next_set, settings_whole, no_symbol, one_symbol, symbol_kept}
 use Rattle.btf_cli.proofs.rewrite.symbols.Goals as goal

@@ -1,5 +1,5 @@
 use Rattle.std.proofs.Common.{◌≡◌, ℕ, List, take}
-use Rattle.btf_rules.specs.Layout.{offsets_of}
+use Rattle.btf_table.specs.Layout.{offsets_of}
 use Rattle.btf_cli.specs.Setting.{Setting, texts}
 use Rattle.btf_cli.specs.Settings.{SetAll, last_set, offset_set}
 use Rattle.btf_cli.proofs.rewrite.symbols.Given as goal

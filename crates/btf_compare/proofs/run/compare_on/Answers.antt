@@ -6,7 +6,7 @@ use Rattle.btf_plain.specs.declared.error.BtfError.TheVariants.{OutOfMemory}
 use Rattle.btf_compare.specs.declared.frame.Frame.{Frame}
 use Rattle.btf_compare.specs.declared.frame.Place.{Place}
 use Rattle.btf_compare.specs.declared.frame.Place.TheVariants.{Ends, Pending}
-use Rattle.btf_compare.specs.declared.progress.Progress.{Progress}
+use Rattle.btf_compare.specs.declared.entries.Progress.{Progress}
 use Rattle.btf_compare.specs.PairMap.{known, count, Learns}
 use Rattle.btf_compare.specs.Compared.{HasStarted, NextParameterIs, frame_of, passed_in, pending_of, is_progress_open, is_progress_compatible, opened_in, compatible_in, progress_of}
 use Rattle.btf_compare.specs.Pairs.{pair_of}

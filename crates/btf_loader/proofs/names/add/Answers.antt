@@ -1,5 +1,4 @@
-use Rattle.std.proofs.Common.{◌≡◌, ℕ, ◌+◌, ◌∷◌, List, drop, sym, ap, ◌∙◌, subst}
-use Rattle.btf_elf_model.specs.Section.{name_at}
+use Rattle.std.proofs.Common.{◌≡◌, ◌+◌, ◌∷◌, List, drop, sym, subst}
 use Rattle.btf_elf_model.specs.declared.section_header.SectionHeader.{SectionHeader}
 use Rattle.btf_loader.proofs.Indices.{added, no_bytes}
 use Rattle.btf_loader.proofs.names.add.Goals as goal
@@ -14,4 +13,4 @@ pub returns-in_ok-insert : goal.returns-in_ok-insert
 returns-in_ok-insert c =
     added c.args.named.now c.insert.new.self c.args.object.now c.args.index c.header_at-section.result.now c.in-Some.name
     (subst (λ (ss : List SectionHeader). drop c.args.index ss ≡ c.header_at-section.result.now ∷ drop (c.args.index + 1) ss) c.sections.ensures c.header_at-section.ensures)
-    (sym c.if-not-has_bytes.ensures) (c.in-Some.ensures.some.0 ∙ ap (λ (names : List ℕ). name_at names c.header_at-section.result.now.name) c.requires.table) c.in_ok-insert.ensures.updates
+    (sym c.if-not-has_bytes.ensures) c.in-Some.ensures.some.0 c.in_ok-insert.ensures.updates

@@ -1,4 +1,4 @@
-use Rattle.btf_rules.specs.Layout.{layout_of}
+use Rattle.btf_table.specs.Layout.{layout_of}
 use Rattle.btf_object.proofs.Finalizing.{none_final, one_final}
 use Rattle.btf_object.proofs.finalize.finalize.Goals as goal
 

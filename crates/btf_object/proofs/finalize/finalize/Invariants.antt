@@ -1,4 +1,4 @@
-use Rattle.btf_rules.specs.Layout.{layout_of}
+use Rattle.btf_table.specs.Layout.{layout_of}
 use Rattle.btf_object.specs.Finalize.{AreRead}
 use Rattle.btf_object.proofs.Finalizing.{ArePartlyFinal}
 use Rattle.btf_object.proofs.finalize.finalize.Given as goal

@@ -1,4 +1,4 @@
-use Rattle.btf_rules.specs.Layout.{layout_of}
+use Rattle.btf_table.specs.Layout.{layout_of}
 use Rattle.btf_object.proofs.Finalizing.{section_final}
 use Rattle.btf_object.proofs.finalize.finalize_type.Goals as goal
 

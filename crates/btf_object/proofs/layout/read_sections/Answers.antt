@@ -6,7 +6,7 @@ use Rattle.std.proofs.lemmas.Map.Text.{hash_map_updates_text}
 use Rattle.btf_elf_model.specs.Object.{section_name}
 use Rattle.btf_elf_model.specs.declared.section_header.SectionHeader.{SectionHeader}
 use Rattle.btf_object_model.specs.Layout.{last_named}
-use Rattle.btf_rules.specs.Layout.{sizes_of}
+use Rattle.btf_table.specs.Layout.{sizes_of}
 use Rattle.btf_plain.specs.declared.section_index.SectionIndex.{SectionIndex}
 use Rattle.btf_object.specs.Names.{indices_of}
 use Rattle.btf_object.proofs.Named.{section_push, section_pass, section_kept, indexed, last_indexed, index_push, index_pass, index_kept}

@@ -2,7 +2,7 @@ use Rattle.std.proofs.Common.{◌≡◌, ℕ, List, take}
 use Rattle.btf_elf_model.specs.Object.{section_name}
 use Rattle.btf_elf_model.specs.declared.section_header.SectionHeader.{SectionHeader}
 use Rattle.btf_object_model.specs.Layout.{last_named}
-use Rattle.btf_rules.specs.Layout.{sizes_of}
+use Rattle.btf_table.specs.Layout.{sizes_of}
 use Rattle.btf_object.specs.Names.{indices_of}
 use Rattle.btf_object.proofs.Named.{indexed, last_indexed}
 use Rattle.btf_object.proofs.layout.read_sections.Given as goal

@@ -7,7 +7,7 @@ use Rattle.std.proofs.lemmas.Map.Text.{hash_map_updates_text}
 use Rattle.btf_elf_model.specs.Object.{symbols, symbol_name}
 use Rattle.btf_elf_model.specs.declared.symbol.Symbol.{Symbol}
 use Rattle.btf_object_model.specs.Layout.{last_named, is_read}
-use Rattle.btf_rules.specs.Layout.{offsets_of}
+use Rattle.btf_table.specs.Layout.{offsets_of}
 use Rattle.btf_object.proofs.Named.{symbol_push, symbol_pass, symbol_kept}
 use Rattle.btf_object.proofs.layout.read_symbols.Goals as goal
 use Rattle.btf_object.proofs.layout.read_symbols.Goals.{in-Some+in_ok-to_string+in_ok-insert, in_default}

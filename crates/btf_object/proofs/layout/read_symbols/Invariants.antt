@@ -3,7 +3,7 @@ use Rattle.std.specs.List.{filter}
 use Rattle.btf_elf_model.specs.Object.{symbols, symbol_name}
 use Rattle.btf_elf_model.specs.declared.symbol.Symbol.{Symbol}
 use Rattle.btf_object_model.specs.Layout.{last_named, is_read}
-use Rattle.btf_rules.specs.Layout.{offsets_of}
+use Rattle.btf_table.specs.Layout.{offsets_of}
 use Rattle.btf_object.proofs.layout.read_symbols.Given as goal
 
 abbrev pub invariant-loop-index : goal.invariant-loop-index

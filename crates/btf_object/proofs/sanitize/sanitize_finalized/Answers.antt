@@ -6,13 +6,13 @@ use Rattle.btf_object_model.specs.Laws.{KeepsExt}
 use Rattle.btf_object_model.specs.Sanitized.{HasSection, ext_name}
 use Rattle.btf_object_model.specs.SanitizedFinalized.{IsSanitizedFinalized}
 use Rattle.btf_object.specs.Errors.{IsFinalizedCause}
-use Rattle.btf_object.specs.Kernel.{has}
+use Rattle.btf_object.specs.Kernel.{kernel_has}
 use Rattle.btf_object.proofs.Objects.{of_bytes}
 use Rattle.btf_object.proofs.sanitize.sanitize_finalized.Goals as goal
 
 pub returns-clause-sanitized : goal.returns-clause-sanitized
 returns-clause-sanitized g c =
-    of_bytes (λ (b : List ℕ). IfOk c.sanitize_parsed_finalized.result (λ r. IsSanitizedFinalized b (has c.args.kernel.now) r.0.items r.1.items)) c.args.bytes.now c.in_ok-object.object c.in_ok-object.ensures c.sanitize_parsed_finalized.ensures.sanitized
+    of_bytes (λ (b : List ℕ). IfOk c.sanitize_parsed_finalized.result (λ r. IsSanitizedFinalized b (kernel_has c.args.kernel.now) r.0.items r.1.items)) c.args.bytes.now c.in_ok-object.object c.in_ok-object.ensures c.sanitize_parsed_finalized.ensures.sanitized
 
 pub returns-clause-ext : goal.returns-clause-ext
 returns-clause-ext g c =
@@ -21,4 +21,4 @@ returns-clause-ext g c =
 
 pub returns-clause-refused : goal.returns-clause-refused
 returns-clause-refused g c =
-    of_bytes (λ (b : List ℕ). IfErr c.sanitize_parsed_finalized.result (IsFinalizedCause b (has c.args.kernel.now))) c.args.bytes.now c.in_ok-object.object c.in_ok-object.ensures c.sanitize_parsed_finalized.ensures.refused
+    of_bytes (λ (b : List ℕ). IfErr c.sanitize_parsed_finalized.result (IsFinalizedCause b (kernel_has c.args.kernel.now))) c.args.bytes.now c.in_ok-object.object c.in_ok-object.ensures c.sanitize_parsed_finalized.ensures.refused

@@ -6,7 +6,7 @@ use Rattle.btf_model.specs.Table.{Table, strip}
 use Rattle.btf_model.specs.declared.endianness.Endianness.{Endianness}
 use Rattle.btf_model.proofs.Comparisons.{same_ok}
 use Rattle.btf_elf_model.specs.declared.file_header.FileHeader.{FileHeader}
-use Rattle.btf_rules.specs.Layout.{layout_of}
+use Rattle.btf_table.specs.Layout.{layout_of}
 use Rattle.btf_object.specs.Errors.{target_of}
 use Rattle.btf_object.proofs.Rewrites.{rewrites_so, refuses_so, passed_on}
 use Rattle.btf_object.proofs.table.rewritten.Given.{Over}

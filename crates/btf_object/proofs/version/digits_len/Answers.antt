@@ -2,7 +2,7 @@ use Rattle.std.proofs.Common.{◌≡◌, ℕ, List, None, ap, sym, ◌∙◌}
 use Rattle.std.specs.Prelude.{position, length}
 use Rattle.std.specs.List.{position_or_len}
 use Rattle.btf_object.specs.Kernel.{is_other}
-use Rattle.btf_object.proofs.Versions.{none_or_len}
+use Rattle.btf_elf.proofs.ShortNames.{none_or_len}
 use Rattle.btf_object.proofs.version.digits_len.Goals as goal
 
 pub returns-in-None : goal.returns-in-None

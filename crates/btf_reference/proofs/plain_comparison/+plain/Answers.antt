@@ -2,8 +2,8 @@ use Rattle.std.proofs.Common.{◌-◌, sym, ap, subst, ◌∙◌, map, arith, Ok
 use Rattle.std.proofs.lemmas.Bool.{false≢true}
 use Rattle.btf_model.specs.Compat.{Plain, ComparedInOrder, pairs}
 use Rattle.btf_plain.specs.declared.error.BtfError.{BtfError}
-use Rattle.btf_types.specs.Pairs.{pair_of}
-use Rattle.btf_types.specs.Compared.{types_of}
+use Rattle.btf.specs.Pairs.{pair_of}
+use Rattle.btf.specs.Compared.{types_of}
 use Rattle.btf_reference.specs.PlainComparison.{AreStarted, Lists}
 use Rattle.btf_reference.proofs.PlainComparison.{ok_more, again_lists, unknown_lists, differing_lists, walk_lists, deep_lists, decided_lists, on_lists, compared_walk_lists, not_compatible_walk_lists, all_compared_lists, unresolved_lists, next_lists, other_lists, pending_first, none_pending, none_pending_there}
 use Rattle.btf_reference.proofs.plain_comparison.+plain.Goals as goal

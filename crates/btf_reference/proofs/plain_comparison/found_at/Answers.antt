@@ -1,7 +1,7 @@
 use Rattle.btf_compare.proofs.Positions.{no_local_type, no_target_type}
 use Rattle.btf_reference.proofs.PlainComparison.{found_at_ends}
 use Rattle.btf_reference.proofs.plain_comparison.found_at.Goals as goal
-use Rattle.btf_types.specs.Pairs.{pair_of}
+use Rattle.btf.specs.Pairs.{pair_of}
 
 pub returns-in-Err : goal.returns-in-Err
 returns-in-Err c = (c.in-Err.ensures.0, c.in-Err.ensures.1, no_local_type c.args.local.now c.args.target.now (pair_of c.args.at) c.in-Err.ensures.0 c.in-Err.ensures.2)

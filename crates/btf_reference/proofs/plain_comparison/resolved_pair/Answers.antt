@@ -1,6 +1,6 @@
 use Rattle.std.proofs.Common.{inr}
 use Rattle.btf_model.specs.Compat.{ResolvesPair}
-use Rattle.btf_types.specs.Pairs.{pair_of}
+use Rattle.btf.specs.Pairs.{pair_of}
 use Rattle.btf_reference.proofs.PlainComparison.{decided_err}
 use Rattle.btf_reference.proofs.plain_comparison.resolved_pair.Goals as goal
 

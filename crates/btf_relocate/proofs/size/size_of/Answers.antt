@@ -15,13 +15,13 @@ returns-in-Bytes c =
     let at : Elements = record { count = c.loop.count; type = c.loop.id } in
     c.ok_or.ensures.value
     ∙ bytes_end c.args.pointer_size c.args.table.now c.args.type_id c.loop.counter at c.in-Bytes.bytes c.checked_mul.result c.loop-test.true c.loop.invariant
-    (found_extent c.args.pointer_size c.args.table.now at (record_of c.in-Ok.btf_type.now) (Bytes c.in-Bytes.bytes) c.in-Ok.ensures.0 c.in-Bytes.ensures) c.checked_mul.ensures
+    (found_extent c.args.pointer_size c.args.table.now at (record_of c.in-Ok.btf_type.now) (Bytes c.in-Bytes.bytes) c.in-Ok.ensures.record_is c.in-Bytes.ensures) c.checked_mul.ensures
 
 pub returns-in-Nothing : goal.returns-in-Nothing
 returns-in-Nothing c =
     let at : Elements = record { count = c.loop.count; type = c.loop.id } in
     no_extent c.args.pointer_size c.args.table.now c.args.type_id c.loop.counter at c.loop-test.true c.loop.invariant
-    (found_extent c.args.pointer_size c.args.table.now at (record_of c.in-Ok.btf_type.now) NoExtent c.in-Ok.ensures.0 c.in-Nothing.ensures)
+    (found_extent c.args.pointer_size c.args.table.now at (record_of c.in-Ok.btf_type.now) NoExtent c.in-Ok.ensures.record_is c.in-Nothing.ensures)
 
 pub returns : goal.returns
 returns c =
@@ -32,7 +32,7 @@ pub returns-in_default-checked_mul : goal.returns-in_default-checked_mul
 returns-in_default-checked_mul c =
     let at : Elements = record { count = c.loop.count; type = c.loop.id } in
     too_many c.args.pointer_size c.args.table.now c.args.type_id c.loop.counter at c.in-Times.times c.in-Times.next c.loop-test.true c.loop.invariant
-    (found_extent c.args.pointer_size c.args.table.now at (record_of c.in-Ok.btf_type.now) (Times c.in-Times.times c.in-Times.next) c.in-Ok.ensures.0 c.in-Times.ensures) c.in_default-checked_mul.ensures
+    (found_extent c.args.pointer_size c.args.table.now at (record_of c.in-Ok.btf_type.now) (Times c.in-Times.times c.in-Times.next) c.in-Ok.ensures.record_is c.in-Times.ensures) c.in_default-checked_mul.ensures
 
 pub loop-preserved : goal.loop-preserved
 loop-preserved c =
@@ -40,4 +40,4 @@ loop-preserved c =
     let t = c.args.table.now in
     ap (λ (n : ℕ). walk (find c.args.pointer_size t) (walk_limit - (c.loop.counter + 1)) (record { count = n; type = c.in-Times.next })) c.in-Some.ensures.1
     ∙ goes_on c.args.pointer_size t c.args.type_id c.loop.counter at c.in-Times.times c.in-Times.next c.loop-test.true c.loop.invariant
-    (found_extent c.args.pointer_size t at (record_of c.in-Ok.btf_type.now) (Times c.in-Times.times c.in-Times.next) c.in-Ok.ensures.0 c.in-Times.ensures) c.in-Some.ensures.0
+    (found_extent c.args.pointer_size t at (record_of c.in-Ok.btf_type.now) (Times c.in-Times.times c.in-Times.next) c.in-Ok.ensures.record_is c.in-Times.ensures) c.in-Some.ensures.0

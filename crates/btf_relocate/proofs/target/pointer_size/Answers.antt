@@ -17,7 +17,7 @@ returns-then-any c =
     let named : list_any (bytes_eq name) long_names ≡ true = sym any ∙ c.if-any.true in
     let long : is_long c.args.table.now r ≡ true = search rules in
     let size : c.size-size.result ≡ r.third = search rules in
-    size ∙ this_size c.args.table.now c.loop-type_id.type_id r c.in-Ok.ensures.0 c.loop-type_id.invariant long
+    size ∙ this_size c.args.table.now c.loop-type_id.type_id r c.in-Ok.ensures.record_is c.loop-type_id.invariant long
 
 pub loop-type_id-preserved : goal.loop-type_id-preserved
 loop-type_id-preserved c =
@@ -33,4 +33,4 @@ loop-type_id-preserved c =
       ]
       | in_default-btf_type w ↦ search rules
     ] in
-    no_long c.args.table.now c.loop-type_id.type_id r c.in-Ok.ensures.0 c.loop-type_id.invariant other
+    no_long c.args.table.now c.loop-type_id.type_id r c.in-Ok.ensures.record_is c.loop-type_id.invariant other

@@ -2,9 +2,9 @@ use Rattle.btf_model.specs.Refusal.{Refusal}
 use Rattle.btf_model.specs.Blob.{IsTable}
 use Rattle.btf_model.specs.Table.{Table, strip}
 use Rattle.btf_model.proofs.Comparisons.{same_ok}
-use Rattle.btf_rules.specs.Layout.{layout_of}
+use Rattle.btf_table.specs.Layout.{layout_of}
 use Rattle.btf_table.specs.PassStep.{under}
-use Rattle.btf_table.specs.Rewrites.{NeedsAreGranted, KeepsSizes, KeepsResolutions, AppendsAtMost, OfTables}
+use Rattle.btf_table.specs.Rewrites.{NeedsAreGranted, KeepsTypes, OfTables}
 use Rattle.btf_table.proofs.Rewriting.{written_again, of_tables}
 use Rattle.btf_table.proofs.sanitize.rewrite_bytes_with.Given.{Over}
 use Rattle.btf_table.proofs.sanitize.rewrite_bytes_with.Goals as goal
@@ -14,7 +14,7 @@ module _ (g : Over) (c : In_ok-to_bytes g) where
   -- the written bytes represent the new table
   written_is : IsTable c.args.endianness c.in_ok-to_bytes.field-0.items (strip c.fixup_and_sanitize_with.new.self)
   written_is =
-      written_again c.args.endianness c.args.data.now c.in_ok-to_bytes.field-0.items c.in_ok-btf.btf c.fixup_and_sanitize_with.new.self c.args.ksyms (under c.args.policy (layout_of c.args.sections.now c.args.symbols.now)) c.fixup_and_sanitize_with.new.resolver.1
+      written_again c.args.endianness c.args.data.now c.in_ok-to_bytes.field-0.items c.in_ok-btf.btf c.fixup_and_sanitize_with.new.self c.args.ksyms (under c.args.policy (layout_of c.args.sections.now c.args.symbols.now)) c.fixup_and_sanitize_with.new.resolver.answers
       c.in_ok-btf.ensures.parsed c.in_ok-answers.ensures.rewrites.0 c.in_ok-to_bytes.ensures.parses_back
 
   -- a fact about both tables holds for the tables that the bytes represent
@@ -27,13 +27,9 @@ returns-clause-rewrites g c =
     (c.in_ok-btf.btf, c.fixup_and_sanitize_with.new.self, c.in_ok-btf.ensures.parsed, h.0, h.1, same_ok {E = Refusal} c.in_ok-to_bytes.field-0.items _ c.in_ok-to_bytes.ensures.written, written_is g (goal.at.returns-clause-rewrites g c).In_ok-to_bytes)
 
 pub returns-clause-granted : goal.returns-clause-granted
-returns-clause-granted g c = of_bytes g (goal.at.returns-clause-granted g c).In_ok-to_bytes (λ old new. NeedsAreGranted c.args.policy old c.args.ksyms c.fixup_and_sanitize_with.new.resolver.1 new) c.in_ok-answers.ensures.granted
+returns-clause-granted g c = of_bytes g (goal.at.returns-clause-granted g c).In_ok-to_bytes (λ old new. NeedsAreGranted c.args.policy old c.args.ksyms c.fixup_and_sanitize_with.new.resolver.answers new) c.in_ok-answers.ensures.granted
 
-pub returns-clause-sizes : goal.returns-clause-sizes
-returns-clause-sizes g c = of_bytes g (goal.at.returns-clause-sizes g c).In_ok-to_bytes KeepsSizes c.in_ok-answers.ensures.sizes
-
-pub returns-clause-resolutions : goal.returns-clause-resolutions
-returns-clause-resolutions g c = of_bytes g (goal.at.returns-clause-resolutions g c).In_ok-to_bytes KeepsResolutions c.in_ok-answers.ensures.resolutions
-
-pub returns-clause-appended : goal.returns-clause-appended
-returns-clause-appended g c = of_bytes g (goal.at.returns-clause-appended g c).In_ok-to_bytes (AppendsAtMost 4) c.in_ok-answers.ensures.appended
+pub returns-clause-kept : goal.returns-clause-kept
+returns-clause-kept g c =
+    let types = c.in_ok-answers.ensures.kept.types in
+    of_bytes g (goal.at.returns-clause-kept g c).In_ok-to_bytes KeepsTypes (record { sizes = types.sizes; resolutions = types.resolutions; appended = types.appended })

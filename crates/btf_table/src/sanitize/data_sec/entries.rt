@@ -12,17 +12,17 @@ ghost use Rattle.btf_rewrite_model.specs.Rule.{entry_members, placed};
 ghost use Rattle.btf_rewrite_model.specs.Fault.{member_checks, entry_checks, is_placed};
 ghost use Rattle.btf_plain.specs.Error.{IsOrNoMemory};
 ghost use Rattle.btf_plain.specs.Items.{member_words};
-ghost use Rattle.btf_rules.specs.Checked.{checked};
+ghost use Rattle.btf_table.specs.Checked.{checked};
 ghost use Rattle.btf_table.specs.KsymsStep.{entry as entry_of};
-ghost use Rattle.btf_rules.specs.Layout.{offsets_of};
+ghost use Rattle.btf_table.specs.Layout.{offsets_of};
 ghost use Rattle.btf_table.specs.ReadNames.{AreFound};
 ghost use Rattle.btf_table.specs.Readable.{IsReadableEnd};
 
+use crate::sanitize::data_sec::layout::known_offset;
 use crate::sanitize::read_names::LONG_NAME;
 use crate::table::Btf;
 use btf_plain::{BtfError, VarLinkage};
 use btf_records::{BtfMember, BtfType, DataSec, DataSecEntry};
-use btf_rules::known_offset;
 use std::collections::{BTreeMap, HashMap};
 use std::hash::BuildHasher;
 

@@ -1,34 +1,24 @@
 //! The names that DATASECs get in a rewrite.
 
-ghost use Rattle.std.specs.Prelude.{◌≡◌, ◌↔◌, [], ◌∷◌, Some, OnOk, IsTrue};
+ghost use Rattle.std.specs.Prelude.{◌≡◌, ◌↔◌, if◌then◌else◌, [], ◌∷◌, Some, IfOk, OnOk, IsTrue, string_bytes};
 ghost use Rattle.std.specs.BTreeMap.{get};
 ghost use Rattle.std.specs.Ordering.{nat_cmp};
 ghost use Rattle.btf_rewrite_model.specs.declared.feature.BtfFeature.TheVariants as features;
 ghost use Rattle.btf_model.specs.Text.{text_at};
 ghost use Rattle.btf_rewrite_model.specs.Checks.{first_fault, is_read, have_room};
-ghost use Rattle.btf_rewrite_model.specs.Pass.{Pass, has, renaming};
+ghost use Rattle.btf_rewrite_model.specs.Pass.{Pass, has, renaming, replaced, slash, dot, underscore};
 ghost use Rattle.btf_rewrite_model.specs.Rule.{name_or};
 ghost use Rattle.btf_plain.specs.Error.{IsOrNoMemory};
 ghost use Rattle.btf_table.specs.Adding.{strings_end, HasRoom, Adds};
-ghost use Rattle.btf_rules.specs.Checked.{checked};
+ghost use Rattle.btf_table.specs.Checked.{checked};
 ghost use Rattle.btf_table.specs.ReadNames.{AreUnchanged};
 
 use crate::sanitize::read_names::LONG_NAME;
 use crate::table::{Btf, Changes};
 use btf_plain::BtfError;
 use btf_records::DataSec;
-use btf_rules::section_name;
+use std::alloc::{AllocError, Global};
 use std::collections::BTreeMap;
-
-/// Whether the cache records that a DATASEC retains the name at this offset, on a kernel that has DATASECs or has none.
-fn is_kept(kept: &BTreeMap<u32, bool>, offset: u32, granted: bool) -> bool
-    ensures { IsTrue result ↔ (get nat_cmp kept.now offset ≡ Some granted) }
-{
-    match kept.get(&offset) {
-        Some(known) => *known == granted,
-        None => false,
-    }
-}
 
 /// The string offset of the new name of a DATASEC. On a kernel that has DATASECs, `.` replaces each `/`; otherwise the
 /// DATASEC becomes a STRUCT, and `_` replaces each `.`. A text is appended only if the name changes. `kept` caches long
@@ -69,4 +59,27 @@ pub fn new_name(
         return Ok(offset);
     }
     changes.append_text(btf, renamed.as_str())
+}
+
+/// Whether the cache records that a DATASEC retains the name at this offset, on a kernel that has DATASECs or has none.
+fn is_kept(kept: &BTreeMap<u32, bool>, offset: u32, granted: bool) -> bool
+    ensures { IsTrue result ↔ (get nat_cmp kept.now offset ≡ Some granted) }
+{
+    match kept.get(&offset) {
+        Some(known) => *known == granted,
+        None => false,
+    }
+}
+
+/// The new name of a DATASEC of this name. On a kernel that has DATASECs, `.` replaces each `/`, because kernels refuse
+/// `/` there. Otherwise the DATASEC becomes a STRUCT, and `_` replaces each `.`, because no C name has a `.`.
+fn section_name(alloc: Global, name: &str, granted: bool) -> Result<String, AllocError>
+    ensures { IfOk result (λ text. string_bytes text ≡ if granted then replaced slash dot name.now
+        else replaced dot underscore name.now) }
+{
+    if granted {
+        name.replace(alloc, '/', ".")
+    } else {
+        name.replace(alloc, '.', "_")
+    }
 }

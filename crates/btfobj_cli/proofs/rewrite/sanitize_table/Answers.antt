@@ -6,13 +6,15 @@ use Rattle.btf_model.proofs.Comparisons.{same_ok}
 use Rattle.btf_rewrite_model.specs.Pass.{Layout, Asked}
 use Rattle.btf_rewrite_model.specs.Rewritten.{Rewritten, pass_of}
 use Rattle.btf_rewrite_model.proofs.Kernels.{rewritten_alike}
-use Rattle.btf_rules.specs.Layout.{layout_of}
+use Rattle.btf_table.specs.Features.{Resolver}
+use Rattle.btf_table.specs.Layout.{layout_of}
 use Rattle.btf_table.specs.PassStep.{under}
 use Rattle.btf_table.specs.Rewrites.{features_asked}
 use Rattle.btf_table.proofs.Rewriting.{written_again}
-use Rattle.btf_object_model.specs.Kernel.{answers_of}
+use Rattle.btf_rewrite_model.specs.FeatureSet.{answers_of}
 use Rattle.btf_object_model.specs.Sanitized.{Target}
-use Rattle.btf_object.proofs.Kernels.{AreOfKernel, all_of_kernel, kernel_agrees}
+use Rattle.btf_rewrite_model.proofs.FeatureSet.{AreOfKernel, kernel_agrees}
+use Rattle.btf_object.proofs.Kernels.{all_of_kernel}
 use Rattle.btf_object.proofs.Named.{layouts_alike}
 use Rattle.btfobj_cli.specs.Rewrite.{chosen_target, no_layout}
 use Rattle.btfobj_cli.proofs.rewrite.sanitize_table.Goals as goal
@@ -21,11 +23,11 @@ pub returns : goal.returns
 returns c =
     let target : Target = chosen_target c.args.rewrite.now in
     let call = c.fixup_and_sanitize_with in
-    let answers = call.new.resolver.1 in
+    let answers = call.new.resolver.answers in
     let layout : Layout = layout_of c.no_sections-sections.result c.no_symbols-symbols.result in
     let same : layout ≡ no_layout = layouts_alike layout no_layout c.no_sections-sections.ensures c.no_symbols-symbols.ensures in
-    let before = ap (λ r. r.0.0.now) c.new-resolver.ensures in
-    let are : AreOfKernel target.has answers = all_of_kernel _ target.has (λ f. f.0.now ≡ c.args.rewrite.now.kernel) (λ f g feature granted is s. (search rules, search rules)) c.new-resolver.result.0 answers call.new.resolver.0 before call.ensures.called in
+    let before = ap (λ (r : Resolver _). r.predicate.0.now) c.new-resolver.ensures in
+    let are : AreOfKernel target.has answers = all_of_kernel _ target.has (λ f. f.0.now ≡ c.args.rewrite.now.kernel) (λ f g feature granted is s. (search rules, search rules)) c.new-resolver.result.predicate answers call.new.resolver.predicate before call.ensures.called in
     let Known : Layout → Type 0 = λ l. Rewritten target.policy c.args.table c.in_ok-ids.ids l answers call.new.self × (features_asked answers ≡ Asked (pass_of target.policy c.args.table c.in_ok-ids.ids l answers)) in
     let known : Known no_layout = subst Known same c.in_ok-answers.ensures.rewrites in
     let new : Table = call.new.self in

@@ -9,7 +9,7 @@ use Rattle.btf_plain.proofs.Refused.{handed_on}
 use Rattle.btf_plain.specs.Kind as kinds
 use Rattle.btf_records.specs.BtfType.{record_of}
 use Rattle.btf_table.proofs.Names.{record_at}
-use Rattle.vbtf.specs.Finding.{FindsFrom, IsFound}
+use Rattle.vbtf.specs.Finding.{FindsFrom, IsSought}
 use Rattle.vbtf.proofs.Search.{skipped_more}
 use Rattle.vbtf.proofs.find.find_from.Goals as goal
 
@@ -34,7 +34,7 @@ returns-then-branch c =
     let few : c.loop-id.id < length types = omega (arith, c.loop-id-test.true, c.loop-id.auto.id-end, c.type_count-id-end.ensures, ap length records, length-map types record_of) in
     let there : slice_get c.args.table.now.records c.loop-id.id ≡ Some (record_of t) =
     ap (λ (rs : List Record). slice_get rs c.loop-id.id) (sym records) ∙ record_at types c.loop-id.id t few c.index-types-id.is in
-    let found = subst (λ (same : Bool). IsFound c.args.table.now.strings (option_map kinds.kind c.args.wanted) c.args.name.now (record_of t) (Ok same)) c.if-branch.true c.in_ok-has_kind_and_name.ensures in
+    let found = subst (λ (same : Bool). IsSought c.args.table.now.strings (option_map kinds.kind c.args.wanted) c.args.name.now (record_of t) (Ok same)) c.if-branch.true c.in_ok-has_kind_and_name.ensures in
     (record_of t, (i.from, i.skipped, there, found.0), found.1)
 
 pub loop-id-preserved : goal.loop-id-preserved
@@ -47,7 +47,7 @@ loop-id-preserved c =
     record {
       from = omega (arith, i.from);
       skipped = skipped_more c.args.table.now.strings c.args.table.now.records (option_map kinds.kind c.args.wanted) c.args.name.now c.args.first c.loop-id.id (record_of t) i.skipped there
-          (subst (λ (same : Bool). IsFound c.args.table.now.strings (option_map kinds.kind c.args.wanted) c.args.name.now (record_of t) (Ok same)) c.if-branch.false c.in_ok-has_kind_and_name.ensures);
+          (subst (λ (same : Bool). IsSought c.args.table.now.strings (option_map kinds.kind c.args.wanted) c.args.name.now (record_of t) (Ok same)) c.if-branch.false c.in_ok-has_kind_and_name.ensures);
     }
 
 pub returns : goal.returns

@@ -12,11 +12,11 @@ pub returns-in-DataSec : goal.returns-in-DataSec
 returns-in-DataSec c =
     let t = c.in-DataSec.t in let xs = c.entries.result.now in
     listed entries c.args.table.now.records c.args.id c.in_ok-t.field-0.now (types.DataSec t) (entries_in t.tail) _ c.args.out.now c.fill_forms.new.out c.fill_forms.result
-    c.in_ok-t.ensures.0 c.in_ok-t.ensures.2 c.in-DataSec.is refl
+    c.in_ok-t.ensures.record_is c.in_ok-t.ensures.kind_is c.in-DataSec.is refl
     (ap entries_in c.entries.ensures.words ∙ entries_listed xs)
     c.fill_forms.ensures
 
 pub returns-in_default : goal.returns-in_default
 returns-in_default c =
-    unexpected entries c.args.table.now.records c.args.id c.in_ok-t.field-0.now c.args.out.now c.in_ok-t.ensures.0 c.in_ok-t.ensures.2
+    unexpected entries c.args.table.now.records c.args.id c.in_ok-t.field-0.now c.args.out.now c.in_ok-t.ensures.record_is c.in_ok-t.ensures.kind_is
     (no_entries c.in_ok-t.field-0.now c.in_default.not-DataSec)

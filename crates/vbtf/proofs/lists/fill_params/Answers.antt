@@ -12,11 +12,11 @@ pub returns-in-FuncProto : goal.returns-in-FuncProto
 returns-in-FuncProto c =
     let t = c.in-FuncProto.t in let xs = c.params.result.now in
     listed params c.args.table.now.records c.args.id c.in_ok-t.field-0.now (types.FuncProto t) (params_in t.tail) _ c.args.out.now c.fill_forms.new.out c.fill_forms.result
-    c.in_ok-t.ensures.0 c.in_ok-t.ensures.2 c.in-FuncProto.is refl
+    c.in_ok-t.ensures.record_is c.in_ok-t.ensures.kind_is c.in-FuncProto.is refl
     (ap params_in c.params.ensures.words ∙ params_listed xs)
     c.fill_forms.ensures
 
 pub returns-in_default : goal.returns-in_default
 returns-in_default c =
-    unexpected params c.args.table.now.records c.args.id c.in_ok-t.field-0.now c.args.out.now c.in_ok-t.ensures.0 c.in_ok-t.ensures.2
+    unexpected params c.args.table.now.records c.args.id c.in_ok-t.field-0.now c.args.out.now c.in_ok-t.ensures.record_is c.in_ok-t.ensures.kind_is
     (no_params c.in_ok-t.field-0.now c.in_default.not-FuncProto)

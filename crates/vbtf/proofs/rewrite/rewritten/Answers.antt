@@ -3,21 +3,22 @@ use Rattle.btf_rewrite_model.specs.Rewritten.{pass_of}
 use Rattle.btf_rewrite_model.specs.declared.feature.FeatureAnswer.{FeatureAnswer}
 use Rattle.btf_rewrite_model.specs.declared.feature.FillPolicy.{FillPolicy}
 use Rattle.btf_rewrite_model.specs.declared.ksyms_ids.KsymsIds.{KsymsIds}
+use Rattle.btf_table.specs.Features.{Resolver}
 use Rattle.btf_table.specs.PassStep.{BeginsAsked}
-use Rattle.btf_types.specs.Layout.{layout_of}
+use Rattle.btf.specs.Layout.{layout_of}
 use Rattle.btf_plain.specs.Error.{MeetsOrNoMemory}
-use Rattle.vbtf.specs.Kernel.{AreOf, ListsAnswers, RewritesFor, policy_chosen, ids_chosen}
+use Rattle.vbtf.specs.Kernel.{AreAnswersOf, ListsAnswers, RewritesForKernel, policy_chosen, ids_chosen}
 use Rattle.vbtf.proofs.Kernels.{all_of, few_answers, for_kernel, granted_for}
 use Rattle.vbtf.proofs.rewrite.rewritten.Goals as goal
 use Rattle.vbtf.proofs.rewrite.rewritten.Goals.{After-fixup_and_sanitize_with-answers}
 
 -- each answer is the kernel's bit
-of_kernel : (c : After-fixup_and_sanitize_with-answers) → AreOf c.args.kernel.now.features c.fixup_and_sanitize_with-answers.new.resolver.1
+of_kernel : (c : After-fixup_and_sanitize_with-answers) → AreAnswersOf c.args.kernel.now.features c.fixup_and_sanitize_with-answers.new.resolver.answers
 of_kernel c =
     let kernel = c.args.kernel.now in
     let call = c.fixup_and_sanitize_with-answers in
-    let before = ap (λ r. r.0.0.now) c.new-resolver.ensures in
-    all_of _ kernel.features (λ f. f.0.now ≡ kernel) (λ f g feature granted is s. (search rules, search rules)) c.new-resolver.result.0 call.new.resolver.1 call.new.resolver.0 before call.ensures.called
+    let before = ap (λ (r : Resolver _). r.predicate.0.now) c.new-resolver.ensures in
+    all_of _ kernel.features (λ f. f.0.now ≡ kernel) (λ f g feature granted is s. (search rules, search rules)) c.new-resolver.result.predicate call.new.resolver.answers call.new.resolver.predicate before call.ensures.called
 
 pub list-requires : goal.list-requires
 list-requires c = few_answers _ c.answers.ensures.distinct
@@ -27,7 +28,7 @@ returns-clause-asked c =
     let kernel = c.args.kernel.now in
     let call = c.fixup_and_sanitize_with-answers in
     let layout = layout_of c.args.program.now.sections c.args.program.now.symbols in
-    let answers : List FeatureAnswer = call.new.resolver.1 in (
+    let answers : List FeatureAnswer = call.new.resolver.answers in (
       answers,
       subst (λ (xs : List FeatureAnswer). ListsAnswers c.list.new.self xs) c.answers.ensures.answers c.list.ensures,
       of_kernel (goal.at.returns-clause-asked c).After-fixup_and_sanitize_with-answers,
@@ -41,12 +42,12 @@ returns-clause-rewrites c =
     let call = c.fixup_and_sanitize_with-answers in
     let layout = layout_of c.args.program.now.sections c.args.program.now.symbols in
     let of = of_kernel (goal.at.returns-clause-rewrites c).After-fixup_and_sanitize_with-answers in
-    let for = for_kernel kernel.features c.policy-policy.result c.args.btf.now c.ksyms_ids-ids.result layout call.new.self call.new.resolver.1 call.result of call.ensures.answers call.ensures.rewrites in
-    subst (λ ids. MeetsOrNoMemory (λ a. a.items) call.result (RewritesFor kernel.features (policy_chosen kernel) c.args.btf.now ids layout call.new.self)) c.ksyms_ids-ids.ensures
-    (subst (λ policy. MeetsOrNoMemory (λ a. a.items) call.result (RewritesFor kernel.features policy c.args.btf.now c.ksyms_ids-ids.result layout call.new.self)) c.policy-policy.ensures for)
+    let for = for_kernel kernel.features c.policy-policy.result c.args.btf.now c.ksyms_ids-ids.result layout call.new.self call.new.resolver.answers call.result of call.ensures.answers call.ensures.rewrites in
+    subst (λ ids. MeetsOrNoMemory (λ a. a.items) call.result (RewritesForKernel kernel.features (policy_chosen kernel) c.args.btf.now ids layout call.new.self)) c.ksyms_ids-ids.ensures
+    (subst (λ policy. MeetsOrNoMemory (λ a. a.items) call.result (RewritesForKernel kernel.features policy c.args.btf.now c.ksyms_ids-ids.result layout call.new.self)) c.policy-policy.ensures for)
 
 pub returns-clause-granted : goal.returns-clause-granted
 returns-clause-granted c =
     let kernel = c.args.kernel.now in
     let call = c.fixup_and_sanitize_with-answers in
-    granted_for c.policy-policy.result (policy_chosen kernel) c.args.btf.now call.new.self c.ksyms_ids-ids.result (ids_chosen kernel) call.new.resolver.1 call.result c.policy-policy.ensures c.ksyms_ids-ids.ensures call.ensures.answers call.ensures.granted
+    granted_for c.policy-policy.result (policy_chosen kernel) c.args.btf.now call.new.self c.ksyms_ids-ids.result (ids_chosen kernel) call.new.resolver.answers call.result c.policy-policy.ensures c.ksyms_ids-ids.ensures call.ensures.answers call.ensures.granted

@@ -1,15 +1,15 @@
 use Rattle.std.proofs.Common.{◌≡◌, List, Ok, Err, refl, ap, subst, ◌∙◌, inl, inr}
 use Rattle.std.specs.Prelude.{IfSome, None}
 use Rattle.btf_rewrite_model.specs.declared.feature.FeatureAnswer.{FeatureAnswer}
-use Rattle.btf_table.specs.Rewrites.{NeedsAreGranted, KeepsSizes, KeepsResolutions, KeepsValues}
-use Rattle.btf_types.specs.Layout.{layout_of}
+use Rattle.btf_table.specs.Rewrites.{NeedsAreGranted, KeepsMeaning}
+use Rattle.btf.specs.Layout.{layout_of}
 use Rattle.btf_plain.specs.Error.{refusal_of}
 use Rattle.btf_model.specs.Table.{Table}
 use Rattle.btf_rewrite_model.specs.Pass.{Layout}
 use Rattle.btf_rewrite_model.specs.Rewritten.{pass_of}
 use Rattle.btf_table.specs.PassStep.{BeginsAsked}
-use Rattle.vbtf.specs.Kernel.{AreOf, RewritesFor, ListsAnswers, policy_chosen, ids_chosen}
-use Rattle.vbtf.specs.Program.{layout_named, AreReadable}
+use Rattle.vbtf.specs.Kernel.{AreAnswersOf, RewritesForKernel, ListsAnswers, policy_chosen, ids_chosen}
+use Rattle.vbtf.specs.Program.{layout_named, AreReadableEntries}
 use Rattle.vbtf.proofs.Ending.{refused}
 use Rattle.vbtf.proofs.Kernels.{carried, for_handle}
 use Rattle.vbtf.proofs.rewrite.vbtf_raw_rewrite.Goals as goal
@@ -35,23 +35,13 @@ no_index c = ap (λ o. o.index) c.owner.ensures.1 ∙ ap (λ o. o.index) c.deref
 same_layout : (c : After-owner) → layout_of c.in-Ok-Some.program.sections c.in-Ok-Some.program.symbols ≡ layout_named c.args.section_names.now c.args.sections.now c.args.symbol_names.now c.args.symbols.now
 same_layout c = subst (λ o. IfSome o (λ p. layout_of p.sections p.symbols ≡ layout_named c.args.section_names.now c.args.sections.now c.args.symbol_names.now c.args.symbols.now)) c.in-Ok-Some.field-0-is c.in-Ok-Some.ensures.some
 
-readable : (c : After-owner) → AreReadable c.args.section_names.now c.args.sections.now × AreReadable c.args.symbol_names.now c.args.symbols.now
-readable c = subst (λ o. IfSome o (λ _. AreReadable c.args.section_names.now c.args.sections.now × AreReadable c.args.symbol_names.now c.args.symbols.now)) c.in-Ok-Some.field-0-is c.in-Ok-Some.ensures.readable
+readable : (c : After-owner) → AreReadableEntries c.args.section_names.now c.args.sections.now × AreReadableEntries c.args.symbol_names.now c.args.symbols.now
+readable c = subst (λ o. IfSome o (λ _. AreReadableEntries c.args.section_names.now c.args.sections.now × AreReadableEntries c.args.symbol_names.now c.args.symbols.now)) c.in-Ok-Some.field-0-is c.in-Ok-Some.ensures.readable
 
-pub returns-in-Ok-clause-sizes : goal.returns-in-Ok-clause-sizes
-returns-in-Ok-clause-sizes c = λ zero.
-    let w = (goal.at.returns-in-Ok-clause-sizes c).After-owner in
-    carried KeepsSizes _ _ _ _ (same_old w) (same_new w) c.in-Ok.ensures.sizes
-
-pub returns-in-Ok-clause-resolutions : goal.returns-in-Ok-clause-resolutions
-returns-in-Ok-clause-resolutions c = λ zero.
-    let w = (goal.at.returns-in-Ok-clause-resolutions c).After-owner in
-    carried KeepsResolutions _ _ _ _ (same_old w) (same_new w) c.in-Ok.ensures.resolutions
-
-pub returns-in-Ok-clause-values : goal.returns-in-Ok-clause-values
-returns-in-Ok-clause-values c = λ zero.
-    let w = (goal.at.returns-in-Ok-clause-values c).After-owner in
-    carried KeepsValues _ _ _ _ (same_old w) (same_new w) c.in-Ok.ensures.values
+pub returns-in-Ok-clause-kept : goal.returns-in-Ok-clause-kept
+returns-in-Ok-clause-kept c = λ zero.
+    let w = (goal.at.returns-in-Ok-clause-kept c).After-owner in
+    carried KeepsMeaning _ _ _ _ (same_old w) (same_new w) c.in-Ok.ensures.kept
 
 pub returns-in-Ok-clause-granted : goal.returns-in-Ok-clause-granted
 returns-in-Ok-clause-granted c = λ zero.
@@ -64,7 +54,7 @@ returns-in-Ok-clause-granted c = λ zero.
     )
 
 -- the answers that were reported are to the first features that the rewrite of the handle's table asks for
-reported : (c : After-owner) → (listed : List FeatureAnswer) × ListsAnswers c.rewritten-answer.new.asked listed × AreOf c.args.kernel.now.features listed
+reported : (c : After-owner) → (listed : List FeatureAnswer) × ListsAnswers c.rewritten-answer.new.asked listed × AreAnswersOf c.args.kernel.now.features listed
     × BeginsAsked (pass_of (policy_chosen c.args.kernel.now) c.args.table.now.opened.btf (ids_chosen c.args.kernel.now) (layout_named c.args.section_names.now c.args.sections.now c.args.symbol_names.now c.args.symbols.now) listed)
 reported c =
     let kernel = c.args.kernel.now in
@@ -103,7 +93,7 @@ returns-clause-rewritten c = λ owned sections symbols.
     let w = (goal.at.returns-clause-rewritten c).After-owner in
     let kernel = c.args.kernel.now in
     let ended = refused c.report-in-Err-answer.result c.report-in-Err-answer.new.fault (refusal_of c.in-Err-answer.error)
-    (RewritesFor kernel.features (policy_chosen kernel) c.deref_mut.result.now.btf (ids_chosen kernel) (layout_of c.in-Ok-Some.program.sections c.in-Ok-Some.program.symbols) c.rewritten-answer.new.btf)
+    (RewritesForKernel kernel.features (policy_chosen kernel) c.deref_mut.result.now.btf (ids_chosen kernel) (layout_of c.in-Ok-Some.program.sections c.in-Ok-Some.program.symbols) c.rewritten-answer.new.btf)
     c.in-Err-answer.ensures.rewrites c.report-in-Err-answer.ensures in (
       c.owner.ensures.0,
       same_ext w,

@@ -1,6 +1,6 @@
 use Rattle.std.proofs.Common.{sym}
 use Rattle.btf_compare.proofs.EntryLists.{place_found}
-use Rattle.btf_compare.specs.declared.progress.Progress.TheVariants.{Open}
+use Rattle.btf_compare.specs.declared.entries.Progress.TheVariants.{Open}
 use Rattle.btf_compare.proofs.entries.Entries.get.Goals as goal
 
 pub returns-in-Some : goal.returns-in-Some

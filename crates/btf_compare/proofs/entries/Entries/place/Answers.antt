@@ -1,7 +1,7 @@
 use Rattle.std.proofs.Common.{ℕ, sym, ◌∙◌, suc, ◌+◌, arith, ◌≡◌, get_or}
 use Rattle.std.proofs.lemmas.Option.{slice_get-get_or}
-use Rattle.btf_compare.specs.declared.progress.Progress.{Progress}
-use Rattle.btf_compare.specs.declared.progress.Progress.TheVariants.{Open}
+use Rattle.btf_compare.specs.declared.entries.Progress.{Progress}
+use Rattle.btf_compare.specs.declared.entries.Progress.TheVariants.{Open}
 use Rattle.btf_compare.proofs.EntryLists.{ids_eq, none_so_far, place_here}
 use Rattle.btf_compare.proofs.entries.Entries.place.Goals as goal
 

@@ -4,7 +4,7 @@ use Rattle.std.proofs.lemmas.Bool.{false≢true}
 use Rattle.btf_compare.specs.Entries.{IsNoPair, is_ids, values_in}
 use Rattle.btf_compare.specs.PairMap.{known_in}
 use Rattle.btf_compare.specs.PairTable.{Layout}
-use Rattle.btf_compare.specs.declared.progress.Progress.{Progress}
+use Rattle.btf_compare.specs.declared.entries.Progress.{Progress}
 use Rattle.btf_compare.proofs.EntryLists.{list_push}
 use Rattle.btf_compare.proofs.pair_map.PairMap.insert.Goals as goal
 

@@ -2,7 +2,7 @@ use Rattle.std.proofs.Common.{ℕ, ap, sym, ◌∙◌, Option}
 use Rattle.std.specs.Option.{option_or}
 use Rattle.btf_compare.specs.Entries.{values_in}
 use Rattle.btf_compare.specs.Buckets.{bucket_of}
-use Rattle.btf_compare.specs.declared.progress.Progress.{Progress}
+use Rattle.btf_compare.specs.declared.entries.Progress.{Progress}
 use Rattle.btf_compare.proofs.PairTables.{within, value_here}
 use Rattle.btf_compare.proofs.pair_table.PairTable.get.Goals as goal
 

@@ -2,7 +2,7 @@ use Rattle.std.proofs.Common.{◌≡◌, ℕ, ◌+◌, ◌-◌, ◌<◌, [], ◌
 use Rattle.std.specs.Prelude.{cond, if◌then◌else◌}
 use Rattle.std.proofs.lemmas.List.{length-append}
 use Rattle.btf_compare.specs.Entries.{is_ids, values_in}
-use Rattle.btf_compare.specs.declared.progress.Progress.{Progress}
+use Rattle.btf_compare.specs.declared.entries.Progress.{Progress}
 use Rattle.btf_compare.specs.Buckets.{bucket_of}
 use Rattle.btf_compare.specs.PairTable.{HasRoom, count_in, entries_of, layout, value_of}
 use Rattle.btf_compare.proofs.PairTables.{absent, within, takes_more, pushed_sets, pushed_table, pushed_counts, over_sets, over_table, over_counts}

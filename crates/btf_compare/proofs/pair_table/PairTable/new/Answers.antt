@@ -1,7 +1,7 @@
 use Rattle.std.proofs.Common.{◌≡◌, ◌-◌, List, [], ◌∷◌, ◌++◌, map, refl, sym, ap, subst, ◌∙◌, arith, false}
 use Rattle.btf_compare.specs.Entries.{values_in}
-use Rattle.btf_compare.specs.PairTable.{IsTable, TakesMore, entries_of, capacity, held, layout}
-use Rattle.btf_compare.specs.declared.bucket.Bucket.{Bucket}
+use Rattle.btf_compare.specs.PairTable.{IsPairTable, TakesMore, entries_of, capacity, held, layout}
+use Rattle.btf_compare.specs.declared.pair_table.Bucket.{Bucket}
 use Rattle.btf_compare.proofs.pair_table.PairTable.new.Goals as goal
 
 pub invariant_of-result : goal.invariant_of-result
@@ -9,7 +9,7 @@ unfolding held capacity
 invariant_of-result c =
     let first : Bucket = record { entries = c.args.entries; overflows = false } in
     let one : c.push_reserved.new.self.items ≡ first ∷ [] = c.push_reserved.ensures.items ∙ ap (λ (bs : List Bucket). bs ++ first ∷ []) c.in_ok-buckets.ensures.items in
-    subst (λ (bs : List Bucket). IsTable (layout bs 1 c.new.result.entries) × TakesMore (layout bs 1 c.new.result.entries) (16 - c.len-left.result)) (sym one) (
+    subst (λ (bs : List Bucket). IsPairTable (layout bs 1 c.new.result.entries) × TakesMore (layout bs 1 c.new.result.entries) (16 - c.len-left.result)) (sym one) (
       record {
         bits = 0;
         ones = refl;

@@ -1,7 +1,7 @@
 use Rattle.std.proofs.Common.{◌≡◌, ℕ, ◌+◌, ◌-◌, ◌*◌, ◌/◌, List, [], ◌∷◌, ◌++◌, length, get_or, map, set, refl, sym, ap, subst, ◌∙◌, arith, inl, inr}
 use Rattle.std.proofs.lemmas.List.{length-append, length-map, length-set}
-use Rattle.btf_compare.specs.PairTable.{AreShared, IsTable, TakesMore, capacity, count_in, entries_of, layout, value_of}
-use Rattle.btf_compare.specs.declared.bucket.Bucket.{Bucket}
+use Rattle.btf_compare.specs.PairTable.{AreShared, IsPairTable, TakesMore, capacity, count_in, entries_of, layout, value_of}
+use Rattle.btf_compare.specs.declared.pair_table.Bucket.{Bucket}
 use Rattle.btf_compare.proofs.Buckets.{IsNextMask, lt_not}
 use Rattle.btf_compare.proofs.Splits.{half_within, next_within, most, split_values, split_counts, split_table}
 use Rattle.btf_compare.proofs.pair_table.PairTable.split_next.Goals as goal
@@ -72,10 +72,10 @@ module _ (c : After-push_reserved) (long : c.len-many.result ≡ length c.self.i
           ap (λ t. length t.rows) c.self.view_is,
         )
 
-    stays_table : IsTable (layout c.push_reserved.new.self.items next c.self.inside.further.entries)
+    stays_table : IsPairTable (layout c.push_reserved.new.self.items next c.self.inside.further.entries)
     stays_table =
         let t = c.self.inside in
-        subst (λ (bs : List Bucket). IsTable (layout bs next t.further.entries)) (sym (items c))
+        subst (λ (bs : List Bucket). IsPairTable (layout bs next t.further.entries)) (sym (items c))
         (split_table t.buckets.items t.mask t.further.entries c.self.invariant.0 (c.len-many.result - (t.mask / 2 + 1)) from c.index.result.now is c.split-stay.result.0 c.split-stay.result.1 shared c.split-stay.ensures.counts c.split-stay.ensures.stay c.split-stay.ensures.go next masks)
 
     -- the buckets were full, and take some pairs more

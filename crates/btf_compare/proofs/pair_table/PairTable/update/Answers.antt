@@ -3,7 +3,7 @@ use Rattle.std.specs.Prelude.{cond}
 use Rattle.std.proofs.lemmas.Option.{none-some}
 use Rattle.std.proofs.lemmas.Bool.{false≢true}
 use Rattle.btf_compare.specs.Entries.{is_ids, values_in, Sets}
-use Rattle.btf_compare.specs.declared.progress.Progress.{Progress}
+use Rattle.btf_compare.specs.declared.entries.Progress.{Progress}
 use Rattle.btf_compare.specs.Buckets.{bucket_of}
 use Rattle.btf_compare.specs.PairTable.{count_in, entries_of, value_of}
 use Rattle.btf_compare.proofs.PairTables.{set_sets, set_table, set_counts, more_sets, more_table, more_counts, takes_more}

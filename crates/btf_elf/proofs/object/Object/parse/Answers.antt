@@ -4,7 +4,7 @@ use Rattle.btf_elf_model.specs.Section.{sections_of}
 use Rattle.btf_elf_model.specs.Symbols.{symbol_table}
 use Rattle.btf_elf_model.specs.Object.{names_of}
 use Rattle.btf_elf_model.specs.declared.section_header.SectionHeader.{SectionHeader}
-use Rattle.btf_elf.specs.SymbolTable.{IsTable}
+use Rattle.btf_elf.specs.SymbolTable.{IsSymbolTable}
 use Rattle.btf_elf.proofs.Parsing.{refused, parsed, sections_are, symbols_checked}
 use Rattle.btf_elf.proofs.object.Object.parse.Goals as goal
 
@@ -82,5 +82,5 @@ invariant_of-result c = record {
       let q : headers ≡ sections_of bytes = c.as_slice-headers.ensures.value ∙ sections_are bytes h c.in_ok-table.table.now c.in_ok-sections.sections.items p c.in_ok-table.ensures.ok.0 c.in_ok-sections.ensures in
       parsed bytes h headers c.in_ok-sections.sections.items p q c.as_slice-headers.ensures.value (c.in_ok-header.ensures.error, (c.in_ok-check_header.ensures, (c.in_ok-table.ensures.error, (c.in_ok-check_sections.ensures, (c.in_ok-names.ensures.error, (c.in_ok-symbols.ensures.error, ((symbols_checked bytes h headers c.in_ok-symbols.symbols c.in_ok-symbols.ensures.ok _ c.in_ok-check_symbols.ensures), tt)))))));
   names = subst (λ (xs : List SectionHeader). names_of c.in_ok-header.header c.args.bytes.now xs ≡ Some c.in_ok-names.names.now) c.as_slice-headers.ensures.value c.in_ok-names.ensures.ok;
-  symbols = subst (λ (xs : List SectionHeader). IsTable c.args.bytes.now xs (symbol_table xs) c.in_ok-symbols.symbols) c.as_slice-headers.ensures.value c.in_ok-symbols.ensures.ok;
+  symbols = subst (λ (xs : List SectionHeader). IsSymbolTable c.args.bytes.now xs (symbol_table xs) c.in_ok-symbols.symbols) c.as_slice-headers.ensures.value c.in_ok-symbols.ensures.ok;
 }

@@ -17,23 +17,23 @@ returns-in_default-clause-step c = not_there c.args.table.now.records c.args.sel
 pub returns-in-Fixed-clause-step : goal.returns-in-Fixed-clause-step
 returns-in-Fixed-clause-step c =
     Aligns.fixed c.args.self.now.id c.in-Fixed.alignment
-    (known_shape c.args.table.now.records c.args.self.now.id (record_of c.in-Ok.btf_type.now) (Fixed c.in-Fixed.alignment) c.in-Ok.ensures.0 (c.in-Fixed.ensures c.args.self.now.id))
+    (known_shape c.args.table.now.records c.args.self.now.id (record_of c.in-Ok.btf_type.now) (Fixed c.in-Fixed.alignment) c.in-Ok.ensures.record_is (c.in-Fixed.ensures c.args.self.now.id))
 
 pub returns-in-SameAs-clause-step : goal.returns-in-SameAs-clause-step
 returns-in-SameAs-clause-step c =
     subst (λ (s : Step). StepIs c.args.table.now.records c.args.known.now c.args.self.now.id s) (sym c.step_to.ensures)
     (same_step c.args.table.now.records c.args.known.now c.args.self.now.id c.in-SameAs.type_id c.requires.known
-    (known_shape c.args.table.now.records c.args.self.now.id (record_of c.in-Ok.btf_type.now) (SameAs c.in-SameAs.type_id) c.in-Ok.ensures.0 (c.in-SameAs.ensures c.args.self.now.id)))
+    (known_shape c.args.table.now.records c.args.self.now.id (record_of c.in-Ok.btf_type.now) (SameAs c.in-SameAs.type_id) c.in-Ok.ensures.record_is (c.in-SameAs.ensures c.args.self.now.id)))
 
 pub returns-in-Unexpected-clause-step : goal.returns-in-Unexpected-clause-step
 returns-in-Unexpected-clause-step c =
     Aligns.unaligned c.args.self.now.id (UnexpectedBtfType c.args.self.now.id)
-    (known_shape c.args.table.now.records c.args.self.now.id (record_of c.in-Ok.btf_type.now) (Unaligned (UnexpectedBtfType c.args.self.now.id)) c.in-Ok.ensures.0 (c.in-Unexpected.ensures c.args.self.now.id))
+    (known_shape c.args.table.now.records c.args.self.now.id (record_of c.in-Ok.btf_type.now) (Unaligned (UnexpectedBtfType c.args.self.now.id)) c.in-Ok.ensures.record_is (c.in-Unexpected.ensures c.args.self.now.id))
 
 pub loop-member-init : goal.loop-member-init
 loop-member-init c = record {
   shape =
-      known_shape c.args.table.now.records c.args.self.now.id (record_of c.in-Ok.btf_type.now) (Composed c.in-Composed.size (members_of (record_of c.in-Ok.btf_type.now))) c.in-Ok.ensures.0 (c.in-Composed.ensures c.args.self.now.id)
+      known_shape c.args.table.now.records c.args.self.now.id (record_of c.in-Ok.btf_type.now) (Composed c.in-Composed.size (members_of (record_of c.in-Ok.btf_type.now))) c.in-Ok.ensures.record_is (c.in-Composed.ensures c.args.self.now.id)
       ∙ sym c.new-composite.ensures;
   frame = c.requires.frame;
   knows = c.requires.known;

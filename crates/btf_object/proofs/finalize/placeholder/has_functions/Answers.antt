@@ -15,7 +15,7 @@ returns-then-is_function c =
     let one : list_any (λ (e : DataSecEntry). is_func (kind_at c.args.btf.now e.btf_type)) c.entries-entry-items.result.now ≡ true =
     list_any_at (λ (e : DataSecEntry). is_func (kind_at c.args.btf.now e.btf_type)) c.entries-entry-items.result.now c.loop-entry.entry-index zero_entry c.loop-entry-test.true (sym c.is_function.ensures ∙ c.if-is_function.true) in
     sym one
-    ∙ functions_are c.args.btf.now c.in-Some.ids c.in-Ok-DataSec.field-0.now c.in-Ok-DataSec.data_sec c.entries-entry-items.result.now c.in-Ok-DataSec.field-0-is c.in-Ok-DataSec.ensures.0 c.entries-entry-items.ensures.words
+    ∙ functions_are c.args.btf.now c.in-Some.ids c.in-Ok-DataSec.field-0.now c.in-Ok-DataSec.data_sec c.entries-entry-items.result.now c.in-Ok-DataSec.field-0-is c.in-Ok-DataSec.ensures.record_is c.entries-entry-items.ensures.words
     ∙ ap (model.has_functions c.args.btf.now) (sym c.in-Some.is)
 
 pub returns : goal.returns
@@ -23,5 +23,5 @@ returns c =
     let none : list_any (λ (e : DataSecEntry). is_func (kind_at c.args.btf.now e.btf_type)) c.entries-entry-items.result.now ≡ false =
     ap (list_any (λ (e : DataSecEntry). is_func (kind_at c.args.btf.now e.btf_type))) (sym (take_all c.loop-entry.entry-index c.entries-entry-items.result.now c.loop-entry-test.false)) ∙ c.loop-entry.invariant in
     sym none
-    ∙ functions_are c.args.btf.now c.in-Some.ids c.in-Ok-DataSec.field-0.now c.in-Ok-DataSec.data_sec c.entries-entry-items.result.now c.in-Ok-DataSec.field-0-is c.in-Ok-DataSec.ensures.0 c.entries-entry-items.ensures.words
+    ∙ functions_are c.args.btf.now c.in-Some.ids c.in-Ok-DataSec.field-0.now c.in-Ok-DataSec.data_sec c.entries-entry-items.result.now c.in-Ok-DataSec.field-0-is c.in-Ok-DataSec.ensures.record_is c.entries-entry-items.ensures.words
     ∙ ap (model.has_functions c.args.btf.now) (sym c.in-Some.is)

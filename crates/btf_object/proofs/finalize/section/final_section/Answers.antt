@@ -4,7 +4,7 @@ use Rattle.std.proofs.lemmas.List.Sorted.{answers_always}
 use Rattle.btf_model.specs.Record.{Record, vlen}
 use Rattle.btf_plain.specs.Items.{entry_words}
 use Rattle.btf_plain.specs.declared.items.DataSecEntry.{DataSecEntry}
-use Rattle.btf_rules.specs.Layout.{layout_of}
+use Rattle.btf_table.specs.Layout.{layout_of}
 use Rattle.btf_object.proofs.FinalSections.{final_is, entries_len}
 use Rattle.btf_object.proofs.finalize.section.final_section.Goals as goal
 

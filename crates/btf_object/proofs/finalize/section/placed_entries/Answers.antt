@@ -1,5 +1,5 @@
 use Rattle.std.proofs.Common.{sym, ◌∙◌}
-use Rattle.btf_rules.specs.Layout.{layout_of}
+use Rattle.btf_table.specs.Layout.{layout_of}
 use Rattle.btf_object.proofs.FinalSections.{all_placed, not_placed, none_there}
 use Rattle.btf_object.proofs.finalize.section.placed_entries.Goals as goal
 

@@ -1,6 +1,6 @@
 use Rattle.std.proofs.Common.{sym, ap, ◌∙◌}
 use Rattle.std.specs.Option.{option_map}
-use Rattle.btf_rules.specs.Layout.{layout_of}
+use Rattle.btf_table.specs.Layout.{layout_of}
 use Rattle.btf_object.specs.Finalize.{parts_of}
 use Rattle.btf_object.proofs.FinalSections.{own_parts}
 use Rattle.btf_object.proofs.finalize.section.size_and_entries.Goals as goal

@@ -8,6 +8,6 @@ use Rattle.btf_object.proofs.finalize.sized.sizes_of.Goals as goal
 
 pub returns : goal.returns
 returns c =
-    ksyms_sizes c.args.btf.now c.in-Some.ids c.in-Ok-DataSec.field-0.now c.in-Ok-DataSec.data_sec c.entries.result.now c.in_ok-sizes.sizes.items c.in-Ok-DataSec.field-0-is c.in-Ok-DataSec.ensures.0 c.in-Ok-DataSec.ensures.2 c.entries.ensures.words
+    ksyms_sizes c.args.btf.now c.in-Some.ids c.in-Ok-DataSec.field-0.now c.in-Ok-DataSec.data_sec c.entries.result.now c.in_ok-sizes.sizes.items c.in-Ok-DataSec.field-0-is c.in-Ok-DataSec.ensures.record_is c.in-Ok-DataSec.ensures.kind_is c.entries.ensures.words
     c.in_ok-sizes.ensures
     ∙ ap (λ (ids : Option KsymsIds). map data_sec_size (with_ksyms_size c.args.btf.now ids).records) (sym c.in-Some.is)

@@ -1,14 +1,14 @@
 use Rattle.std.proofs.Common.{◌≡◌}
 use Rattle.btf_rewrite_model.specs.declared.feature.BtfFeature.TheVariants.{Func, FuncGlobal, DataSec, DataSecZero, Float, DeclTag, TypeTag, Enum64}
 use Rattle.btf_object_model.specs.Kernel.{has_by_version}
-use Rattle.btf_object.specs.Kernel.{has}
+use Rattle.btf_object.specs.Kernel.{kernel_has}
 use Rattle.btf_object.proofs.kernel.Kernel.of_version.Goals as goal
 
 pub returns-clause-some : goal.returns-clause-some
 returns-clause-some c = (
   c.in_ok-version.version,
   c.in_ok-version.ensures.some,
-  λ f. elim f as (λ g. has _ g ≡ has_by_version c.in_ok-version.version g) [
+  λ f. elim f as (λ g. kernel_has _ g ≡ has_by_version c.in_ok-version.version g) [
     | Func ↦ c.has.ensures
     | FuncGlobal ↦ c.has-2.ensures
     | DataSec ↦ c.has-3.ensures

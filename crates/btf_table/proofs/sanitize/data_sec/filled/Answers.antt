@@ -14,7 +14,7 @@ use Rattle.btf_plain.specs.declared.items.DataSecEntry.{DataSecEntry}
 use Rattle.btf_records.specs.declared.btf_type.BtfType.TheVariants.{DataSec}
 use Rattle.btf_table.specs.PassStep.{pass_on, Rules}
 use Rattle.btf_table.specs.SectionStep.{filled}
-use Rattle.btf_rules.proofs.Checks.{checked_ok, checked_err}
+use Rattle.btf_table.proofs.Checks.{checked_ok, checked_err}
 use Rattle.btf_plain.proofs.Refused.{handed_on, known_refusal}
 use Rattle.btf_table.proofs.SectionRules.{filler_is, filler_fault, growth_fault, filled_ruled}
 use Rattle.btf_table.proofs.sanitize.data_sec.filled.Goals as goal

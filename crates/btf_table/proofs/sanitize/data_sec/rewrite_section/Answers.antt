@@ -15,13 +15,13 @@ use Rattle.btf_rewrite_model.proofs.Passing.{NextAnswers}
 use Rattle.btf_records.specs.declared.btf_type.BtfType.TheVariants.{DataSec}
 use Rattle.btf_table.specs.Adding.{strings_end}
 use Rattle.btf_rewrite_model.specs.Passing.{AreAnswersTo}
-use Rattle.btf_rules.specs.Features.{Asks, Called, IsFurther}
-use Rattle.btf_rules.specs.Layout.{sizes_of}
+use Rattle.btf_table.specs.Features.{Resolver, Asks, Called, IsFurther}
+use Rattle.btf_table.specs.Layout.{sizes_of}
 use Rattle.btf_table.specs.Btf.{IsType}
 use Rattle.btf_table.specs.PassStep.{Given, pass_on, IsHere, AsksUpTo, Rules, Steps}
 use Rattle.btf_table.specs.SectionStep.{HasNewName, final_size, is_fillable, asks_zero}
 use Rattle.btf_table.specs.declared.sanitize.made.Made.{Made}
-use Rattle.btf_rules.proofs.Checks.{checked_err}
+use Rattle.btf_table.proofs.Checks.{checked_err}
 use Rattle.btf_table.proofs.PassAsking.{asks_called, asks_next, asks_further, further_then}
 use Rattle.btf_plain.proofs.Refused.{handed_on, with_fact}
 use Rattle.btf_table.proofs.SectionRules.{zero_further, name_refused, has_new_name, size_refused, size_is, fills_by, asks_by_size, granted_one, asks_some, asks_one, granted_two, asks_two, fills_two, denied_asks, struct_answer, renamed_answer, laid_answer, zero_called}
@@ -46,23 +46,23 @@ module _ (g : Over) (c : After-new_name g) where
   r = c.args.data_sec.now
 
   abbrev one : List FeatureAnswer
-  one = c.is_supported-granted.new.self.1
+  one = c.is_supported-granted.new.self.answers
 
   -- the predicate is called for DataSec, if it is called
-  called_one : (first : g.row.F.Denot) → Called (words g.row.F g.row.G g.row.H g.row.G-Hasher g.row.H-Hasher g.F.FnMut).step first c.args.resolver.now.1 c.args.resolver.now.0 → Called (words g.row.F g.row.G g.row.H g.row.G-Hasher g.row.H-Hasher g.F.FnMut).step first c.is_supported-granted.new.self.1 c.is_supported-granted.new.self.0
+  called_one : (first : g.row.F.Denot) → Called (words g.row.F g.row.G g.row.H g.row.G-Hasher g.row.H-Hasher g.F.FnMut).step first c.args.resolver.now.answers c.args.resolver.now.predicate → Called (words g.row.F g.row.G g.row.H g.row.G-Hasher g.row.H-Hasher g.F.FnMut).step first c.is_supported-granted.new.self.answers c.is_supported-granted.new.self.predicate
   called_one first = asks_called _ first features.DataSec c.args.resolver.now c.is_supported-granted.new.self c.is_supported-granted.result c.is_supported-granted.ensures.asks
 
   -- its answers are the earlier answers, and perhaps one more
-  further_one : IsFurther c.args.resolver.now.1 c.is_supported-granted.new.self.1
+  further_one : IsFurther c.args.resolver.now.answers c.is_supported-granted.new.self.answers
   further_one = asks_further (words g.row.F g.row.G g.row.H g.row.G-Hasher g.row.H-Hasher g.F.FnMut).step features.DataSec c.args.resolver.now c.is_supported-granted.new.self c.is_supported-granted.result c.is_supported-granted.ensures.asks
 
   -- DataSec is asked for, unless it is answered
-  next_one : NextAnswers c.args.resolver.now.1 features.DataSec c.is_supported-granted.result one
+  next_one : NextAnswers c.args.resolver.now.answers features.DataSec c.is_supported-granted.result one
   next_one = asks_next (words g.row.F g.row.G g.row.H g.row.G-Hasher g.row.H-Hasher g.F.FnMut).step features.DataSec c.args.resolver.now c.is_supported-granted.new.self c.is_supported-granted.result c.is_supported-granted.ensures.asks
 
-  module _ (given : Given) (id : ℕ) (there : IsType c.args.btf.now id (DataSec r)) (below : AreAnswersTo (asks_below (pass_on c.args.btf.now given c.args.resolver.now.1) id) c.args.resolver.now.1) where
+  module _ (given : Given) (id : ℕ) (there : IsType c.args.btf.now id (DataSec r)) (below : AreAnswersTo (asks_below (pass_on c.args.btf.now given c.args.resolver.now.answers) id) c.args.resolver.now.answers) where
     abbrev p : Pass
-    p = pass_on c.args.btf.now given c.args.resolver.now.1
+    p = pass_on c.args.btf.now given c.args.resolver.now.answers
 
     -- DataSec is answered, which is the first feature that the id asks for
     some_asked : (left : List BtfFeature) × AsksUpTo p id one left
@@ -90,9 +90,9 @@ returns-in_err-name_offset-clause-steps g c = λ given id is comes. let policy =
     let at = (goal.at.returns-in_err-name_offset-clause-steps g c).After-new_name in
     let r : Record = c.args.data_sec.now in
     let before : Made = c.args.made.now in
-    let p : Pass = pass_on c.args.btf.now given c.args.resolver.now.1 in
-    let q : Pass = pass_on c.args.btf.now given c.is_supported-granted.new.self.1 in
-    let StepsTo = Steps p id c.is_supported-granted.new.self.1 (DataSec r) before (record before { changes = c.new_name.new.changes }) in
+    let p : Pass = pass_on c.args.btf.now given c.args.resolver.now.answers in
+    let q : Pass = pass_on c.args.btf.now given c.is_supported-granted.new.self.answers in
+    let StepsTo = Steps p id c.is_supported-granted.new.self.answers (DataSec r) before (record before { changes = c.new_name.new.changes }) in
     handed_on (λ new. unwrap_or new (DataSec r)) c.in_err-name_offset.field-0.0 c.from_residual.result StepsTo c.from_residual.ensures.1
     (IfSome_then _ (c.in_err-name_offset.ensures.answer q refl (has_one g at given id there below)) (λ refusal is.
     let no = name_refused q id r there there.kind_is (strings_end c.args.btf.now before.changes) refusal here.offset (checked_err _ _ refusal is) in
@@ -114,7 +114,7 @@ returns-then-not-granted-clause-steps g c = λ given id is comes. let policy = a
     let r : Record = c.args.data_sec.now in
     let before : Made = c.args.made.now in
     let now : Made = record before { changes = c.new_name.new.changes } in
-    let q : Pass = pass_on c.args.btf.now given c.is_supported-granted.new.self.1 in
+    let q : Pass = pass_on c.args.btf.now given c.is_supported-granted.new.self.answers in
     let has_it : has q features.DataSec ≡ c.is_supported-granted.result = has_one g at given id there below in
     let denied : has q features.DataSec ≡ false = has_it ∙ c.if-not-granted.true in
     let name : ℕ = c.in_ok-name_offset.name_offset in
@@ -138,9 +138,9 @@ returns-in_err-size-clause-steps g c = λ given id is comes. let policy = ap (λ
     let r : Record = c.args.data_sec.now in
     let before : Made = c.args.made.now in
     let now : Made = record before { changes = c.new_name.new.changes } in
-    let p : Pass = pass_on c.args.btf.now given c.args.resolver.now.1 in
-    let q : Pass = pass_on c.args.btf.now given c.is_supported-granted.new.self.1 in
-    let StepsTo = Steps p id c.is_supported-granted.new.self.1 (DataSec r) before now in
+    let p : Pass = pass_on c.args.btf.now given c.args.resolver.now.answers in
+    let q : Pass = pass_on c.args.btf.now given c.is_supported-granted.new.self.answers in
+    let StepsTo = Steps p id c.is_supported-granted.new.self.answers (DataSec r) before now in
     let has_it : has q features.DataSec ≡ c.is_supported-granted.result = has_one g at given id there below in
     let n : HasNewName q id r c.in_ok-name_offset.name_offset before now =
     has_new_name q id r there there.kind_is before now c.in_ok-name_offset.name_offset there.tail_is here (c.in_ok-name_offset.ensures.answer q refl has_it) (c.in_ok-name_offset.ensures.adds q refl has_it) refl refl refl in
@@ -161,38 +161,38 @@ record IsAnswered (p : Pass) (id : ℕ) (r : Record) (name size : ℕ) (before n
   sized : final_size (record p { answers = answers }) id r ≡ Some size
   filled : gets_filler (record p { answers = answers }) id ≡ fills
 
-module _ (g : Over) (c : After-final_size g) (size : ℕ) (was : c.final_size.result ≡ Ok size) (new : g.row.F.Denot × List FeatureAnswer) (fills : Bool)
-    (quiet : asks_zero c.args.policy c.args.data_sec.now size ≡ false → (new ≡ c.is_supported-granted.new.self) × (fills ≡ is_fillable c.args.policy c.args.data_sec.now))
-    (asks_it : asks_zero c.args.policy c.args.data_sec.now size ≡ true → Asks (words g.row.F g.row.G g.row.H g.row.G-Hasher g.row.H-Hasher g.F.FnMut).step features.DataSecZero c.is_supported-granted.new.self (not fills) new) where
+module _ (g : Over) (c : After-final_size g) (size : ℕ) (was : c.final_size.result ≡ Ok size) (new : Resolver g.row.F.Denot) (fills : Bool)
+    (quiet : asks_zero c.args.request.now.policy c.args.data_sec.now size ≡ false → (new ≡ c.is_supported-granted.new.self) × (fills ≡ is_fillable c.args.request.now.policy c.args.data_sec.now))
+    (asks_it : asks_zero c.args.request.now.policy c.args.data_sec.now size ≡ true → Asks (words g.row.F g.row.G g.row.H g.row.G-Hasher g.row.H-Hasher g.F.FnMut).step features.DataSecZero c.is_supported-granted.new.self (not fills) new) where
   -- the predicate is called for DataSec and DataSecZero, if it is called
-  called_two : (first : g.row.F.Denot) → Called (words g.row.F g.row.G g.row.H g.row.G-Hasher g.row.H-Hasher g.F.FnMut).step first c.args.resolver.now.1 c.args.resolver.now.0 → Called (words g.row.F g.row.G g.row.H g.row.G-Hasher g.row.H-Hasher g.F.FnMut).step first new.1 new.0
+  called_two : (first : g.row.F.Denot) → Called (words g.row.F g.row.G g.row.H g.row.G-Hasher g.row.H-Hasher g.F.FnMut).step first c.args.resolver.now.answers c.args.resolver.now.predicate → Called (words g.row.F g.row.G g.row.H g.row.G-Hasher g.row.H-Hasher g.F.FnMut).step first new.answers new.predicate
   called_two first called =
-      zero_called _ first c.args.policy c.args.data_sec.now size c.is_supported-granted.new.self new fills quiet asks_it
+      zero_called _ first c.args.request.now.policy c.args.data_sec.now size c.is_supported-granted.new.self new fills quiet asks_it
       (asks_called _ first features.DataSec c.args.resolver.now c.is_supported-granted.new.self c.is_supported-granted.result c.is_supported-granted.ensures.asks called)
 
   -- the answers are the earlier answers, and perhaps one or two more
-  further_two : IsFurther c.args.resolver.now.1 new.1
+  further_two : IsFurther c.args.resolver.now.answers new.answers
   further_two =
-      further_then c.args.resolver.now.1 c.is_supported-granted.new.self.1 new.1 (asks_further (words g.row.F g.row.G g.row.H g.row.G-Hasher g.row.H-Hasher g.F.FnMut).step features.DataSec c.args.resolver.now c.is_supported-granted.new.self c.is_supported-granted.result c.is_supported-granted.ensures.asks)
-      (zero_further (words g.row.F g.row.G g.row.H g.row.G-Hasher g.row.H-Hasher g.F.FnMut).step c.args.policy c.args.data_sec.now size c.is_supported-granted.new.self new fills quiet asks_it)
+      further_then c.args.resolver.now.answers c.is_supported-granted.new.self.answers new.answers (asks_further (words g.row.F g.row.G g.row.H g.row.G-Hasher g.row.H-Hasher g.F.FnMut).step features.DataSec c.args.resolver.now c.is_supported-granted.new.self c.is_supported-granted.result c.is_supported-granted.ensures.asks)
+      (zero_further (words g.row.F g.row.G g.row.H g.row.G-Hasher g.row.H-Hasher g.F.FnMut).step c.args.request.now.policy c.args.data_sec.now size c.is_supported-granted.new.self new fills quiet asks_it)
 
   -- what is known at the three exits with a size
-  answered : (given : Given) (id : ℕ) → given.policy ≡ c.args.policy → given.layout.sections ≡ sizes_of c.args.sections.now → IsType c.args.btf.now id (DataSec c.args.data_sec.now)
-      → AreAnswersTo (asks_below (pass_on c.args.btf.now given c.args.resolver.now.1) id) c.args.resolver.now.1 → IsHere (pass_on c.args.btf.now given new.1) id c.args.made.now
-      → IsAnswered (pass_on c.args.btf.now given c.args.resolver.now.1) id c.args.data_sec.now c.in_ok-name_offset.name_offset size c.args.made.now (record c.args.made.now { changes = c.new_name.new.changes }) new.1 fills
+  answered : (given : Given) (id : ℕ) → given.policy ≡ c.args.request.now.policy → given.layout.sections ≡ sizes_of c.args.request.now.sections.now → IsType c.args.btf.now id (DataSec c.args.data_sec.now)
+      → AreAnswersTo (asks_below (pass_on c.args.btf.now given c.args.resolver.now.answers) id) c.args.resolver.now.answers → IsHere (pass_on c.args.btf.now given new.answers) id c.args.made.now
+      → IsAnswered (pass_on c.args.btf.now given c.args.resolver.now.answers) id c.args.data_sec.now c.in_ok-name_offset.name_offset size c.args.made.now (record c.args.made.now { changes = c.new_name.new.changes }) new.answers fills
   answered given id policy sections there below here =
       let r : Record = c.args.data_sec.now in
       let before : Made = c.args.made.now in
       let now : Made = record before { changes = c.new_name.new.changes } in
       let kind : kind_of r.info ≡ Some kinds.DataSec = there.kind_is in
       let granted : Bool = c.is_supported-granted.result in
-      let p : Pass = pass_on c.args.btf.now given c.args.resolver.now.1 in
-      let one : List FeatureAnswer = c.is_supported-granted.new.self.1 in
+      let p : Pass = pass_on c.args.btf.now given c.args.resolver.now.answers in
+      let one : List FeatureAnswer = c.is_supported-granted.new.self.answers in
       let next : NextAnswers p.answers features.DataSec granted one = asks_next (words g.row.F g.row.G g.row.H g.row.G-Hasher g.row.H-Hasher g.F.FnMut).step features.DataSec c.args.resolver.now c.is_supported-granted.new.self granted c.is_supported-granted.ensures.asks in
-      let two : List FeatureAnswer = new.1 in
+      let two : List FeatureAnswer = new.answers in
       let q : Pass = pass_on c.args.btf.now given two in
       let quiet_so : asks_zero given.policy r size ≡ false → (two ≡ one) × (fills ≡ is_fillable given.policy r) =
-      λ is. let told = quiet (ap (λ pol. asks_zero pol r size) (sym policy) ∙ is) in (ap (λ s. s.1) told.0, told.1 ∙ ap (λ pol. is_fillable pol r) (sym policy)) in
+      λ is. let told = quiet (ap (λ pol. asks_zero pol r size) (sym policy) ∙ is) in (ap (λ (s : Resolver g.row.F.Denot). s.answers) told.0, told.1 ∙ ap (λ pol. is_fillable pol r) (sym policy)) in
       let zero : asks_zero given.policy r size ≡ true → NextAnswers one features.DataSecZero (not fills) two =
       λ is. asks_next (words g.row.F g.row.G g.row.H g.row.G-Hasher g.row.H-Hasher g.F.FnMut).step features.DataSecZero c.is_supported-granted.new.self new (not fills) (asks_it (ap (λ pol. asks_zero pol r size) (sym policy) ∙ is)) in
       let has_it : has q features.DataSec ≡ granted = granted_two p id r there kind below one granted next size two fills quiet_so zero in
@@ -222,7 +222,7 @@ pub returns-then-wants_filler-clause-steps : goal.returns-then-wants_filler-clau
 returns-then-wants_filler-clause-steps g c = λ given id is comes. let policy = ap (λ (x : Given). x.policy) is in let sections = ap (λ (x : Given). x.layout.sections) is in let symbols = ap (λ (x : Given). x.layout.symbols) is in let there = comes.there in let below = comes.answered in let here = comes.here in
     let r : Record = c.args.data_sec.now in
     let before : Made = c.args.made.now in
-    let q : Pass = pass_on c.args.btf.now given c.wants_filler.new.resolver.1 in
+    let q : Pass = pass_on c.args.btf.now given c.wants_filler.new.resolver.answers in
     let known = answered g (goal.at.returns-then-wants_filler-clause-steps g c).After-final_size c.in_ok-size.size c.in_ok-size.was c.wants_filler.new.resolver c.wants_filler.result c.wants_filler.ensures.quiet c.wants_filler.ensures.asks given id policy sections there below here in
     with_fact (λ new. unwrap_or new (DataSec r)) c.filled.result _ (Rules q id (DataSec r) before c.filled.new.made) known.all_asked (c.filled.ensures given q.answers id r before known.named (known.filled ∙ c.if-wants_filler.true) known.sized)
 
@@ -240,7 +240,7 @@ returns-then-size-ne0-clause-steps g c = λ given id is comes. let policy = ap (
     let r : Record = c.args.data_sec.now in
     let before : Made = c.args.made.now in
     let now : Made = record before { changes = c.new_name.new.changes } in
-    let q : Pass = pass_on c.args.btf.now given c.wants_filler.new.resolver.1 in
+    let q : Pass = pass_on c.args.btf.now given c.wants_filler.new.resolver.answers in
     let known = answered g (goal.at.returns-then-size-ne0-clause-steps g c).After-final_size c.in_ok-size.size c.in_ok-size.was c.wants_filler.new.resolver c.wants_filler.result c.wants_filler.ensures.quiet c.wants_filler.ensures.asks given id policy sections there below here in
     let sized : (r.third == 0) ≡ false = ne_eqb r.third 0 (λ is. c.if-size-ne0.true (c.size.ensures ∙ is)) in
     with_fact (λ new. unwrap_or new (DataSec r)) c.renamed.result _ (Rules q id (DataSec r) before now) known.all_asked
@@ -260,7 +260,7 @@ returns-clause-steps g c = λ given id is comes. let policy = ap (λ (x : Given)
     let r : Record = c.args.data_sec.now in
     let before : Made = c.args.made.now in
     let now : Made = record before { changes = c.new_name.new.changes } in
-    let q : Pass = pass_on c.args.btf.now given c.wants_filler.new.resolver.1 in
+    let q : Pass = pass_on c.args.btf.now given c.wants_filler.new.resolver.answers in
     let known = answered g (goal.at.returns-clause-steps g c).After-final_size c.in_ok-size.size c.in_ok-size.was c.wants_filler.new.resolver c.wants_filler.result c.wants_filler.ensures.quiet c.wants_filler.ensures.asks given id policy sections there below here in
     let unsized : (r.third == 0) ≡ true = eq-eqb r.third 0 (sym c.size.ensures ∙ c.if-size-ne0.false) in
     with_fact (λ new. unwrap_or new (DataSec r)) c.with_symbol_offsets.result _ (Rules q id (DataSec r) before now) known.all_asked
@@ -268,4 +268,4 @@ returns-clause-steps g c = λ given id is comes. let policy = ap (λ (x : Given)
 
 pub filled-requires : goal.filled-requires
 filled-requires g c =
-    (c.in_ok-name_offset.ensures.adds (pass_on c.args.btf.now (record { layout = record { sections = λ _. None; symbols = λ _. None }; policy = c.args.policy }) (record { feature = features.DataSec; granted = c.is_supported-granted.result } ∷ [])) refl refl).room
+    (c.in_ok-name_offset.ensures.adds (pass_on c.args.btf.now (record { layout = record { sections = λ _. None; symbols = λ _. None }; policy = c.args.request.now.policy }) (record { feature = features.DataSec; granted = c.is_supported-granted.result } ∷ [])) refl refl).room

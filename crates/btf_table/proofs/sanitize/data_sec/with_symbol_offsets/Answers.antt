@@ -11,9 +11,9 @@ use Rattle.btf_rewrite_model.specs.Fault.{entry_checks}
 use Rattle.std.specs.Option.{unwrap_or}
 use Rattle.btf_records.specs.BtfType.{record_of}
 use Rattle.btf_records.specs.declared.btf_type.BtfType.TheVariants.{DataSec}
-use Rattle.btf_rules.specs.Checked.{checked}
+use Rattle.btf_table.specs.Checked.{checked}
 use Rattle.btf_table.specs.KsymsStep.{entry}
-use Rattle.btf_rules.proofs.Checks.{checked_ok}
+use Rattle.btf_table.proofs.Checks.{checked_ok}
 use Rattle.btf_table.proofs.SectionRules.{told_on}
 use Rattle.btf_table.proofs.sanitize.data_sec.with_symbol_offsets.Goals as goal
 

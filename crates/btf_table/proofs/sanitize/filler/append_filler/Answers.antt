@@ -1,7 +1,7 @@
 use Rattle.std.proofs.lemmas.Result.{on_ok_weaker}
 use Rattle.btf_rewrite_model.specs.Pass.{filler_type_text, filler_text}
 use Rattle.btf_table.proofs.SectionItems.{adds_int_and_var}
-use Rattle.btf_rules.proofs.Checks.{checked_ok}
+use Rattle.btf_table.proofs.Checks.{checked_ok}
 use Rattle.btf_table.proofs.sanitize.filler.append_filler.Goals as goal
 
 pub returns-clause-adds : goal.returns-clause-adds

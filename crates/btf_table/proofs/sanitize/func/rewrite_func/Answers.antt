@@ -16,7 +16,7 @@ use Rattle.btf_table.specs.contracts.sanitize.func.rewrite_func.F-FnMut.{words}
 use Rattle.btf_table.proofs.sanitize.func.rewrite_func.Goals as goal
 
 pub returns-in_err-check_name-clause-asks : goal.returns-in_err-check_name-clause-asks
-returns-in_err-check_name-clause-asks g c = λ given id there below. none_asked c.args.btf.now given id c.args.resolver.now.1 below
+returns-in_err-check_name-clause-asks g c = λ given id there below. none_asked c.args.btf.now given id c.args.resolver.now.answers below
 
 pub returns-then-not-is_supported-clause-called : goal.returns-then-not-is_supported-clause-called
 returns-then-not-is_supported-clause-called g c = λ first called.
@@ -53,7 +53,7 @@ pub returns-then-not-is_supported-clause-asks : goal.returns-then-not-is_support
 returns-then-not-is_supported-clause-asks g c = λ given id there below.
     let n = read_name c.args.btf.now.strings c.name_offset-name_offset.result c.args.func.now.name c.in_ok-check_name.ensures c.name_offset-name_offset.ensures.value in (
       [],
-      one_asked c.args.btf.now given id (Func c.args.func.now) there there.kind_is n.0 n.1 c.args.resolver.now.1 below c.is_supported.new.self.1 c.is_supported.result (asks_next (words g.row.F g.F.FnMut).step features.Func c.args.resolver.now c.is_supported.new.self c.is_supported.result c.is_supported.ensures.asks)
+      one_asked c.args.btf.now given id (Func c.args.func.now) there there.kind_is n.0 n.1 c.args.resolver.now.answers below c.is_supported.new.self.answers c.is_supported.result (asks_next (words g.row.F g.F.FnMut).step features.Func c.args.resolver.now c.is_supported.new.self c.is_supported.result c.is_supported.ensures.asks)
           (and_first c.is_supported.result (is_global c.args.func.now) (not (is_builtin n.0)) c.if-not-is_supported.true),
     )
 
@@ -61,7 +61,7 @@ pub returns-in_default-clause-asks : goal.returns-in_default-clause-asks
 returns-in_default-clause-asks g c = λ given id there below.
     let n = read_name c.args.btf.now.strings c.name_offset-name_offset.result c.args.func.now.name c.in_ok-check_name.ensures c.name_offset-name_offset.ensures.value in (
       [],
-      one_asked c.args.btf.now given id (Func c.args.func.now) there there.kind_is n.0 n.1 c.args.resolver.now.1 below c.is_supported.new.self.1 c.is_supported.result (asks_next (words g.row.F g.F.FnMut).step features.Func c.args.resolver.now c.is_supported.new.self c.is_supported.result c.is_supported.ensures.asks)
+      one_asked c.args.btf.now given id (Func c.args.func.now) there there.kind_is n.0 n.1 c.args.resolver.now.answers below c.is_supported.new.self.answers c.is_supported.result (asks_next (words g.row.F g.F.FnMut).step features.Func c.args.resolver.now c.is_supported.new.self c.is_supported.result c.is_supported.ensures.asks)
           (and_second c.is_supported.result (is_global c.args.func.now) (not (is_builtin n.0)) (linkage_other (vlen c.args.func.now.info) (λ is. c.in_default.not-Global (c.linkage.ensures ∙ is)))),
     )
 
@@ -69,7 +69,7 @@ pub returns-in_err-made_static-clause-asks : goal.returns-in_err-made_static-cla
 returns-in_err-made_static-clause-asks g c = λ given id there below.
     let n = read_name c.args.btf.now.strings c.name_offset-name_offset.result c.args.func.now.name c.in_ok-check_name.ensures c.name_offset-name_offset.ensures.value in (
       [],
-      one_asked c.args.btf.now given id (Func c.args.func.now) there there.kind_is n.0 n.1 c.args.resolver.now.1 below c.is_supported.new.self.1 c.is_supported.result (asks_next (words g.row.F g.F.FnMut).step features.Func c.args.resolver.now c.is_supported.new.self c.is_supported.result c.is_supported.ensures.asks)
+      one_asked c.args.btf.now given id (Func c.args.func.now) there there.kind_is n.0 n.1 c.args.resolver.now.answers below c.is_supported.new.self.answers c.is_supported.result (asks_next (words g.row.F g.F.FnMut).step features.Func c.args.resolver.now c.is_supported.new.self c.is_supported.result c.is_supported.ensures.asks)
           (and_third c.is_supported.result (is_global c.args.func.now) (is_builtin n.0) (is_known c.args.btf.now.strings c.strings_from.result.now n.0 c.name_offset-name_offset.result c.args.func.now.name c.is_builtin.result c.strings_from.ensures c.name_offset-name_offset.ensures.value n.1 c.is_builtin.ensures ∙ c.if-is_builtin.true)),
     )
 
@@ -77,7 +77,7 @@ pub returns-then-is_builtin-clause-asks : goal.returns-then-is_builtin-clause-as
 returns-then-is_builtin-clause-asks g c = λ given id there below.
     let n = read_name c.args.btf.now.strings c.name_offset-name_offset.result c.args.func.now.name c.in_ok-check_name.ensures c.name_offset-name_offset.ensures.value in (
       [],
-      one_asked c.args.btf.now given id (Func c.args.func.now) there there.kind_is n.0 n.1 c.args.resolver.now.1 below c.is_supported.new.self.1 c.is_supported.result (asks_next (words g.row.F g.F.FnMut).step features.Func c.args.resolver.now c.is_supported.new.self c.is_supported.result c.is_supported.ensures.asks)
+      one_asked c.args.btf.now given id (Func c.args.func.now) there there.kind_is n.0 n.1 c.args.resolver.now.answers below c.is_supported.new.self.answers c.is_supported.result (asks_next (words g.row.F g.F.FnMut).step features.Func c.args.resolver.now c.is_supported.new.self c.is_supported.result c.is_supported.ensures.asks)
           (and_third c.is_supported.result (is_global c.args.func.now) (is_builtin n.0) (is_known c.args.btf.now.strings c.strings_from.result.now n.0 c.name_offset-name_offset.result c.args.func.now.name c.is_builtin.result c.strings_from.ensures c.name_offset-name_offset.ensures.value n.1 c.is_builtin.ensures ∙ c.if-is_builtin.true)),
     )
 
@@ -85,7 +85,7 @@ pub returns-then-is_supported-clause-asks : goal.returns-then-is_supported-claus
 returns-then-is_supported-clause-asks g c = λ given id there below.
     let n = read_name c.args.btf.now.strings c.name_offset-name_offset.result c.args.func.now.name c.in_ok-check_name.ensures c.name_offset-name_offset.ensures.value in (
       [],
-      (both_asked c.args.btf.now given id (Func c.args.func.now) there there.kind_is n.0 n.1 c.args.resolver.now.1 below c.is_supported.new.self.1 c.is_supported-2.new.self.1 c.is_supported-2.result (subst (λ (b : Bool). NextAnswers c.args.resolver.now.1 features.Func b c.is_supported.new.self.1) c.if-not-is_supported.false (asks_next (words g.row.F g.F.FnMut).step features.Func c.args.resolver.now c.is_supported.new.self c.is_supported.result c.is_supported.ensures.asks)) (asks_next (words g.row.F g.F.FnMut).step features.FuncGlobal c.is_supported.new.self c.is_supported-2.new.self c.is_supported-2.result c.is_supported-2.ensures.asks)
+      (both_asked c.args.btf.now given id (Func c.args.func.now) there there.kind_is n.0 n.1 c.args.resolver.now.answers below c.is_supported.new.self.answers c.is_supported-2.new.self.answers c.is_supported-2.result (subst (λ (b : Bool). NextAnswers c.args.resolver.now.answers features.Func b c.is_supported.new.self.answers) c.if-not-is_supported.false (asks_next (words g.row.F g.F.FnMut).step features.Func c.args.resolver.now c.is_supported.new.self c.is_supported.result c.is_supported.ensures.asks)) (asks_next (words g.row.F g.F.FnMut).step features.FuncGlobal c.is_supported.new.self c.is_supported-2.new.self c.is_supported-2.result c.is_supported-2.ensures.asks)
           (linkage_global (vlen c.args.func.now.info) (sym c.linkage.ensures ∙ c.in-Global.is)) (is_known c.args.btf.now.strings c.strings_from.result.now n.0 c.name_offset-name_offset.result c.args.func.now.name c.is_builtin.result c.strings_from.ensures c.name_offset-name_offset.ensures.value n.1 c.is_builtin.ensures ∙ c.if-is_builtin.false)).0,
     )
 
@@ -93,7 +93,7 @@ pub returns-in_err-made_static-2-clause-asks : goal.returns-in_err-made_static-2
 returns-in_err-made_static-2-clause-asks g c = λ given id there below.
     let n = read_name c.args.btf.now.strings c.name_offset-name_offset.result c.args.func.now.name c.in_ok-check_name.ensures c.name_offset-name_offset.ensures.value in (
       [],
-      (both_asked c.args.btf.now given id (Func c.args.func.now) there there.kind_is n.0 n.1 c.args.resolver.now.1 below c.is_supported.new.self.1 c.is_supported-2.new.self.1 c.is_supported-2.result (subst (λ (b : Bool). NextAnswers c.args.resolver.now.1 features.Func b c.is_supported.new.self.1) c.if-not-is_supported.false (asks_next (words g.row.F g.F.FnMut).step features.Func c.args.resolver.now c.is_supported.new.self c.is_supported.result c.is_supported.ensures.asks)) (asks_next (words g.row.F g.F.FnMut).step features.FuncGlobal c.is_supported.new.self c.is_supported-2.new.self c.is_supported-2.result c.is_supported-2.ensures.asks)
+      (both_asked c.args.btf.now given id (Func c.args.func.now) there there.kind_is n.0 n.1 c.args.resolver.now.answers below c.is_supported.new.self.answers c.is_supported-2.new.self.answers c.is_supported-2.result (subst (λ (b : Bool). NextAnswers c.args.resolver.now.answers features.Func b c.is_supported.new.self.answers) c.if-not-is_supported.false (asks_next (words g.row.F g.F.FnMut).step features.Func c.args.resolver.now c.is_supported.new.self c.is_supported.result c.is_supported.ensures.asks)) (asks_next (words g.row.F g.F.FnMut).step features.FuncGlobal c.is_supported.new.self c.is_supported-2.new.self c.is_supported-2.result c.is_supported-2.ensures.asks)
           (linkage_global (vlen c.args.func.now.info) (sym c.linkage.ensures ∙ c.in-Global.is)) (is_known c.args.btf.now.strings c.strings_from.result.now n.0 c.name_offset-name_offset.result c.args.func.now.name c.is_builtin.result c.strings_from.ensures c.name_offset-name_offset.ensures.value n.1 c.is_builtin.ensures ∙ c.if-is_builtin.false)).0,
     )
 
@@ -101,50 +101,50 @@ pub returns-clause-asks : goal.returns-clause-asks
 returns-clause-asks g c = λ given id there below.
     let n = read_name c.args.btf.now.strings c.name_offset-name_offset.result c.args.func.now.name c.in_ok-check_name.ensures c.name_offset-name_offset.ensures.value in (
       [],
-      (both_asked c.args.btf.now given id (Func c.args.func.now) there there.kind_is n.0 n.1 c.args.resolver.now.1 below c.is_supported.new.self.1 c.is_supported-2.new.self.1 c.is_supported-2.result (subst (λ (b : Bool). NextAnswers c.args.resolver.now.1 features.Func b c.is_supported.new.self.1) c.if-not-is_supported.false (asks_next (words g.row.F g.F.FnMut).step features.Func c.args.resolver.now c.is_supported.new.self c.is_supported.result c.is_supported.ensures.asks)) (asks_next (words g.row.F g.F.FnMut).step features.FuncGlobal c.is_supported.new.self c.is_supported-2.new.self c.is_supported-2.result c.is_supported-2.ensures.asks)
+      (both_asked c.args.btf.now given id (Func c.args.func.now) there there.kind_is n.0 n.1 c.args.resolver.now.answers below c.is_supported.new.self.answers c.is_supported-2.new.self.answers c.is_supported-2.result (subst (λ (b : Bool). NextAnswers c.args.resolver.now.answers features.Func b c.is_supported.new.self.answers) c.if-not-is_supported.false (asks_next (words g.row.F g.F.FnMut).step features.Func c.args.resolver.now c.is_supported.new.self c.is_supported.result c.is_supported.ensures.asks)) (asks_next (words g.row.F g.F.FnMut).step features.FuncGlobal c.is_supported.new.self c.is_supported-2.new.self c.is_supported-2.result c.is_supported-2.ensures.asks)
           (linkage_global (vlen c.args.func.now.info) (sym c.linkage.ensures ∙ c.in-Global.is)) (is_known c.args.btf.now.strings c.strings_from.result.now n.0 c.name_offset-name_offset.result c.args.func.now.name c.is_builtin.result c.strings_from.ensures c.name_offset-name_offset.ensures.value n.1 c.is_builtin.ensures ∙ c.if-is_builtin.false)).0,
     )
 
 pub returns-then-not-is_supported-clause-steps : goal.returns-then-not-is_supported-clause-steps
 returns-then-not-is_supported-clause-steps g c = λ given id made comes. let there = comes.there in let below = comes.answered in let here = comes.here in
     let n = read_name c.args.btf.now.strings c.name_offset-name_offset.result c.args.func.now.name c.in_ok-check_name.ensures c.name_offset-name_offset.ensures.value in (
-      one_asked c.args.btf.now given id (Func c.args.func.now) there there.kind_is n.0 n.1 c.args.resolver.now.1 below c.is_supported.new.self.1 c.is_supported.result (asks_next (words g.row.F g.F.FnMut).step features.Func c.args.resolver.now c.is_supported.new.self c.is_supported.result c.is_supported.ensures.asks)
+      one_asked c.args.btf.now given id (Func c.args.func.now) there there.kind_is n.0 n.1 c.args.resolver.now.answers below c.is_supported.new.self.answers c.is_supported.result (asks_next (words g.row.F g.F.FnMut).step features.Func c.args.resolver.now c.is_supported.new.self c.is_supported.result c.is_supported.ensures.asks)
           (and_first c.is_supported.result (is_global c.args.func.now) (not (is_builtin n.0)) c.if-not-is_supported.true),
-      func_denied (pass_on c.args.btf.now given c.is_supported.new.self.1) id (Func c.args.func.now) there there.kind_is made here n.0 n.1 refl (Typedef (typedef c.args.func.now.name c.args.func.now.third)) refl (one_granted c.args.btf.now given id (Func c.args.func.now) there there.kind_is n.0 n.1 c.args.resolver.now.1 below c.is_supported.new.self.1 c.is_supported.result (asks_next (words g.row.F g.F.FnMut).step features.Func c.args.resolver.now c.is_supported.new.self c.is_supported.result c.is_supported.ensures.asks) ∙ c.if-not-is_supported.true) refl there.tail_is,
+      func_denied (pass_on c.args.btf.now given c.is_supported.new.self.answers) id (Func c.args.func.now) there there.kind_is made here n.0 n.1 refl (Typedef (typedef c.args.func.now.name c.args.func.now.third)) refl (one_granted c.args.btf.now given id (Func c.args.func.now) there there.kind_is n.0 n.1 c.args.resolver.now.answers below c.is_supported.new.self.answers c.is_supported.result (asks_next (words g.row.F g.F.FnMut).step features.Func c.args.resolver.now c.is_supported.new.self c.is_supported.result c.is_supported.ensures.asks) ∙ c.if-not-is_supported.true) refl there.tail_is,
     )
 
 pub returns-in_default-clause-steps : goal.returns-in_default-clause-steps
 returns-in_default-clause-steps g c = λ given id made comes. let there = comes.there in let below = comes.answered in let here = comes.here in
     let n = read_name c.args.btf.now.strings c.name_offset-name_offset.result c.args.func.now.name c.in_ok-check_name.ensures c.name_offset-name_offset.ensures.value in (
-      one_asked c.args.btf.now given id (Func c.args.func.now) there there.kind_is n.0 n.1 c.args.resolver.now.1 below c.is_supported.new.self.1 c.is_supported.result (asks_next (words g.row.F g.F.FnMut).step features.Func c.args.resolver.now c.is_supported.new.self c.is_supported.result c.is_supported.ensures.asks)
+      one_asked c.args.btf.now given id (Func c.args.func.now) there there.kind_is n.0 n.1 c.args.resolver.now.answers below c.is_supported.new.self.answers c.is_supported.result (asks_next (words g.row.F g.F.FnMut).step features.Func c.args.resolver.now c.is_supported.new.self c.is_supported.result c.is_supported.ensures.asks)
           (and_second c.is_supported.result (is_global c.args.func.now) (not (is_builtin n.0)) (linkage_other (vlen c.args.func.now.info) (λ is. c.in_default.not-Global (c.linkage.ensures ∙ is)))),
-      func_stays (pass_on c.args.btf.now given c.is_supported.new.self.1) id (Func c.args.func.now) there there.kind_is made here n.0 n.1 refl (Func c.args.func.now) refl (one_granted c.args.btf.now given id (Func c.args.func.now) there there.kind_is n.0 n.1 c.args.resolver.now.1 below c.is_supported.new.self.1 c.is_supported.result (asks_next (words g.row.F g.F.FnMut).step features.Func c.args.resolver.now c.is_supported.new.self c.is_supported.result c.is_supported.ensures.asks) ∙ c.if-not-is_supported.false) (not_if (is_global c.args.func.now) (is_builtin n.0 || not (has (pass_on c.args.btf.now given c.is_supported.new.self.1) features.FuncGlobal)) (linkage_other (vlen c.args.func.now.info) (λ is. c.in_default.not-Global (c.linkage.ensures ∙ is)))) refl,
+      func_stays (pass_on c.args.btf.now given c.is_supported.new.self.answers) id (Func c.args.func.now) there there.kind_is made here n.0 n.1 refl (Func c.args.func.now) refl (one_granted c.args.btf.now given id (Func c.args.func.now) there there.kind_is n.0 n.1 c.args.resolver.now.answers below c.is_supported.new.self.answers c.is_supported.result (asks_next (words g.row.F g.F.FnMut).step features.Func c.args.resolver.now c.is_supported.new.self c.is_supported.result c.is_supported.ensures.asks) ∙ c.if-not-is_supported.false) (not_if (is_global c.args.func.now) (is_builtin n.0 || not (has (pass_on c.args.btf.now given c.is_supported.new.self.answers) features.FuncGlobal)) (linkage_other (vlen c.args.func.now.info) (λ is. c.in_default.not-Global (c.linkage.ensures ∙ is)))) refl,
     )
 
 pub returns-then-is_builtin-clause-steps : goal.returns-then-is_builtin-clause-steps
 returns-then-is_builtin-clause-steps g c = λ given id made comes. let there = comes.there in let below = comes.answered in let here = comes.here in
     let n = read_name c.args.btf.now.strings c.name_offset-name_offset.result c.args.func.now.name c.in_ok-check_name.ensures c.name_offset-name_offset.ensures.value in (
-      one_asked c.args.btf.now given id (Func c.args.func.now) there there.kind_is n.0 n.1 c.args.resolver.now.1 below c.is_supported.new.self.1 c.is_supported.result (asks_next (words g.row.F g.F.FnMut).step features.Func c.args.resolver.now c.is_supported.new.self c.is_supported.result c.is_supported.ensures.asks)
+      one_asked c.args.btf.now given id (Func c.args.func.now) there there.kind_is n.0 n.1 c.args.resolver.now.answers below c.is_supported.new.self.answers c.is_supported.result (asks_next (words g.row.F g.F.FnMut).step features.Func c.args.resolver.now c.is_supported.new.self c.is_supported.result c.is_supported.ensures.asks)
           (and_third c.is_supported.result (is_global c.args.func.now) (is_builtin n.0) (is_known c.args.btf.now.strings c.strings_from.result.now n.0 c.name_offset-name_offset.result c.args.func.now.name c.is_builtin.result c.strings_from.ensures c.name_offset-name_offset.ensures.value n.1 c.is_builtin.ensures ∙ c.if-is_builtin.true)),
-      func_static (pass_on c.args.btf.now given c.is_supported.new.self.1) id (Func c.args.func.now) there there.kind_is made here n.0 n.1 refl (Func c.in_ok-made_static.field-0) refl (one_granted c.args.btf.now given id (Func c.args.func.now) there there.kind_is n.0 n.1 c.args.resolver.now.1 below c.is_supported.new.self.1 c.is_supported.result (asks_next (words g.row.F g.F.FnMut).step features.Func c.args.resolver.now c.is_supported.new.self c.is_supported.result c.is_supported.ensures.asks) ∙ c.if-not-is_supported.false) (changes_if (is_global c.args.func.now) (is_builtin n.0) (has (pass_on c.args.btf.now given c.is_supported.new.self.1) features.FuncGlobal) (linkage_global (vlen c.args.func.now.info) (sym c.linkage.ensures ∙ c.in-Global.is)) (is_known c.args.btf.now.strings c.strings_from.result.now n.0 c.name_offset-name_offset.result c.args.func.now.name c.is_builtin.result c.strings_from.ensures c.name_offset-name_offset.ensures.value n.1 c.is_builtin.ensures ∙ c.if-is_builtin.true)) c.in_ok-made_static.ensures,
+      func_static (pass_on c.args.btf.now given c.is_supported.new.self.answers) id (Func c.args.func.now) there there.kind_is made here n.0 n.1 refl (Func c.in_ok-made_static.field-0) refl (one_granted c.args.btf.now given id (Func c.args.func.now) there there.kind_is n.0 n.1 c.args.resolver.now.answers below c.is_supported.new.self.answers c.is_supported.result (asks_next (words g.row.F g.F.FnMut).step features.Func c.args.resolver.now c.is_supported.new.self c.is_supported.result c.is_supported.ensures.asks) ∙ c.if-not-is_supported.false) (changes_if (is_global c.args.func.now) (is_builtin n.0) (has (pass_on c.args.btf.now given c.is_supported.new.self.answers) features.FuncGlobal) (linkage_global (vlen c.args.func.now.info) (sym c.linkage.ensures ∙ c.in-Global.is)) (is_known c.args.btf.now.strings c.strings_from.result.now n.0 c.name_offset-name_offset.result c.args.func.now.name c.is_builtin.result c.strings_from.ensures c.name_offset-name_offset.ensures.value n.1 c.is_builtin.ensures ∙ c.if-is_builtin.true)) c.in_ok-made_static.ensures,
     )
 
 pub returns-then-is_supported-clause-steps : goal.returns-then-is_supported-clause-steps
 returns-then-is_supported-clause-steps g c = λ given id made comes. let there = comes.there in let below = comes.answered in let here = comes.here in
     let n = read_name c.args.btf.now.strings c.name_offset-name_offset.result c.args.func.now.name c.in_ok-check_name.ensures c.name_offset-name_offset.ensures.value in
-    let both = both_asked c.args.btf.now given id (Func c.args.func.now) there there.kind_is n.0 n.1 c.args.resolver.now.1 below c.is_supported.new.self.1 c.is_supported-2.new.self.1 c.is_supported-2.result (subst (λ (b : Bool). NextAnswers c.args.resolver.now.1 features.Func b c.is_supported.new.self.1) c.if-not-is_supported.false (asks_next (words g.row.F g.F.FnMut).step features.Func c.args.resolver.now c.is_supported.new.self c.is_supported.result c.is_supported.ensures.asks)) (asks_next (words g.row.F g.F.FnMut).step features.FuncGlobal c.is_supported.new.self c.is_supported-2.new.self c.is_supported-2.result c.is_supported-2.ensures.asks)
+    let both = both_asked c.args.btf.now given id (Func c.args.func.now) there there.kind_is n.0 n.1 c.args.resolver.now.answers below c.is_supported.new.self.answers c.is_supported-2.new.self.answers c.is_supported-2.result (subst (λ (b : Bool). NextAnswers c.args.resolver.now.answers features.Func b c.is_supported.new.self.answers) c.if-not-is_supported.false (asks_next (words g.row.F g.F.FnMut).step features.Func c.args.resolver.now c.is_supported.new.self c.is_supported.result c.is_supported.ensures.asks)) (asks_next (words g.row.F g.F.FnMut).step features.FuncGlobal c.is_supported.new.self c.is_supported-2.new.self c.is_supported-2.result c.is_supported-2.ensures.asks)
     (linkage_global (vlen c.args.func.now.info) (sym c.linkage.ensures ∙ c.in-Global.is)) (is_known c.args.btf.now.strings c.strings_from.result.now n.0 c.name_offset-name_offset.result c.args.func.now.name c.is_builtin.result c.strings_from.ensures c.name_offset-name_offset.ensures.value n.1 c.is_builtin.ensures ∙ c.if-is_builtin.false) in (
       both.0,
-      func_stays (pass_on c.args.btf.now given c.is_supported-2.new.self.1) id (Func c.args.func.now) there there.kind_is made here n.0 n.1 refl (Func c.args.func.now) refl both.1 (stays_if (is_global c.args.func.now) (is_builtin n.0) (has (pass_on c.args.btf.now given c.is_supported-2.new.self.1) features.FuncGlobal) (linkage_global (vlen c.args.func.now.info) (sym c.linkage.ensures ∙ c.in-Global.is)) (is_known c.args.btf.now.strings c.strings_from.result.now n.0 c.name_offset-name_offset.result c.args.func.now.name c.is_builtin.result c.strings_from.ensures c.name_offset-name_offset.ensures.value n.1 c.is_builtin.ensures ∙ c.if-is_builtin.false) (both.2 ∙ c.if-is_supported.true)) refl,
+      func_stays (pass_on c.args.btf.now given c.is_supported-2.new.self.answers) id (Func c.args.func.now) there there.kind_is made here n.0 n.1 refl (Func c.args.func.now) refl both.1 (stays_if (is_global c.args.func.now) (is_builtin n.0) (has (pass_on c.args.btf.now given c.is_supported-2.new.self.answers) features.FuncGlobal) (linkage_global (vlen c.args.func.now.info) (sym c.linkage.ensures ∙ c.in-Global.is)) (is_known c.args.btf.now.strings c.strings_from.result.now n.0 c.name_offset-name_offset.result c.args.func.now.name c.is_builtin.result c.strings_from.ensures c.name_offset-name_offset.ensures.value n.1 c.is_builtin.ensures ∙ c.if-is_builtin.false) (both.2 ∙ c.if-is_supported.true)) refl,
     )
 
 pub returns-clause-steps : goal.returns-clause-steps
 returns-clause-steps g c = λ given id made comes. let there = comes.there in let below = comes.answered in let here = comes.here in
     let n = read_name c.args.btf.now.strings c.name_offset-name_offset.result c.args.func.now.name c.in_ok-check_name.ensures c.name_offset-name_offset.ensures.value in
-    let both = both_asked c.args.btf.now given id (Func c.args.func.now) there there.kind_is n.0 n.1 c.args.resolver.now.1 below c.is_supported.new.self.1 c.is_supported-2.new.self.1 c.is_supported-2.result (subst (λ (b : Bool). NextAnswers c.args.resolver.now.1 features.Func b c.is_supported.new.self.1) c.if-not-is_supported.false (asks_next (words g.row.F g.F.FnMut).step features.Func c.args.resolver.now c.is_supported.new.self c.is_supported.result c.is_supported.ensures.asks)) (asks_next (words g.row.F g.F.FnMut).step features.FuncGlobal c.is_supported.new.self c.is_supported-2.new.self c.is_supported-2.result c.is_supported-2.ensures.asks)
+    let both = both_asked c.args.btf.now given id (Func c.args.func.now) there there.kind_is n.0 n.1 c.args.resolver.now.answers below c.is_supported.new.self.answers c.is_supported-2.new.self.answers c.is_supported-2.result (subst (λ (b : Bool). NextAnswers c.args.resolver.now.answers features.Func b c.is_supported.new.self.answers) c.if-not-is_supported.false (asks_next (words g.row.F g.F.FnMut).step features.Func c.args.resolver.now c.is_supported.new.self c.is_supported.result c.is_supported.ensures.asks)) (asks_next (words g.row.F g.F.FnMut).step features.FuncGlobal c.is_supported.new.self c.is_supported-2.new.self c.is_supported-2.result c.is_supported-2.ensures.asks)
     (linkage_global (vlen c.args.func.now.info) (sym c.linkage.ensures ∙ c.in-Global.is)) (is_known c.args.btf.now.strings c.strings_from.result.now n.0 c.name_offset-name_offset.result c.args.func.now.name c.is_builtin.result c.strings_from.ensures c.name_offset-name_offset.ensures.value n.1 c.is_builtin.ensures ∙ c.if-is_builtin.false) in (
       both.0,
-      func_static (pass_on c.args.btf.now given c.is_supported-2.new.self.1) id (Func c.args.func.now) there there.kind_is made here n.0 n.1 refl (Func c.in_ok-made_static-2.field-0) refl both.1 (changes_else (is_global c.args.func.now) (is_builtin n.0) (has (pass_on c.args.btf.now given c.is_supported-2.new.self.1) features.FuncGlobal) (linkage_global (vlen c.args.func.now.info) (sym c.linkage.ensures ∙ c.in-Global.is)) (is_known c.args.btf.now.strings c.strings_from.result.now n.0 c.name_offset-name_offset.result c.args.func.now.name c.is_builtin.result c.strings_from.ensures c.name_offset-name_offset.ensures.value n.1 c.is_builtin.ensures ∙ c.if-is_builtin.false) (both.2 ∙ c.if-is_supported.false)) c.in_ok-made_static-2.ensures,
+      func_static (pass_on c.args.btf.now given c.is_supported-2.new.self.answers) id (Func c.args.func.now) there there.kind_is made here n.0 n.1 refl (Func c.in_ok-made_static-2.field-0) refl both.1 (changes_else (is_global c.args.func.now) (is_builtin n.0) (has (pass_on c.args.btf.now given c.is_supported-2.new.self.answers) features.FuncGlobal) (linkage_global (vlen c.args.func.now.info) (sym c.linkage.ensures ∙ c.in-Global.is)) (is_known c.args.btf.now.strings c.strings_from.result.now n.0 c.name_offset-name_offset.result c.args.func.now.name c.is_builtin.result c.strings_from.ensures c.name_offset-name_offset.ensures.value n.1 c.is_builtin.ensures ∙ c.if-is_builtin.false) (both.2 ∙ c.if-is_supported.false)) c.in_ok-made_static-2.ensures,
     )
 
 pub returns-then-not-is_supported-clause-further : goal.returns-then-not-is_supported-clause-further
@@ -160,26 +160,26 @@ pub returns-then-is_builtin-clause-further : goal.returns-then-is_builtin-clause
 returns-then-is_builtin-clause-further g c = asks_further (words g.row.F g.F.FnMut).step features.Func c.args.resolver.now c.is_supported.new.self c.is_supported.result c.is_supported.ensures.asks
 
 pub returns-then-is_supported-clause-further : goal.returns-then-is_supported-clause-further
-returns-then-is_supported-clause-further g c = further_then c.args.resolver.now.1 c.is_supported.new.self.1 c.is_supported-2.new.self.1 (asks_further (words g.row.F g.F.FnMut).step features.Func c.args.resolver.now c.is_supported.new.self c.is_supported.result c.is_supported.ensures.asks)
+returns-then-is_supported-clause-further g c = further_then c.args.resolver.now.answers c.is_supported.new.self.answers c.is_supported-2.new.self.answers (asks_further (words g.row.F g.F.FnMut).step features.Func c.args.resolver.now c.is_supported.new.self c.is_supported.result c.is_supported.ensures.asks)
     (asks_further (words g.row.F g.F.FnMut).step features.FuncGlobal c.is_supported.new.self c.is_supported-2.new.self c.is_supported-2.result c.is_supported-2.ensures.asks)
 
 pub returns-in_err-made_static-2-clause-further : goal.returns-in_err-made_static-2-clause-further
-returns-in_err-made_static-2-clause-further g c = further_then c.args.resolver.now.1 c.is_supported.new.self.1 c.is_supported-2.new.self.1 (asks_further (words g.row.F g.F.FnMut).step features.Func c.args.resolver.now c.is_supported.new.self c.is_supported.result c.is_supported.ensures.asks)
+returns-in_err-made_static-2-clause-further g c = further_then c.args.resolver.now.answers c.is_supported.new.self.answers c.is_supported-2.new.self.answers (asks_further (words g.row.F g.F.FnMut).step features.Func c.args.resolver.now c.is_supported.new.self c.is_supported.result c.is_supported.ensures.asks)
     (asks_further (words g.row.F g.F.FnMut).step features.FuncGlobal c.is_supported.new.self c.is_supported-2.new.self c.is_supported-2.result c.is_supported-2.ensures.asks)
 
 pub returns-clause-further : goal.returns-clause-further
-returns-clause-further g c = further_then c.args.resolver.now.1 c.is_supported.new.self.1 c.is_supported-2.new.self.1 (asks_further (words g.row.F g.F.FnMut).step features.Func c.args.resolver.now c.is_supported.new.self c.is_supported.result c.is_supported.ensures.asks)
+returns-clause-further g c = further_then c.args.resolver.now.answers c.is_supported.new.self.answers c.is_supported-2.new.self.answers (asks_further (words g.row.F g.F.FnMut).step features.Func c.args.resolver.now c.is_supported.new.self c.is_supported.result c.is_supported.ensures.asks)
     (asks_further (words g.row.F g.F.FnMut).step features.FuncGlobal c.is_supported.new.self c.is_supported-2.new.self c.is_supported-2.result c.is_supported-2.ensures.asks)
 
 pub returns-in_err-check_name-clause-further : goal.returns-in_err-check_name-clause-further
-returns-in_err-check_name-clause-further g c = further_none c.args.resolver.now.1
+returns-in_err-check_name-clause-further g c = further_none c.args.resolver.now.answers
 
 pub returns-in_err-check_name-clause-steps : goal.returns-in_err-check_name-clause-steps
 returns-in_err-check_name-clause-steps g c = λ given id made comes. let there = comes.there in let below = comes.answered in let here = comes.here in
     let b : BtfType = Func c.args.func.now in
-    let p : Pass = pass_on c.args.btf.now given c.args.resolver.now.1 in
-    handed_on (λ o. made_of o b) c.in_err-check_name.field-0.0 c.from_residual.result (Steps p id c.args.resolver.now.1 b made made) c.from_residual.ensures.1
+    let p : Pass = pass_on c.args.btf.now given c.args.resolver.now.answers in
+    handed_on (λ o. made_of o b) c.in_err-check_name.field-0.0 c.from_residual.result (Steps p id c.args.resolver.now.answers b made made) c.from_residual.ensures.1
     (IfSome_then _ c.in_err-check_name.ensures (λ refusal is.
     let unread = func_unread p id b there there.kind_is refusal (unread_name c.args.btf.now.strings c.name_offset-name_offset.result c.args.func.now.name refusal is c.name_offset-name_offset.ensures.value) in
-    let refuses : Steps p id c.args.resolver.now.1 b made made (Err refusal) = (([], asked_none p id below, unread.0), unread.1) in
+    let refuses : Steps p id c.args.resolver.now.answers b made made (Err refusal) = (([], asked_none p id below, unread.0), unread.1) in
     refuses))

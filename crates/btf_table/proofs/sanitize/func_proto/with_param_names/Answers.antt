@@ -10,9 +10,9 @@ use Rattle.btf_rewrite_model.specs.Rule.{named_params}
 use Rattle.btf_plain.specs.Items.{param_words}
 use Rattle.btf_plain.specs.declared.items.BtfParam.{BtfParam}
 use Rattle.btf_table.specs.Adding.{strings_end, Adds}
-use Rattle.btf_rules.specs.Checked.{checked}
+use Rattle.btf_table.specs.Checked.{checked}
 use Rattle.btf_table.proofs.Adding.{adds_then}
-use Rattle.btf_rules.proofs.Checks.{checked_ok, checked_err}
+use Rattle.btf_table.proofs.Checks.{checked_ok, checked_err}
 use Rattle.btf_table.proofs.Prototypes.{at, texts_to, end_after, room_next, room_fault, texts_next, named_next}
 use Rattle.btf_plain.proofs.Refused.{handed_on}
 use Rattle.btf_table.proofs.sanitize.func_proto.with_param_names.Goals as goal

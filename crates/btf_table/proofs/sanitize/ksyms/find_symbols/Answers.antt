@@ -2,7 +2,7 @@ use Rattle.std.proofs.Common.{refl}
 use Rattle.std.proofs.lemmas.Option.{IfSome_then}
 use Rattle.btf_rewrite_model.specs.Made.{entries}
 use Rattle.btf_table.specs.KsymsStep.{entry, FindsSymbols}
-use Rattle.btf_rules.proofs.Checks.{checked_err, checked_ok}
+use Rattle.btf_table.proofs.Checks.{checked_err, checked_ok}
 use Rattle.btf_table.proofs.KsymsEntries.{at, fault_found, passes_up_to, symbols_up_to, found_symbols}
 use Rattle.btf_plain.proofs.Refused.{handed_on}
 use Rattle.btf_table.proofs.sanitize.ksyms.find_symbols.Goals as goal

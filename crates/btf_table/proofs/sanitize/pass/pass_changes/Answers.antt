@@ -7,8 +7,8 @@ use Rattle.btf_rewrite_model.specs.Pass.{Pass}
 use Rattle.btf_rewrite_model.specs.Passing.{IsAt}
 use Rattle.btf_records.specs.BtfType.{record_of, fallback_of}
 use Rattle.btf_records.specs.declared.btf_type.BtfType.{BtfType}
-use Rattle.btf_rules.specs.Features.{Called}
-use Rattle.btf_rules.specs.Layout.{layout_of}
+use Rattle.btf_table.specs.Features.{Called}
+use Rattle.btf_table.specs.Layout.{layout_of}
 use Rattle.btf_table.specs.Btf.{IsType}
 use Rattle.btf_table.specs.PassStep.{Given, pass_on, under, IsHere, Comes, IsMade, Passes, BeginsAsked}
 use Rattle.btf_table.specs.declared.sanitize.outcome.Outcome.{Outcome}
@@ -22,14 +22,14 @@ use Rattle.btf_table.proofs.sanitize.pass.pass_changes.Goals as goal
 use Rattle.btf_table.proofs.sanitize.pass.pass_changes.Goals.{After-rewrite_type}
 
 pub returns-in_err-made-clause-asks : goal.returns-in_err-made-clause-asks
-returns-in_err-made-clause-asks g c = begins_none (pass_on c.args.btf.now (under c.args.policy (layout_of c.args.sections.now c.args.symbols.now)) c.args.resolver.now.1) c.requires.unasked
+returns-in_err-made-clause-asks g c = begins_none (pass_on c.args.btf.now (under c.args.request.now.policy (layout_of c.args.request.now.sections.now c.args.request.now.symbols.now)) c.args.resolver.now.answers) c.requires.unasked
 
 pub loop-id-init : goal.loop-id-init
 loop-id-init g c =
     let t : Table = c.args.btf.now in
     let ts : List BtfType = c.as_slice-count.result.now in
-    let p : Pass = pass_on t (under c.args.policy (layout_of c.args.sections.now c.args.symbols.now)) c.args.resolver.now.1 in
-    let none : c.args.resolver.now.1 ≡ [] = c.requires.unasked in
+    let p : Pass = pass_on t (under c.args.request.now.policy (layout_of c.args.request.now.sections.now c.args.request.now.symbols.now)) c.args.resolver.now.answers in
+    let none : c.args.resolver.now.answers ≡ [] = c.requires.unasked in
     let first = c.as_slice-count.ensures.first in
     let some : 0 < length ts = omega (arith, ap length c.as_slice-count.ensures.records, ap length first.1, length-map ts record_of) in
     let b : BtfType = get_or ts 0 Unknown in
@@ -45,19 +45,19 @@ loop-id-init g c =
       member_type = c.in_ok-made.ensures.member_type;
       filler = c.in_ok-made.ensures.filler;
     }) in
-    (c.requires.callable, subst (λ answers. Called (words g.row.F g.row.G g.row.H g.row.G-Hasher g.row.H-Hasher g.F.FnMut).step c.args.resolver.now.0 answers c.args.resolver.now.0) (sym none) refl, start.0, subst (IsMade p 1 c.in_ok-made.made) (sym c.new-denied.ensures.items) start.1, c.new-names.ensures p.layout)
+    (c.requires.callable, subst (λ answers. Called (words g.row.F g.row.G g.row.H g.row.G-Hasher g.row.H-Hasher g.F.FnMut).step c.args.resolver.now.predicate answers c.args.resolver.now.predicate) (sym none) refl, start.0, subst (IsMade p 1 c.in_ok-made.made) (sym c.new-denied.ensures.items) start.1, c.new-names.ensures p.layout)
 
 -- ---- an id, after its rule has returned
 
 module _ (g : Over) (c : After-rewrite_type g) where
   abbrev given : Given
-  given = under c.args.policy (layout_of c.args.sections.now c.args.symbols.now)
+  given = under c.args.request.now.policy (layout_of c.args.request.now.sections.now c.args.request.now.symbols.now)
 
   abbrev before : Pass
-  before = pass_on c.args.btf.now given c.loop-id.resolver.1
+  before = pass_on c.args.btf.now given c.loop-id.resolver.answers
 
   abbrev after : Pass
-  after = pass_on c.args.btf.now given c.rewrite_type.new.resolver.1
+  after = pass_on c.args.btf.now given c.rewrite_type.new.resolver.answers
 
   -- the table has the type at this id
   type_is : IsType c.args.btf.now c.loop-id.id c.type_at-btf_type.result.now
@@ -67,10 +67,10 @@ module _ (g : Over) (c : After-rewrite_type g) where
   here_is : IsHere after c.loop-id.id c.loop-id.made
   here_is =
       let further = c.rewrite_type.ensures.further in
-      here_of_made before c.loop-id.id c.loop-id.made c.loop-id.denied.items after.answers further.0 (further_answers c.loop-id.resolver.1 c.rewrite_type.new.resolver.1 further) c.loop-id.invariant.2 c.loop-id.invariant.3
+      here_of_made before c.loop-id.id c.loop-id.made c.loop-id.denied.items after.answers further.0 (further_answers c.loop-id.resolver.answers c.rewrite_type.new.resolver.answers further) c.loop-id.invariant.2 c.loop-id.invariant.3
 
   -- the pass comes to the id
-  comes : Comes c.args.btf.now given c.loop-id.id c.type_at-btf_type.result.now c.loop-id.resolver.1 after.answers c.loop-id.made
+  comes : Comes c.args.btf.now given c.loop-id.id c.type_at-btf_type.result.now c.loop-id.resolver.answers after.answers c.loop-id.made
   comes = record { there = type_is; answered = c.loop-id.invariant.2.asked; here = here_is }
 
   -- the id is one of the table
@@ -84,7 +84,7 @@ module _ (g : Over) (c : After-rewrite_type g) where
       begins_at before c.loop-id.id after.answers asks.0 c.loop-id.invariant.2 is_below asks.1
 
 pub returns-in_err-outcome-clause-called : goal.returns-in_err-outcome-clause-called
-returns-in_err-outcome-clause-called g c = c.rewrite_type.ensures.called c.args.resolver.now.0 c.loop-id.invariant.1
+returns-in_err-outcome-clause-called g c = c.rewrite_type.ensures.called c.args.resolver.now.predicate c.loop-id.invariant.1
 
 pub returns-in_err-outcome-clause-asks : goal.returns-in_err-outcome-clause-asks
 returns-in_err-outcome-clause-asks g c = begins g (goal.at.returns-in_err-outcome-clause-asks g c).After-rewrite_type
@@ -95,10 +95,10 @@ returns-in_err-outcome-clause-passes g c =
     let id : ℕ = c.loop-id.id in
     let at : IsAt (before g s) id = c.loop-id.invariant.2 in
     handed_on (λ c. c) c.in_err-outcome.field-0.0 c.from_residual-in_err-outcome.result (Passes (after g s)) c.from_residual-in_err-outcome.ensures.1
-    (IfSome_then _ (c.in_err-outcome.ensures.steps (given g s) id refl (comes g s)) (λ refusal h. refused_at (before g s) id c.rewrite_type.new.resolver.1 refusal (is_below g s) at h.0 h.1))
+    (IfSome_then _ (c.in_err-outcome.ensures.steps (given g s) id refl (comes g s)) (λ refusal h. refused_at (before g s) id c.rewrite_type.new.resolver.answers refusal (is_below g s) at h.0 h.1))
 
 pub returns-in_err-keep-clause-called : goal.returns-in_err-keep-clause-called
-returns-in_err-keep-clause-called g c = c.rewrite_type.ensures.called c.args.resolver.now.0 c.loop-id.invariant.1
+returns-in_err-keep-clause-called g c = c.rewrite_type.ensures.called c.args.resolver.now.predicate c.loop-id.invariant.1
 
 pub returns-in_err-keep-clause-asks : goal.returns-in_err-keep-clause-asks
 returns-in_err-keep-clause-asks g c = begins g (goal.at.returns-in_err-keep-clause-asks g c).After-rewrite_type
@@ -111,7 +111,7 @@ loop-id-preserved g c =
     let b : BtfType = c.type_at-btf_type.result.now in
     let low : 0 < id = omega (arith, c.loop-id.auto.id) in
     let o : Outcome = c.in_ok-outcome.outcome in
-    let next = steps_on (before g s) id c.rewrite_type.new.resolver.1 b o c.loop-id.made c.rewrite_type.new.made c.keep.new.self c.loop-id.denied.items c.keep.new.denied.items low at c.loop-id.invariant.3 (type_is g s)
+    let next = steps_on (before g s) id c.rewrite_type.new.resolver.answers b o c.loop-id.made c.rewrite_type.new.made c.keep.new.self c.loop-id.denied.items c.keep.new.denied.items low at c.loop-id.invariant.3 (type_is g s)
     (c.in_ok-outcome.ensures.steps (given g s) id refl (comes g s))
     (record {
       types = c.in_ok-keep.ensures.types;
@@ -126,13 +126,13 @@ loop-id-preserved g c =
       filler = c.keep.ensures.filler;
     }) in
     let one_on : suc id ≡ id + 1 = omega arith in
-    (c.rewrite_type.ensures.callable, c.rewrite_type.ensures.called c.args.resolver.now.0 c.loop-id.invariant.1, subst (IsAt (after g s)) one_on next.0, subst (λ n. IsMade (after g s) n c.keep.new.self c.keep.new.denied.items) one_on next.1, c.in_ok-outcome.ensures.read)
+    (c.rewrite_type.ensures.callable, c.rewrite_type.ensures.called c.args.resolver.now.predicate c.loop-id.invariant.1, subst (IsAt (after g s)) one_on next.0, subst (λ n. IsMade (after g s) n c.keep.new.self c.keep.new.denied.items) one_on next.1, c.in_ok-outcome.ensures.read)
 
 pub returns-clause-asks : goal.returns-clause-asks
 returns-clause-asks g c =
     let t : Table = c.args.btf.now in
     let ts : List BtfType = c.as_slice-count.result.now in
-    let p : Pass = pass_on t (under c.args.policy (layout_of c.args.sections.now c.args.symbols.now)) c.loop-id.resolver.1 in
+    let p : Pass = pass_on t (under c.args.request.now.policy (layout_of c.args.request.now.sections.now c.args.request.now.symbols.now)) c.loop-id.resolver.answers in
     let id : ℕ = c.loop-id.id in
     let at : IsAt p id = c.loop-id.invariant.2 in
     let end : id ≡ length t.records = omega (arith, c.loop-id-test.false, c.loop-id.auto.id-end, ap length c.as_slice-count.ensures.first.1, ap length c.as_slice-count.ensures.records, length-map ts record_of) in
@@ -142,7 +142,7 @@ pub returns-clause-passes : goal.returns-clause-passes
 returns-clause-passes g c =
     let t : Table = c.args.btf.now in
     let ts : List BtfType = c.as_slice-count.result.now in
-    let p : Pass = pass_on t (under c.args.policy (layout_of c.args.sections.now c.args.symbols.now)) c.loop-id.resolver.1 in
+    let p : Pass = pass_on t (under c.args.request.now.policy (layout_of c.args.request.now.sections.now c.args.request.now.symbols.now)) c.loop-id.resolver.answers in
     let id : ℕ = c.loop-id.id in
     let at : IsAt p id = c.loop-id.invariant.2 in
     let made : IsMade p id c.loop-id.made c.loop-id.denied.items = c.loop-id.invariant.3 in

@@ -6,8 +6,8 @@ use Rattle.btf_model.specs.Table.{Table, type_bytes, type_place}
 use Rattle.btf_plain.proofs.Refused.{handed_on, known_refusal}
 use Rattle.btf_records.specs.BtfType.{record_of, type_kind}
 use Rattle.btf_rewrite_model.specs.Checks.{fits}
-use Rattle.btf_rules.specs.Checked.{checked}
-use Rattle.btf_rules.proofs.Checks.{checked_err}
+use Rattle.btf_table.specs.Checked.{checked}
+use Rattle.btf_table.proofs.Checks.{checked_err}
 use Rattle.btf_table.proofs.Tables.{few_types, consistent_push, place_checked, fitting, has_room}
 use Rattle.btf_table.proofs.table.Btf.add_type.Goals as goal
 

@@ -1,7 +1,7 @@
 use Rattle.std.proofs.Common.{List, ℕ, Result, sym, ap, arith}
 use Rattle.btf_model.specs.Refusal.{Refusal}
 use Rattle.btf_rewrite_model.specs.Checks.{is_read}
-use Rattle.btf_rules.specs.Checked.{checked}
+use Rattle.btf_table.specs.Checked.{checked}
 use Rattle.btf_table.proofs.table.Btf.check_name.Goals as goal
 
 pub returns-then-offset-readable_end : goal.returns-then-offset-readable_end

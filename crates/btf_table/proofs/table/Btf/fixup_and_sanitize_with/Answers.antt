@@ -5,7 +5,7 @@ use Rattle.btf_model.specs.Table.{Table}
 use Rattle.btf_rewrite_model.specs.Rewritten.{begun, pass_of}
 use Rattle.btf_plain.specs.Error.{refusal_of, MeetsOrNoMemory}
 use Rattle.btf_table.specs.KsymsStep.{ksyms_ids}
-use Rattle.btf_rules.specs.Layout.{layout_of}
+use Rattle.btf_table.specs.Layout.{layout_of}
 use Rattle.btf_table.specs.PassStep.{Given, under}
 use Rattle.btf_table.specs.Rewrites.{Rewrites}
 use Rattle.btf_rewrite_model.specs.declared.ksyms_ids.KsymsIds.{KsymsIds}
@@ -17,12 +17,12 @@ use Rattle.btf_table.proofs.table.Btf.fixup_and_sanitize_with.Goals as goal
 use Rattle.btf_table.proofs.table.Btf.fixup_and_sanitize_with.Goals.{After-sanitize, After-drop-undo}
 
 -- without symbols: what is retained of the table, if it is rewritten
-keeps_alone : (g : Over) (c : After-sanitize g) (Q : Type 0) → (Keeps c.args.policy c.args.self.now c.args.ksyms c.sanitize.new.resolver.1 c.sanitize.new.self → Q) → OnOk c.sanitize.result Q
+keeps_alone : (g : Over) (c : After-sanitize g) (Q : Type 0) → (Keeps c.args.policy c.args.self.now c.args.ksyms c.sanitize.new.resolver.answers c.sanitize.new.self → Q) → OnOk c.sanitize.result Q
 keeps_alone g c Q follows =
     let old : Table = c.args.self.now in
     let new : Table = c.sanitize.new.self in
     let given : Given = under c.args.policy (layout_of c.args.sections.now c.args.symbols.now) in
-    let answers = c.sanitize.new.resolver.1 in
+    let answers = c.sanitize.new.resolver.answers in
     on_ok (λ a. a.items) c.sanitize.result (Rewrites given.policy old None given.layout answers new) Q (rewrites_by (λ a. a.items) c.sanitize.result old old new None given answers refl refl c.sanitize.ensures.sanitizes)
     (λ items h. follows (subst (λ (k : Option KsymsIds). Keeps given.policy old k answers new) (sym c.in_default.is) (keeps_of old new None given answers items h)))
 
@@ -31,57 +31,39 @@ returns-in_default-clause-rewrites g c =
     let old : Table = c.args.self.now in
     let new : Table = c.sanitize.new.self in
     let given : Given = under c.args.policy (layout_of c.args.sections.now c.args.symbols.now) in
-    let answers = c.sanitize.new.resolver.1 in
+    let answers = c.sanitize.new.resolver.answers in
     subst (λ (k : Option KsymsIds). MeetsOrNoMemory (λ a. a.items) c.sanitize.result (Rewrites given.policy old k given.layout answers new)) (sym c.in_default.is)
     (rewrites_by (λ a. a.items) c.sanitize.result old old new None given answers refl refl c.sanitize.ensures.sanitizes)
 
 pub returns-in_default-clause-granted : goal.returns-in_default-clause-granted
 returns-in_default-clause-granted g c = keeps_alone g c _ (λ k. k.granted)
 
-pub returns-in_default-clause-sizes : goal.returns-in_default-clause-sizes
-returns-in_default-clause-sizes g c = keeps_alone g c _ (λ k. k.sizes)
-
-pub returns-in_default-clause-resolutions : goal.returns-in_default-clause-resolutions
-returns-in_default-clause-resolutions g c = keeps_alone g c _ (λ k. k.resolutions)
-
-pub returns-in_default-clause-values : goal.returns-in_default-clause-values
-returns-in_default-clause-values g c = keeps_alone g c _ (λ k. k.values)
-
-pub returns-in_default-clause-appended : goal.returns-in_default-clause-appended
-returns-in_default-clause-appended g c = keeps_alone g c _ (λ k. k.appended)
+pub returns-in_default-clause-kept : goal.returns-in_default-clause-kept
+returns-in_default-clause-kept g c = keeps_alone g c _ (λ k. k.meaning)
 
 pub returns-in_err-changes-clause-asked : goal.returns-in_err-changes-clause-asked
-returns-in_err-changes-clause-asked g c = begins_none (pass_of c.args.policy c.args.self.now c.args.ksyms (layout_of c.args.sections.now c.args.symbols.now) c.args.resolver.now.1) c.requires.unasked
+returns-in_err-changes-clause-asked g c = begins_none (pass_of c.args.policy c.args.self.now c.args.ksyms (layout_of c.args.sections.now c.args.symbols.now) c.args.resolver.now.answers) c.requires.unasked
 
 pub returns-in_err-undo-clause-asked : goal.returns-in_err-undo-clause-asked
-returns-in_err-undo-clause-asked g c = begins_none (pass_of c.args.policy c.args.self.now c.args.ksyms (layout_of c.args.sections.now c.args.symbols.now) c.args.resolver.now.1) c.requires.unasked
+returns-in_err-undo-clause-asked g c = begins_none (pass_of c.args.policy c.args.self.now c.args.ksyms (layout_of c.args.sections.now c.args.symbols.now) c.args.resolver.now.answers) c.requires.unasked
 
 -- with symbols: what is retained of the table
-keeps_stepped : (g : Over) (c : After-drop-undo g) → Keeps c.args.policy c.args.self.now c.args.ksyms c.sanitize-2.new.resolver.1 c.sanitize-2.new.self
+keeps_stepped : (g : Over) (c : After-drop-undo g) → Keeps c.args.policy c.args.self.now c.args.ksyms c.sanitize-2.new.resolver.answers c.sanitize-2.new.self
 keeps_stepped g c =
     let old : Table = c.args.self.now in
     let new : Table = c.sanitize-2.new.self in
     let given : Given = under c.args.policy (layout_of c.args.sections.now c.args.symbols.now) in
     let ids : KsymsIds = ksyms_ids c.in-Some.ids.datasec_id c.in-Some.ids.placeholder_id in
     let there : c.apply.new.self ≡ begun old (Some ids) = c.in_ok-undo.ensures.ok ∙ c.in_ok-changes.ensures.2 in
-    let answers = c.sanitize-2.new.resolver.1 in
+    let answers = c.sanitize-2.new.resolver.answers in
     let h = stepped_by old c.apply.new.self new (Some ids) given answers (Ok c.in-Ok.answers.items) c.in_ok-changes.ensures.0 there c.in-Ok.ensures.sanitizes in
     subst (λ (k : Option KsymsIds). Keeps given.policy old k answers new) (sym c.in-Some.is) (keeps_of old new (Some ids) given answers c.in-Ok.answers.items h)
 
 pub returns-in-Ok-clause-granted : goal.returns-in-Ok-clause-granted
 returns-in-Ok-clause-granted g c = (keeps_stepped g c).granted
 
-pub returns-in-Ok-clause-sizes : goal.returns-in-Ok-clause-sizes
-returns-in-Ok-clause-sizes g c = (keeps_stepped g c).sizes
-
-pub returns-in-Ok-clause-resolutions : goal.returns-in-Ok-clause-resolutions
-returns-in-Ok-clause-resolutions g c = (keeps_stepped g c).resolutions
-
-pub returns-in-Ok-clause-values : goal.returns-in-Ok-clause-values
-returns-in-Ok-clause-values g c = (keeps_stepped g c).values
-
-pub returns-in-Ok-clause-appended : goal.returns-in-Ok-clause-appended
-returns-in-Ok-clause-appended g c = (keeps_stepped g c).appended
+pub returns-in-Ok-clause-kept : goal.returns-in-Ok-clause-kept
+returns-in-Ok-clause-kept g c = (keeps_stepped g c).meaning
 
 pub returns-in-Err-clause-rewrites : goal.returns-in-Err-clause-rewrites
 returns-in-Err-clause-rewrites g c =
@@ -89,6 +71,6 @@ returns-in-Err-clause-rewrites g c =
     let given : Given = under c.args.policy (layout_of c.args.sections.now c.args.symbols.now) in
     let ids : KsymsIds = ksyms_ids c.in-Some.ids.datasec_id c.in-Some.ids.placeholder_id in
     let there : c.apply.new.self ≡ begun old (Some ids) = c.in_ok-undo.ensures.ok ∙ c.in_ok-changes.ensures.2 in
-    let answers = c.sanitize-2.new.resolver.1 in
+    let answers = c.sanitize-2.new.resolver.answers in
     subst (λ (k : Option KsymsIds). IfSome (refusal_of c.in-Err.error) (λ refusal. Rewrites {X = List FeatureAnswer} given.policy old k given.layout answers c.undo.new.self (Err refusal))) (sym c.in-Some.is)
     (IfSome_then _ c.in-Err.ensures.sanitizes (λ refusal s. stepped_by {X = List FeatureAnswer} old c.apply.new.self c.undo.new.self (Some ids) given answers (Err refusal) c.in_ok-changes.ensures.0 there s))

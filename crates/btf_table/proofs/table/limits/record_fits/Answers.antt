@@ -1,7 +1,7 @@
 use Rattle.std.proofs.Common.{refl, ap, sym, arith}
 use Rattle.btf_model.specs.Refusal.{InvalidTypeInfo}
-use Rattle.btf_rules.specs.Checked.{checked}
-use Rattle.btf_rules.proofs.Checks.{not_fitting}
+use Rattle.btf_table.specs.Checked.{checked}
+use Rattle.btf_table.proofs.Checks.{not_fitting}
 use Rattle.btf_table.proofs.table.limits.record_fits.Goals as goal
 
 pub returns-then-bytes-used : goal.returns-then-bytes-used

@@ -1,7 +1,7 @@
 use Rattle.std.proofs.Common.{refl, ap, sym, arith}
 use Rattle.btf_model.specs.Refusal.{InvalidStringOffset}
-use Rattle.btf_rules.specs.Checked.{checked}
-use Rattle.btf_rules.proofs.Checks.{no_room}
+use Rattle.btf_table.specs.Checked.{checked}
+use Rattle.btf_table.proofs.Checks.{no_room}
 use Rattle.btf_table.proofs.table.limits.text_fits.Goals as goal
 
 pub returns-then-text-offset : goal.returns-then-text-offset

@@ -5,7 +5,7 @@ use Rattle.btf_table.proofs.Sections.{record_within, cut_begins, cut_goes_on, cu
 use Rattle.btf_table.proofs.table.types.read_types.Goals as goal
 
 pub loop-rest-init : goal.loop-rest-init
-loop-rest-init c = cut_begins c.args.endianness c.args.data.now c.push.new.self.items _ (rw c.new-types.ensures.items at c.in_ok-push.ensures.items) refl refl
+loop-rest-init c = cut_begins c.args.endianness c.args.data.now c.push.new.self.items _ (rw c.in_ok-types.ensures.items at c.in_ok-push.ensures.items) refl refl
 
 pub returns-in_err-size : goal.returns-in_err-size
 returns-in_err-size c =

@@ -1,6 +1,6 @@
 use Rattle.std.proofs.Common.{◌≡◌, ℕ, List, subst}
 use Rattle.std.specs.Prelude.{IfSome}
-use Rattle.btf_types.specs.Layout.{layout_of, sizes_of, offsets_of}
+use Rattle.btf.specs.Layout.{layout_of, sizes_of, offsets_of}
 use Rattle.vbtf.specs.Program.{number_named}
 use Rattle.vbtf.proofs.Layouts.{layout_is}
 use Rattle.vbtf.proofs.program.Program.read.Goals as goal

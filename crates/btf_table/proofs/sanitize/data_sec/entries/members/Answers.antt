@@ -9,8 +9,8 @@ use Rattle.btf_rewrite_model.specs.Checks.{first_fault}
 use Rattle.btf_rewrite_model.specs.Rule.{member_name, entry_members}
 use Rattle.btf_rewrite_model.specs.Fault.{member_checks}
 use Rattle.btf_plain.specs.Items.{member_words}
-use Rattle.btf_rules.specs.Checked.{checked}
-use Rattle.btf_rules.proofs.Checks.{checked_err, checked_ok}
+use Rattle.btf_table.specs.Checked.{checked}
+use Rattle.btf_table.proofs.Checks.{checked_err, checked_ok}
 use Rattle.btf_plain.proofs.Refused.{handed_on}
 use Rattle.btf_table.proofs.SectionItems.{one_more_passes, this_one_faults, one_more_becomes, all_entries}
 use Rattle.btf_table.proofs.sanitize.data_sec.entries.members.Goals as goal

@@ -7,9 +7,9 @@ use Rattle.btf_rewrite_model.specs.Made.{Entry, entries}
 use Rattle.btf_rewrite_model.specs.Checks.{first_fault}
 use Rattle.btf_rewrite_model.specs.Rule.{placed}
 use Rattle.btf_rewrite_model.specs.Fault.{entry_checks}
-use Rattle.btf_rules.specs.Checked.{checked}
+use Rattle.btf_table.specs.Checked.{checked}
 use Rattle.btf_table.specs.KsymsStep.{entry}
-use Rattle.btf_rules.proofs.Checks.{checked_err, checked_ok}
+use Rattle.btf_table.proofs.Checks.{checked_err, checked_ok}
 use Rattle.btf_plain.proofs.Refused.{handed_on}
 use Rattle.btf_table.proofs.SectionItems.{one_more_passes, this_one_faults, one_more_maps, all_entries}
 use Rattle.btf_table.proofs.sanitize.data_sec.entries.placed_entries.Goals as goal

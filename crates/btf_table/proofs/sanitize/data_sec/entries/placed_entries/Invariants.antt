@@ -6,7 +6,7 @@ use Rattle.btf_rewrite_model.specs.Rule.{placed}
 use Rattle.btf_rewrite_model.specs.Fault.{entry_checks}
 use Rattle.btf_table.specs.KsymsStep.{entry}
 use Rattle.btf_table.specs.ReadNames.{AreFound}
-use Rattle.btf_rules.specs.Layout.{offsets_of}
+use Rattle.btf_table.specs.Layout.{offsets_of}
 use Rattle.btf_table.proofs.sanitize.data_sec.entries.placed_entries.Given as goal
 
 abbrev pub invariant-loop-entry : goal.invariant-loop-entry

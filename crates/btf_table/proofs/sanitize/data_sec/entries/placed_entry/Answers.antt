@@ -8,7 +8,7 @@ use Rattle.btf_rewrite_model.specs.Pass.{symbol_by_name}
 use Rattle.btf_rewrite_model.specs.Rule.{placed}
 use Rattle.btf_rewrite_model.specs.Fault.{entry_checks, is_placed}
 use Rattle.btf_plain.specs.Error.{refusal_of}
-use Rattle.btf_rules.specs.Checked.{checked}
+use Rattle.btf_table.specs.Checked.{checked}
 use Rattle.btf_table.specs.KsymsStep.{entry as entry_of}
 use Rattle.btf_table.proofs.SectionRules.{told_on}
 use Rattle.btf_table.proofs.sanitize.data_sec.entries.placed_entry.Goals as goal

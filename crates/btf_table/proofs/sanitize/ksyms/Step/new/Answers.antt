@@ -6,7 +6,7 @@ use Rattle.btf_rewrite_model.specs.Made.{entries}
 use Rattle.btf_rewrite_model.specs.Checks.{first_fault}
 use Rattle.btf_rewrite_model.specs.Ksyms.{placeholder_checks, data_sec_checks, ksyms_entry_checks, symbols}
 use Rattle.btf_table.specs.KsymsStep.{ksyms_ids, FindsSymbols, StepsWith}
-use Rattle.btf_rules.proofs.Checks.{checked_ok, checked_err, fault_second, fault_third}
+use Rattle.btf_table.proofs.Checks.{checked_ok, checked_err, fault_second, fault_third}
 use Rattle.btf_plain.proofs.Refused.{handed_on}
 use Rattle.btf_table.proofs.sanitize.ksyms.Step.new.Goals as goal
 

@@ -1,9 +1,0 @@
-use Rattle.std.proofs.Common.{ℕ, ap, ◌∙◌}
-use Rattle.btf_object.specs.Names.{strings_at}
-use Rattle.btf_object.proofs.Short.{section_strings}
-use Rattle.btf_object.proofs.names.section_names.Goals as goal
-
-pub returns : goal.returns
-returns c =
-    let o = c.args.object.now in
-    c.strings_at.ensures ∙ ap (λ (index : ℕ). strings_at o index) c.names_index.ensures ∙ section_strings c.bytes.result.now o c.bytes.ensures.object

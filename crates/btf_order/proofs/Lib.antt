@@ -1,0 +1,7 @@
+pub mod Types
+pub mod Lists
+pub mod Covers
+pub mod Knowing
+pub mod Starting
+pub mod Results
+pub mod Stacks

@@ -1,0 +1,45 @@
+use Rattle.std.proofs.Common.{◌≡◌, ◌≤◌, ap, arith}
+use Rattle.std.specs.List.{sum_by}
+use Rattle.btf_records.specs.BtfType.{record_of}
+use Rattle.btf_order.specs.Progress.{left_over, mark_weight, walks_weight}
+use Rattle.btf_order.proofs.Covers.{covered_more, link_is}
+use Rattle.btf_order.proofs.Knowing.{inside, left_knows, left_grows, left_complete, left_less, grows_trans}
+use Rattle.btf_order.proofs.progress.Progress.close.Goals as goal
+
+pub returns-clause-knows : goal.returns-clause-knows
+returns-clause-knows c =
+    left_knows c.args.table.now.records c.place.new.self c.leave.new.self c.in_ok-place.ensures.knows c.args.frame.now.node.id
+    (inside c.args.table.now.records c.place.new.self c.in_ok-place.ensures.knows c.args.frame.now.node.id (record_of c.in_ok-btf_type.btf_type.now) c.in_ok-btf_type.ensures.record_is)
+    c.link-link.result.is_settled c.leave.ensures (λ e. c.in_ok-place.ensures.covered (c.link-link.ensures.settled e))
+
+pub returns-clause-grows : goal.returns-clause-grows
+returns-clause-grows c =
+    grows_trans c.args.self.now c.place.new.self c.leave.new.self c.in_ok-place.ensures.grows
+    (left_grows c.args.table.now.records c.place.new.self c.leave.new.self c.in_ok-place.ensures.knows c.args.frame.now.node.id
+    (inside c.args.table.now.records c.place.new.self c.in_ok-place.ensures.knows c.args.frame.now.node.id (record_of c.in_ok-btf_type.btf_type.now) c.in_ok-btf_type.ensures.record_is)
+    c.link-link.result.is_settled c.leave.ensures)
+
+pub returns-clause-link : goal.returns-clause-link
+returns-clause-link c =
+    let grows =
+    left_grows c.args.table.now.records c.place.new.self c.leave.new.self c.in_ok-place.ensures.knows c.args.frame.now.node.id
+    (inside c.args.table.now.records c.place.new.self c.in_ok-place.ensures.knows c.args.frame.now.node.id (record_of c.in_ok-btf_type.btf_type.now) c.in_ok-btf_type.ensures.record_is)
+    c.link-link.result.is_settled c.leave.ensures in
+    link_is c.args.table.now.records c.leave.new.self.ids.items c.args.frame.now c.link-link.result c.shape_of.result (record_of c.in_ok-btf_type.btf_type.now) c.in_ok-btf_type.ensures.record_is c.shape_of.ensures c.link-link.ensures.strong
+    (λ done. covered_more c.args.table.now.records c.place.new.self.ids.items c.leave.new.self.ids.items c.args.frame.now.node.id grows.ids (c.in_ok-place.ensures.covered done))
+
+pub returns-clause-complete : goal.returns-clause-complete
+returns-clause-complete c by_value =
+    left_complete c.args.table.now.records c.place.new.self c.leave.new.self c.in_ok-place.ensures.knows c.args.frame.now.node.id
+    (inside c.args.table.now.records c.place.new.self c.in_ok-place.ensures.knows c.args.frame.now.node.id (record_of c.in_ok-btf_type.btf_type.now) c.in_ok-btf_type.ensures.record_is)
+    c.link-link.result.is_settled c.leave.ensures (c.link-link.ensures.by_value by_value)
+
+pub returns-clause-less : goal.returns-clause-less
+returns-clause-less c =
+    let marks : sum_by mark_weight c.place.new.self.marks.items ≡ sum_by mark_weight c.args.self.now.marks.items = ap (λ v. sum_by mark_weight v.items) c.in_ok-place.ensures.marks in
+    let walks : sum_by walks_weight c.place.new.self.walks.items ≡ sum_by walks_weight c.args.self.now.walks.items = ap (λ v. sum_by walks_weight v.items) c.in_ok-place.ensures.walks in
+    let less : left_over c.leave.new.self ≤ left_over c.place.new.self =
+    left_less c.args.table.now.records c.place.new.self c.leave.new.self c.in_ok-place.ensures.knows c.args.frame.now.node.id
+    (inside c.args.table.now.records c.place.new.self c.in_ok-place.ensures.knows c.args.frame.now.node.id (record_of c.in_ok-btf_type.btf_type.now) c.in_ok-btf_type.ensures.record_is)
+    c.link-link.result.is_settled c.leave.ensures in
+    omega (arith, marks, walks, less)

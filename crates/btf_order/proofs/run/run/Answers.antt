@@ -1,0 +1,52 @@
+use Rattle.std.proofs.Common.{sym, subst}
+use Rattle.btf_order.specs.declared.run.Step.{Step}
+use Rattle.btf_order.specs.declared.run.Step.TheVariants.{Down}
+use Rattle.btf_order.specs.declared.shape.Node.{Node}
+use Rattle.btf_order.specs.Frame.{LinkIs}
+use Rattle.btf_order.specs.Run.{StepIs}
+use Rattle.btf_order.proofs.Covers.{new_frame, frame_after}
+use Rattle.btf_order.proofs.Knowing.{grows_trans}
+use Rattle.btf_order.proofs.Stacks.{Waiting, down_waiting, up_waiting, down_bottom, up_bottom}
+use Rattle.btf_order.proofs.run.run.Goals as goal
+
+pub steps-preserved-in-Down : goal.steps-preserved-in-Down
+steps-preserved-in-Down c =
+    let step : StepIs c.args.table.now.records c.steps.progress c.advance.new.progress c.advance.new.top (Down c.in-Down.node) =
+    subst (λ (s : Step). StepIs c.args.table.now.records c.steps.progress c.advance.new.progress c.advance.new.top s) c.in-Down.is c.in_ok-node-2.ensures.step in
+    record {
+      knows = c.in_ok-node-2.ensures.knows;
+      grows = grows_trans c.args.progress.now c.steps.progress c.advance.new.progress c.steps.invariant.grows c.in_ok-node-2.ensures.grows;
+      frame = new_frame c.args.table.now.records c.advance.new.progress.ids.items c.new-top-in-Down.result c.new-top-in-Down.ensures.next;
+      waiting =
+          subst (λ (n : Node). Waiting c.args.table.now.records c.advance.new.progress.ids.items c.push.new.self.items n) (sym c.new-top-in-Down.ensures.node)
+          (down_waiting c.args.table.now.records c.steps.progress.ids.items c.advance.new.progress.ids.items c.steps.below.items c.push.new.self.items c.steps.top c.advance.new.top c.in-Down.node
+          c.in_ok-node-2.ensures.grows.ids c.in_ok-node-2.ensures.node c.steps.invariant.waiting c.in_ok-node-2.ensures.frame step.0 c.in_ok-push-in-Down.ensures.items);
+      bottom =
+          down_bottom c.steps.below.items c.push.new.self.items c.steps.top c.advance.new.top c.new-top-in-Down.result.node _ c.in_ok-node-2.ensures.node c.in_ok-push-in-Down.ensures.items c.steps.invariant.bottom;
+    }
+
+pub returns-in_default-pop-clause-grows : goal.returns-in_default-pop-clause-grows
+returns-in_default-pop-clause-grows c =
+    grows_trans c.args.progress.now c.advance.new.progress c.close.new.self
+    (grows_trans c.args.progress.now c.steps.progress c.advance.new.progress c.steps.invariant.grows c.in_ok-node-2.ensures.grows) c.in_ok-link-in-Up.ensures.grows
+
+pub after-top-requires : goal.after-top-requires
+after-top-requires c =
+    let grows = grows_trans c.steps.progress c.advance.new.progress c.close.new.self c.in_ok-node-2.ensures.grows c.in_ok-link-in-Up.ensures.grows in
+    (up_waiting c.args.table.now.records c.steps.progress.ids.items c.close.new.self.ids.items c.steps.below.items c.pop.new.self.items c.steps.top.node c.in-Some.next grows.ids c.steps.invariant.waiting c.in-Some.ensures.items).1.1.0
+
+pub steps-preserved : goal.steps-preserved
+steps-preserved c =
+    let grows = grows_trans c.steps.progress c.advance.new.progress c.close.new.self c.in_ok-node-2.ensures.grows c.in_ok-link-in-Up.ensures.grows in
+    let up = up_waiting c.args.table.now.records c.steps.progress.ids.items c.close.new.self.ids.items c.steps.below.items c.pop.new.self.items c.steps.top.node c.in-Some.next grows.ids c.steps.invariant.waiting c.in-Some.ensures.items in
+    record {
+      knows = c.in_ok-link-in-Up.ensures.knows;
+      grows = grows_trans c.args.progress.now c.steps.progress c.close.new.self c.steps.invariant.grows grows;
+      frame =
+          frame_after c.args.table.now.records c.close.new.self.ids.items c.in-Some.next c.after-top.result c.steps.top.node c.in_ok-link-in-Up.link up.1.0 up.1.1
+          (subst (λ (n : Node). LinkIs c.args.table.now.records c.close.new.self.ids.items n c.in_ok-link-in-Up.link) c.in_ok-node-2.ensures.node c.in_ok-link-in-Up.ensures.link)
+          c.after-top.ensures.node c.after-top.ensures.next c.after-top.ensures.all_strong;
+      waiting =
+          subst (λ (n : Node). Waiting c.args.table.now.records c.close.new.self.ids.items c.pop.new.self.items n) (sym c.after-top.ensures.node) up.0;
+      bottom = up_bottom c.steps.below.items c.pop.new.self.items c.steps.top.node c.in-Some.next c.after-top.result _ c.in-Some.ensures.items c.after-top.ensures.node c.steps.invariant.bottom;
+    }

@@ -1,0 +1,5 @@
+pub mod Shape
+pub mod Frame
+pub mod Progress
+pub mod Run
+pub mod Errors

@@ -1,0 +1,80 @@
+//! The walk from a type over the types that it refers to.
+//!
+//! An explicit stack has the types that wait for the type after them.
+
+ghost use Rattle.std.specs.Prelude.{◌≡◌, true, OnOk, IfOk, IfErr};
+ghost use Rattle.btf_order.specs.Errors.{IsOrderError};
+ghost use Rattle.btf_order.specs.Frame.{IsFrame};
+ghost use Rattle.btf_order.specs.Progress.{Knows, Grows, is_complete_in};
+ghost use Rattle.btf_order.specs.Run.{StepIs};
+
+use crate::frame::Frame;
+use crate::progress::{Progress, Visit};
+use crate::shape::{Node, child_of};
+use btf_plain::BtfError;
+use btf_table::{Btf, allocator_of};
+
+/// Where the walk goes from a type.
+#[derive(Clone, Copy, Drop)]
+enum Step {
+    /// To a type that it refers to.
+    Down(Node),
+    /// Back, after the last one.
+    Up,
+}
+
+/// Walks from a type, by value.
+pub fn run(table: &Btf, root: u32, progress: &mut Progress) -> Result<(), BtfError>
+    requires { Knows table.now.records progress.old }
+    ensures knows { OnOk result (Knows table.now.records progress.new) }
+    ensures grows { OnOk result (Grows progress.old progress.new) }
+    ensures error { IfErr result (λ e. IsOrderError table.now.records e) }
+    ensures root { OnOk result (is_complete_in progress.new.marks.items root ≡ true) }
+{
+    let start = Node {
+        id: root,
+        through_pointer: false,
+    };
+    let Visit::Opens(node) = progress.visit(table, start)? else {
+        return Ok(());
+    };
+    let mut below = Vec::new(allocator_of(table));
+    let mut top = Frame::new(node);
+    'steps: loop {
+        match advance(table, &mut top, progress)? {
+            Step::Down(node) => {
+                below.push(top)?;
+                top = Frame::new(node);
+            }
+            Step::Up => {
+                let link = progress.close(table, &top)?;
+                let Some(next) = below.pop() else {
+                    return Ok(());
+                };
+                top = next.after(link);
+            }
+        }
+    }
+}
+
+/// Goes over the types that a type refers to, up to the first one that has to be walked from.
+fn advance(table: &Btf, top: &mut Frame, progress: &mut Progress) -> Result<Step, BtfError>
+    requires knows { Knows table.now.records progress.old }
+    requires frame { IsFrame table.now.records progress.old.ids.items top.old }
+    ensures knows { OnOk result (Knows table.now.records progress.new) }
+    ensures grows { OnOk result (Grows progress.old progress.new) }
+    ensures frame { OnOk result (IsFrame table.now.records progress.new.ids.items top.new) }
+    ensures node { OnOk result (top.new.node ≡ top.old.node) }
+    ensures error { IfErr result (λ e. IsOrderError table.now.records e) }
+    ensures step { IfOk result (λ s.
+        StepIs table.now.records progress.old progress.new top.new s) }
+{
+    let btf_type = table.type_by_id(top.node.id)?;
+    while let Some(node) = child_of(btf_type, top.node.through_pointer, top.next) {
+        match progress.visit(table, node)? {
+            Visit::Returns(link) => *top = top.after(link),
+            Visit::Opens(node) => return Ok(Step::Down(node)),
+        }
+    }
+    Ok(Step::Up)
+}

@@ -1,0 +1,24 @@
+-- What the private parts of a UNION represent: its first words, its members, and its fallback.
+use Rattle.std.specs.Prelude.{List, Option, Some, None}
+use Rattle.btf_model.specs.Table.{Fallback}
+use Rattle.btf_plain.specs.declared.head.Head.{Head}
+use Rattle.btf_plain.specs.declared.items.BtfMember.{BtfMember}
+use Rattle.btf_plain.specs.Fallback.{fallback_value}
+use Rattle.btf_plain.specs.ItemList.{items_of}
+use Rattle.btf_records.specs.declared.union.Parts.{Parts}
+use Rattle.btf_records.specs.declared.union.Parts.TheVariants.{Alone, InsteadOf}
+
+-- the first three words of a UNION
+abbrev pub head_of : Parts → Head
+head_of (Alone head members) = head
+head_of (InsteadOf head fallback members) = head
+
+-- the members of a UNION
+abbrev pub members_of : Parts → List BtfMember
+members_of (Alone head members) = items_of members
+members_of (InsteadOf head fallback members) = members.items
+
+-- the fallback of a UNION
+abbrev pub kept_of : Parts → Option Fallback
+kept_of (Alone head members) = None
+kept_of (InsteadOf head fallback members) = Some (fallback_value fallback)

@@ -1,6 +1,0 @@
-use Rattle.std.proofs.Common.{◌≡◌}
-use Rattle.btf_rules.proofs.NamedParams.{named_to}
-use Rattle.btf_rules.proofs.func_proto.with_names.Given as goal
-
-abbrev pub invariant-loop-index : goal.invariant-loop-index
-invariant-loop-index l = l.with_names ≡ record l.proto { tail = named_to l.name_offset l.index l.param-items }
