@@ -86,11 +86,11 @@ error_here strings name vs i offset v e r returned at others offset_is is =
     (IfSome_then (refusal_of e) is (λ refusal unread. refused_here strings name vs i offset v refusal at others offset_is unread))
 
 -- if the name is UTF-8 or cannot be read, the error is no allocation failure
-pub told_here : (strings name : List ℕ) (vs : List Variant) (i offset : ℕ) (v : Variant) (e : BtfError) (r : Result (Option ℕ) BtfError) → r ≡ Err e → slice_get vs i ≡ Some v → HaveOtherNames strings name (take i vs) → offset ≡ v.name
+pub reported_here : (strings name : List ℕ) (vs : List Variant) (i offset : ℕ) (v : Variant) (e : BtfError) (r : Result (Option ℕ) BtfError) → r ≡ Err e → slice_get vs i ≡ Some v → HaveOtherNames strings name (take i vs) → offset ≡ v.name
     → (IfSome (bytes_at strings offset) IsUtf8 → (refusal : Refusal) × (refusal_of e ≡ Some refusal) × (text_at strings offset ≡ Err refusal)) → HaveUtf8Names strings vs → Meets (λ a. a) r (FindsVariant strings name vs)
-told_here strings name vs i offset v e r returned at others offset_is told utf8 =
+reported_here strings name vs i offset v e r returned at others offset_is reported utf8 =
     let here : IfSome (bytes_at strings offset) IsUtf8 = subst (λ (o : ℕ). IfSome (bytes_at strings o) IsUtf8) (sym offset_is) (all_at (λ (w : Variant). IfSome (bytes_at strings w.name) IsUtf8) vs i v at utf8) in
-    let refused = told here in
+    let refused = reported here in
     subst (λ (x : Result (Option ℕ) BtfError). Meets (λ a. a) x (FindsVariant strings name vs)) (sym returned)
     (refused.0, refused.1, refused_here strings name vs i offset v refused.0 at others offset_is refused.2)
 

@@ -59,8 +59,8 @@ module _ (request : Request) (layout : Layout) (policy : FillPolicy) (answers : 
   rewritten_declined endianness bytes refusal (inr table) = record { cause = inr (table.0, table.1, refuses_so table.0 refusal table.2) }
 
 -- a claim about an error holds of the error that is returned for it
-pub told_through : (P Q : Refusal → Type 0) (e : BtfError) (r : Result (Vec ℕ Global) BtfError) → ((refusal : Refusal) → P refusal → Q refusal) → IfSome (refusal_of e) P → IsErrAnd r (λ y. y ≡ e) → IfErr r (λ y. IfSome (refusal_of y) Q)
-told_through P Q e r so told err =
+pub refusal_through : (P Q : Refusal → Type 0) (e : BtfError) (r : Result (Vec ℕ Global) BtfError) → ((refusal : Refusal) → P refusal → Q refusal) → IfSome (refusal_of e) P → IsErrAnd r (λ y. y ≡ e) → IfErr r (λ y. IfSome (refusal_of y) Q)
+refusal_through P Q e r so setting_asked err =
     let q = err_from_is_err_and r err in
-    let here : IfSome (refusal_of e) Q = elim (refusal_of e) as (λ (o : Option Refusal). IfSome o P → IfSome o Q) [ Some refusal ↦ so refusal | None ↦ λ none. tt ] told in
+    let here : IfSome (refusal_of e) Q = elim (refusal_of e) as (λ (o : Option Refusal). IfSome o P → IfSome o Q) [ Some refusal ↦ so refusal | None ↦ λ none. tt ] setting_asked in
     subst (λ (x : Result (Vec ℕ Global) BtfError). IfErr x (λ y. IfSome (refusal_of y) Q)) (sym (q.1 ∙ ap (λ (x : BtfError). Err x) q.2)) here

@@ -42,7 +42,7 @@ fn read_input<R: Read>(alloc: Global, input: &mut R) -> Result<Vec<u8>, Fault>
 /// The output of a query of a table.
 fn asked(alloc: Global, query: Query, table: Btf) -> Result<Output, BtfError>
     ensures made { IfOk result (λ output. Writes (Ask query) table (output_bytes output)) }
-    ensures told { IfErr result (λ e. IfSome (refusal_of e) (Declines (Ask query) table)) }
+    ensures reported { IfErr result (λ e. IfSome (refusal_of e) (Declines (Ask query) table)) }
 {
     match query {
         Query::Copy => Ok(Output::Bytes(table.to_bytes()?)),
@@ -64,7 +64,7 @@ fn answer(alloc: Global, line: Line, blob: &[u8]) -> Result<Output, BtfError>
     ensures made { IfOk result (λ output. IsAnswer line.entry blob.now (output_bytes output)) }
     ensures refused { (f : Refusal) → IsDeclined line.entry blob.now f → IsErr result }
     // An error of the table has this cause.
-    ensures told { IfErr result (λ e. IfSome (refusal_of e) (IsDeclined line.entry blob.now)) }
+    ensures reported { IfErr result (λ e. IfSome (refusal_of e) (IsDeclined line.entry blob.now)) }
 {
     match line.command {
         Command::Ask(query) => {
@@ -92,7 +92,7 @@ fn carry_out<R: Read, W: Write>(
         → IsDeclined line.entry bytes f
         → IsErr result × Keeps (W.contents out.old) (W.contents out.new) }
     // An error of the table has this cause.
-    ensures told { IfErr result (λ fault. IfSome (R.remaining input.old) (λ bytes.
+    ensures reported { IfErr result (λ fault. IfSome (R.remaining input.old) (λ bytes.
         IfSome (fault_refusal fault) (IsDeclined line.entry bytes))) }
     // The table's errors are found before the first byte is written.
     ensures untouched { IfErr result (λ fault. fault ≢ faults.Write

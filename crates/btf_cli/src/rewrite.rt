@@ -80,7 +80,7 @@ pub fn rewritten(
     requires { (settings : List Setting) × AreSet request settings }
     ensures made { IfOk result (λ v. IsAnswer
         (rewriting endianness request.entry) blob.now v.items) }
-    ensures told { IfErr result (λ e. IfSome (refusal_of e)
+    ensures reported { IfErr result (λ e. IfSome (refusal_of e)
         (IsDeclined (rewriting endianness request.entry) blob.now)) }
 {
     let sections = sections(alloc, request.words)?;

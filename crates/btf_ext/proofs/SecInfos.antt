@@ -23,7 +23,7 @@ length-rest order bytes name count rest h = omega (arith, h.long, ap length h.re
 -- there is no record, or the records pass the end
 pub cut_section : (order : Endianness) (size : ℕ) (bytes : List ℕ) (name count : ℕ) (rest : List ℕ) (len : ℕ) → IsHead order bytes name count rest → len ≡ min (size * count) largest_len → (len ≡ 0) ⊎ (length rest < len)
     → BeginsNoSection order size bytes × (Some (InvalidInfo 8 len (length bytes)) ≡ Some (cut_refusal order size bytes))
-cut_section order size bytes name count rest len h len-is bad = (none, told)
+cut_section order size bytes name count rest len h len-is bad = (none, reported)
   where
     product : size * word_at order 4 bytes ≡ size * count
     product = ap (λ (n : ℕ). size * n) (sym h.count_is)
@@ -34,8 +34,8 @@ cut_section order size bytes name count rest len h len-is bad = (none, told)
       | inr cut ↦ inr (omega (arith, cut, len-is, product, length-rest order bytes name count rest h))
     ])
 
-    told : Some (InvalidInfo 8 len (length bytes)) ≡ Some (cut_refusal order size bytes)
-    told = rw (le-ltb (length bytes) 8 h.long, product) (ap (λ (n : ℕ). Some (InvalidInfo 8 n (length bytes))) len-is)
+    reported : Some (InvalidInfo 8 len (length bytes)) ≡ Some (cut_refusal order size bytes)
+    reported = rw (le-ltb (length bytes) 8 h.long, product) (ap (λ (n : ℕ). Some (InvalidInfo 8 n (length bytes))) len-is)
 
 -- the records are within the rest
 pub whole_section : (order : Endianness) (size : ℕ) (bytes : List ℕ) (name count : ℕ) (rest : List ℕ) (len : ℕ) (s : Section) (behind : List ℕ) → IsBytes bytes → length bytes < 2 ^ 64 → IsHead order bytes name count rest → len ≡ min (size * count) largest_len → len ≢ 0 → len ≤ length rest → s.name ≡ name → s.count ≡ count → s.bytes ≡ take len rest → behind ≡ drop len rest

@@ -32,8 +32,8 @@ stepped_by old t new k given answers r step is s = sanitized old new k given ans
 -- the same for the result of a call
 pub rewrites_by : {X Y : Type 0} (view : X → Y) (r : Result X BtfError) (old t new : Table) (k : Option KsymsIds) (given : Given) (answers : List FeatureAnswer) → step_fault old k ≡ None → t ≡ begun old k
     → MeetsOrNoMemory view r (Sanitizes (pass_on t given answers) new) → MeetsOrNoMemory view r (Rewrites given.policy old k given.layout answers new)
-rewrites_by view (Ok x) old t new k given answers step is told = stepped_by old t new k given answers (Ok (view x)) step is told
-rewrites_by {X} {Y} view (Err e) old t new k given answers step is told = refused (refusal_of e) told
+rewrites_by view (Ok x) old t new k given answers step is reported = stepped_by old t new k given answers (Ok (view x)) step is reported
+rewrites_by {X} {Y} view (Err e) old t new k given answers step is reported = refused (refusal_of e) reported
   where
     refused : (o : Option Refusal) → IfSome o (λ f. Sanitizes {X = Y} (pass_on t given answers) new (Err f)) → IfSome o (λ f. Rewrites {X = Y} given.policy old k given.layout answers new (Err f))
     refused None none = tt

@@ -53,8 +53,8 @@ use Rattle.btf_table.proofs.PassRules.{record_there, kind_there, becomes_there, 
 -- ---- results
 
 -- an error is passed on, and is the refusal of the same tests
-pub told_on : {X Y U : Type 0} (view : X → Y) (e : BtfError) (r : Result X BtfError) (f : Option Refusal) (u : U) (y : Y) → IsErrAnd r (λ x. x ≡ e) → IfSome (refusal_of e) (λ refusal. ◌≡◌ {A = Result U Refusal} (Err refusal) (checked f u)) → IsOrNoMemory view r (checked f y)
-told_on view e r f u y err is =
+pub reported_on : {X Y U : Type 0} (view : X → Y) (e : BtfError) (r : Result X BtfError) (f : Option Refusal) (u : U) (y : Y) → IsErrAnd r (λ x. x ≡ e) → IfSome (refusal_of e) (λ refusal. ◌≡◌ {A = Result U Refusal} (Err refusal) (checked f u)) → IsOrNoMemory view r (checked f y)
+reported_on view e r f u y err is =
     handed_on view e r (λ a. a ≡ checked f y) err (IfSome_then _ is (λ refusal same. sym (ap (λ (o : Option Refusal). checked o y) (checked_err f u refusal same))))
 
 -- a type that is made, or a refusal by these tests

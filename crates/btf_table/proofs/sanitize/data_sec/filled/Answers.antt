@@ -37,10 +37,10 @@ returns-in_err-record_fits c = λ given answers id r before n fills known.
     (λ k some. (same_ok {E = BtfError} k number (sym (c.filler.ensures.there k some).0 ∙ c.in_ok-filler.was), (c.filler.ensures.there k some).1))
     c.in_ok-filler.ensures.answer c.in_ok-filler.ensures.adds c.in_ok-filler.ensures.made in
     let e : BtfError = c.in_err-record_fits.field-0.0 in
-    let told = c.in_err-record_fits.ensures in
+    let reported = c.in_err-record_fits.ensures in
     handed_on (λ new. unwrap_or new (DataSec r)) e c.from_residual-in_err-record_fits.result (Rules p id (DataSec r) before c.filler.new.self) c.from_residual-in_err-record_fits.ensures.1
-    (known_refusal e told.0 (λ refusal. Rules p id (DataSec r) before c.filler.new.self (Err refusal)) told.1
-    (growth_fault p id r c.args.name_offset before c.args.made.now n fills c.args.size known c.filler.new.self number has told.0 (checked_err _ _ told.0 told.2)))
+    (known_refusal e reported.0 (λ refusal. Rules p id (DataSec r) before c.filler.new.self (Err refusal)) reported.1
+    (growth_fault p id r c.args.name_offset before c.args.made.now n fills c.args.size known c.filler.new.self number has reported.0 (checked_err _ _ reported.0 reported.2)))
 
 pub returns : goal.returns
 returns c = λ given answers id r before n fills known.

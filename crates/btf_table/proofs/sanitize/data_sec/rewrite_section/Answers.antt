@@ -192,7 +192,7 @@ module _ (g : Over) (c : After-final_size g) (size : ℕ) (was : c.final_size.re
       let two : List FeatureAnswer = new.answers in
       let q : Pass = pass_on c.args.btf.now given two in
       let quiet_so : asks_zero given.policy r size ≡ false → (two ≡ one) × (fills ≡ is_fillable given.policy r) =
-      λ is. let told = quiet (ap (λ pol. asks_zero pol r size) (sym policy) ∙ is) in (ap (λ (s : Resolver g.row.F.Denot). s.answers) told.0, told.1 ∙ ap (λ pol. is_fillable pol r) (sym policy)) in
+      λ is. let reported = quiet (ap (λ pol. asks_zero pol r size) (sym policy) ∙ is) in (ap (λ (s : Resolver g.row.F.Denot). s.answers) reported.0, reported.1 ∙ ap (λ pol. is_fillable pol r) (sym policy)) in
       let zero : asks_zero given.policy r size ≡ true → NextAnswers one features.DataSecZero (not fills) two =
       λ is. asks_next (words g.row.F g.row.G g.row.H g.row.G-Hasher g.row.H-Hasher g.F.FnMut).step features.DataSecZero c.is_supported-granted.new.self new (not fills) (asks_it (ap (λ pol. asks_zero pol r size) (sym policy) ∙ is)) in
       let has_it : has q features.DataSec ≡ granted = granted_two p id r there kind below one granted next size two fills quiet_so zero in

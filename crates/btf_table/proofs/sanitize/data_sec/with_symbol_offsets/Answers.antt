@@ -14,12 +14,12 @@ use Rattle.btf_records.specs.declared.btf_type.BtfType.TheVariants.{DataSec}
 use Rattle.btf_table.specs.Checked.{checked}
 use Rattle.btf_table.specs.KsymsStep.{entry}
 use Rattle.btf_table.proofs.Checks.{checked_ok}
-use Rattle.btf_table.proofs.SectionRules.{told_on}
+use Rattle.btf_table.proofs.SectionRules.{reported_on}
 use Rattle.btf_table.proofs.sanitize.data_sec.with_symbol_offsets.Goals as goal
 
 pub returns-in_err-entries-clause-answer : goal.returns-in_err-entries-clause-answer
 returns-in_err-entries-clause-answer g c = λ p same symbols.
-    told_on (λ new. record_of (unwrap_or new (DataSec c.args.data_sec.now))) c.in_err-entries.field-0.0 c.from_residual.result (first_fault (flat_map (entry_checks p) (entries c.args.data_sec.now.tail))) _
+    reported_on (λ new. record_of (unwrap_or new (DataSec c.args.data_sec.now))) c.in_err-entries.field-0.0 c.from_residual.result (first_fault (flat_map (entry_checks p) (entries c.args.data_sec.now.tail))) _
     (model.data_sec c.args.name_offset c.args.size (vlen c.args.data_sec.now.info) (map (placed p) (entries c.args.data_sec.now.tail))) c.from_residual.ensures.1
     (c.in_err-entries.ensures.answer p same symbols)
 

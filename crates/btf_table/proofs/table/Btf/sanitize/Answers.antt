@@ -16,7 +16,7 @@ pub returns-in_err-passed-clause-sanitizes : goal.returns-in_err-passed-clause-s
 returns-in_err-passed-clause-sanitizes g c =
     let p : Pass = pass_on c.args.self.now (under c.args.request.now.policy (layout_of c.args.request.now.sections.now c.args.request.now.symbols.now)) c.pass_changes.new.resolver.answers in
     handed_on (λ a. a.items) c.in_err-passed.field-0.0 c.from_residual.result (Sanitizes {X = List FeatureAnswer} p c.args.self.now) c.from_residual.ensures.1
-    (IfSome_then _ c.in_err-passed.ensures.passes (λ refusal s. let told : Sanitizes {X = List FeatureAnswer} p c.args.self.now (Err refusal) = (s.0, (s.1, s.2, s.3), s.4) in told))
+    (IfSome_then _ c.in_err-passed.ensures.passes (λ refusal s. let reported : Sanitizes {X = List FeatureAnswer} p c.args.self.now (Err refusal) = (s.0, (s.1, s.2, s.3), s.4) in reported))
 
 pub deny_types-requires : goal.deny_types-requires
 deny_types-requires g c =
