@@ -7,7 +7,7 @@ use Rattle.std.specs.Str.Parse.{digits_value}
 use Rattle.btf_rewrite_model.specs.declared.feature.BtfFeature.TheVariants as features
 use Rattle.btf_rewrite_model.specs.declared.feature.BtfFeature.{BtfFeature}
 use Rattle.btf_rewrite_model.specs.FeatureSet.{feature_name}
-use Rattle.btf_cli.specs.Setting.{Setting, Grants, FillsSized, SectionSize, SymbolOffset, KsymsId, PlaceholderId, Sets, IsNamed}
+use Rattle.btf_cli.specs.Setting.{Setting, Grants, FillsSized, SectionSize, SymbolOffset, KsymsId, PlaceholderId, Sets, IsNamedNumber}
 use Rattle.btf_rewrite_model.proofs.FeatureSet.{named, named_is}
 use Rattle.btf_cli.specs.Settings.{SetAll}
 use Rattle.btf_cli.proofs.NameEnds.{cut_last, cut_named}
@@ -36,7 +36,7 @@ feature_name_asked features.DeclTag = refl
 feature_name_asked features.TypeTag = refl
 feature_name_asked features.Enum64 = refl
 
-asked_named : (kind : List ℕ → ℕ → Setting) (text name : List ℕ) (n : ℕ) → IsNamed text name n → named_setting kind (cut_last text) ≡ kind name n
+asked_named : (kind : List ℕ → ℕ → Setting) (text name : List ℕ) (n : ℕ) → IsNamedNumber text name n → named_setting kind (cut_last text) ≡ kind name n
 asked_named kind text name n named = ap (named_setting kind) (cut_named text name n named) ∙ ap (kind name) named.2.1
 
 -- this is the setting that the word makes

@@ -22,7 +22,7 @@ use Rattle.btf_cli.specs.declared.line.Query.TheVariants.{Copy, Types, Size, Com
 use Rattle.btf_cli.specs.declared.line.Command.{Command}
 use Rattle.btf_cli.specs.declared.line.Command.TheVariants.{Ask, Rewrite}
 use Rattle.btf_cli.specs.Line.{order_word, AsksQuery, AsksCommand, Asks}
-use Rattle.btf_cli.specs.Answer.{Rewrites, Writes, Declines, IsAnswer, IsDeclined, IsWritten}
+use Rattle.btf_cli.specs.Answer.{RewritesAsAsked, Writes, Declines, IsAnswer, IsDeclined, IsWritten}
 use Rattle.btf_cli.proofs.Asked.{settings_once}
 
 -- ---- the meaning of the words, if they have one
@@ -100,7 +100,7 @@ settings_alike a b settings alike is = record {
   ids = subst (λ (ids : Option KsymsIds). SetIds settings ids) alike.ids is.ids;
 }
 
-rewrites_alike : (a b : Request) (t : Table) (r : Result Table Refusal) → AreAlike a b → Rewrites a t r → Rewrites b t r
+rewrites_alike : (a b : Request) (t : Table) (r : Result Table Refusal) → AreAlike a b → RewritesAsAsked a t r → RewritesAsAsked b t r
 rewrites_alike a b t (Ok new) alike is =
     (is.0, settings_alike a b is.0 alike is.1, subst (λ (ids : Option KsymsIds). Rewritten (policy_set is.0) t ids (layout_set is.0) (kernel_set is.0) new) alike.ids is.2)
 rewrites_alike a b t (Err refusal) alike is =

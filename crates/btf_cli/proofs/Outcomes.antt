@@ -17,7 +17,7 @@ use Rattle.btf_model.proofs.OnePlain.{one_plain}
 use Rattle.btf_model.proofs.Walks.{one_answer, by_one}
 use Rattle.btf_plain.specs.Error.{refusal_of}
 use Rattle.btf_plain.specs.declared.error.BtfError.{BtfError}
-use Rattle.btf_compare.specs.Pairs.{pair}
+use Rattle.btf_compare.specs.Pairs.{id_pair}
 use Rattle.btf_cli.specs.Setting.{Setting}
 use Rattle.btf_cli.specs.Settings.{layout_set, kernel_set, policy_set}
 use Rattle.btf_cli.specs.Request.{request_words, request_ids}
@@ -27,7 +27,7 @@ use Rattle.btf_cli.specs.declared.line.Query.{Query}
 use Rattle.btf_cli.specs.declared.line.Query.TheVariants.{Copy, Types, Size, Compat}
 use Rattle.btf_cli.specs.declared.line.Command.{Command}
 use Rattle.btf_cli.specs.declared.line.Command.TheVariants.{Ask, Rewrite}
-use Rattle.btf_cli.specs.Answer.{Compares, Rewrites, Writes, Declines, IsAnswer, IsDeclined}
+use Rattle.btf_cli.specs.Answer.{Compares, RewritesAsAsked, Writes, Declines, IsAnswer, IsDeclined}
 use Rattle.btf_cli.specs.Fault.{fault_refusal}
 use Rattle.btf_cli.specs.Output.{output_bytes}
 use Rattle.btf_cli.specs.declared.output.Output.{Output}
@@ -36,13 +36,13 @@ use Rattle.btf_cli.specs.declared.fault.Fault.TheVariants as faults
 use Rattle.btf_cli.proofs.Asked.{settings_once}
 
 compared_or_refused : (t : Table) (id other : ℕ) (found : Bool × ℕ) (refusal : Refusal) → Compares t id other (Ok found) → Compares t id other (Err refusal) → ⊥
-compared_or_refused t id other found refusal has not = false≢true (ap is_ok (one_plain t t [] (pair id other) (Err refusal) (Ok found.0) not.0 has.0 not.1 has.1).0)
+compared_or_refused t id other found refusal has not = false≢true (ap is_ok (one_plain t t [] (id_pair id other) (Err refusal) (Ok found.0) not.0 has.0 not.1 has.1).0)
 
 sized_or_refused : (records : List Record) (id n : ℕ) (refusal : Refusal) → HasSize records id (Ok n) → HasSize records id (Err refusal) → ⊥
 sized_or_refused records id n refusal has not =
     none-some n (ap result_ok (one_answer (By (λ at. size_in at (slice_get records at.type))) (by_one (λ at. size_in at (slice_get records at.type))) (record { count = 1; type = id }) (λ _. MaximumTypeDepthReached id) (Err refusal) (Ok n) not has))
 
-rewritten_or_refused : (request : Request) (t new : Table) (refusal : Refusal) → Rewrites request t (Ok new) → Rewrites request t (Err refusal) → ⊥
+rewritten_or_refused : (request : Request) (t new : Table) (refusal : Refusal) → RewritesAsAsked request t (Ok new) → RewritesAsAsked request t (Err refusal) → ⊥
 rewritten_or_refused request t new refusal has not =
     let same : not.0 ≡ has.0 = settings_once (request_words request) not.0 has.0 not.1.all has.1.all in
     rewritten_not_refused (policy_set has.0) t new (request_ids request) (layout_set has.0) (kernel_set has.0) refusal has.2 (subst (λ (settings : List Setting). IsRefused (policy_set settings) t (request_ids request) (layout_set settings) (kernel_set settings) refusal) same not.2)

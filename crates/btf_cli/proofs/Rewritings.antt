@@ -19,7 +19,7 @@ use Rattle.btf_cli.specs.Settings.{layout_set, kernel_set, policy_set, last_set,
 use Rattle.btf_cli.specs.Request.{request_ids, AreSet}
 use Rattle.btf_cli.specs.declared.request.Request.{Request}
 use Rattle.btf_cli.specs.declared.line.Command.TheVariants.{Rewrite}
-use Rattle.btf_cli.specs.Answer.{Rewrites, IsAnswer, IsDeclined}
+use Rattle.btf_cli.specs.Answer.{RewritesAsAsked, IsAnswer, IsDeclined}
 
 -- a layout is the request's if it has the numbers of each name
 pub layout_is : (layout : Layout) (settings : List Setting) → ((name : List ℕ) → layout.sections name ≡ last_set (size_set name) settings) → ((name : List ℕ) → layout.symbols name ≡ last_set (offset_set name) settings) → layout ≡ layout_set settings
@@ -35,13 +35,13 @@ pub record IsFor (request : Request) (layout : Layout) (policy : FillPolicy) (an
   pub agree : AgreeWith answers (kernel_set settings)
 
 module _ (request : Request) (layout : Layout) (policy : FillPolicy) (answers : List FeatureAnswer) (settings : List Setting) (for_request : IsFor request layout policy answers settings) where
-  rewrites_so : (t new : Table) → Rewritten policy t (request_ids request) layout answers new → features_asked answers ≡ Asked (pass_of policy t (request_ids request) layout answers) → Rewrites request t (Ok new)
+  rewrites_so : (t new : Table) → Rewritten policy t (request_ids request) layout answers new → features_asked answers ≡ Asked (pass_of policy t (request_ids request) layout answers) → RewritesAsAsked request t (Ok new)
   rewrites_so t new is asked =
       let Known : FillPolicy → Layout → Type 0 = λ f l. Rewritten f t (request_ids request) l answers new × (features_asked answers ≡ Asked (pass_of f t (request_ids request) l answers)) in
       let known : Known (policy_set settings) (layout_set settings) = subst (λ (f : FillPolicy). Known f (layout_set settings)) for_request.same_policy (subst (Known policy) for_request.same_layout (is, asked)) in
       (settings, for_request.are_set, rewritten_alike (policy_set settings) t new (request_ids request) (layout_set settings) answers (kernel_set settings) known.0 known.1 for_request.agree)
 
-  refuses_so : (t : Table) (refusal : Refusal) → Refuses policy t (request_ids request) layout answers refusal → Rewrites request t (Err refusal)
+  refuses_so : (t : Table) (refusal : Refusal) → Refuses policy t (request_ids request) layout answers refusal → RewritesAsAsked request t (Err refusal)
   refuses_so t refusal is =
       let known : Refuses (policy_set settings) t (request_ids request) (layout_set settings) answers refusal =
       subst (λ (f : FillPolicy). Refuses f t (request_ids request) (layout_set settings) answers refusal) for_request.same_policy (subst (λ (l : Layout). Refuses policy t (request_ids request) l answers refusal) for_request.same_layout is) in

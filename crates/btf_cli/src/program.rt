@@ -8,7 +8,7 @@ ghost use Rattle.btf_cli.specs.declared.line.Command.TheVariants.{Ask};
 ghost use Rattle.btf_cli.specs.declared.line.Line.{Line};
 ghost use Rattle.btf_cli.specs.declared.fault.Fault.TheVariants as faults;
 ghost use Rattle.btf_cli.specs.Fault.{fault_refusal};
-ghost use Rattle.btf_cli.specs.Line.{Asks, IsAsked};
+ghost use Rattle.btf_cli.specs.Line.{Asks, IsCommandLine};
 ghost use Rattle.btf_cli.specs.Answer.{Writes, Declines, IsAnswer, IsDeclined, IsWritten};
 ghost use Rattle.btf_cli.specs.Output.{output_bytes};
 
@@ -60,7 +60,7 @@ fn asked(alloc: Global, query: Query, table: Btf) -> Result<Output, BtfError>
 
 /// The output of a command on a blob.
 fn answer(alloc: Global, line: Line, blob: &[u8]) -> Result<Output, BtfError>
-    requires { IsAsked line }
+    requires { IsCommandLine line }
     ensures made { IfOk result (λ output. IsAnswer line.entry blob.now (output_bytes output)) }
     ensures refused { (f : Refusal) → IsDeclined line.entry blob.now f → IsErr result }
     // An error of the table has this cause.
@@ -85,7 +85,7 @@ fn carry_out<R: Read, W: Write>(
     input: &mut R,
     out: &mut W,
 ) -> Result<(), Fault>
-    requires { IsAsked line }
+    requires { IsCommandLine line }
     ensures written { OnOk result (IfSome (R.remaining input.old) (λ bytes.
         IsWritten (W.contents out.old) (W.contents out.new) line.entry bytes)) }
     ensures refused { (bytes : List ℕ) (f : Refusal) → R.remaining input.old ≡ Some bytes

@@ -80,7 +80,7 @@ pub struct PairTable {
 }
 
 impl Model for PairTable {
-    ghost use Rattle.btf_compare.specs.PairTable.{IsPairTable, TakesMore, Layout, layout};
+    ghost use Rattle.btf_compare.specs.PairTable.{IsPairTable, TakesMore, BucketLayout, layout};
     ghost use Rattle.btf_compare.specs.declared.entries.Progress.{Progress};
 
     ghost Value = { Layout Progress };

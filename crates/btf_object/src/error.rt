@@ -1,7 +1,7 @@
 //! Why an object is not rewritten.
 
 ghost use Rattle.std.specs.Prelude.{◌≡◌};
-ghost use Rattle.btf_object.specs.Errors.{of_object, of_table, of_section};
+ghost use Rattle.btf_object.specs.Errors.{from_object, from_table, of_section};
 ghost use Rattle.btf_object.specs.declared.error.SanitizeError.TheVariants.{OutOfMemory};
 
 use btf_elf::{ObjectError, ReplaceError};

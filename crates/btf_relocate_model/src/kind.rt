@@ -1,7 +1,7 @@
 //! The kinds of relocations.
 
 ghost use Rattle.std.specs.Prelude.{Some};
-ghost use Rattle.btf_relocate_model.specs.Kind.{KindOfNumber, kind_text};
+ghost use Rattle.btf_relocate_model.specs.Kind.{RelocationKindOf, relocation_kind_text};
 
 use crate::error::RelocationError;
 use std::fmt;

@@ -24,7 +24,7 @@ ghost use Rattle.btf_table.specs.Checked.{checked};
 ghost use Rattle.btf_table.specs.Features.{Called};
 ghost use Rattle.btf_table.specs.KsymsStep.{ksyms_ids};
 ghost use Rattle.btf_table.specs.Layout.{layout_of};
-ghost use Rattle.btf_table.specs.PassStep.{pass_on, under, BeginsAsked};
+ghost use Rattle.btf_table.specs.PassStep.{pass_on, given_by, BeginsAsked};
 ghost use Rattle.btf_table.specs.Rewrites.{Rewrites, RewritesBytes, Sanitizes, NeedsAreGranted, KeepsTypes, KeepsMeaning, AppendsAtMost, BeginsAskedOf, OfTables};
 
 pub use crate::sanitize::data_sec::known_offset;
@@ -88,12 +88,9 @@ impl Btf {
         ensures callable { F.IsAlwaysCallable resolver.new.predicate }
         ensures called { Called F.step resolver.old.predicate resolver.new.answers
             resolver.new.predicate }
-        ensures asked { BeginsAsked (pass_on self.old
-            (under request.now.policy
-            (layout_of request.now.sections.now request.now.symbols.now)) resolver.new.answers) }
+        ensures asked { BeginsAsked (pass_on self.old (given_by request.now) resolver.new.answers) }
         ensures sanitizes { MeetsOrNoMemory (λ a. a.items) result
-            (Sanitizes (pass_on self.old (under request.now.policy
-            (layout_of request.now.sections.now request.now.symbols.now))
+            (Sanitizes (pass_on self.old (given_by request.now)
             resolver.new.answers) self.new) }
         ensures answers { IfOk result (λ a. a.items ≡ resolver.new.answers) }
         ensures err { OnErr result (self.new ≡ self.old) }

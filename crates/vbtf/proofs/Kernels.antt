@@ -4,7 +4,7 @@ use Rattle.std.specs.List.{list_any}
 use Rattle.std.proofs.lemmas.Bool.{false≢true}
 use Rattle.std.proofs.lemmas.List.{length-map}
 use Rattle.std.proofs.lemmas.Map.Steps.{length-le_from_distinct_below}
-use Rattle.btf_rewrite_model.specs.Feature.{number}
+use Rattle.btf_rewrite_model.specs.Feature.{feature_number}
 use Rattle.btf_rewrite_model.specs.declared.feature.BtfFeature.TheVariants as features
 use Rattle.btf_table.specs.Features.{numbers, AreDistinct}
 use Rattle.std.specs.Prelude.{IfSome, OnOk}
@@ -35,7 +35,7 @@ some_map : {P Q : Refusal → Type 0} (o : Option Refusal) → ((r : Refusal) �
 some_map None f p = p
 some_map (Some r) f p = f r p
 
-number_lt : (f : BtfFeature) → number f < 8
+number_lt : (f : BtfFeature) → feature_number f < 8
 number_lt features.Func = omega arith
 number_lt features.FuncGlobal = omega arith
 number_lt features.DataSec = omega arith
@@ -48,8 +48,8 @@ number_lt features.Enum64 = omega arith
 numbers_lt : (answers : List FeatureAnswer) (q : ℕ) → list_any (eqb q) (numbers answers) ≡ true → q < 8
 numbers_lt [] q is = absurd (false≢true is)
 numbers_lt (a ∷ answers) q is =
-    elim (eqb q (number a.feature)) as (λ (b : Bool). eqb q (number a.feature) ≡ b → (b || list_any (eqb q) (numbers answers)) ≡ true → q < 8) [
-      | true ↦ λ same _. subst (λ (n : ℕ). n < 8) (sym (eqb-true q (number a.feature) same)) (number_lt a.feature)
+    elim (eqb q (feature_number a.feature)) as (λ (b : Bool). eqb q (feature_number a.feature) ≡ b → (b || list_any (eqb q) (numbers answers)) ≡ true → q < 8) [
+      | true ↦ λ same _. subst (λ (n : ℕ). n < 8) (sym (eqb-true q (feature_number a.feature) same)) (number_lt a.feature)
       | false ↦ λ _ among. numbers_lt answers q among
     ] refl is
 
@@ -57,7 +57,7 @@ numbers_lt (a ∷ answers) q is =
 pub few_answers : (answers : List FeatureAnswer) → AreDistinct answers → length answers ≤ 8
 few_answers answers distinct =
     let most : length (numbers answers) ≤ 8 = length-le_from_distinct_below (numbers answers) 8 distinct (numbers_lt answers) in
-    omega (arith, most, length-map answers (λ (a : FeatureAnswer). number a.feature))
+    omega (arith, most, length-map answers (λ (a : FeatureAnswer). feature_number a.feature))
 
 -- a rewrite with these answers is one for the kernel
 pub for_kernel : (features : ℕ) (policy : FillPolicy) (old : Table) (ids : Option KsymsIds) (layout : Layout) (new : Table) (asked : List FeatureAnswer) (r : Result (ArrayVec FeatureAnswer 8 (Unit {0})) BtfError)

@@ -3,7 +3,7 @@ use Rattle.std.specs.Prelude.{◌≡◌, ℕ, ◌==◌, ◌⊎◌, List, map, ta
 use Rattle.std.specs.List.{AllByRecursion}
 use Rattle.btf_model.specs.Refusal.{Refusal}
 use Rattle.btf_model.specs.Table.{Table}
-use Rattle.btf_rewrite_model.specs.Feature.{number}
+use Rattle.btf_rewrite_model.specs.Feature.{feature_number}
 use Rattle.btf_rewrite_model.specs.FeatureSet.{has_bit}
 use Rattle.btf_rewrite_model.specs.declared.feature.FeatureAnswer.{FeatureAnswer}
 use Rattle.btf_rewrite_model.specs.declared.feature.FillPolicy.{FillPolicy}
@@ -41,7 +41,7 @@ granted_number answer = if answer.granted then 1 else 0
 -- The reported features are those of the answers, in order.
 pub record ListsAnswers (asked : Asked) (answers : List FeatureAnswer) : Type 0 where
   pub count : asked.count ≡ length answers
-  pub features : take asked.count asked.features ≡ map (λ answer. number answer.feature) answers
+  pub features : take asked.count asked.features ≡ map (λ answer. feature_number answer.feature) answers
   pub granted : take asked.count asked.granted ≡ map granted_number answers
 
 -- The outcomes of the rewrite of a table for a kernel with these features: the answers that it got, or an error.
