@@ -41,19 +41,20 @@ module _ (request : Request) (layout : Layout) (policy : FillPolicy) (answers : 
       let known : Known (policy_set settings) (layout_set settings) = subst (λ (f : FillPolicy). Known f (layout_set settings)) for_request.same_policy (subst (Known policy) for_request.same_layout (is, asked)) in
       (settings, for_request.are_set, rewritten_alike (policy_set settings) t new (request_ids request) (layout_set settings) answers (kernel_set settings) known.0 known.1 for_request.agree)
 
-  refuses_so : (t : Table) (refusal : Refusal) → Refuses policy t (request_ids request) layout answers refusal → RewritesAsAsked request t (Err refusal)
+  refuses_so : (t : Table) (refusal : Refusal) → Refuses (record { policy = policy; ksyms = request_ids request; layout = layout }) t answers refusal → RewritesAsAsked request t (Err refusal)
   refuses_so t refusal is =
-      let known : Refuses (policy_set settings) t (request_ids request) (layout_set settings) answers refusal =
-      subst (λ (f : FillPolicy). Refuses f t (request_ids request) (layout_set settings) answers refusal) for_request.same_policy (subst (λ (l : Layout). Refuses policy t (request_ids request) l answers refusal) for_request.same_layout is) in
+      let Known : FillPolicy → Layout → Type 0 = λ f l. Refuses (record { policy = f; ksyms = request_ids request; layout = l }) t answers refusal in
+      let known : Known (policy_set settings) (layout_set settings) =
+      subst (λ (f : FillPolicy). Known f (layout_set settings)) for_request.same_policy (subst (Known policy) for_request.same_layout is) in
       (settings, for_request.are_set, refused_alike (policy_set settings) t (request_ids request) (layout_set settings) answers (kernel_set settings) refusal known for_request.agree)
 
   -- the bytes of the rewritten table are the output
-  pub rewritten_answer : (endianness : Endianness) (bytes written : List ℕ) (listed : List FeatureAnswer) → RewritesBytes policy endianness bytes (request_ids request) layout answers (Ok (written, listed))
+  pub rewritten_answer : (endianness : Endianness) (bytes written : List ℕ) (listed : List FeatureAnswer) → RewritesBytes (record { policy = policy; ksyms = request_ids request; layout = layout }) endianness bytes answers (Ok (written, listed))
       → IsAnswer (record { endianness = endianness; command = Rewrite request }) bytes written
   rewritten_answer endianness bytes written listed is = (is.0, is.2, (is.1, rewrites_so is.0 is.1 is.3 is.4, is.5))
 
   -- an error of the rewrite is an error of the command
-  pub rewritten_declined : (endianness : Endianness) (bytes : List ℕ) (refusal : Refusal) → RewritesBytes policy endianness bytes (request_ids request) layout answers (Err refusal)
+  pub rewritten_declined : (endianness : Endianness) (bytes : List ℕ) (refusal : Refusal) → RewritesBytes (record { policy = policy; ksyms = request_ids request; layout = layout }) endianness bytes answers (Err refusal)
       → IsDeclined (record { endianness = endianness; command = Rewrite request }) bytes refusal
   rewritten_declined endianness bytes refusal (inl no_table) = record { cause = inl no_table.0 }
   rewritten_declined endianness bytes refusal (inr table) = record { cause = inr (table.0, table.1, refuses_so table.0 refusal table.2) }

@@ -61,19 +61,19 @@ few_answers answers distinct =
 
 -- a rewrite with these answers is one for the kernel
 pub for_kernel : (features : ℕ) (policy : FillPolicy) (old : Table) (ids : Option KsymsIds) (layout : Layout) (new : Table) (asked : List FeatureAnswer) (r : Result (ArrayVec FeatureAnswer 8 (Unit {0})) BtfError)
-    → AreAnswersOf features asked → IfOk r (λ a. a.items ≡ asked) → MeetsOrNoMemory (λ a. a.items) r (Rewrites policy old ids layout asked new)
-    → MeetsOrNoMemory (λ a. a.items) r (RewritesForKernel features policy old ids layout new)
+    → AreAnswersOf features asked → IfOk r (λ a. a.items ≡ asked) → MeetsOrNoMemory (λ a. a.items) r (Rewrites (record { policy = policy; ksyms = ids; layout = layout }) old asked new)
+    → MeetsOrNoMemory (λ a. a.items) r (RewritesForKernel features (record { policy = policy; ksyms = ids; layout = layout }) old new)
 for_kernel features policy old ids layout new asked (Ok a) of is rewrites =
-    (subst (λ xs. AreAnswersOf features xs) (sym is) of, subst (λ xs. Rewrites {X = List FeatureAnswer} policy old ids layout xs new (Ok a.items)) (sym is) rewrites)
+    (subst (λ xs. AreAnswersOf features xs) (sym is) of, subst (λ xs. Rewrites {X = List FeatureAnswer} (record { policy = policy; ksyms = ids; layout = layout }) old xs new (Ok a.items)) (sym is) rewrites)
 for_kernel features policy old ids layout new asked (Err e) of is refused =
     some_map (refusal_of e) (λ r found. (asked, of, found)) refused
 
 -- the same for equal tables and layouts
 pub for_handle : (features : ℕ) (policy : FillPolicy) (ids : Option KsymsIds) (t old : Table) (l layout : Layout) (n new : Table) (r : Result (List FeatureAnswer) Refusal)
-    → t ≡ old → l ≡ layout → new ≡ n → RewritesForKernel features policy t ids l n r → RewritesForKernel features policy old ids layout new r
+    → t ≡ old → l ≡ layout → new ≡ n → RewritesForKernel features (record { policy = policy; ksyms = ids; layout = l }) t n r → RewritesForKernel features (record { policy = policy; ksyms = ids; layout = layout }) old new r
 for_handle features policy ids t old l layout n new r same_old same_layout same_new rewrites =
-    subst (λ x. RewritesForKernel features policy x ids layout new r) same_old
-    (subst (λ x. RewritesForKernel features policy t ids x new r) same_layout (subst (λ x. RewritesForKernel features policy t ids l x r) (sym same_new) rewrites))
+    subst (λ x. RewritesForKernel features (record { policy = policy; ksyms = ids; layout = layout }) x new r) same_old
+    (subst (λ x. RewritesForKernel features (record { policy = policy; ksyms = ids; layout = x }) t new r) same_layout (subst (λ x. RewritesForKernel features (record { policy = policy; ksyms = ids; layout = l }) t x r) (sym same_new) rewrites))
 
 -- the features that the answers grant, of equal answers, policies and ids
 pub granted_for : (policy other : FillPolicy) (old new : Table) (ids same : Option KsymsIds) (asked : List FeatureAnswer) (r : Result (ArrayVec FeatureAnswer 8 (Unit {0})) BtfError)
