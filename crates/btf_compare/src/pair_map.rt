@@ -111,7 +111,7 @@ impl Listed for PairMap {
     ghost use Rattle.std.specs.Prelude.{◌≡◌, ◌+◌};
     ghost use Rattle.btf_compare.specs.PairMap.{known_progress, count, Learns};
 
-    ghost knows = { λ m ids. known m ids };
+    ghost knows = { λ m ids. known_progress m ids };
 
     ghost learns = { λ old new ids p. Learns old new ids p × (count new ≡ count old + 1) };
 

@@ -39,7 +39,7 @@ impl<'a> Model for Object<'a> {
 
     ghost view = { as_object };
 
-    ghost invariant = { IsWhole };
+    ghost invariant = { IsWholeObject };
 }
 
 impl<'a> Object<'a> {

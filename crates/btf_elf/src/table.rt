@@ -59,8 +59,7 @@ fn entries_at(bytes: &[u8], offset: u64) -> Option<&[[u8; 64]]>
 }
 
 /// The table of section headers, or `SectionTableOutOfRange`.
-#[tactic(auto, unfolding(btf_elf_model::specs::Object::table_error,
-    btf_elf_model::specs::Section::section_count))]
+#[tactic(auto, unfolding(btf_elf_model::specs::Object::table_error, btf_elf_model::specs::Section::section_count))]
 pub fn section_table<'a>(bytes: &'a [u8], header: &FileHeader) -> Result<&'a [[u8; 64]], ParseError>
     ensures error { HasError result (table_error header.now bytes.now) }
     ensures ok { IfOk result (λ t. (t.now ≡ section_header_bytes header.now bytes.now)
@@ -79,7 +78,7 @@ fn find_table<'a>(bytes: &'a [u8], header: &FileHeader) -> Option<&'a [[u8; 64]]
     ensures { MatchOption result
         (IsTableOutside header.now bytes.now)
         (λ t. ¬ (IsTableOutside header.now bytes.now) ×
-            (t.now ≡ section_header_bytes header.now bytes.now)
+        (t.now ≡ section_header_bytes header.now bytes.now)
         × (length t.now ≡ section_count header.now bytes.now)) }
 {
     if header.section_headers < 64 {

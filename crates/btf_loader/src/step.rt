@@ -70,8 +70,7 @@ impl<'a, 'o, 't> Loader<'a, 'o, 't> {
     ) -> Result<Vec<SectionOutcomes>, LoaderError>
         requires named { HasIndices self.now.named.now self.now.object.now }
         requires placed { HasPlaces self.now.places.now self.now.object.now.sections }
-        requires readable { IfSome self.now.readable_end (IsReadableEnd self.now.local.now.strings)
-            }
+        requires readable { IfSome self.now.readable_end (IsReadableEnd self.now.local.now.strings) }
         ensures relocated { IfOk result (λ r. (map outcomes_of r.items, file.new)
             ≡ relocated_file (setting self.now.local.now (targets_view self.now.targets.now))
             (is_shared self.now.policy) self.now.object.now file.old
@@ -102,13 +101,12 @@ impl<'a, 'o, 't> Loader<'a, 'o, 't> {
     ) -> Result<Option<Vec<Outcome>>, LoaderError>
         requires named { HasIndices self.now.named.now self.now.object.now }
         requires placed { HasPlaces self.now.places.now self.now.object.now.sections }
-        requires readable { IfSome self.now.readable_end (IsReadableEnd self.now.local.now.strings)
-            }
+        requires readable { IfSome self.now.readable_end (IsReadableEnd self.now.local.now.strings) }
         ensures relocated { IfOk result (λ r. (option_map (λ v. v.items) r, file.new)
             ≡ relocated_at (setting self.now.local.now (targets_view self.now.targets.now))
             (is_shared self.now.policy)
             (section_at (setting self.now.local.now (targets_view self.now.targets.now))
-                self.now.object.now
+            self.now.object.now
             section.now.0)
             file.old section.now.1.items) }
         ensures refused { IfOk result (λ r. self.now.refusals ≡ Refuse
@@ -174,11 +172,10 @@ impl<'a, 'o, 't> Loader<'a, 'o, 't> {
     /// read to its end.
     fn index_of(&self, name_offset: u32) -> Result<Option<usize>, LoaderError>
         requires named { HasIndices self.now.named.now self.now.object.now }
-        requires readable { IfSome self.now.readable_end (IsReadableEnd self.now.local.now.strings)
-            }
+        requires readable { IfSome self.now.readable_end (IsReadableEnd self.now.local.now.strings) }
         ensures index { IfOk result (λ index. index
             ≡ index_at (setting self.now.local.now (targets_view self.now.targets.now))
-                self.now.object.now
+            self.now.object.now
             name_offset) }
         ensures readable { OnOk result
             (is_err (text_at self.now.local.now.strings name_offset) ≡ false) }

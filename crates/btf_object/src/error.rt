@@ -44,7 +44,7 @@ impl From<AllocError> for SanitizeError {
 }
 
 impl From<ObjectError> for SanitizeError {
-    ghost from_gives = { λ e f. f ≡ of_object e };
+    ghost from_gives = { λ e f. f ≡ from_object e };
 
     fn from(error: ObjectError) -> SanitizeError {
         match error {
@@ -55,7 +55,7 @@ impl From<ObjectError> for SanitizeError {
 }
 
 impl From<BtfError> for SanitizeError {
-    ghost from_gives = { λ e f. f ≡ of_table e };
+    ghost from_gives = { λ e f. f ≡ from_table e };
 
     fn from(error: BtfError) -> SanitizeError {
         match error {

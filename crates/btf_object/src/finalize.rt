@@ -40,7 +40,7 @@ fn finalize_type<H: BuildHasher>(
         type_id btf.old btf.new) }
     ensures read { OnOk result
         (AreNamesCached btf.new.strings (layout_of layout.now.sections layout.now.symbols)
-            names.new) }
+        names.new) }
     ensures memory { IfErr result (λ e. e ≡ BtfError.OutOfMemory) }
 {
     let Ok(BtfType::DataSec(data_sec)) = btf.type_by_id(type_id) else {

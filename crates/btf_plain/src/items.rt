@@ -213,7 +213,7 @@ impl Item for DataSecEntry {
 
     ghost WIDTH = { 3 };
 
-    ghost item_words = { entry_words };
+    ghost item_words = { code_entry_words };
 
     fn words(&self) -> [u32; 3] {
         [self.btf_type, self.offset, self.size]

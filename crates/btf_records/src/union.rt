@@ -106,12 +106,12 @@ impl Model for Union {
     ghost Value = { UnionRecord };
 
     ghost view = { λ a. record {
-      words = headed (head_of a.parts) (flat_map member_words (members_of a.parts));
+      words = headed (head_of a.parts) (flat_map member_words (parts_members a.parts));
       fallback = kept_of a.parts;
     } };
 
     ghost invariant = { λ a. (kind_of (head_of a.parts).info ≡ Some UnionKind)
-        × (vlen (head_of a.parts).info ≡ length (members_of a.parts)) };
+        × (vlen (head_of a.parts).info ≡ length (parts_members a.parts)) };
 }
 
 impl Union {

@@ -70,7 +70,7 @@ pub fn find_enumerator(
 ) -> Result<Option<Enumerator>, RelocationError>
     ensures { MatchResult result
         (λ o. model.find_enumerator table.now type_id name.now ≡ Ok
-            (option_map enumerator_variant o))
+        (option_map enumerator_variant o))
         (λ e. model.find_enumerator table.now type_id name.now ≡ Err e) }
 {
     let btf_type = resolved_type(table, type_id)?;

@@ -50,7 +50,7 @@ impl Variant for BtfEnum64 {
 }
 
 impl Variant for Enum64VariantFallback {
-    ghost variant = { variant_of };
+    ghost variant = { fallback_variant };
 
     fn name_offset(&self) -> u32 {
         self.name_offset

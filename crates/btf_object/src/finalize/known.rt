@@ -120,7 +120,7 @@ impl KnownNames {
             (text_at btf.now.strings name_offset)) }
         ensures read { OnOk result
             (AreNamesCached btf.now.strings (layout_of layout.now.sections layout.now.symbols)
-                self.new) }
+            self.new) }
         ensures memory { IfErr result (λ e. e ≡ BtfError.OutOfMemory) }
     {
         if let Some(size) = self.sizes.get(&name_offset) {
@@ -148,7 +148,7 @@ impl KnownNames {
             (text_at btf.now.strings name_offset)) }
         ensures read { OnOk result
             (AreNamesCached btf.now.strings (layout_of layout.now.sections layout.now.symbols)
-                self.new) }
+            self.new) }
         ensures memory { IfErr result (λ e. e ≡ BtfError.OutOfMemory) }
     {
         if let Some(symbol) = self.symbols.get(&name_offset) {

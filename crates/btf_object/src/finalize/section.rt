@@ -34,7 +34,7 @@ fn entry_offset<H: BuildHasher>(
         (entry_of entry.now)) }
     ensures read { OnOk result
         (AreNamesCached btf.now.strings (layout_of layout.now.sections layout.now.symbols)
-            names.new) }
+        names.new) }
     ensures memory { IfErr result (λ e. e ≡ BtfError.OutOfMemory) }
 {
     let Ok(BtfType::Var(var)) = btf.type_by_id(entry.btf_type) else {
@@ -68,7 +68,7 @@ fn placed_entries<H: BuildHasher>(
     ensures count { IfOk result (λ o. IfSome o (λ v. length v.items ≡ vlen data_sec.now.info)) }
     ensures read { OnOk result
         (AreNamesCached btf.now.strings (layout_of layout.now.sections layout.now.symbols)
-            names.new) }
+        names.new) }
     ensures memory { IfErr result (λ e. e ≡ BtfError.OutOfMemory) }
 {
     let mut placed = Vec::new(alloc);
@@ -117,7 +117,7 @@ fn completed<H: BuildHasher>(
         (λ parts. length parts.1.items ≡ vlen data_sec.now.info)) }
     ensures read { OnOk result
         (AreNamesCached btf.now.strings (layout_of layout.now.sections layout.now.symbols)
-            names.new) }
+        names.new) }
     ensures memory { IfErr result (λ e. e ≡ BtfError.OutOfMemory) }
 {
     if data_sec.size() != 0 {
@@ -147,7 +147,7 @@ fn size_and_entries<H: BuildHasher>(
     ensures count { IfOk result (λ parts. length parts.1.items ≡ vlen data_sec.now.info) }
     ensures read { OnOk result
         (AreNamesCached btf.now.strings (layout_of layout.now.sections layout.now.symbols)
-            names.new) }
+        names.new) }
     ensures memory { IfErr result (λ e. e ≡ BtfError.OutOfMemory) }
 {
     match completed(alloc, btf, layout, names, data_sec)? {
@@ -173,7 +173,7 @@ pub fn final_section<H: BuildHasher>(
     ensures len { IfOk result (λ new. length new.tail ≡ length data_sec.now.tail) }
     ensures read { OnOk result
         (AreNamesCached btf.now.strings (layout_of layout.now.sections layout.now.symbols)
-            names.new) }
+        names.new) }
     ensures memory { IfErr result (λ e. e ≡ BtfError.OutOfMemory) }
 {
     // The contract is about the length of the record, which this shows.

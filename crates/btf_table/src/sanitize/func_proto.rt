@@ -107,7 +107,7 @@ fn param_name_offset(
         (checked (first_fault (have_room (next_string_offset btf.now changes.old)
         (param_texts index (param_words param.now))))
         (if wants_name param.now.name_offset param.now.btf_type then next_string_offset btf.now
-            changes.old
+        changes.old
         else param.now.name_offset)) }
     ensures adds { OnOk result (Adds btf.now changes.old changes.new
         (param_texts index (param_words param.now)) []) }

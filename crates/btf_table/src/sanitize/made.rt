@@ -93,13 +93,13 @@ impl Made {
         ensures answer { self.old.filler ≡ None
             → IsOrNoMemory (λ id. id) result (checked (first_fault
             (filler_has_room (next_string_offset btf.now self.old.changes)
-                self.old.changes.type_len))
+            self.old.changes.type_len))
             (next_id btf.now self.old.changes + 1)) }
         ensures adds { self.old.filler ≡ None
             → OnOk result (Adds btf.now self.old.changes self.new.changes
             (filler_type_text ∷ filler_text ∷ [])
             (filler (next_string_offset btf.now self.old.changes)
-                (next_id btf.now self.old.changes))) }
+            (next_id btf.now self.old.changes))) }
         ensures made { self.old.filler ≡ None
             → OnOk result (self.new.filler ≡ Some (next_id btf.now self.old.changes + 1)) }
         ensures names { self.new.names ≡ self.old.names }
