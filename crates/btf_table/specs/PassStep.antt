@@ -40,7 +40,7 @@ abbrev pub given_under : FillPolicy → Layout → Given
 given_under policy layout = record { layout = layout; policy = policy }
 
 -- what a request gives a pass
-abbrev pub given_by : {G H : Type 0} → Request G H → Given
+abbrev pub given_by : {A B G H : Type 0} → Request A B G H → Given
 given_by request = given_under request.policy (layout_of request.sections.now request.symbols.now)
 
 -- the pass over a table, with these answers
